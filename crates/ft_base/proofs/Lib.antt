@@ -1,0 +1,4 @@
+pub mod Images
+pub mod PatternLemmas
+pub mod AppendsLemmas
+pub mod Pieces

@@ -1,0 +1,7 @@
+pub mod Count
+pub mod Contents
+pub mod PlainDisk
+pub mod Pattern
+pub mod Ranges
+pub mod Layout
+pub mod Streams
