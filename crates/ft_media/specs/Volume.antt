@@ -1,13 +1,14 @@
 -- What the calls of a volume do.
-use Rattle.std.specs.Prelude.{◌≡◌, ◌≤◌, ℕ, Bool, true, false, Result, Ok, Err, IsErrOf}
+use Rattle.std.specs.Prelude.{◌≡◌, ◌≤◌, Bool, true, false, Result, Ok, Err, IsErrOf}
 use Rattle.ft_base.specs.Count.{Rose}
+use Rattle.ft_base.specs.declared.geometry.Geometry.{Geometry}
 use Rattle.ft_media.specs.declared.volume.VolumeError.{VolumeError}
 use Rattle.ft_media.specs.declared.volume.VolumeError.TheVariants.{FlashFault, DiskFault, PowerLost}
 use Rattle.ft_media.specs.State.{Faults}
 
 -- what a volume tells of itself, and no call changes
 pub record Told : Type 0 where
-  pub size : ℕ
+  pub geometry : Geometry
 
 -- the call answered PowerLost
 abbrev pub volume_lost : {T : Type 0} → Result T VolumeError → Bool

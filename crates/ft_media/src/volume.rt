@@ -6,7 +6,7 @@ ghost use Rattle.ft_media.specs.Passes.{Passes, Spends};
 ghost use Rattle.ft_media.specs.Volume.{HasCause, Told, volume_lost};
 
 use crate::Rig;
-use ft_base::Block;
+use ft_base::{Block, Geometry};
 use thiserror::Error;
 
 /// Why a call of a volume was refused.
@@ -46,7 +46,11 @@ pub trait Volume<R: Rig> {
 
     /// Blocks of the volume.
     fn size(&self) -> u64
-        ensures { result ≡ (told self.now).size };
+        ensures { result ≡ (told self.now).geometry.size };
+
+    /// The numbers with which it was made.
+    fn geometry(&self) -> Geometry
+        ensures { result ≡ (told self.now).geometry };
 
     /// Reads the block at an address. It changes no block.
     fn read(&mut self, rig: &mut R, lba: u64, block: &mut Block) -> Result<(), VolumeError>
@@ -60,7 +64,7 @@ pub trait Volume<R: Rig> {
         ensures disk_writes { (R.state rig.new).counts.disk_writes ≡ (R.state rig.old).counts.disk_writes }
         ensures cause { HasCause (R.state rig.old).faults (R.state rig.new).faults result }
         ensures passes { Passes (R.state rig.old) (R.state rig.new) (volume_lost result) }
-        ensures outside { IsErrOf result VolumeError.OutOfVolume ↔ ((told self.old).size ≤ lba) }
+        ensures outside { IsErrOf result VolumeError.OutOfVolume ↔ ((told self.old).geometry.size ≤ lba) }
         ensures unchanged { IsErrOf result VolumeError.OutOfVolume → (self.new ≡ self.old) × (R.state rig.new ≡ R.state rig.old) };
 
     /// Writes the block at an address. Refused, the volume is the disk of before, or with the block
@@ -81,6 +85,6 @@ pub trait Volume<R: Rig> {
         ensures spends { OnOk result (Spends 1 (R.state rig.old) (R.state rig.new)) }
         ensures cause { HasCause (R.state rig.old).faults (R.state rig.new).faults result }
         ensures passes { Passes (R.state rig.old) (R.state rig.new) (volume_lost result) }
-        ensures outside { IsErrOf result VolumeError.OutOfVolume ↔ ((told self.old).size ≤ lba) }
+        ensures outside { IsErrOf result VolumeError.OutOfVolume ↔ ((told self.old).geometry.size ≤ lba) }
         ensures unchanged { IsErrOf result VolumeError.OutOfVolume → (self.new ≡ self.old) × (R.state rig.new ≡ R.state rig.old) };
 }

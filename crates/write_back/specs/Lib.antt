@@ -1,0 +1,5 @@
+pub mod Errors
+pub mod Room
+pub mod Held
+pub mod Reads
+pub mod Volume
