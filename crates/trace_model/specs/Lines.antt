@@ -1,5 +1,5 @@
 -- How a trace is spelled.
-use Rattle.std.specs.Prelude.{ℕ, ◌+◌, ◌-◌, ◌*◌, ◌^◌, ◌==◌, ◌&&◌, ◌||◌, Bool, true, false, nat_le, nat_lt, if◌then◌else◌, List, [], ◌∷◌, length, slice_index, codes, bytes_eq, Option, Some, None, Result, Ok, Err}
+use Rattle.std.specs.Prelude.{ℕ, ◌+◌, ◌-◌, ◌*◌, ◌^◌, ◌≤◌, ◌==◌, ◌&&◌, ◌||◌, Bool, true, false, nat_le, nat_lt, if◌then◌else◌, List, [], ◌∷◌, length, slice_index, codes, bytes_eq, Option, Some, None, Result, Ok, Err}
 use Rattle.std.specs.Io.BufRead.{strip_last}
 use Rattle.ft_base.specs.declared.power.Outcome.{Outcome}
 use Rattle.ft_base.specs.declared.power.Outcome.TheVariants as outcome
@@ -138,3 +138,9 @@ plain_words_say size (word ∷ words) = if bytes_eq word (codes "w") then or_bad
 -- what a line says that may only write or read, or the first refusal that applies
 abbrev pub plain_line_of : ℕ → List ℕ → Result Line LineError
 plain_line_of size bytes = plain_words_say size (spaced_words bytes)
+
+-- a write or a read of blocks that are all in the volume
+abbrev pub IsInVolume : ℕ → Line → Type 0
+IsInVolume size (line.Write lba count tag) = lba + count ≤ size
+IsInVolume size (line.Read lba count) = lba + count ≤ size
+IsInVolume size other = ⊥

@@ -51,10 +51,10 @@ pub record WasRun (room : ℕ) (all : List (Result Line LineError)) (run : List 
   pub fits : blocks_in run ≤ room
 
 -- these lines of the source's trace were run, and these readings of it are left
-pub record RunsOver (source : Option (List ℕ)) (g : Geometry) (run : List Ran) (left : List (Result Line LineError)) : Type 0 where
+pub record RunsOver (source : Option (List ℕ)) (size room : ℕ) (run : List Ran) (left : List (Result Line LineError)) : Type 0 where
   pub trace : List ℕ
   pub tells : Tells source trace
-  pub was_run : WasRun (block_room g) (readings g.size trace) run left
+  pub was_run : WasRun room (readings size trace) run left
 
 -- the line after these finds room for its blocks
 abbrev pub finds_room : ℕ → List Ran → Line → Bool

@@ -1,6 +1,6 @@
-ghost use Rattle.std.specs.Prelude.{◌≡◌, ◌≢◌, ◌∷◌, [], ◌<◌, ◌≤◌, ℕ, List, length, slice_index, IfNone, IfSome};
+ghost use Rattle.std.specs.Prelude.{◌≡◌, ◌≢◌, ◌∷◌, [], ◌<◌, ◌≤◌, ℕ, List, length, slice_index, IfNone, IfSome, IfOk};
 ghost use Rattle.trace_model.specs.Lines as lines;
-ghost use Rattle.trace_model.specs.Lines.{or_bad_word, plain_line_of, spaced_words};
+ghost use Rattle.trace_model.specs.Lines.{IsInVolume, or_bad_word, plain_line_of, spaced_words};
 
 use crate::read::{is_word, read_of, write_of};
 use trace_model::{Line, LineError};
@@ -8,7 +8,8 @@ use trace_model::{Line, LineError};
 /// What a line says that may only write or read, spelled with one space between words, or the first
 /// refusal that applies.
 pub fn read_plain_line(bytes: &[u8], size: u64) -> Result<Line, LineError>
-    ensures { result ≡ plain_line_of size bytes.now }
+    ensures line { result ≡ plain_line_of size bytes.now }
+    ensures within { IfOk result (IsInVolume size) }
 {
     let Some((word, rest)) = first_word(bytes) else {
         return no_words(bytes, size);
@@ -69,7 +70,8 @@ fn space_at(bytes: &[u8]) -> usize
 }
 
 fn plain_write(rest: &[u8], size: u64) -> Result<Line, LineError>
-    ensures { result ≡ or_bad_word (lines.write_line size (spaced_words rest.now)) }
+    ensures line { result ≡ or_bad_word (lines.write_line size (spaced_words rest.now)) }
+    ensures within { IfOk result (IsInVolume size) }
 {
     let Some((a, rest)) = first_word(rest) else {
         return Err(LineError::BadWord);
@@ -84,7 +86,8 @@ fn plain_write(rest: &[u8], size: u64) -> Result<Line, LineError>
 }
 
 fn plain_read(rest: &[u8], size: u64) -> Result<Line, LineError>
-    ensures { result ≡ or_bad_word (lines.read_line size (spaced_words rest.now)) }
+    ensures line { result ≡ or_bad_word (lines.read_line size (spaced_words rest.now)) }
+    ensures within { IfOk result (IsInVolume size) }
 {
     let Some((a, rest)) = first_word(rest) else {
         return Err(LineError::BadWord);
@@ -97,7 +100,8 @@ fn plain_read(rest: &[u8], size: u64) -> Result<Line, LineError>
 
 /// Whatever is misspelt, the refusal is one.
 fn one_refusal(reading: Result<Line, LineError>) -> Result<Line, LineError>
-    ensures { result ≡ or_bad_word reading }
+    ensures same { result ≡ or_bad_word reading }
+    ensures line { IfOk result (λ line. reading ≡ Ok line) }
 {
     match reading {
         Ok(line) => Ok(line),

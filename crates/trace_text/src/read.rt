@@ -1,4 +1,4 @@
-ghost use Rattle.std.specs.Prelude.{◌≡◌, ◌∷◌, [], bytes_eq};
+ghost use Rattle.std.specs.Prelude.{◌≡◌, ◌+◌, ◌≤◌, ◌∷◌, [], bytes_eq, IfOk};
 ghost use Rattle.std.specs.Io.BufRead.{strip_last};
 ghost use Rattle.trace_model.specs.Lines as lines;
 ghost use Rattle.trace_model.specs.Lines.{line_of, split_words};
@@ -85,7 +85,8 @@ fn read_write(rest: &[u8], size: u64) -> Result<Line, LineError>
 
 /// The write of these three words.
 pub(crate) fn write_of(size: u64, a: &[u8], n: &[u8], t: &[u8]) -> Result<Line, LineError>
-    ensures { result ≡ lines.write_line size (a.now ∷ n.now ∷ t.now ∷ []) }
+    ensures line { result ≡ lines.write_line size (a.now ∷ n.now ∷ t.now ∷ []) }
+    ensures within { IfOk result (lines.IsInVolume size) }
 {
     let Some(lba) = number_in(0, u64::MAX, a) else {
         return Err(LineError::BadNumber);
@@ -116,7 +117,8 @@ fn read_read(rest: &[u8], size: u64) -> Result<Line, LineError>
 
 /// The read of these two words.
 pub(crate) fn read_of(size: u64, a: &[u8], n: &[u8]) -> Result<Line, LineError>
-    ensures { result ≡ lines.read_line size (a.now ∷ n.now ∷ []) }
+    ensures line { result ≡ lines.read_line size (a.now ∷ n.now ∷ []) }
+    ensures within { IfOk result (lines.IsInVolume size) }
 {
     let Some(lba) = number_in(0, u64::MAX, a) else {
         return Err(LineError::BadNumber);
@@ -128,7 +130,8 @@ pub(crate) fn read_of(size: u64, a: &[u8], n: &[u8]) -> Result<Line, LineError>
 }
 
 fn in_volume(size: u64, lba: u64, count: u64, line: Line) -> Result<Line, LineError>
-    ensures { result ≡ lines.in_volume size lba count line }
+    ensures line { result ≡ lines.in_volume size lba count line }
+    ensures within { IfOk result (λ l. (l ≡ line) × (lba + count ≤ size)) }
 {
     if count <= size && lba <= size - count {
         return Ok(line);

@@ -1,0 +1,5 @@
+pub mod PartLemmas
+pub mod GoesLemmas
+pub mod TouchedLemmas
+pub mod ReadingsLemmas
+pub mod ToldLemmas
