@@ -15,7 +15,7 @@ use Rattle.trace_model.specs.Run.{after_blocks, read_backs}
 use Rattle.trace_replay.specs.Ends.{GoesOn}
 
 pub goes_none : (a : State) → a.power.on ≡ true → a.power.stops ≡ [] → GoesOn a a
-goes_none a on stops = record { on = on; stops = stops; disk_writes = refl; flash_later = omega arith; disk_later = omega arith }
+goes_none a on stops = record { on = on; stops = stops; lent = refl; disk_writes = refl; flash_later = omega arith; disk_later = omega arith }
 
 pub goes_then : (a b c : State) → GoesOn a b → GoesOn b c → GoesOn a c
 goes_then a b c first next =
@@ -23,7 +23,7 @@ goes_then a b c first next =
     let d = first.disk_later in
     let f2 = next.flash_later in
     let d2 = next.disk_later in
-    record { on = next.on; stops = next.stops; disk_writes = next.disk_writes ∙ first.disk_writes; flash_later = omega arith; disk_later = omega arith }
+    record { on = next.on; stops = next.stops; lent = next.lent ∙ first.lent; disk_writes = next.disk_writes ∙ first.disk_writes; flash_later = omega arith; disk_later = omega arith }
 
 -- where nothing is armed no call loses power
 pub none_lost : (a b : State) (was_lost : Bool) → a.power.on ≡ true → a.power.stops ≡ [] → Passes a b was_lost → was_lost ≡ false
@@ -36,7 +36,7 @@ none_lost a b true on unarmed passes =
 pub goes_one : (a b : State) (was_lost : Bool) → a.power.on ≡ true → a.power.stops ≡ [] → Passes a b was_lost → b.counts.disk_writes ≡ a.counts.disk_writes → a.faults.flash ≤ b.faults.flash → a.faults.disk ≤ b.faults.disk → GoesOn a b
 goes_one a b was_lost on unarmed passes writes flash disk =
     let stayed = passes.stayed on (none_lost a b was_lost on unarmed passes) in
-    record { on = stayed.on; stops = stayed.stops ∙ unarmed; disk_writes = writes; flash_later = flash; disk_later = disk }
+    record { on = stayed.on; stops = stayed.stops ∙ unarmed; lent = passes.lent; disk_writes = writes; flash_later = flash; disk_later = disk }
 
 pub rose_more : (m n a b c : ℕ) → RoseBy m a b → RoseBy n b c → RoseBy (m + n) a c
 rose_more m n a b c first next = λ below.

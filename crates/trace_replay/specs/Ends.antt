@@ -16,10 +16,11 @@ ended_of volume.FlashFault = ended.Flash
 ended_of volume.DiskFault = ended.Disk
 ended_of other = ended.Memory
 
--- power is on, nothing is armed, no disk block was written, and no count of faults fell
+-- power is on, nothing is armed, what lies beneath stays, no disk block was written, and no count of faults fell
 pub record GoesOn (old new : State) : Type 0 where
   pub on : new.power.on ≡ true
   pub stops : new.power.stops ≡ []
+  pub lent : new.lent ≡ old.lent
   pub disk_writes : new.counts.disk_writes ≡ old.counts.disk_writes
   pub flash_later : old.faults.flash ≤ new.faults.flash
   pub disk_later : old.faults.disk ≤ new.faults.disk

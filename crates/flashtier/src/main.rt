@@ -1,0 +1,29 @@
+//! The program: standard input is the trace, standard output takes the text, and flash and disk are in
+//! memory.
+#![tactic(auto)]
+
+use flashtier_cli::run;
+use ft_base::{StdSink, StdSource};
+use mem_rig::MemRig;
+use std::io;
+use std::process::ExitCode;
+
+/// The words after the program's name.
+fn words_of(rt: &(impl std::rt::Env + AllocGlobal)) -> io::Result<Vec<String>> {
+    let mut words = Vec::new(rt.alloc());
+    for word in std::env::args(rt)?.skip(1) {
+        words.push(word)?;
+    }
+    Ok(words)
+}
+
+fn main(rt: HostRuntime) -> ExitCode {
+    let alloc = rt.alloc();
+    let Ok(words) = words_of(&rt) else {
+        return ExitCode::from(7);
+    };
+    let mut source = StdSource::new(rt.reader());
+    let mut sink = StdSink::new(io::writer(&rt));
+    let mut rig = MemRig::new(alloc);
+    ExitCode::from(run(alloc, words.as_slice(), &mut source, &mut sink, &mut rig))
+}
