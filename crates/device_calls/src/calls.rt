@@ -44,19 +44,15 @@ impl Calls {
         fails
     }
 
-    /// Makes a device write under this power, and says how it ends.
-    pub fn write_ends(&mut self, current: Current) -> Ending
-        ensures ending { result ≡ ending_of current (is_listed self.old) }
-        ensures counts { CountsWrite current result self.old self.new }
+    /// How the next device write ends under this power.
+    pub fn next_ending(&self, current: Current) -> Ending
+        ensures { result ≡ ending_of current (is_listed self.now) }
     {
         match current {
             Current::Off => Ending::Off,
-            Current::Stops(outcome) => {
-                self.made = bump(self.made);
-                Ending::Cut(outcome)
-            }
+            Current::Stops(outcome) => Ending::Cut(outcome),
             Current::On => {
-                if self.read_fails() {
+                if self.failing.contains(&bump(self.made)) {
                     return Ending::Failed;
                 }
                 Ending::Done
@@ -64,11 +60,22 @@ impl Calls {
         }
     }
 
-    /// Whether the next call that is made with power on fails.
-    pub fn next_fails(&self) -> bool
-        ensures { result ≡ is_listed self.now }
+    /// Makes a device write under this power, and says how it ends.
+    pub fn write_ends(&mut self, current: Current) -> Ending
+        ensures ending { result ≡ ending_of current (is_listed self.old) }
+        ensures counts { CountsWrite current result self.old self.new }
     {
-        self.failing.contains(&bump(self.made))
+        let ending = self.next_ending(current);
+        match ending {
+            Ending::Done => self.made = bump(self.made),
+            Ending::Cut(_) => self.made = bump(self.made),
+            Ending::Failed => {
+                self.made = bump(self.made);
+                self.faults = bump(self.faults);
+            }
+            Ending::Off => {}
+        }
+        ending
     }
 
     /// How often the device failed.

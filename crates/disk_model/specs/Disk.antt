@@ -1,9 +1,35 @@
 -- What a disk in memory contains.
-use Rattle.std.specs.Prelude.{ℕ, List, [], ◌∷◌, ◌++◌, ◌==◌, if◌then◌else◌, Option, Some, None}
-use Rattle.std.specs.Ordering.{nat_cmp}
-use Rattle.std.specs.BTreeMap.{get}
-use Rattle.ft_base.specs.declared.block.Block.{Block}
-use Rattle.ft_base.specs.Contents.{Values, zero_block}
-use Rattle.disk_model.specs.declared.store.Store.{Store}
-use Rattle.disk_model.specs.declared.store.Replaced.{Replaced}
+use Rattle.std.specs.Prelude.{◌≡◌, ℕ}
+use Rattle.ft_base.specs.Contents.{Values}
+use Rattle.device_calls.specs.declared.calls.Calls.{Calls}
+use Rattle.disk_model.specs.declared.disk.MemDisk.{MemDisk}
+use Rattle.disk_model.specs.StoreValues.{store_values}
 
+-- its blocks
+abbrev pub size_of : MemDisk → ℕ
+size_of disk = disk.size
+
+-- for each address the values since the last flush
+abbrev pub disk_of : MemDisk → ℕ → Values
+disk_of disk = store_values disk.store
+
+-- its calls, and those that failed
+abbrev pub calls_of : MemDisk → Calls
+calls_of disk = disk.calls
+
+-- the reads, the writes and the flushes that were done
+abbrev pub reads_of : MemDisk → ℕ
+reads_of disk = disk.reads
+
+abbrev pub writes_of : MemDisk → ℕ
+writes_of disk = disk.writes
+
+abbrev pub flushes_of : MemDisk → ℕ
+flushes_of disk = disk.flushes
+
+-- its calls and counts stay
+pub record SameNumbers (old new : MemDisk) : Type 0 where
+  pub calls : calls_of new ≡ calls_of old
+  pub reads : reads_of new ≡ reads_of old
+  pub writes : writes_of new ≡ writes_of old
+  pub flushes : flushes_of new ≡ flushes_of old
