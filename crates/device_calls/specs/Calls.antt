@@ -1,7 +1,7 @@
 -- Which calls of a device fail, and how a device write ends.
-use Rattle.std.specs.Prelude.{◌≡◌, ◌==◌, ℕ, Bool, true, false, List, if◌then◌else◌}
+use Rattle.std.specs.Prelude.{◌≡◌, ◌==◌, ◌≤◌, ℕ, Bool, true, false, List, if◌then◌else◌}
 use Rattle.std.specs.List.{list_any}
-use Rattle.ft_base.specs.Count.{bumped}
+use Rattle.ft_base.specs.Count.{bumped, last_count}
 use Rattle.device_calls.specs.declared.calls.Calls.{Calls}
 use Rattle.device_calls.specs.declared.ending.Current.{Current}
 use Rattle.device_calls.specs.declared.ending.Current.TheVariants as current
@@ -60,3 +60,7 @@ pub record CountsRead (fails : Bool) (old new : Calls) : Type 0 where
   pub made : calls_made new ≡ bumped (calls_made old)
   pub faults : fault_count new ≡ (if fails then bumped (fault_count old) else fault_count old)
   pub failing : failing_numbers new ≡ failing_numbers old
+
+-- the count of faults fits its type
+pub faults_small : (calls : Calls) → fault_count calls ≤ last_count
+faults_small calls = calls.faults_small

@@ -1,5 +1,6 @@
 -- What a disk in memory contains.
-use Rattle.std.specs.Prelude.{◌≡◌, ℕ}
+use Rattle.std.specs.Prelude.{◌≡◌, ◌<◌, ◌≤◌, ◌^◌, ℕ}
+use Rattle.ft_base.specs.Count.{last_count}
 use Rattle.ft_base.specs.Contents.{Values}
 use Rattle.device_calls.specs.declared.calls.Calls.{Calls}
 use Rattle.disk_model.specs.declared.disk.MemDisk.{MemDisk}
@@ -33,3 +34,16 @@ pub record SameNumbers (old new : MemDisk) : Type 0 where
   pub reads : reads_of new ≡ reads_of old
   pub writes : writes_of new ≡ writes_of old
   pub flushes : flushes_of new ≡ flushes_of old
+
+-- the numbers fit their types
+pub size_small : (disk : MemDisk) → size_of disk < 2 ^ 64
+size_small disk = disk.size_small
+
+pub reads_small : (disk : MemDisk) → reads_of disk ≤ last_count
+reads_small disk = disk.reads_small
+
+pub writes_small : (disk : MemDisk) → writes_of disk ≤ last_count
+writes_small disk = disk.writes_small
+
+pub flushes_small : (disk : MemDisk) → flushes_of disk ≤ last_count
+flushes_small disk = disk.flushes_small

@@ -1,4 +1,4 @@
-ghost use Rattle.std.specs.Prelude.{◌≡◌, ◌≤◌};
+ghost use Rattle.std.specs.Prelude.{◌≡◌, ◌<◌, ◌≤◌, ◌^◌};
 ghost use Rattle.ft_base.specs.Count.{last_count};
 
 use crate::store::Store;
@@ -17,13 +17,14 @@ pub struct MemDisk {
     reads: u64,
     writes: u64,
     flushes: u64,
+    ghost size_small: { size < 2 ^ 64 },
     ghost reads_small: { reads ≤ last_count },
     ghost writes_small: { writes ≤ last_count },
     ghost flushes_small: { flushes ≤ last_count },
 }
 
 impl MemDisk {
-    ghost use Rattle.std.specs.Prelude.{◌↔◌, true, OnOk, OnErr, IfOk, IfErr, IsErr, if◌then◌else◌};
+    ghost use Rattle.std.specs.Prelude.{◌↔◌, ◌≢◌, true, OnOk, OnErr, IfOk, IfErr, IsErr, if◌then◌else◌};
     ghost use Rattle.ft_base.specs.Count.{bumped};
     ghost use Rattle.ft_media.specs.Rig.{new_contents};
     ghost use Rattle.device_calls.specs.Calls.{calls_made, fault_count, failing_numbers, is_listed, ending_of, bumped_if_done, CountsRead, CountsWrite};
@@ -98,6 +99,7 @@ impl MemDisk {
         ensures writes { IfOk result (λ ending. writes_of self.new ≡ bumped_if_done ending (writes_of self.old)) }
         ensures reads { reads_of self.new ≡ reads_of self.old }
         ensures flushes { flushes_of self.new ≡ flushes_of self.old }
+        ensures powered { OnErr result (current ≢ Current.Off) }
         ensures refused { OnErr result (disk_of self.new ≡ disk_of self.old) }
         ensures uncounted { OnErr result (SameNumbers self.old self.new) }
     {

@@ -1,5 +1,6 @@
 -- What a flash in memory contains.
-use Rattle.std.specs.Prelude.{◌≡◌, ◌≤◌, ℕ, Some, length}
+use Rattle.std.specs.Prelude.{◌≡◌, ◌<◌, ◌≤◌, ◌^◌, ℕ, Some, length}
+use Rattle.ft_base.specs.Count.{last_count}
 use Rattle.ft_base.specs.declared.block.Place.{Place}
 use Rattle.ft_base.specs.declared.block.Page.TheVariants as page
 use Rattle.ft_base.specs.Contents.{Flash}
@@ -38,3 +39,16 @@ pub record SameNumbers (old new : MemNand) : Type 0 where
 -- in a block that is ready, each page from the next one on is blank
 pub blank_ahead : (nand : MemNand) (at : Place) (next : ℕ) → (flash_of nand).next at.block ≡ Some next → next ≤ at.page → (flash_of nand).page at ≡ page.Blank
 blank_ahead nand at next = ahead_at nand.blocks.items at next
+
+-- the numbers fit their types
+pub block_count_small : (nand : MemNand) → block_count nand < 2 ^ 32
+block_count_small nand = nand.few
+
+pub page_count_small : (nand : MemNand) → page_count nand < 2 ^ 32
+page_count_small nand = nand.pages_small
+
+pub programs_small : (nand : MemNand) → programs_of nand ≤ last_count
+programs_small nand = nand.programs_small
+
+pub erases_small : (nand : MemNand) → erases_of nand ≤ last_count
+erases_small nand = nand.erases_small

@@ -19,6 +19,7 @@ pub struct MemNand {
     programs: u64,
     erases: u64,
     ghost few: { length blocks.items < 2 ^ 32 },
+    ghost pages_small: { pages < 2 ^ 32 },
     ghost alike: { (b : ℕ) → b < length blocks.items → pages_at blocks.items b ≡ pages },
     ghost programs_small: { programs ≤ last_count },
     ghost erases_small: { erases ≤ last_count },
