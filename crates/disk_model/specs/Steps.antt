@@ -17,12 +17,16 @@ oldest newest (block ∷ earlier) = oldest block earlier
 abbrev pub flushed_value : Values → Block
 flushed_value values = oldest values.newest values.earlier
 
--- the value that a cut leaves of a block: where it tears, the newest at an odd address and the flushed one at an even
+-- the value that a torn disk keeps: the newest at an odd address, and the flushed one at an even
+abbrev pub torn_value : ℕ → Values → Block
+torn_value lba values = if lba % 2 == 1 then values.newest else flushed_value values
+
+-- the value that a cut leaves of a block
 abbrev pub cut_value : Outcome → ℕ → Values → Block
 cut_value outcome.Blank lba values = flushed_value values
 cut_value outcome.Whole lba values = values.newest
-cut_value outcome.Torn lba values = if lba % 2 == 1 then values.newest else flushed_value values
-cut_value outcome.Mixed lba values = if lba % 2 == 1 then values.newest else flushed_value values
+cut_value outcome.Torn lba values = torn_value lba values
+cut_value outcome.Mixed lba values = torn_value lba values
 
 -- the disk after a cut: that value of each block is the flushed one
 abbrev pub settled : Outcome → (ℕ → Values) → ℕ → Values

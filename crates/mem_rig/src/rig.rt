@@ -45,6 +45,8 @@ impl MemRig {
     /// Media without a block, with power on and nothing armed. No call will fail.
     pub fn new(alloc: Global) -> MemRig
         ensures contents { (state_of result).contents ≡ new_contents 0 0 0 }
+        ensures counts { (state_of result).counts ≡ record { programs = 0; erases = 0; disk_reads = 0; disk_writes = 0; disk_flushes = 0 } }
+        ensures faults { (state_of result).faults ≡ record { flash = 0; disk = 0; cuts = 0 } }
         ensures power { (state_of result).power ≡ record { on = true; stops = []; rest = 0 } }
         ensures flash { failing_numbers (flash_calls result) ≡ [] }
         ensures disk { failing_numbers (disk_calls result) ≡ [] }
@@ -91,6 +93,14 @@ impl MemRig {
         ensures { result ≡ (state_of self.now).contents.shape.size }
     {
         self.disk.size()
+    }
+
+    /// The page of a block to program next, where the block is ready. It may be one past the last.
+    pub fn next_page(&self, block: u32) -> Option<u32>
+        requires { block < (state_of self.now).contents.shape.blocks }
+        ensures { result ≡ (state_of self.now).contents.flash.next block }
+    {
+        self.nand.next_page(block)
     }
 
     /// Reads a page of the flash. No stop cuts a read. It fails exactly where its number is listed.

@@ -95,15 +95,16 @@ impl EraseBlock {
         ensures pages { self.new.pages ≡ self.old.pages }
     {
         let at = page as usize;
-        let bytes = Bytes {
-            block: *block,
-            spare: *spare,
-        };
         self.next = None;
         if at < self.bytes.len() {
-            self.bytes[at] = bytes;
+            let bytes = &mut self.bytes[at];
+            bytes.block = *block;
+            bytes.spare = *spare;
         } else {
-            self.bytes.push_reserved(bytes);
+            self.bytes.push_reserved(Bytes {
+                block: *block,
+                spare: *spare,
+            });
         }
         self.found[at] = PageRead::Whole;
     }

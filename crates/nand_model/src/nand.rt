@@ -82,6 +82,15 @@ impl MemNand {
         self.pages
     }
 
+    /// The page of a block to program next, where the block is ready. It may be one past the last.
+    #[tactic(auto, using(crate::proofs::BlocksLemmas::block_there))]
+    pub fn next_page(&self, block: u32) -> Option<u32>
+        requires { block < block_count self.now }
+        ensures { result ≡ (flash_of self.now).next block }
+    {
+        self.blocks[block as usize].next
+    }
+
     /// Says what a page is, with power on, and fills the buffers where it is whole.
     pub fn read(
         &mut self,
