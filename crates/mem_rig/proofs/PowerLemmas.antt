@@ -1,7 +1,11 @@
--- The front stop goes.
-use Rattle.std.proofs.Common.{◌≡◌, ℕ, zero, suc, ◌-◌, ◌<◌, ◌≤◌, List, [], ◌∷◌, ◌++◌, length, take, drop, sym, ◌∙◌, ap, arith, append_assoc}
+-- The front stop goes, and what becomes of power in each device write.
+use Rattle.std.proofs.Common.{◌≡◌, ◌≢◌, ℕ, zero, suc, ◌-◌, ◌<◌, ◌≤◌, List, [], ◌∷◌, ◌++◌, length, take, drop, refl, sym, ◌∙◌, ap, arith, append_assoc, Bool, true, false}
 use Rattle.std.proofs.lemmas.List.{take_at, length-take}
 use Rattle.ft_base.specs.declared.power.Stop.{Stop}
+use Rattle.ft_media.specs.State.{Power}
+use Rattle.device_calls.specs.declared.ending.Current.TheVariants as current
+use Rattle.device_calls.specs.Calls.{ending_of}
+use Rattle.mem_rig.specs.Power.{current_of, power_after_write, PowerLeft}
 
 pub front_goes : (room rotated : List Stop) (armed : ℕ) → 0 < armed → armed ≤ length room → rotated ≡ drop 1 (take armed room) ++ take 1 (take armed room) → (front : Stop) × (take armed room ≡ front ∷ take (armed - 1) (rotated ++ drop armed room))
 front_goes [] rotated armed some few is = absurd (omega arith)
@@ -11,3 +15,23 @@ front_goes (x ∷ xs) rotated (suc n) some few is =
     let all : rotated ++ drop n xs ≡ take n xs ++ ((x ∷ []) ++ drop n xs) = ap (λ l. l ++ drop n xs) is ∙ append_assoc (take n xs) (x ∷ []) (drop n xs) in
     let long : length (take n xs) ≡ n = grind (arith, length-take {A = Stop}) in
     (x, ap (λ l. x ∷ l) (sym (ap (λ k. take k (rotated ++ drop n xs)) one ∙ ap (take n) all ∙ take_at (take n xs) ((x ∷ []) ++ drop n xs) n long)))
+
+-- what a device write leaves of power, however it ends
+left : (on : Bool) (stops : List Stop) (rest : ℕ) (listed : Bool) → let power : Power = record { on = on; stops = stops; rest = rest } in PowerLeft (ending_of (current_of power) listed) power (power_after_write power)
+left false stops rest listed = (refl, refl)
+left true [] rest true = record { was_on = refl; on = refl; stops = refl; rest = λ some. absurd (some refl) }
+left true [] rest false = record { was_on = refl; on = refl; stops = refl; rest = λ some. absurd (some refl) }
+left true (front ∷ later) zero listed = record { was_on = refl; on = refl; front = front; stops = refl; outcome = refl; due = refl; rest = refl }
+left true (front ∷ later) (suc rest) true = record { was_on = refl; on = refl; stops = refl; rest = λ some. omega arith }
+left true (front ∷ later) (suc rest) false = record { was_on = refl; on = refl; stops = refl; rest = λ some. omega arith }
+
+pub power_left : (power : Power) (listed : Bool) → PowerLeft (ending_of (current_of power) listed) power (power_after_write power)
+power_left power listed = left power.on power.stops power.rest listed
+
+-- the current is off only where power is
+on_where : (on : Bool) (stops : List Stop) (rest : ℕ) → current_of (record { on = on; stops = stops; rest = rest }) ≢ current.Off → on ≡ true
+on_where true stops rest powered = refl
+on_where false stops rest powered = absurd (powered refl)
+
+pub on_where_powered : (power : Power) → current_of power ≢ current.Off → power.on ≡ true
+on_where_powered power powered = on_where power.on power.stops power.rest powered

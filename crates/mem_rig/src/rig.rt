@@ -1,249 +1,368 @@
-ghost use Rattle.std.specs.Prelude.{◌≡◌, ◌<◌, ◌≤◌, ◌^◌, ℕ, length, None, Some, true, false, []};
-ghost use Rattle.ft_base.specs.declared.block.Place.{Place};
-ghost use Rattle.ft_base.specs.declared.block.Page.TheVariants.{Blank};
-ghost use Rattle.mem_rig.specs.Flash.{next_in, page_in, pages_at};
-ghost use Rattle.ft_media.specs.Media.{AreCounts};
+ghost use Rattle.std.specs.Prelude.{◌≡◌, ◌≤◌, ℕ, false, []};
+ghost use Rattle.ft_base.specs.Count.{last_count};
+ghost use Rattle.nand_model.specs.Nand.{flash_of, block_count, page_count};
+ghost use Rattle.nand_model.specs.Nand as nand_numbers;
+ghost use Rattle.disk_model.specs.Disk.{disk_of, size_of};
+ghost use Rattle.disk_model.specs.Disk as disk_numbers;
+ghost use Rattle.mem_rig.specs.Off.{IsUnready, IsSettled};
+ghost use Rattle.mem_rig.specs.Steps.{disk_beside, flash_beside, cuts_left};
 
-use crate::disk::Disk;
-use crate::flash::{EraseBlock, blank_block, cut_page, fresh, put_page, stop_all};
-use crate::power::Supply;
-use ft_base::{Block, Page, Place, Spare, bump};
-use ft_media::{Counts, Media, MediaError, Outcome, PageRead, Rig};
+use crate::supply::Supply;
+use device_calls::Ending;
+use disk_model::MemDisk;
+use ft_base::{Block, Outcome, Place, Spare, bump};
+use ft_media::{Counts, MediaError, PageRead};
+use nand_model::MemNand;
 use std::alloc::{AllocError, Global};
 
-/// Flash, disk and power in memory.
+/// Flash, disk and power in memory, with a queue of at most 16 stops. Chosen calls of the flash and of
+/// the disk fail.
+///
+/// The calls here say exactly what happens; those of `Media` and `Rig` are made of them.
 #[derive(Drop)]
 pub struct MemRig {
-    blocks: u32,
-    pages: u32,
-    size: u64,
-    flash: Vec<EraseBlock>,
-    disk: Disk,
-    counts: Counts,
-    flash_faults: u64,
-    disk_faults: u64,
-    cuts: u64,
+    nand: MemNand,
+    disk: MemDisk,
     supply: Supply,
-    ghost long: { length flash.items ≡ blocks },
-    ghost has_pages: { (b : ℕ) → b < blocks → pages ≤ pages_at flash.items b },
-    ghost unready: { supply.on ≡ false → (b : ℕ) → next_in flash.items b ≡ None },
-    ghost settled: { supply.on ≡ false → disk.recent.items ≡ [] },
-    ghost ahead: { (at : Place) (next : ℕ) → next_in flash.items at.block ≡ Some next → next ≤ at.page → page_in flash.items at ≡ Blank },
-    ghost blocks_fit: { blocks < 2 ^ 32 },
-    ghost pages_fit: { pages < 2 ^ 32 },
-    ghost size_fits: { size < 2 ^ 64 },
-    ghost counted: { AreCounts counts (record { flash = flash_faults; disk = disk_faults; cuts = cuts }) },
+    cuts: u64,
+    ghost cuts_small: { cuts ≤ last_count },
+    ghost unready: { supply.on ≡ false → IsUnready (flash_of nand) },
+    ghost settled: { supply.on ≡ false → IsSettled (disk_of disk) },
 }
 
 impl MemRig {
-    ghost use Rattle.mem_rig.specs.Rig.{state_of};
+    ghost use Rattle.std.specs.Prelude.{◌<◌, ◌^◌, true, length, Some, OnOk, OnErr, IfOk};
+    ghost use Rattle.std.specs.Result.{result_err};
+    ghost use Rattle.ft_media.specs.Media.{Found};
+    ghost use Rattle.ft_media.specs.Rig.{new_contents, fitted, powered};
+    ghost use Rattle.device_calls.specs.Calls.{failing_numbers, calls_made, ending_of, CountsRead, CountsWrite};
+    ghost use Rattle.nand_model.specs.Steps.{program_left, erase_left};
+    ghost use Rattle.disk_model.specs.Steps.{write_left, flush_left};
+    ghost use Rattle.mem_rig.specs.Power.{current_of, power_after_arm, PowerLeft};
+    ghost use Rattle.mem_rig.specs.Rig.{state_of, flash_calls, disk_calls, flash_listed, disk_listed};
+    ghost use Rattle.mem_rig.specs.Steps.{FlashWritten, DiskWritten, program_counts, erase_counts, write_counts, flush_counts, read_counts, read_refusal, flash_read_faults, disk_read_faults, cut_contents, cut_bumped};
 
-    /// Media without a block, with power on.
+    /// Media without a block, with power on and nothing armed. No call will fail.
     pub fn new(alloc: Global) -> MemRig
-        ensures { (state_of result).power ≡ record { on = true; stops = []; rest = 0 } }
+        ensures contents { (state_of result).contents ≡ new_contents 0 0 0 }
+        ensures counts { (state_of result).counts ≡ record { programs = 0; erases = 0; disk_reads = 0; disk_writes = 0; disk_flushes = 0 } }
+        ensures faults { (state_of result).faults ≡ record { flash = 0; disk = 0; cuts = 0 } }
+        ensures power { (state_of result).power ≡ record { on = true; stops = []; rest = 0 } }
+        ensures flash { failing_numbers (flash_calls result) ≡ [] }
+        ensures disk { failing_numbers (disk_calls result) ≡ [] }
+    {
+        MemRig::failing(alloc, Vec::new(alloc), Vec::new(alloc))
+    }
+
+    /// The same, but the calls of the flash and those of the disk with these numbers will fail, from 1 and
+    /// counted since now.
+    pub fn failing(alloc: Global, flash: Vec<u64>, disk: Vec<u64>) -> MemRig
+        ensures contents { (state_of result).contents ≡ new_contents 0 0 0 }
+        ensures counts { (state_of result).counts ≡ record { programs = 0; erases = 0; disk_reads = 0; disk_writes = 0; disk_flushes = 0 } }
+        ensures faults { (state_of result).faults ≡ record { flash = 0; disk = 0; cuts = 0 } }
+        ensures power { (state_of result).power ≡ record { on = true; stops = []; rest = 0 } }
+        ensures flash { failing_numbers (flash_calls result) ≡ flash.items }
+        ensures disk { failing_numbers (disk_calls result) ≡ disk.items }
+        ensures flash_made { calls_made (flash_calls result) ≡ 0 }
+        ensures disk_made { calls_made (disk_calls result) ≡ 0 }
     {
         MemRig {
-            blocks: 0,
-            pages: 0,
-            size: 0,
-            flash: Vec::new(alloc),
-            disk: Disk::new(alloc),
-            counts: Counts {
-                programs: 0,
-                erases: 0,
-                disk_reads: 0,
-                disk_writes: 0,
-                disk_flushes: 0,
-            },
-            flash_faults: 0,
-            disk_faults: 0,
-            cuts: 0,
+            nand: MemNand::new(alloc, flash),
+            disk: MemDisk::new(alloc, disk),
             supply: Supply::new(),
+            cuts: 0,
         }
     }
-}
 
-impl Media for MemRig {
-    ghost use Rattle.mem_rig.specs.Rig.{state_of};
-    ghost use Rattle.std.proofs.Common.{ap};
-    ghost use Rattle.mem_rig.specs.Disk.{stood};
-    ghost use Rattle.mem_rig.specs.Power.{few_stops};
-
-    ghost state = { state_of };
-
-    ghost blank_ahead = { λ m. m.ahead };
-
-    ghost off_is_crashed = { λ m off. record { next = λ i b. m.unready off b i; alone = λ lba. ap (λ l. stood l lba) (m.settled off) } };
-
-    ghost is_small = { λ m. record { blocks = m.blocks_fit; pages = m.pages_fit; size = m.size_fits; stops = few_stops m.supply; counts = m.counted } };
-
-    fn blocks(&self) -> u32 {
-        self.blocks
+    /// Erase blocks of the flash.
+    pub fn flash_blocks(&self) -> u32
+        ensures { result ≡ (state_of self.now).contents.shape.blocks }
+    {
+        self.nand.blocks()
     }
 
-    fn pages(&self) -> u32 {
-        self.pages
+    /// Pages of an erase block.
+    pub fn flash_pages(&self) -> u32
+        ensures { result ≡ (state_of self.now).contents.shape.pages }
+    {
+        self.nand.pages()
     }
 
-    fn disk_size(&self) -> u64 {
-        self.size
+    /// Blocks of the disk.
+    pub fn disk_blocks(&self) -> u64
+        ensures { result ≡ (state_of self.now).contents.shape.size }
+    {
+        self.disk.size()
     }
 
-    fn read_page(
+    /// The page of a block to program next, where the block is ready. It may be one past the last.
+    pub fn next_page(&self, block: u32) -> Option<u32>
+        requires { block < (state_of self.now).contents.shape.blocks }
+        ensures { result ≡ (state_of self.now).contents.flash.next block }
+    {
+        self.nand.next_page(block)
+    }
+
+    /// Reads a page of the flash. No stop cuts a read. It fails exactly where its number is listed.
+    pub fn read_flash(
         &mut self,
         at: Place,
         block: &mut Block,
         spare: &mut Spare,
-    ) -> Result<PageRead, MediaError> {
-        if !self.supply.on {
+    ) -> Result<PageRead, MediaError>
+        requires block { at.block < (state_of self.old).contents.shape.blocks }
+        requires page { at.page < (state_of self.old).contents.shape.pages }
+        ensures refused { result_err result ≡ read_refusal (state_of self.old).power.on (flash_listed self.old) }
+        ensures found { IfOk result (λ found. Found ((state_of self.old).contents.flash.page at) found block.new spare.new) }
+        ensures state { state_of self.new ≡ record (state_of self.old) { faults = flash_read_faults (result_err result) (state_of self.old).faults } }
+        ensures counted { (state_of self.old).power.on ≡ true → CountsRead (flash_listed self.old) (flash_calls self.old) (flash_calls self.new) }
+        ensures uncounted { (state_of self.old).power.on ≡ false → flash_calls self.new ≡ flash_calls self.old }
+        ensures disk_calls { disk_calls self.new ≡ disk_calls self.old }
+    {
+        if !self.supply.is_on() {
             self.cuts = bump(self.cuts);
             return Err(MediaError::PowerLost);
         }
-        match &self.flash[at.block as usize].pages[at.page as usize] {
-            Page::Blank => Ok(PageRead::Blank),
-            Page::Torn => Ok(PageRead::Torn),
-            Page::Whole(kept, beside) => {
-                *block = *kept;
-                *spare = *beside;
-                Ok(PageRead::Whole)
-            }
-        }
+        self.nand.read(at, block, spare)
     }
 
-    fn program(&mut self, at: Place, block: &Block, spare: &Spare) -> Result<(), MediaError> {
-        if !self.supply.on {
+    /// Programs the next page of a block that is ready, and says how that ends.
+    #[tactic(auto, using(crate::proofs::PowerLemmas::power_left))]
+    pub fn program_page(&mut self, at: Place, block: &Block, spare: &Spare) -> Ending
+        requires ready { (state_of self.old).contents.flash.next at.block ≡ Some at.page }
+        requires page { at.page < (state_of self.old).contents.shape.pages }
+        ensures ending { result ≡ ending_of (current_of (state_of self.old).power) (flash_listed self.old) }
+        ensures written { FlashWritten result (state_of self.old) (state_of self.new)
+            (program_left result (state_of self.old).contents.flash at block.now spare.now)
+            (program_counts result (state_of self.old).counts) }
+        ensures power { PowerLeft result (state_of self.old).power (state_of self.new).power }
+        ensures calls { CountsWrite (current_of (state_of self.old).power) result (flash_calls self.old) (flash_calls self.new) }
+        ensures disk_calls { disk_calls self.new ≡ disk_calls self.old }
+    {
+        let current = self.supply.current();
+        let ending = self.nand.program(at, block, spare, current);
+        settle_beside(&mut self.disk, ending);
+        self.supply.count_write();
+        self.cuts = cuts_after(self.cuts, ending);
+        ending
+    }
+
+    /// Erases a block, which is then ready, and says how that ends.
+    #[tactic(auto, using(crate::proofs::PowerLemmas::power_left))]
+    pub fn erase_block(&mut self, block: u32) -> Ending
+        requires { block < (state_of self.old).contents.shape.blocks }
+        ensures ending { result ≡ ending_of (current_of (state_of self.old).power) (flash_listed self.old) }
+        ensures written { FlashWritten result (state_of self.old) (state_of self.new)
+            (erase_left result (state_of self.old).contents.flash block) (erase_counts result (state_of self.old).counts) }
+        ensures power { PowerLeft result (state_of self.old).power (state_of self.new).power }
+        ensures calls { CountsWrite (current_of (state_of self.old).power) result (flash_calls self.old) (flash_calls self.new) }
+        ensures disk_calls { disk_calls self.new ≡ disk_calls self.old }
+    {
+        let current = self.supply.current();
+        let ending = self.nand.erase(block, current);
+        settle_beside(&mut self.disk, ending);
+        self.supply.count_write();
+        self.cuts = cuts_after(self.cuts, ending);
+        ending
+    }
+
+    /// Reads a block of the disk. No stop cuts a read. It fails exactly where its number is listed.
+    pub fn read_disk(&mut self, lba: u64, block: &mut Block) -> Result<(), MediaError>
+        ensures refused { result_err result ≡ read_refusal (state_of self.old).power.on (disk_listed self.old) }
+        ensures found { OnOk result (block.new ≡ ((state_of self.old).contents.disk lba).newest) }
+        ensures state { state_of self.new ≡ record (state_of self.old) {
+          counts = read_counts (result_err result) (state_of self.old).counts;
+          faults = disk_read_faults (result_err result) (state_of self.old).faults;
+        } }
+        ensures counted { (state_of self.old).power.on ≡ true → CountsRead (disk_listed self.old) (disk_calls self.old) (disk_calls self.new) }
+        ensures uncounted { (state_of self.old).power.on ≡ false → disk_calls self.new ≡ disk_calls self.old }
+        ensures flash_calls { flash_calls self.new ≡ flash_calls self.old }
+    {
+        if !self.supply.is_on() {
             self.cuts = bump(self.cuts);
             return Err(MediaError::PowerLost);
         }
-        match self.supply.begin() {
-            None => {
-                put_page(
-                    &mut self.flash,
-                    at,
-                    Page::Whole(*block, *spare),
-                    Some(at.page + 1),
-                );
-                self.counts.programs = bump(self.counts.programs);
-                Ok(())
-            }
-            Some(outcome) => {
-                cut_page(&mut self.flash, at, Page::Whole(*block, *spare), outcome);
-                self.disk.flush();
-                self.cuts = bump(self.cuts);
-                Err(MediaError::PowerLost)
-            }
-        }
+        self.disk.read(lba, block)
     }
 
-    fn erase(&mut self, block: u32) -> Result<(), MediaError> {
-        if !self.supply.on {
-            self.cuts = bump(self.cuts);
-            return Err(MediaError::PowerLost);
-        }
-        match self.supply.begin() {
-            None => {
-                blank_block(&mut self.flash, block);
-                self.counts.erases = bump(self.counts.erases);
-                Ok(())
-            }
-            Some(_) => {
-                stop_all(&mut self.flash);
-                self.disk.flush();
-                self.cuts = bump(self.cuts);
-                Err(MediaError::PowerLost)
-            }
-        }
+    /// Writes a block of the disk, and says how that ends. Refused for want of memory, nothing is changed,
+    /// and neither the call nor a device write is counted.
+    #[tactic(auto, using(crate::proofs::PowerLemmas::power_left, crate::proofs::PowerLemmas::on_where_powered))]
+    pub fn write_disk(&mut self, lba: u64, block: &Block) -> Result<Ending, AllocError>
+        ensures ending { IfOk result (λ ending. ending ≡ ending_of (current_of (state_of self.old).power) (disk_listed self.old)) }
+        ensures written { IfOk result (λ ending. DiskWritten ending (state_of self.old) (state_of self.new)
+            (write_left ending (state_of self.old).contents.disk lba block.now)
+            (write_counts ending (state_of self.old).counts)) }
+        ensures power { IfOk result (λ ending. PowerLeft ending (state_of self.old).power (state_of self.new).power) }
+        ensures calls { IfOk result (λ ending. CountsWrite (current_of (state_of self.old).power) ending (disk_calls self.old) (disk_calls self.new)) }
+        ensures flash_calls { flash_calls self.new ≡ flash_calls self.old }
+        ensures powered { OnErr result ((state_of self.old).power.on ≡ true) }
+        ensures refused { OnErr result (state_of self.new ≡ state_of self.old) }
+        ensures uncounted { OnErr result (disk_calls self.new ≡ disk_calls self.old) }
+    {
+        let current = self.supply.current();
+        let ending = self.disk.write(lba, block, current)?;
+        stop_beside(&mut self.nand, ending);
+        self.supply.count_write();
+        self.cuts = cuts_after(self.cuts, ending);
+        Ok(ending)
     }
 
-    fn read_block(&mut self, lba: u64, block: &mut Block) -> Result<(), MediaError> {
-        if !self.supply.on {
-            self.cuts = bump(self.cuts);
-            return Err(MediaError::PowerLost);
-        }
-        *block = self.disk.get(lba);
-        self.counts.disk_reads = bump(self.counts.disk_reads);
-        Ok(())
+    /// Flushes the disk, and says how that ends.
+    #[tactic(auto, using(crate::proofs::PowerLemmas::power_left))]
+    pub fn flush_blocks(&mut self) -> Ending
+        ensures ending { result ≡ ending_of (current_of (state_of self.old).power) (disk_listed self.old) }
+        ensures written { DiskWritten result (state_of self.old) (state_of self.new)
+            (flush_left result (state_of self.old).contents.disk) (flush_counts result (state_of self.old).counts) }
+        ensures power { PowerLeft result (state_of self.old).power (state_of self.new).power }
+        ensures calls { CountsWrite (current_of (state_of self.old).power) result (disk_calls self.old) (disk_calls self.new) }
+        ensures flash_calls { flash_calls self.new ≡ flash_calls self.old }
+    {
+        let current = self.supply.current();
+        let ending = self.disk.flush(current);
+        stop_beside(&mut self.nand, ending);
+        self.supply.count_write();
+        self.cuts = cuts_after(self.cuts, ending);
+        ending
     }
 
-    fn write_block(&mut self, lba: u64, block: &Block) -> Result<(), MediaError> {
-        if !self.supply.on {
-            self.cuts = bump(self.cuts);
-            return Err(MediaError::PowerLost);
-        }
-        if self.disk.put(lba, block).is_err() {
-            return Err(MediaError::OutOfMemory);
-        }
-        match self.supply.begin() {
-            None => {
-                self.counts.disk_writes = bump(self.counts.disk_writes);
-                Ok(())
-            }
-            Some(_) => {
-                stop_all(&mut self.flash);
-                self.disk.flush();
-                self.cuts = bump(self.cuts);
-                Err(MediaError::PowerLost)
-            }
-        }
-    }
-
-    fn flush_disk(&mut self) -> Result<(), MediaError> {
-        if !self.supply.on {
-            self.cuts = bump(self.cuts);
-            return Err(MediaError::PowerLost);
-        }
-        match self.supply.begin() {
-            None => {
-                self.disk.flush();
-                self.counts.disk_flushes = bump(self.counts.disk_flushes);
-                Ok(())
-            }
-            Some(_) => {
-                stop_all(&mut self.flash);
-                self.disk.flush();
-                self.cuts = bump(self.cuts);
-                Err(MediaError::PowerLost)
-            }
-        }
-    }
-}
-
-impl Rig for MemRig {
-    fn fit(&mut self, alloc: Global, blocks: u32, pages: u32, size: u64) -> Result<(), AllocError> {
-        let flash = fresh(alloc, blocks, pages)?;
-        self.disk.reset(alloc);
-        self.flash = flash;
-        self.blocks = blocks;
-        self.pages = pages;
-        self.size = size;
+    /// Makes flash and disk anew. Counts stay, and calls go on being counted. Refused, all is as before.
+    pub fn fit_anew(
+        &mut self,
+        alloc: Global,
+        blocks: u32,
+        pages: u32,
+        size: u64,
+    ) -> Result<(), AllocError>
+        ensures ok { OnOk result (state_of self.new ≡ fitted (state_of self.old) blocks pages size) }
+        ensures err { OnErr result (state_of self.new ≡ state_of self.old) }
+        ensures flash_calls { flash_calls self.new ≡ flash_calls self.old }
+        ensures disk_calls { disk_calls self.new ≡ disk_calls self.old }
+    {
+        self.nand.fit(alloc, blocks, pages)?;
+        self.disk.fit(alloc, size);
         self.supply = Supply::new();
         Ok(())
     }
 
-    fn arm(&mut self, after: u64, outcome: Outcome) {
+    /// Puts a stop to the end of the queue.
+    pub fn arm_stop(&mut self, after: u64, outcome: Outcome)
+        requires room { length (state_of self.old).power.stops < 16 }
+        requires after { 1 ≤ after }
+        ensures state { state_of self.new ≡ record (state_of self.old) { power = power_after_arm (state_of self.old).power after outcome } }
+        ensures flash_calls { flash_calls self.new ≡ flash_calls self.old }
+        ensures disk_calls { disk_calls self.new ≡ disk_calls self.old }
+    {
         self.supply.arm(after, outcome);
     }
 
-    fn armed(&self) -> u32 {
-        self.supply.armed
+    /// How many stops are armed.
+    pub fn stops(&self) -> u32
+        ensures armed { result ≡ length (state_of self.now).power.stops }
+        ensures few { result ≤ 16 }
+    {
+        self.supply.armed()
     }
 
-    fn cut(&mut self, _outcome: Outcome) {
-        stop_all(&mut self.flash);
-        self.disk.flush();
+    /// Turns power off, between two device writes.
+    pub fn cut_power(&mut self, outcome: Outcome)
+        ensures state { state_of self.new ≡ record (state_of self.old) {
+          contents = cut_contents outcome (state_of self.old).contents;
+          faults = cut_bumped (state_of self.old).faults;
+          power = record (state_of self.old).power { on = false };
+        } }
+        ensures flash_calls { flash_calls self.new ≡ flash_calls self.old }
+        ensures disk_calls { disk_calls self.new ≡ disk_calls self.old }
+    {
+        self.nand.stop();
+        self.disk.settle(outcome);
+        self.supply.turn(false);
         self.cuts = bump(self.cuts);
-        self.supply.on = false;
     }
 
-    fn power_on(&mut self) {
-        self.supply.on = true;
+    /// Turns power on.
+    pub fn turn_on(&mut self)
+        ensures state { state_of self.new ≡ powered (state_of self.old) }
+        ensures flash_calls { flash_calls self.new ≡ flash_calls self.old }
+        ensures disk_calls { disk_calls self.new ≡ disk_calls self.old }
+    {
+        self.supply.turn(true);
     }
 
-    fn is_on(&self) -> bool {
-        self.supply.on
+    /// Whether power is on.
+    pub fn has_power(&self) -> bool
+        ensures { result ≡ (state_of self.now).power.on }
+    {
+        self.supply.is_on()
     }
 
-    fn counts(&self) -> Counts {
-        self.counts
+    /// The counts of calls that answered Ok.
+    pub fn done(&self) -> Counts
+        ensures { result ≡ (state_of self.now).counts }
+    {
+        Counts {
+            programs: self.nand.programs(),
+            erases: self.nand.erases(),
+            disk_reads: self.disk.reads(),
+            disk_writes: self.disk.writes(),
+            disk_flushes: self.disk.flushes(),
+        }
+    }
+
+    /// How often the flash failed.
+    pub fn flash_faults(&self) -> u64
+        ensures { result ≡ (state_of self.now).faults.flash }
+    {
+        self.nand.faults()
+    }
+
+    /// How often the disk failed.
+    pub fn disk_faults(&self) -> u64
+        ensures { result ≡ (state_of self.now).faults.disk }
+    {
+        self.disk.faults()
+    }
+
+    /// How often power was lost, or was off at a call.
+    pub fn cuts(&self) -> u64
+        ensures { result ≡ (state_of self.now).faults.cuts }
+    {
+        self.cuts
+    }
+}
+
+/// The disk after a device write of the flash: settled where that was cut.
+fn settle_beside(disk: &mut MemDisk, ending: Ending)
+    ensures disk { disk_of disk.new ≡ disk_beside ending (disk_of disk.old) }
+    ensures size { size_of disk.new ≡ size_of disk.old }
+    ensures numbers { disk_numbers.SameNumbers disk.old disk.new }
+{
+    if let Ending::Cut(outcome) = ending {
+        disk.settle(outcome);
+    }
+}
+
+/// The flash after a device write of the disk: no block is ready where that was cut.
+fn stop_beside(nand: &mut MemNand, ending: Ending)
+    ensures flash { flash_of nand.new ≡ flash_beside ending (flash_of nand.old) }
+    ensures blocks { block_count nand.new ≡ block_count nand.old }
+    ensures pages { page_count nand.new ≡ page_count nand.old }
+    ensures numbers { nand_numbers.SameNumbers nand.old nand.new }
+{
+    if let Ending::Cut(_) = ending {
+        nand.stop();
+    }
+}
+
+/// The count of cuts after a device write.
+fn cuts_after(cuts: u64, ending: Ending) -> u64
+    ensures cuts { result ≡ cuts_left ending cuts }
+    ensures small { cuts ≤ last_count → result ≤ last_count }
+{
+    match ending {
+        Ending::Done => cuts,
+        Ending::Failed => cuts,
+        Ending::Cut(_) => bump(cuts),
+        Ending::Off => bump(cuts),
     }
 }

@@ -1,0 +1,66 @@
+-- Which calls of a device fail, and how a device write ends.
+use Rattle.std.specs.Prelude.{◌≡◌, ◌==◌, ◌≤◌, ℕ, Bool, true, false, List, if◌then◌else◌}
+use Rattle.std.specs.List.{list_any}
+use Rattle.ft_base.specs.Count.{bumped, last_count}
+use Rattle.device_calls.specs.declared.calls.Calls.{Calls}
+use Rattle.device_calls.specs.declared.ending.Current.{Current}
+use Rattle.device_calls.specs.declared.ending.Current.TheVariants as current
+use Rattle.device_calls.specs.declared.ending.Ending.{Ending}
+use Rattle.device_calls.specs.declared.ending.Ending.TheVariants as ending
+
+-- how many calls were made, how many of them were faults, and the numbers of those that fail
+abbrev pub calls_made : Calls → ℕ
+calls_made calls = calls.made
+
+abbrev pub fault_count : Calls → ℕ
+fault_count calls = calls.faults
+
+abbrev pub failing_numbers : Calls → List ℕ
+failing_numbers calls = calls.failing.items
+
+-- the number of the next call, from 1
+abbrev pub next_number : Calls → ℕ
+next_number calls = bumped calls.made
+
+-- that number is listed: the call fails, unless power stops it
+abbrev pub is_listed : Calls → Bool
+is_listed calls = list_any (λ n. n == next_number calls) (failing_numbers calls)
+
+-- a call with power on, or with power going off in it, is counted; one with power off isn't
+abbrev pub made_after : Current → ℕ → ℕ
+made_after current.Off made = made
+made_after (current.Stops outcome) made = bumped made
+made_after current.On made = bumped made
+
+-- how a device write ends, where its number is listed and where it isn't
+abbrev pub ending_of : Current → Bool → Ending
+ending_of current.Off listed = ending.Off
+ending_of (current.Stops outcome) listed = ending.Cut outcome
+ending_of current.On true = ending.Failed
+ending_of current.On false = ending.Done
+
+-- a device write that failed is a fault
+abbrev pub faults_after : Ending → ℕ → ℕ
+faults_after ending.Failed faults = bumped faults
+faults_after ending faults = faults
+
+-- a count of the device writes of one kind that were done
+abbrev pub bumped_if_done : Ending → ℕ → ℕ
+bumped_if_done ending.Done count = bumped count
+bumped_if_done ending count = count
+
+-- what a device write that ended so leaves of the count of calls
+pub record CountsWrite (current : Current) (ending : Ending) (old new : Calls) : Type 0 where
+  pub made : calls_made new ≡ made_after current (calls_made old)
+  pub faults : fault_count new ≡ faults_after ending (fault_count old)
+  pub failing : failing_numbers new ≡ failing_numbers old
+
+-- what a read leaves of it, where it failed and where it didn't
+pub record CountsRead (fails : Bool) (old new : Calls) : Type 0 where
+  pub made : calls_made new ≡ bumped (calls_made old)
+  pub faults : fault_count new ≡ (if fails then bumped (fault_count old) else fault_count old)
+  pub failing : failing_numbers new ≡ failing_numbers old
+
+-- the count of faults fits its type
+pub faults_small : (calls : Calls) → fault_count calls ≤ last_count
+faults_small calls = calls.faults_small

@@ -1,0 +1,4 @@
+pub mod Steps
+pub mod Store
+pub mod StoreValues
+pub mod Disk

@@ -1,0 +1,9 @@
+-- The values of each address, of the store that has them.
+use Rattle.std.specs.Prelude.{ℕ}
+use Rattle.ft_base.specs.Contents.{Values}
+use Rattle.disk_model.specs.declared.store.Store.{Store}
+use Rattle.disk_model.specs.Store.{values_in}
+
+-- the values of an address
+abbrev pub store_values : Store → ℕ → Values
+store_values store = values_in store.newest store.replaced.items

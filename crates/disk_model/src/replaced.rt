@@ -1,0 +1,8 @@
+use ft_base::Block;
+
+/// What a block write replaced: the block of an address, or None where none had been written.
+#[derive(Drop)]
+pub(crate) struct Replaced {
+    pub(crate) lba: u64,
+    pub(crate) block: Option<Box<Block>>,
+}

@@ -1,0 +1,40 @@
+-- What a list of erase blocks contains.
+use Rattle.std.specs.Prelude.{◌≡◌, ◌≤◌, ℕ, Option, None, Some, List, slice_get, slice_index_or}
+use Rattle.std.proofs.Common.{refl, ap}
+use Rattle.ft_base.specs.declared.block.Place.{Place}
+use Rattle.ft_base.specs.declared.block.Page.{Page}
+use Rattle.ft_base.specs.declared.block.Page.TheVariants as page
+use Rattle.nand_model.specs.declared.erase_block.EraseBlock.{EraseBlock}
+use Rattle.nand_model.specs.Pages.{page_in, page_of, no_bytes}
+
+-- page p of a block that may be there
+abbrev pub page_of_block : Option EraseBlock → ℕ → Page
+page_of_block None p = page.Blank
+page_of_block (Some block) p = page_in block p
+
+abbrev pub page_at : List EraseBlock → Place → Page
+page_at blocks at = page_of_block (slice_get blocks at.block) at.page
+
+abbrev pub next_of_block : Option EraseBlock → Option ℕ
+next_of_block None = None
+next_of_block (Some block) = block.next
+
+-- the page of a block to program next, where it is ready
+abbrev pub next_at : List EraseBlock → ℕ → Option ℕ
+next_at blocks block = next_of_block (slice_get blocks block)
+
+abbrev pub size_of_block : Option EraseBlock → ℕ
+size_of_block None = 0
+size_of_block (Some block) = block.pages
+
+-- how many pages a block has, and 0 where it is not there
+abbrev pub pages_at : List EraseBlock → ℕ → ℕ
+pages_at blocks block = size_of_block (slice_get blocks block)
+
+-- in a block that is ready, each page from the next one on is blank
+pub ahead_at : (blocks : List EraseBlock) (at : Place) (next : ℕ) → next_at blocks at.block ≡ Some next → next ≤ at.page → page_at blocks at ≡ page.Blank
+ahead_at blocks at next ready ahead = ahead_in (slice_get blocks at.block) next at.page ready ahead
+  where
+    ahead_in : (block : Option EraseBlock) (next p : ℕ) → next_of_block block ≡ Some next → next ≤ p → page_of_block block p ≡ page.Blank
+    ahead_in None next p ready ahead = refl
+    ahead_in (Some block) next p ready ahead = ap (λ found. page_of found (slice_index_or block.bytes.items p no_bytes)) (block.ahead next p ready ahead)

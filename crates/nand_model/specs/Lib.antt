@@ -1,0 +1,4 @@
+pub mod Steps
+pub mod Pages
+pub mod Blocks
+pub mod Nand

@@ -1,0 +1,54 @@
+-- What a flash in memory contains.
+use Rattle.std.specs.Prelude.{◌≡◌, ◌<◌, ◌≤◌, ◌^◌, ℕ, Some, length}
+use Rattle.ft_base.specs.Count.{last_count}
+use Rattle.ft_base.specs.declared.block.Place.{Place}
+use Rattle.ft_base.specs.declared.block.Page.TheVariants as page
+use Rattle.ft_base.specs.Contents.{Flash}
+use Rattle.device_calls.specs.declared.calls.Calls.{Calls}
+use Rattle.nand_model.specs.declared.nand.MemNand.{MemNand}
+use Rattle.nand_model.specs.Blocks.{page_at, next_at, ahead_at}
+
+-- the erase blocks, and the pages of each
+abbrev pub block_count : MemNand → ℕ
+block_count nand = length nand.blocks.items
+
+abbrev pub page_count : MemNand → ℕ
+page_count nand = nand.pages
+
+-- its pages, and for each block the page to program next
+abbrev pub flash_of : MemNand → Flash
+flash_of nand = record { page = page_at nand.blocks.items; next = next_at nand.blocks.items }
+
+-- its calls, and those that failed
+abbrev pub calls_of : MemNand → Calls
+calls_of nand = nand.calls
+
+-- the programs and the erases that were done
+abbrev pub programs_of : MemNand → ℕ
+programs_of nand = nand.programs
+
+abbrev pub erases_of : MemNand → ℕ
+erases_of nand = nand.erases
+
+-- its calls and counts stay
+pub record SameNumbers (old new : MemNand) : Type 0 where
+  pub calls : calls_of new ≡ calls_of old
+  pub programs : programs_of new ≡ programs_of old
+  pub erases : erases_of new ≡ erases_of old
+
+-- in a block that is ready, each page from the next one on is blank
+pub blank_ahead : (nand : MemNand) (at : Place) (next : ℕ) → (flash_of nand).next at.block ≡ Some next → next ≤ at.page → (flash_of nand).page at ≡ page.Blank
+blank_ahead nand at next = ahead_at nand.blocks.items at next
+
+-- the numbers fit their types
+pub block_count_small : (nand : MemNand) → block_count nand < 2 ^ 32
+block_count_small nand = nand.few
+
+pub page_count_small : (nand : MemNand) → page_count nand < 2 ^ 32
+page_count_small nand = nand.pages_small
+
+pub programs_small : (nand : MemNand) → programs_of nand ≤ last_count
+programs_small nand = nand.programs_small
+
+pub erases_small : (nand : MemNand) → erases_of nand ≤ last_count
+erases_small nand = nand.erases_small

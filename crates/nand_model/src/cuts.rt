@@ -1,0 +1,66 @@
+ghost use Rattle.std.specs.Prelude.{◌≡◌, ◌<◌, ℕ, length, slice_index_or};
+ghost use Rattle.ft_media.specs.declared.media.PageRead.TheVariants as read;
+ghost use Rattle.nand_model.specs.declared.erase_block.Bytes.{Bytes};
+ghost use Rattle.nand_model.specs.Pages.{page_of};
+ghost use Rattle.nand_model.specs.Steps.{torn, in_thirds, cut_erase};
+
+use ft_base::Outcome;
+use ft_media::PageRead;
+
+/// Makes each page blank.
+pub(crate) fn blank_all(found: &mut Vec<PageRead>)
+    ensures blank { (p : ℕ) → slice_index_or found.new.items p read.Blank ≡ read.Blank }
+    ensures length { length found.new.items ≡ length found.old.items }
+{
+    for page in found.iter_mut() {
+        *page = PageRead::Blank;
+    }
+}
+
+/// Makes of each page what a cut erase leaves of it.
+pub(crate) fn cut_all(found: &mut Vec<PageRead>, outcome: Outcome)
+    ensures cut { (p : ℕ) (bytes : Bytes) → page_of (slice_index_or found.new.items p read.Blank) bytes
+        ≡ cut_erase outcome p (page_of (slice_index_or found.old.items p read.Blank) bytes) }
+    ensures whole { (p : ℕ) → slice_index_or found.new.items p read.Blank ≡ read.Whole → slice_index_or found.old.items p read.Blank ≡ read.Whole }
+    ensures length { length found.new.items ≡ length found.old.items }
+{
+    let pages = found.len();
+    for p in 0..pages {
+        found[p] = cut_one(outcome, p, found[p]);
+    }
+}
+
+/// What a cut erase leaves of page `p`.
+fn cut_one(outcome: Outcome, p: usize, found: PageRead) -> PageRead
+    ensures cut { (bytes : Bytes) → page_of result bytes ≡ cut_erase outcome p (page_of found bytes) }
+    ensures whole { result ≡ read.Whole → found ≡ read.Whole }
+{
+    match outcome {
+        Outcome::Blank => PageRead::Blank,
+        Outcome::Whole => found,
+        Outcome::Torn => tear(found),
+        Outcome::Mixed => one_in_thirds(p % 3, found),
+    }
+}
+
+fn one_in_thirds(third: usize, found: PageRead) -> PageRead
+    ensures cut { (bytes : Bytes) → page_of result bytes ≡ in_thirds third (page_of found bytes) }
+    ensures whole { result ≡ read.Whole → found ≡ read.Whole }
+{
+    match third {
+        0 => found,
+        1 => PageRead::Blank,
+        _ => tear(found),
+    }
+}
+
+fn tear(found: PageRead) -> PageRead
+    ensures cut { (bytes : Bytes) → page_of result bytes ≡ torn (page_of found bytes) }
+    ensures whole { result ≡ read.Whole → found ≡ read.Whole }
+{
+    match found {
+        PageRead::Blank => PageRead::Blank,
+        PageRead::Whole => PageRead::Torn,
+        PageRead::Torn => PageRead::Torn,
+    }
+}
