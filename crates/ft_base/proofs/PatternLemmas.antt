@@ -30,8 +30,8 @@ pub tag_of_zero : (lba found : ℕ) (block : Block) → found ≡ tag_in block �
 tag_of_zero lba found block is none other = (
   other,
   λ tag some small same.
-    let there : tag ≡ 0 = sym (ap tag_in same ∙ tag_in_pattern lba tag small) ∙ sym is ∙ none in
-    absurd (omega arith),
+      let there : tag ≡ 0 = sym (ap tag_in same ∙ tag_in_pattern lba tag small) ∙ sym is ∙ none in
+      absurd (omega arith),
 )
 
 -- a block with a tag that isn't the pattern of it is none
@@ -39,8 +39,8 @@ pub tag_of_pattern : (lba found : ℕ) (block wanted : Block) → found ≡ tag_
 tag_of_pattern lba found block wanted is some pattern other = (
   λ zero. some (is ∙ ap tag_in zero ∙ tag_in_zero),
   λ tag above small same.
-    let there : tag ≡ found = sym (ap tag_in same ∙ tag_in_pattern lba tag small) ∙ sym is in
-    other (same ∙ ap (pat lba) there ∙ sym pattern),
+      let there : tag ≡ found = sym (ap tag_in same ∙ tag_in_pattern lba tag small) ∙ sym is in
+      other (same ∙ ap (pat lba) there ∙ sym pattern),
 )
 
 -- a block that is the pattern of its tag

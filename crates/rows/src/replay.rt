@@ -1,0 +1,184 @@
+use flashtier_cli::run;
+use ft_base::{MemSink, MemSource};
+use ft_media::{Counts, Rig};
+use mem_rig::MemRig;
+use std::alloc::{AllocError, Global};
+use std::test::Fail;
+
+const EMPTY: &str = "e3b0c44298fc1c149afbf4c8996fb92427ae41e4649b934ca495991b7852b855";
+
+/// What a run printed, its status, and the calls of the media.
+#[derive(Drop)]
+struct Outcome {
+    status: u8,
+    text: Vec<u8>,
+    counts: Counts,
+}
+
+fn words(alloc: Global, spelled: &[&str]) -> Result<Vec<String>, AllocError> {
+    let mut words = Vec::new(alloc);
+    for word in spelled {
+        words.push(String::from_str(alloc, word)?)?;
+    }
+    Ok(words)
+}
+
+/// Runs `replay` over this rig, with the trace in pieces of 7 bytes.
+fn replay_on(alloc: Global, trace: &[u8], mut rig: MemRig) -> Result<Outcome, AllocError> {
+    let words = words(alloc, &["replay"])?;
+    let mut source = MemSource::new(Vec::from_slice(alloc, trace)?, 7, Vec::new(alloc));
+    let mut sink = MemSink::new(alloc, 100_000, 100, Vec::new(alloc))?;
+    let status = run(alloc, words.as_slice(), &mut source, &mut sink, &mut rig);
+    Ok(Outcome {
+        status,
+        text: Vec::from_slice(alloc, sink.bytes())?,
+        counts: rig.counts(),
+    })
+}
+
+fn replay(alloc: Global, trace: &[u8]) -> Result<Outcome, AllocError> {
+    replay_on(alloc, trace, MemRig::new(alloc))
+}
+
+#[test]
+fn reads_answer_what_was_written(rt: HostRuntime) -> Result<(), Fail> {
+    let alloc = rt.alloc();
+    let empty = replay(alloc, b"")?;
+    assert_eq!(rt; empty.status, 0);
+    let end = format!(in alloc; "end 0 0 0 {EMPTY}\n")?;
+    assert_eq!(rt; empty.text.as_slice(), end.as_bytes());
+    let first = replay(alloc, b"w 5 1 7\nr 5 1\nr 6 1\n")?;
+    assert_eq!(rt; first.status, 0);
+    let text =
+        b"wrote 5 1\nread 5 7\nread 6 0\nend 1 2 2 227d374bf90b30cb019fe5158a706a1bfaf9e95d5fd37c6907f7af0cd4bd0483\n";
+    assert_eq!(rt; first.text.as_slice(), text.as_slice());
+    // The block is programmed once and read from the flash; only address 6 is read from the disk, by its
+    // line and at the end.
+    assert_eq!(rt; (first.counts.programs, first.counts.erases), (1, 0));
+    assert_eq!(rt; (first.counts.disk_reads, first.counts.disk_writes), (2, 0));
+    // The last line needs no line feed, and the last block of the volume is in it.
+    let last = replay(alloc, b"w 1048575 1 1")?;
+    assert_eq!(rt; last.status, 0);
+    assert!(rt; last.text.starts_with(b"wrote 1048575 1\nend 1 0 1 "));
+    Ok(())
+}
+
+#[test]
+fn the_first_refused_line_ends_the_run(rt: HostRuntime) -> Result<(), Fail> {
+    let alloc = rt.alloc();
+    let refused: [(&[u8], &[u8]); 20] = [
+        (b"w 1048574 3 1\n", b"line 1: OutOfVolume\n"),
+        (b"r 1048576 1\n", b"line 1: OutOfVolume\n"),
+        (b"w 18446744073709551615 1 1\n", b"line 1: OutOfVolume\n"),
+        (b"w 18446744073709551616 1 1\n", b"line 1: BadWord\n"),
+        (b"f\n", b"line 1: BadWord\n"),
+        (b"\n", b"line 1: BadWord\n"),
+        (b"w\n", b"line 1: BadWord\n"),
+        (b"w 5 1\n", b"line 1: BadWord\n"),
+        (b"w 5 1 0\n", b"line 1: BadWord\n"),
+        (b"w 5 0 1\n", b"line 1: BadWord\n"),
+        (b"w 5 65537 1\n", b"line 1: BadWord\n"),
+        (b"w 05 1 1\n", b"line 1: BadWord\n"),
+        (b"w  5 1 1\n", b"line 1: BadWord\n"),
+        (b"w 5 1 1 \n", b"line 1: BadWord\n"),
+        (b"w\t5 1 1\n", b"line 1: BadWord\n"),
+        (b"w 5 1 1\r\n", b"line 1: BadWord\n"),
+        (b"r 5 1 1\n", b"line 1: BadWord\n"),
+        (b"\xff\xfe\x00\n", b"line 1: BadWord\n"),
+        (b"# a comment\n", b"line 1: BadWord\n"),
+        (
+            b"w 0 1 1\nr 0 1\nq 5",
+            b"wrote 0 1\nread 0 1\nline 3: BadWord\n",
+        ),
+    ];
+    for (trace, text) in refused {
+        let outcome = replay(alloc, trace)?;
+        assert_eq!(rt; outcome.status, 2);
+        assert_eq!(rt; outcome.text.as_slice(), text);
+    }
+    Ok(())
+}
+
+#[test]
+fn a_run_has_room_for_1024_blocks(rt: HostRuntime) -> Result<(), Fail> {
+    let alloc = rt.alloc();
+    let full = replay(alloc, b"w 0 1024 1\nr 1023 1")?;
+    assert_eq!(rt; full.status, 0);
+    assert!(rt;
+        full.text
+            .starts_with(b"wrote 0 1024\nread 1023 1\nend 1 1 1024 ")
+    );
+    assert_eq!(rt; full.counts.programs, 1024);
+    let over = replay(alloc, b"w 0 1024 1\nw 0 1 2\n")?;
+    assert_eq!(rt; over.status, 2);
+    assert_eq!(rt;
+        over.text.as_slice(),
+        b"wrote 0 1024\nline 2: TooLong\n".as_slice()
+    );
+    let wide = replay(alloc, b"w 0 1025 1\n")?;
+    assert_eq!(rt; (wide.status, wide.counts.programs), (2, 0));
+    assert_eq!(rt; wide.text.as_slice(), b"line 1: TooLong\n".as_slice());
+    Ok(())
+}
+
+#[test]
+fn wrong_words_print_nothing(rt: HostRuntime) -> Result<(), Fail> {
+    let alloc = rt.alloc();
+    let wrong: [&[&str]; 7] = [
+        &[],
+        &["play"],
+        &["replay", "x"],
+        &["replay", "--help"],
+        &["--", "replay"],
+        &["Replay"],
+        &["replay "],
+    ];
+    for spelled in wrong {
+        let words = words(alloc, spelled)?;
+        let mut source = MemSource::new(Vec::from_slice(alloc, b"w 0 1 1\n")?, 7, Vec::new(alloc));
+        let mut sink = MemSink::new(alloc, 100, 100, Vec::new(alloc))?;
+        let mut rig = MemRig::new(alloc);
+        let status = run(alloc, words.as_slice(), &mut source, &mut sink, &mut rig);
+        assert_eq!(rt; status, 1);
+        assert!(rt; sink.bytes().is_empty());
+    }
+    Ok(())
+}
+
+#[test]
+fn each_fault_has_its_status(rt: HostRuntime) -> Result<(), Fail> {
+    let alloc = rt.alloc();
+    let trace = b"w 0 1 1\nr 0 1\n";
+    // The calls of the flash are a program, the read of the second line, and the read at the end.
+    let texts: [&[u8]; 3] = [b"", b"wrote 0 1\n", b"wrote 0 1\nread 0 1\n"];
+    for (i, text) in texts.iter().enumerate() {
+        let rig = MemRig::failing(alloc, [i as u64 + 1].to_vec(alloc)?, Vec::new(alloc));
+        let outcome = replay_on(alloc, trace, rig)?;
+        assert_eq!(rt; outcome.status, 5);
+        assert_eq!(rt; outcome.text.as_slice(), *text);
+    }
+    let rig = MemRig::failing(alloc, Vec::new(alloc), [1].to_vec(alloc)?);
+    let outcome = replay_on(alloc, b"r 6 1\n", rig)?;
+    assert_eq!(rt; (outcome.status, outcome.text.len()), (6, 0));
+    Ok(())
+}
+
+#[test]
+fn streams_that_fail_end_the_run(rt: HostRuntime) -> Result<(), Fail> {
+    let alloc = rt.alloc();
+    let words = words(alloc, &["replay"])?;
+    let trace = Vec::from_slice(alloc, b"w 5 1 7\nr 5 1\nr 6 1\n")?;
+    let mut source = MemSource::new(trace, 4, [3].to_vec(alloc)?);
+    let mut sink = MemSink::new(alloc, 1000, 100, Vec::new(alloc))?;
+    let mut rig = MemRig::new(alloc);
+    let status = run(alloc, words.as_slice(), &mut source, &mut sink, &mut rig);
+    assert_eq!(rt; status, 3);
+    assert!(rt; sink.bytes().is_empty());
+    let trace = Vec::from_slice(alloc, b"w 5 1 7\nr 5 1\nr 6 1\n")?;
+    let mut source = MemSource::new(trace, 100, Vec::new(alloc));
+    let mut sink = MemSink::new(alloc, 1000, 5, [2].to_vec(alloc)?)?;
+    let status = run(alloc, words.as_slice(), &mut source, &mut sink, &mut rig);
+    assert_eq!(rt; status, 4);
+    assert_eq!(rt; sink.bytes(), b"wrote".as_slice());
+    Ok(())
+}
