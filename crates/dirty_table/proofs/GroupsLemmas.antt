@@ -1,0 +1,106 @@
+-- The keys of the cache as the groups in order of use.
+use Rattle.std.proofs.Common.{◌≡◌, ◌≢◌, ℕ, suc, ◌+◌, ◌-◌, ◌<◌, ◌⊎◌, true, false, ◌||◌, List, [], ◌∷◌, length, take, Option, Some, None, is_some, refl, sym, ap, ◌∙◌, cond, nat_eq, arith, inl, inr}
+use Rattle.std.proofs.lemmas.List.{take_all, length-map}
+use Rattle.std.proofs.lemmas.Bool.{eqb-true}
+use Rattle.std.proofs.lemmas.Map.Keys.{IsDistinct-head, IsDistinct-tail}
+use Rattle.std.specs.Map.{keys_of, lookup, lookup_entry, remove_entry}
+use Rattle.std.specs.List.{IsDistinct, AllByRecursion}
+use Rattle.std.specs.Option.{option_map_or}
+use Rattle.lru.specs.LruCache.{LruCache, put_entries}
+use Rattle.dirty_table.specs.Groups.{has, without, touched}
+
+-- a group that is not there is not taken out
+pub without_absent : (k : ℕ) (xs : List ℕ) → has k xs ≡ false → without k xs ≡ xs
+without_absent k [] h = refl
+without_absent k (x ∷ xs) h = (elim (nat_eq k x) as (λ b. nat_eq k x ≡ b → without k (x ∷ xs) ≡ x ∷ xs) [
+  | true ↦ λ t. let bad : true ≡ false = rw t at h in cc
+  | false ↦ λ t. rw t (ap (λ l. x ∷ l) (without_absent k xs (rw t at h)))
+]) refl
+
+module _ {V : Type 0} (k : ℕ) where
+  -- the keys that are left of the entries
+  pub keys_remove : (es : List (ℕ × V)) → keys_of (remove_entry (nat_eq k) es) ≡ without k (keys_of es)
+  keys_remove [] = refl
+  keys_remove (e ∷ es) =
+      elim (nat_eq k e.0) as (λ b. keys_of (cond b es (e ∷ remove_entry (nat_eq k) es)) ≡ cond b (keys_of es) (e.0 ∷ without k (keys_of es))) [
+        | true ↦ refl
+        | false ↦ ap (λ l. e.0 ∷ l) (keys_remove es)
+      ]
+
+  -- a look-up finds exactly the keys
+  pub has_lookup : (es : List (ℕ × V)) → is_some (lookup (nat_eq k) es) ≡ has k (keys_of es)
+  has_lookup [] = refl
+  has_lookup (e ∷ es) =
+      elim (nat_eq k e.0) as (λ b. is_some (cond b (Some e.1) (lookup (nat_eq k) es)) ≡ (b || has k (keys_of es))) [
+        | true ↦ refl
+        | false ↦ has_lookup es
+      ]
+
+  pub has_entry : (es : List (ℕ × V)) → is_some (lookup_entry (nat_eq k) es) ≡ has k (keys_of es)
+  has_entry [] = refl
+  has_entry (e ∷ es) =
+      elim (nat_eq k e.0) as (λ b. is_some (cond b (Some e) (lookup_entry (nat_eq k) es)) ≡ (b || has k (keys_of es))) [
+        | true ↦ refl
+        | false ↦ has_entry es
+      ]
+
+  -- the entry found has the key
+  pub key_of_entry : (es : List (ℕ × V)) (f : ℕ × V) → lookup_entry (nat_eq k) es ≡ Some f → k ≡ f.0
+  key_of_entry [] f h = cc
+  key_of_entry (e ∷ es) f h = (elim (nat_eq k e.0) as (λ b. nat_eq k e.0 ≡ b → k ≡ f.0) [
+    | true ↦ λ t. let h' = rw t at h in let same : e ≡ f = cc in eqb-true k e.0 t ∙ ap (λ p. p.0) same
+    | false ↦ λ t. key_of_entry es f (rw t at h)
+  ]) refl
+
+-- with room, `put` touches its key
+pub keys_put : {V : Type 0} (c : LruCache ℕ V) (k : ℕ) (v : V) → (has k (keys_of c.entries) ≡ true) ⊎ (length (keys_of c.entries) < c.cap)
+    → keys_of (put_entries nat_eq c k v) ≡ touched k (keys_of c.entries)
+keys_put {V} c k v room = go (lookup_entry (nat_eq k) c.entries) refl
+  where
+    go : (o : Option (ℕ × V)) → lookup_entry (nat_eq k) c.entries ≡ o
+        → keys_of (option_map_or (λ e. (e.0, v) ∷ remove_entry (nat_eq k) c.entries) o ((k, v) ∷ take (c.cap - 1) c.entries)) ≡ touched k (keys_of c.entries)
+    go None e =
+        let absent : has k (keys_of c.entries) ≡ false = sym (has_entry k c.entries) ∙ ap (λ o. is_some o) e in
+        let fits : length (keys_of c.entries) < c.cap = elim room [ inl h ↦ cc | inr h ↦ h ] in
+        let len : length (keys_of c.entries) ≡ length c.entries = length-map c.entries (λ e. e.0) in
+        rw (take_all (c.cap - 1) c.entries (omega arith), without_absent k (keys_of c.entries) absent) refl
+    go (Some f) e =
+        rw (← key_of_entry k c.entries f e) (ap (λ l. k ∷ l) (keys_remove k c.entries))
+
+-- ---- for callers: what is in the list after a step
+
+pub has-without_other : (q g : ℕ) (xs : List ℕ) → q ≢ g → has q (without g xs) ≡ has q xs
+has-without_other q g [] apart = refl
+has-without_other q g (x ∷ xs) apart = (elim (nat_eq g x) as (λ b. nat_eq g x ≡ b → has q (cond b xs (x ∷ without g xs)) ≡ has q (x ∷ xs)) [
+  | true ↦ λ t.
+      let at : g ≡ x = eqb-true g x t in
+      let other : nat_eq q x ≡ false = grind (arith, at, apart) in
+      sym (rw other refl)
+  | false ↦ λ _. ap (λ b. nat_eq q x || b) (has-without_other q g xs apart)
+]) refl
+
+has-apart : (g : ℕ) (xs : List ℕ) → AllByRecursion (λ y. nat_eq g y ≡ false) xs → has g xs ≡ false
+has-apart g [] none = refl
+has-apart g (x ∷ xs) none = rw none.0 (has-apart g xs none.1)
+
+-- in a list of distinct groups one that is taken out is gone
+pub has-without_same : (g : ℕ) (xs : List ℕ) → IsDistinct nat_eq xs → has g (without g xs) ≡ false
+has-without_same g [] distinct = refl
+has-without_same g (x ∷ xs) distinct = (elim (nat_eq g x) as (λ b. nat_eq g x ≡ b → has g (cond b xs (x ∷ without g xs)) ≡ false) [
+  | true ↦ λ t. rw (eqb-true g x t) (has-apart x xs (IsDistinct-head nat_eq x xs distinct))
+  | false ↦ λ f. rw f (has-without_same g xs (IsDistinct-tail nat_eq x xs distinct))
+]) refl
+
+pub has-touched : (q g : ℕ) (xs : List ℕ) → has q (touched g xs) ≡ (nat_eq q g || has q xs)
+has-touched q g xs = (elim (nat_eq q g) as (λ b. nat_eq q g ≡ b → (b || has q (without g xs)) ≡ (b || has q xs)) [
+  | true ↦ λ _. refl
+  | false ↦ λ f. has-without_other q g xs (λ same. let bad : true ≡ false = sym (grind (arith, same)) ∙ f in cc)
+]) refl
+
+pub length-without : (g : ℕ) (xs : List ℕ) → length (without g xs) + cond (has g xs) 1 0 ≡ length xs
+length-without g [] = refl
+length-without g (x ∷ xs) =
+    elim (nat_eq g x) as (λ b. length (cond b xs (x ∷ without g xs)) + cond (b || has g xs) 1 0 ≡ suc (length xs)) [
+      | true ↦ omega arith
+      | false ↦ omega (arith, length-without g xs)
+    ]
