@@ -1,12 +1,12 @@
-ghost use Rattle.std.specs.Prelude.{◌≡◌, ◌≢◌, ◌≤◌, ◌↔◌, ◌++◌, ◌∷◌, [], ℕ, List, Some, Result, map, take};
+ghost use Rattle.std.specs.Prelude.{◌≡◌, ◌≤◌, ◌↔◌, ◌++◌, ◌∷◌, [], ℕ, List, Some, Result, map, take};
 ghost use Rattle.std.specs.String.{string_bytes};
-ghost use Rattle.std.specs.Io.KnownBytes.{Appends, IsAtEnd};
+ghost use Rattle.std.specs.Io.KnownBytes.{Appends, Consumes, IsAtEnd};
 ghost use Rattle.ft_base.specs.Count.{Rose, RoseBy};
 ghost use Rattle.trace_model.specs.declared.line.Line.{Line};
 ghost use Rattle.trace_model.specs.declared.line.LineError.{LineError};
 ghost use Rattle.trace_model.specs.Run.{Ran, told, blocks_in, end_of};
 ghost use Rattle.trace_model.specs.Text.{text};
-ghost use Rattle.trace_model.specs.Told.{RunsOver, next_answers, next_refusal, refusal};
+ghost use Rattle.trace_model.specs.Told.{RunsOver, WasRun, ended_readings, next_answers, next_refusal, refusal};
 ghost use Rattle.flashtier_cli.specs.Command.{IsReplay};
 ghost use Rattle.flashtier_cli.specs.Defaults.{default_size, default_room};
 
@@ -29,7 +29,7 @@ use write_back::WriteBack;
 /// | 0 | the source was read to its end, and every line was run |
 /// | 1 | the words are no command; nothing is read or printed |
 /// | 2 | a line was refused, after those before it were run; the last line printed says why |
-/// | 3 | the source failed; nothing was run or printed |
+/// | 3 | the source failed, after the lines that ended before were run |
 /// | 4 | the sink failed; what it took is a front of the text |
 /// | 5, 6 | the flash, the disk failed |
 /// | 7 | memory was refused |
@@ -55,15 +55,19 @@ pub fn run<I: Source, O: Sink, R: Rig>(
         × (next_refusal default_room run left ≡ Some cause)
         × Appends (O.taken sink.old) (O.taken sink.new) (text (told run ++ refusal run cause)) }
 
-    // A fault or want of memory comes after the answers of whole lines and the first of those of the next one.
-    ensures source { result ≡ 3 → Rose (I.faults source.old) (I.faults source.new) × (O.taken sink.new ≡ O.taken sink.old) }
+    // Where the source failed, the lines that ended before were run. Another fault or want of memory comes
+    // after the answers of whole lines and the first of those of the next one.
+    ensures source { result ≡ 3 → Rose (I.faults source.old) (I.faults source.new) × ((bytes : List ℕ) × (run : List Ran)
+        × Consumes (I.left source.old) (I.left source.new) bytes
+        × WasRun default_room (ended_readings default_size bytes) run []
+        × Appends (O.taken sink.old) (O.taken sink.new) (text (told run))) }
     ensures sink { result ≡ 4 → Rose (O.faults sink.old) (O.faults sink.new) }
     ensures flash { result ≡ 5 → Rose (R.state rig.old).faults.flash (R.state rig.new).faults.flash }
     ensures disk { result ≡ 6 → Rose (R.state rig.old).faults.disk (R.state rig.new).faults.disk }
     ensures front { result ≡ 4 → (run : List Ran) × (left : List (Result Line LineError)) × (n : ℕ)
         × RunsOver (I.left source.old) default_size default_room run left
         × Appends (O.taken sink.old) (O.taken sink.new) (take n (text (told run ++ next_answers default_room run left))) }
-    ensures part { 3 ≤ result → result ≢ 4 → (run : List Ran) × (left : List (Result Line LineError)) × (n : ℕ)
+    ensures part { 5 ≤ result → (run : List Ran) × (left : List (Result Line LineError)) × (n : ℕ)
         × RunsOver (I.left source.old) default_size default_room run left
         × Appends (O.taken sink.old) (O.taken sink.new) (text (told run ++ take n (next_answers default_room run left))) }
     ensures known { result ≤ 7 }

@@ -167,13 +167,21 @@ fn each_fault_has_its_status(rt: HostRuntime) -> Result<(), Fail> {
 fn streams_that_fail_end_the_run(rt: HostRuntime) -> Result<(), Fail> {
     let alloc = rt.alloc();
     let words = words(alloc, &["replay"])?;
-    let trace = Vec::from_slice(alloc, b"w 5 1 7\nr 5 1\nr 6 1\n")?;
+    // The first line ended before the fault, and the second did not.
+    let trace = Vec::from_slice(alloc, b"w 0 1 1\nr 0 1\n")?;
     let mut source = MemSource::new(trace, 4, [3].to_vec(alloc)?);
     let mut sink = MemSink::new(alloc, 1000, 100, Vec::new(alloc))?;
     let mut rig = MemRig::new(alloc);
     let status = run(alloc, words.as_slice(), &mut source, &mut sink, &mut rig);
     assert_eq!(rt; status, 3);
-    assert!(rt; sink.bytes().is_empty());
+    assert_eq!(rt; sink.bytes(), b"wrote 0 1\n".as_slice());
+    // A refused line before the fault ends the run first.
+    let trace = Vec::from_slice(alloc, b"f\nr 0 1\n")?;
+    let mut source = MemSource::new(trace, 4, [2].to_vec(alloc)?);
+    let mut sink = MemSink::new(alloc, 1000, 100, Vec::new(alloc))?;
+    let status = run(alloc, words.as_slice(), &mut source, &mut sink, &mut rig);
+    assert_eq!(rt; status, 2);
+    assert_eq!(rt; sink.bytes(), b"line 1: BadWord\n".as_slice());
     let trace = Vec::from_slice(alloc, b"w 5 1 7\nr 5 1\nr 6 1\n")?;
     let mut source = MemSource::new(trace, 100, Vec::new(alloc));
     let mut sink = MemSink::new(alloc, 1000, 5, [2].to_vec(alloc)?)?;

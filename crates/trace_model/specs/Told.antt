@@ -27,6 +27,10 @@ unended false = Err TooLong ∷ []
 abbrev pub readings_in : ℕ → Bool → List ℕ → List (Result Line LineError)
 readings_in size whole bytes = map (plain_line_of size) (lines_in whole bytes) ++ unended whole
 
+-- what the lines say that end within these bytes
+abbrev pub ended_readings : ℕ → List ℕ → List (Result Line LineError)
+ended_readings size bytes = map (plain_line_of size) (lines_in false bytes)
+
 -- what the lines of a trace say; of one that is too long, those that end within the limit
 abbrev pub readings : ℕ → List ℕ → List (Result Line LineError)
 readings size trace = if nat_lt (length trace) trace_limit then readings_in size true trace else readings_in size false (take trace_limit trace)

@@ -1,30 +1,34 @@
 -- The readings of a trace, line by line, and of what a source gave.
-use Rattle.std.proofs.Common.{◌≡◌, ◌≢◌, ◌<◌, ◌≤◌, ◌+◌, ◌∷◌, ◌++◌, [], ℕ, nat_le, nat_lt, Bool, true, false, List, Option, Some, None, Result, Ok, Err, map, take, length, inl, inr, refl, sym, ap, ◌∙◌, subst, append_assoc, arith, if◌then◌else◌}
+use Rattle.std.proofs.Common.{◌≡◌, ◌≢◌, ◌==◌, ◌<◌, ◌≤◌, ◌+◌, ◌-◌, ◌∷◌, ◌++◌, [], ℕ, nat_le, nat_lt, Bool, true, false, List, Option, Some, None, Result, Ok, Err, map, take, length, inl, inr, refl, sym, ap, ◌∙◌, subst, append_assoc, arith, if◌then◌else◌}
 use Rattle.std.proofs.lemmas.List.{map-append, append-nil, length-append}
 use Rattle.std.proofs.lemmas.Bool.{cases_Bool}
 use Rattle.std.proofs.lemmas.Bool.Decides.{nat_tests}
-use Rattle.std.proofs.Math.Seq.{take-length, take-append_seam}
+use Rattle.std.proofs.Math.Seq.{take-length, take-append_seam, take-append-add}
 use Rattle.std.specs.Io.KnownBytes.{Consumes, IsAtEnd, Appends}
 use Rattle.ft_base.proofs.AppendsLemmas.{appends_none}
 use Rattle.trace_model.specs.declared.line.Line.{Line}
 use Rattle.trace_model.specs.declared.line.LineError.{LineError}
 use Rattle.trace_model.specs.declared.line.LineError.TheVariants.{TooLong}
 use Rattle.trace_model.specs.declared.answer.Answer.{Answer}
-use Rattle.trace_model.specs.Lines.{lines_in, plain_line_of}
+use Rattle.trace_model.specs.Lines.{lines_in, plain_line_of, onto_first, onto_ended}
 use Rattle.trace_model.specs.Run.{Ran, uncut, lines_of, blocks_in, block_count, disk_after, answers_of}
-use Rattle.trace_model.specs.Told.{AllUncut, RunsOver, Tells, WasRun, accepted, finds_room, next_answers, next_refusal, readings, readings_in, refusal, trace_limit, unended}
+use Rattle.trace_model.specs.Told.{AllUncut, RunsOver, Tells, WasRun, accepted, ended_readings, finds_room, next_answers, next_refusal, readings, readings_in, refusal, trace_limit, unended}
+use Rattle.trace_replay.specs.declared.input.InputEnd.{InputEnd}
+use Rattle.trace_replay.specs.declared.input.InputEnd.TheVariants.{Whole, AtLimit, Faulted}
+use Rattle.trace_replay.specs.Input.{is_whole, left_over, readings_by}
 
 Readings : Type 0
 Readings = List (Result Line LineError)
 
 -- what is left to read begins with this line
-pub readings_line : (size : ℕ) (whole : Bool) (rest line after : List ℕ) (reading : Result Line LineError) → lines_in whole rest ≡ line ∷ lines_in whole after → reading ≡ plain_line_of size line → readings_in size whole rest ≡ reading ∷ readings_in size whole after
-readings_line size whole rest line after reading split is =
-    ap (λ ls. map (plain_line_of size) ls ++ unended whole) split ∙ ap (λ r. r ∷ readings_in size whole after) (sym is)
+pub readings_line : (size : ℕ) (end : InputEnd) (whole : Bool) (rest line after : List ℕ) (reading : Result Line LineError) → whole ≡ is_whole end → lines_in whole rest ≡ line ∷ lines_in whole after → reading ≡ plain_line_of size line → readings_by end size rest ≡ reading ∷ readings_by end size after
+readings_line size end whole rest line after reading as_end split is =
+    let at_end : lines_in (is_whole end) rest ≡ line ∷ lines_in (is_whole end) after = subst (λ w. lines_in w rest ≡ line ∷ lines_in w after) as_end split in
+    ap (λ ls. map (plain_line_of size) ls ++ left_over end) at_end ∙ ap (λ r. r ∷ readings_by end size after) (sym is)
 
--- nothing is left but the line that was begun last
-pub readings_end : (size : ℕ) (whole : Bool) (rest : List ℕ) → lines_in whole rest ≡ [] → readings_in size whole rest ≡ unended whole
-readings_end size whole rest none = ap (λ ls. map (plain_line_of size) ls ++ unended whole) none
+-- no line is left
+pub readings_end : (size : ℕ) (end : InputEnd) (whole : Bool) (rest : List ℕ) → whole ≡ is_whole end → lines_in whole rest ≡ [] → readings_by end size rest ≡ left_over end
+readings_end size end whole rest as_end none = ap (λ ls. map (plain_line_of size) ls ++ left_over end) (subst (λ w. lines_in w rest ≡ []) as_end none)
 
 -- nothing was run yet
 pub run_none : (room : ℕ) (all : List (Result Line LineError)) → WasRun room all [] all
@@ -91,11 +95,71 @@ limit_is : trace_limit ≡ 4294967296
 unfolding trace_limit
 limit_is = refl
 
--- the trace of a source that was read to its end, or up to the limit
-pub trace_of_source : (old new : Option (List ℕ)) (bytes : List ℕ) (size : ℕ) (whole : Bool) → Consumes old new bytes → (whole ≡ true → (length bytes < 4294967296) × IsAtEnd new) → (whole ≡ false → length bytes ≡ 4294967296)
-    → (trace : List ℕ) × Tells old trace × (readings size trace ≡ readings_in size whole bytes)
-trace_of_source old new bytes size true took ended cut = let end = ended refl in whole_trace old new bytes took size end.1 (subst (λ n. length bytes < n) (sym limit_is) end.0)
-trace_of_source old new bytes size false took ended cut = cut_trace old new bytes size took (cut refl ∙ sym limit_is)
+-- the lines of a longer text begin with those that end in its front
+lines_front : (whole : Bool) (bytes more : List ℕ) → (after : List (List ℕ)) × (lines_in whole (bytes ++ more) ≡ lines_in false bytes ++ after)
+lines_front whole [] more = (lines_in whole more, refl)
+lines_front whole (b ∷ bytes) more =
+    let rest = lines_front whole bytes more in
+    elim (cases_Bool (b == 10)) [
+      | inl feed ↦ (rest.0, rw feed (ap (λ ls. [] ∷ ls) rest.1))
+      | inr other ↦ let step = onto_front whole b (lines_in false bytes) rest.0 in
+          (step.0, rw other (ap (λ ls. if whole then onto_first b ls else onto_ended b ls) rest.1 ∙ step.1))
+    ]
+  where
+    onto_front : (whole : Bool) (b : ℕ) (ended after : List (List ℕ)) → (more : List (List ℕ)) × ((if whole then onto_first b (ended ++ after) else onto_ended b (ended ++ after)) ≡ onto_ended b ended ++ more)
+    onto_front whole b [] after = ((if whole then onto_first b after else onto_ended b after), refl)
+    onto_front true b (line ∷ ended) after = (after, refl)
+    onto_front false b (line ∷ ended) after = (after, refl)
+
+-- the readings of a trace begin with those of the lines that end in its front
+readings_front : (size : ℕ) (bytes more : List ℕ) → length bytes < trace_limit → (after : List (Result Line LineError)) × (readings size (bytes ++ more) ≡ ended_readings size bytes ++ after)
+readings_front size bytes more short = elim (cases_Bool (nat_lt (length (bytes ++ more)) trace_limit)) [
+  | inl below ↦
+      let lines = lines_front true bytes more in (
+        map (plain_line_of size) lines.0 ++ unended true,
+        ap (λ t. if t then readings_in size true (bytes ++ more) else readings_in size false (take trace_limit (bytes ++ more))) below
+            ∙ ap (λ ls. map (plain_line_of size) ls ++ unended true) lines.1
+            ∙ ap (λ r. r ++ unended true) (map-append (plain_line_of size) (lines_in false bytes) lines.0)
+            ∙ append_assoc (ended_readings size bytes) (map (plain_line_of size) lines.0) (unended true),
+      )
+  | inr past ↦
+      let rest = take (trace_limit - length bytes) more in
+      let sum : trace_limit ≡ length bytes + (trace_limit - length bytes) = omega arith in
+      let front : take trace_limit (bytes ++ more) ≡ bytes ++ rest = ap (λ n. take n (bytes ++ more)) sum ∙ take-append-add bytes more (trace_limit - length bytes) in
+      let lines = lines_front false bytes rest in (
+        map (plain_line_of size) lines.0 ++ unended false,
+        ap (λ t. if t then readings_in size true (bytes ++ more) else readings_in size false (take trace_limit (bytes ++ more))) past
+            ∙ ap (readings_in size false) front
+            ∙ ap (λ ls. map (plain_line_of size) ls ++ unended false) lines.1
+            ∙ ap (λ r. r ++ unended false) (map-append (plain_line_of size) (lines_in false bytes) lines.0)
+            ∙ append_assoc (ended_readings size bytes) (map (plain_line_of size) lines.0) (unended false),
+      )
+]
+
+-- the trace of a source that failed begins with the bytes that it gave
+pub fault_trace : (old new : Option (List ℕ)) (bytes : List ℕ) (size : ℕ) → Consumes old new bytes → length bytes < trace_limit → (trace : List ℕ) × Tells old trace × ((after : List (Result Line LineError)) × (readings size trace ≡ ended_readings size bytes ++ after))
+fault_trace None new bytes size took short =
+    let front = readings_front size bytes [] short in
+    (bytes ++ [], tt, front)
+fault_trace (Some xs) None bytes size took short = absurd took
+fault_trace (Some xs) (Some ys) bytes size took short = (bytes ++ ys, took, readings_front size bytes ys short)
+
+ended_by_fault : (size : ℕ) (bytes : List ℕ) → readings_by Faulted size bytes ≡ ended_readings size bytes
+ended_by_fault size bytes = append-nil (ended_readings size bytes)
+
+-- the trace of a source, however it ended: what was read, and then perhaps more
+pub trace_of_source : (old new : Option (List ℕ)) (bytes : List ℕ) (size : ℕ) (end : InputEnd) → Consumes old new bytes → (end ≡ Whole → (length bytes < 4294967296) × IsAtEnd new) → (end ≡ AtLimit → length bytes ≡ 4294967296) → (end ≡ Faulted → length bytes < 4294967296)
+    → (trace : List ℕ) × Tells old trace × (after : List (Result Line LineError)) × (readings size trace ≡ readings_by end size bytes ++ after) × (end ≢ Faulted → after ≡ [])
+trace_of_source old new bytes size Whole took ended cut failed =
+    let end = ended refl in
+    let trace = whole_trace old new bytes took size end.1 (subst (λ n. length bytes < n) (sym limit_is) end.0) in
+    (trace.0, trace.1, [], trace.2 ∙ sym (append-nil (readings_by Whole size bytes)), λ _. refl)
+trace_of_source old new bytes size AtLimit took ended cut failed =
+    let trace = cut_trace old new bytes size took (cut refl ∙ sym limit_is) in
+    (trace.0, trace.1, [], trace.2 ∙ sym (append-nil (readings_by AtLimit size bytes)), λ _. refl)
+trace_of_source old new bytes size Faulted took ended cut failed =
+    let trace = fault_trace old new bytes size took (subst (λ n. length bytes < n) (sym limit_is) (failed refl)) in
+    (trace.0, trace.1, trace.2.0, trace.2.1 ∙ ap (λ r. r ++ trace.2.0) (sym (ended_by_fault size bytes)), λ other. absurd (other refl))
 
 -- a trace that the source may have
 pub any_trace : (old : Option (List ℕ)) → (trace : List ℕ) × Tells old trace
@@ -103,11 +167,51 @@ any_trace None = ([], tt)
 any_trace (Some xs) = (xs, refl)
 
 -- the lines of the bytes that were read are lines of the trace
-pub runs_over : (old : Option (List ℕ)) (size room : ℕ) (run : List Ran) (left all : List (Result Line LineError)) (trace : List ℕ) → Tells old trace → readings size trace ≡ all → WasRun room all run left → RunsOver old size room run left
-runs_over old size room run left all trace tells is was = record { trace = trace; tells = tells; was_run = subst (λ xs. WasRun room xs run left) (sym is) was }
+pub runs_over : (old : Option (List ℕ)) (size room : ℕ) (run : List Ran) (left after all : List (Result Line LineError)) (trace : List ℕ) → Tells old trace → readings size trace ≡ all ++ after → WasRun room all run left → RunsOver old size room run (left ++ after)
+runs_over old size room run left after all trace tells is was = record {
+  trace = trace;
+  tells = tells;
+  was_run = record {
+    lines = is ∙ ap (λ r. r ++ after) was.lines ∙ append_assoc (map accepted (lines_of run)) left after;
+    uncut = was.uncut;
+    fits = was.fits;
+  };
+}
+
+-- a refusal stands where more comes after it
+pub refusal_stands : (room : ℕ) (run : List Ran) (left after : List (Result Line LineError)) (cause : LineError) → next_refusal room run left ≡ Some cause → next_refusal room run (left ++ after) ≡ Some cause
+refusal_stands room run [] after cause is = cc
+refusal_stands room run (Ok line ∷ left) after cause is = is
+refusal_stands room run (Err e ∷ left) after cause is = is
+
+-- what is told next stands where more comes after it
+pub next_stands : (room : ℕ) (run : List Ran) (left after : List (Result Line LineError)) → (left ≡ [] → after ≡ []) → next_answers room run (left ++ after) ≡ next_answers room run left
+next_stands room run [] after none = ap (next_answers room run) (none refl)
+next_stands room run (Ok line ∷ left) after none = refl
+next_stands room run (Err e ∷ left) after none = refl
 
 -- no line was run
 pub runs_none : (old : Option (List ℕ)) (size room : ℕ) → (left : List (Result Line LineError)) × RunsOver old size room [] left
 runs_none old size room =
     let any = any_trace old in
     (readings size any.0, record { trace = any.0; tells = any.1; was_run = run_none room (readings size any.0) })
+
+-- a source that was read whole didn't fail
+pub after_none : (end : InputEnd) → end ≡ Whole → end ≡ Faulted → ⊥
+after_none end whole faulted = cc
+
+-- every line of a trace was run
+pub runs_whole : (old : Option (List ℕ)) (size room : ℕ) (run : List Ran) (after all : List (Result Line LineError)) (trace : List ℕ) → Tells old trace → readings size trace ≡ all ++ after → after ≡ [] → WasRun room all run [] → RunsOver old size room run []
+runs_whole old size room run after all trace tells is none was = subst (λ (r : List (Result Line LineError)). RunsOver old size room run r) none (runs_over old size room run [] after all trace tells is was)
+
+-- more comes only after a line that was not run
+pub faulted_stands : (end : InputEnd) (left after : List (Result Line LineError)) → (end ≡ Faulted → left ≢ []) → (end ≢ Faulted → after ≡ []) → left ≡ [] → after ≡ []
+faulted_stands Whole left after some none is = none (λ faulted. cc)
+faulted_stands AtLimit left after some none is = none (λ faulted. cc)
+faulted_stands Faulted left after some none is = absurd (some refl is)
+
+-- the lines that ended before a fault were run
+pub faulted_run : (room size : ℕ) (end : InputEnd) (bytes read : List ℕ) (run : List Ran) → end ≡ Faulted → read ≡ bytes → WasRun room (readings_by end size read) run [] → WasRun room (ended_readings size bytes) run []
+faulted_run room size end bytes read run faulted same was =
+    let is : readings_by end size read ≡ ended_readings size bytes = ap (λ e. readings_by e size read) faulted ∙ ended_by_fault size read ∙ ap (ended_readings size) same in
+    subst (λ (all : List (Result Line LineError)). WasRun room all run []) is was

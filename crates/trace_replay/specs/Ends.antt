@@ -51,11 +51,10 @@ pub record SourceBlamed {T : Type 0} (old new : ℕ) (result : Result T Ended) :
   pub rose : IsErrOf result ended.Source → Rose old new
   pub only : OnErr result (IsErrOf result ended.Source ⊎ IsErrOf result ended.Memory)
 
--- a device, the sink or memory ended it, each blamed only where its count of faults rose
+-- no refusal ended it, and each device and the sink is blamed only where its count of faults rose
 pub record Blamed {T : Type 0} (sink_old sink_new : ℕ) (old new : State) (result : Result T Ended) : Type 0 where
   pub sink_later : sink_old ≤ sink_new
   pub sink : IsErrOf result ended.Sink → Rose sink_old sink_new
   pub flash : IsErrOf result ended.Flash → Rose old.faults.flash new.faults.flash
   pub disk : IsErrOf result ended.Disk → Rose old.faults.disk new.faults.disk
   pub not_trace : IsErrOf result ended.Trace → ⊥
-  pub not_source : IsErrOf result ended.Source → ⊥

@@ -1,42 +1,71 @@
-ghost use Rattle.std.specs.Prelude.{◌≡◌, ◌<◌, ◌≤◌, ◌++◌, true, false, ℕ, List, length, IfOk, OnOk, OnErr, IsErrOf};
-ghost use Rattle.std.specs.Io.KnownBytes.{Consumes, IsAtEnd};
+ghost use Rattle.std.specs.Prelude.{◌≡◌, ◌<◌, ◌≤◌, ◌++◌, ℕ, List, length, IfOk, OnOk, OnErr, IsErrOf};
+ghost use Rattle.std.specs.Io.KnownBytes.{Consumes, IsAtEnd, Keeps};
 ghost use Rattle.ft_base.specs.Count.{Rose};
 ghost use Rattle.trace_replay.specs.Ends.{SourceBlamed};
+ghost use Rattle.trace_replay.specs.Input as input;
 
 use crate::Ended;
 use ft_base::Source;
 use std::alloc::Global;
 
+/// Why no more bytes of a source were read.
+#[derive(Clone, Copy, Debug, PartialEq, Eq)]
+pub(crate) enum InputEnd {
+    /// The source ended, below the limit.
+    Whole,
+    /// So many bytes were read as a trace may not have.
+    AtLimit,
+    /// The source failed.
+    Faulted,
+}
+
+/// Whether bytes after the last line feed are a line.
+pub(crate) fn is_whole(end: InputEnd) -> bool
+    ensures { result ≡ input.is_whole end }
+{
+    match end {
+        InputEnd::Whole => true,
+        InputEnd::AtLimit | InputEnd::Faulted => false,
+    }
+}
+
 /// The bytes of a source.
 #[derive(Drop)]
 pub(crate) struct Trace {
     pub(crate) bytes: Vec<u8>,
-    /// Whether the source ended, below the limit.
-    pub(crate) whole: bool,
+    pub(crate) end: InputEnd,
 }
 
-/// Reads a source to its end, or up to so many bytes.
+/// Reads a source to its end or its first fault, or up to so many bytes.
 pub(crate) fn read_whole<I: Source>(
     alloc: Global,
     source: &mut I,
     limit: usize,
 ) -> Result<Trace, Ended>
     ensures bytes { IfOk result (λ t. Consumes (I.left source.old) (I.left source.new) t.bytes.items) }
-    ensures whole { IfOk result (λ t. t.whole ≡ true → (length t.bytes.items < limit) × IsAtEnd (I.left source.new)) }
-    ensures limit { IfOk result (λ t. t.whole ≡ false → length t.bytes.items ≡ limit) }
-    ensures blamed { SourceBlamed (I.faults source.old) (I.faults source.new) result }
+    ensures whole { IfOk result (λ t. t.end ≡ InputEnd.Whole → (length t.bytes.items < limit) × IsAtEnd (I.left source.new)) }
+    ensures limit { IfOk result (λ t. t.end ≡ InputEnd.AtLimit → length t.bytes.items ≡ limit) }
+    ensures faulted { IfOk result (λ t. t.end ≡ InputEnd.Faulted → (length t.bytes.items < limit) × Rose (I.faults source.old) (I.faults source.new)) }
+    ensures memory { OnErr result (IsErrOf result Ended.Memory) }
     ensures lent { I.lent source.new ≡ I.lent source.old }
 {
     let mut bytes = Vec::new(alloc);
     while bytes.len() < limit {
-        if read_piece(source, &mut bytes, limit)? == 0 {
-            return Ok(Trace { bytes, whole: true });
+        match read_piece(source, &mut bytes, limit) {
+            Ok(0) => {
+                let end = InputEnd::Whole;
+                return Ok(Trace { bytes, end });
+            }
+            Ok(_) => {}
+            Err(Ended::Source) => {
+                let end = InputEnd::Faulted;
+                return Ok(Trace { bytes, end });
+            }
+            Err(ended) => return Err(ended),
         }
     }
-    Ok(Trace {
-        bytes,
-        whole: false,
-    })
+    let end = InputEnd::AtLimit;
+    Ok(Trace { bytes, end })
 }
 
 /// Reads the next bytes of a source, so many that the whole has at most `limit`. Says how many.
@@ -46,6 +75,7 @@ fn read_piece<I: Source>(source: &mut I, bytes: &mut Vec<u8>, limit: usize) -> R
         × Consumes (I.left source.old) (I.left source.new) piece) }
     ensures within { OnOk result (length bytes.new.items ≤ limit) }
     ensures end { IfOk result (λ n. n ≡ 0 → IsAtEnd (I.left source.new)) }
+    ensures faulted { IsErrOf result Ended.Source → (bytes.new.items ≡ bytes.old.items) × Keeps (I.left source.old) (I.left source.new) }
     ensures blamed { SourceBlamed (I.faults source.old) (I.faults source.new) result }
     ensures lent { I.lent source.new ≡ I.lent source.old }
 {

@@ -67,6 +67,7 @@ pub(crate) fn run_line<O: Sink, R: Rig, V: Volume<R>>(
     ensures programs { OnOk result (RoseBy (block_count line.now) (R.state rig.old).counts.programs (R.state rig.new).counts.programs) }
     ensures goes { GoesOn (R.state rig.old) (R.state rig.new) }
     ensures blamed { Blamed (O.faults sink.old) (O.faults sink.new) (R.state rig.old) (R.state rig.new) result }
+    ensures not_source { IsErrOf result Ended.Source → ⊥ }
     ensures lent { O.lent sink.new ≡ O.lent sink.old }
 {
     match *line {

@@ -1,5 +1,5 @@
 ghost use Rattle.std.specs.Prelude.{◌≡◌, ◌≢◌, ◌+◌, ◌≤◌, ◌<◌, ◌++◌, ◌∷◌, [], ℕ, List, true, false, length, All, OnOk, IfOk, IfErr, IfSome, IfNone, OnSome, Some, None, IsErrOf, Result};
-ghost use Rattle.std.specs.Io.KnownBytes.{Appends, IsAtEnd};
+ghost use Rattle.std.specs.Io.KnownBytes.{Appends, Consumes, IsAtEnd};
 ghost use Rattle.ft_base.specs.Count.{Rose, RoseBy};
 ghost use Rattle.ft_base.specs.PlainDisk.{PlainDisk, empty};
 ghost use Rattle.trace_model.specs.declared.line.Line.{Line};
@@ -7,11 +7,12 @@ ghost use Rattle.trace_model.specs.declared.line.LineError.{LineError};
 ghost use Rattle.trace_model.specs.declared.answer.Answer.TheVariants as answer;
 ghost use Rattle.trace_model.specs.Run.{Ran, digest_of, told, blocks_in, disk_after, end_of, reads_in, touched_after, writes_in};
 ghost use Rattle.trace_model.specs.Text.{text};
-ghost use Rattle.trace_model.specs.Told.{RunsOver, WasRun, block_room, next_answers, next_refusal, readings_in, refusal};
+ghost use Rattle.trace_model.specs.Told.{RunsOver, WasRun, block_room, ended_readings, next_answers, next_refusal, refusal};
+ghost use Rattle.trace_replay.specs.Input.{readings_by};
 ghost use Rattle.trace_replay.specs.Ends.{Blamed, GoesOn, SinkBlamed, TookPart};
 
 use crate::Ended;
-use crate::input::read_whole;
+use crate::input::{InputEnd, read_whole};
 use crate::running::{run_lines, say_end};
 use ft_base::{Sink, Source};
 use ft_media::{Media, Rig, Volume};
@@ -21,8 +22,8 @@ use std::collections::BTreeSet;
 /// A trace has fewer bytes than this.
 const TRACE_LIMIT: usize = 1 << 32;
 
-/// Runs a trace, and prints what a plain disk answers. The source is read to its end before the first
-/// line is run.
+/// Runs a trace, and prints what a plain disk answers. The source is read to its end or its first fault
+/// before the first line is run.
 pub fn replay<I: Source, O: Sink, R: Rig, V: Volume<R>>(
     alloc: Global,
     source: &mut I,
@@ -51,11 +52,16 @@ pub fn replay<I: Source, O: Sink, R: Rig, V: Volume<R>>(
         × (next_refusal (block_room (V.told volume.old).geometry) run left ≡ Some cause)
         × Appends (O.taken sink.old) (O.taken sink.new) (text (told run ++ refusal run cause)) }
 
+    // Where the source failed, the lines that ended before were run.
+    //
     // Any other end comes after the answers of whole lines and the first of those of the next one.
-    ensures part { IfErr result (λ e. e ≢ Ended.Trace → (run : List Ran) × (left : List (Result Line LineError))
+    ensures part { IfErr result (λ e. e ≢ Ended.Trace → e ≢ Ended.Source → (run : List Ran) × (left : List (Result Line LineError))
         × RunsOver (I.left source.old) (V.told volume.old).geometry.size (block_room (V.told volume.old).geometry) run left
         × TookPart e (O.taken sink.old) (O.taken sink.new) (told run) (next_answers (block_room (V.told volume.old).geometry) run left)) }
-    ensures source { IsErrOf result Ended.Source → Rose (I.faults source.old) (I.faults source.new) × (R.state rig.new ≡ R.state rig.old) × (O.taken sink.new ≡ O.taken sink.old) }
+    ensures source { IsErrOf result Ended.Source → Rose (I.faults source.old) (I.faults source.new) × ((bytes : List ℕ) × (run : List Ran)
+        × Consumes (I.left source.old) (I.left source.new) bytes
+        × WasRun (block_room (V.told volume.old).geometry) (ended_readings (V.told volume.old).geometry.size bytes) run []
+        × Appends (O.taken sink.old) (O.taken sink.new) (text (told run))) }
     ensures sink { IsErrOf result Ended.Sink → Rose (O.faults sink.old) (O.faults sink.new) }
     ensures flash { IsErrOf result Ended.Flash → Rose (R.state rig.old).faults.flash (R.state rig.new).faults.flash }
     ensures disk { IsErrOf result Ended.Disk → Rose (R.state rig.old).faults.disk (R.state rig.new).faults.disk }
@@ -67,7 +73,7 @@ pub fn replay<I: Source, O: Sink, R: Rig, V: Volume<R>>(
     match read_whole(alloc, source, TRACE_LIMIT) {
         Ok(trace) => {
             let bytes = trace.bytes.as_slice();
-            run_trace(alloc, sink, rig, volume, bytes, trace.whole)
+            run_trace(alloc, sink, rig, volume, bytes, trace.end)
         }
         Err(ended) => Err(ended),
     }
@@ -80,7 +86,7 @@ fn run_trace<O: Sink, R: Rig, V: Volume<R>>(
     rig: &mut R,
     volume: &mut V,
     bytes: &[u8],
-    whole: bool,
+    end: InputEnd,
 ) -> Result<(), Ended>
     requires owns { V.owns volume.old (R.state rig.old).contents }
     requires on { (R.state rig.old).power.on ≡ true }
@@ -89,27 +95,30 @@ fn run_trace<O: Sink, R: Rig, V: Volume<R>>(
     requires pages { V.pages volume.old ≡ block_room (V.told volume.old).geometry }
     ensures owns { V.owns volume.new (R.state rig.new).contents }
     ensures told { V.told volume.new ≡ V.told volume.old }
-    ensures whole { OnOk result (whole ≡ true × ((run : List Ran)
-        × WasRun (block_room (V.told volume.old).geometry) (readings_in (V.told volume.old).geometry.size whole bytes.now) run []
+    ensures whole { OnOk result ((end ≡ InputEnd.Whole) × ((run : List Ran)
+        × WasRun (block_room (V.told volume.old).geometry) (readings_by end (V.told volume.old).geometry.size bytes.now) run []
         × Appends (O.taken sink.old) (O.taken sink.new) (text (told run ++ end_of run ∷ []))
         × RoseBy (blocks_in run) (R.state rig.old).counts.programs (R.state rig.new).counts.programs
         × V.is_disk volume.new (R.state rig.new).contents (disk_after run))) }
     ensures refused { IsErrOf result Ended.Trace → (run : List Ran) × (left : List (Result Line LineError)) × (cause : LineError)
-        × WasRun (block_room (V.told volume.old).geometry) (readings_in (V.told volume.old).geometry.size whole bytes.now) run left
+        × WasRun (block_room (V.told volume.old).geometry) (readings_by end (V.told volume.old).geometry.size bytes.now) run left
         × (next_refusal (block_room (V.told volume.old).geometry) run left ≡ Some cause)
         × Appends (O.taken sink.old) (O.taken sink.new) (text (told run ++ refusal run cause)) }
-    ensures part { IfErr result (λ e. e ≢ Ended.Trace → (run : List Ran) × (left : List (Result Line LineError))
-        × WasRun (block_room (V.told volume.old).geometry) (readings_in (V.told volume.old).geometry.size whole bytes.now) run left
+    ensures part { IfErr result (λ e. e ≢ Ended.Trace → e ≢ Ended.Source → (run : List Ran) × (left : List (Result Line LineError))
+        × (end ≡ InputEnd.Faulted → left ≢ [])
+        × WasRun (block_room (V.told volume.old).geometry) (readings_by end (V.told volume.old).geometry.size bytes.now) run left
         × TookPart e (O.taken sink.old) (O.taken sink.new) (told run) (next_answers (block_room (V.told volume.old).geometry) run left)) }
     ensures goes { GoesOn (R.state rig.old) (R.state rig.new) }
     ensures sink { IsErrOf result Ended.Sink → Rose (O.faults sink.old) (O.faults sink.new) }
     ensures flash { IsErrOf result Ended.Flash → Rose (R.state rig.old).faults.flash (R.state rig.new).faults.flash }
     ensures disk { IsErrOf result Ended.Disk → Rose (R.state rig.old).faults.disk (R.state rig.new).faults.disk }
-    ensures not_source { IsErrOf result Ended.Source → ⊥ }
+    ensures faulted { IsErrOf result Ended.Source → (end ≡ InputEnd.Faulted) × ((run : List Ran)
+        × WasRun (block_room (V.told volume.old).geometry) (readings_by end (V.told volume.old).geometry.size bytes.now) run []
+        × Appends (O.taken sink.old) (O.taken sink.new) (text (told run))) }
     ensures lent { O.lent sink.new ≡ O.lent sink.old }
 {
     let mut touched = BTreeSet::new(alloc);
-    match run_lines(alloc, sink, rig, volume, bytes, whole, &mut touched) {
+    match run_lines(alloc, sink, rig, volume, bytes, end, &mut touched) {
         Ok(Some(totals)) => say_end(alloc, sink, rig, volume, &touched, totals),
         Ok(None) => Err(Ended::Trace),
         Err(ended) => Err(ended),

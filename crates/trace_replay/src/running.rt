@@ -1,4 +1,4 @@
-ghost use Rattle.std.specs.Prelude.{◌≡◌, ◌+◌, ◌≤◌, ◌<◌, ◌++◌, ◌∷◌, [], ℕ, List, true, length, All, OnOk, IfOk, IfErr, IfSome, IfNone, OnSome, Some, None, Result};
+ghost use Rattle.std.specs.Prelude.{◌≡◌, ◌≢◌, ◌+◌, ◌≤◌, ◌<◌, ◌++◌, ◌∷◌, [], ℕ, List, true, length, All, OnOk, IfOk, IfErr, IfSome, IfNone, OnSome, Some, None, IsErrOf, Result};
 ghost use Rattle.std.specs.Io.KnownBytes.{Appends};
 ghost use Rattle.ft_base.specs.Count.{RoseBy};
 ghost use Rattle.ft_base.specs.PlainDisk.{PlainDisk, empty};
@@ -7,11 +7,13 @@ ghost use Rattle.trace_model.specs.declared.line.LineError.{LineError};
 ghost use Rattle.trace_model.specs.declared.answer.Answer.TheVariants as answer;
 ghost use Rattle.trace_model.specs.Run.{Ran, digest_of, told, blocks_in, disk_after, reads_in, touched_after, writes_in};
 ghost use Rattle.trace_model.specs.Text.{text};
-ghost use Rattle.trace_model.specs.Told.{WasRun, block_room, next_answers, next_refusal, readings_in, refusal};
+ghost use Rattle.trace_model.specs.Told.{WasRun, block_room, next_answers, next_refusal, refusal};
+ghost use Rattle.trace_replay.specs.Input.{readings_by};
 ghost use Rattle.trace_replay.specs.Ends.{Blamed, GoesOn, SinkBlamed, TookPart};
 
 use crate::Ended;
 use crate::counted::{Totals, count_line};
+use crate::input::{InputEnd, is_whole};
 use crate::lines::{Scratch, blocks_of, run_line};
 use crate::output::say;
 use crate::touched::{addresses, digest_blocks, touch};
@@ -29,7 +31,7 @@ pub(crate) fn run_lines<O: Sink, R: Rig, V: Volume<R>>(
     rig: &mut R,
     volume: &mut V,
     bytes: &[u8],
-    whole: bool,
+    end: InputEnd,
     touched: &mut BTreeSet<u64>,
 ) -> Result<Option<Totals>, Ended>
     requires owns { V.owns volume.old (R.state rig.old).contents }
@@ -40,26 +42,30 @@ pub(crate) fn run_lines<O: Sink, R: Rig, V: Volume<R>>(
     requires none { touched.old.keys ≡ [] }
     ensures owns { V.owns volume.new (R.state rig.new).contents }
     ensures told { V.told volume.new ≡ V.told volume.old }
-    ensures ended { IfOk result (λ o. OnSome o (whole ≡ true)) }
+    ensures ended { IfOk result (λ o. OnSome o (end ≡ InputEnd.Whole)) }
     ensures within { IfOk result (λ o. OnSome o (All (λ a. a < (V.told volume.old).geometry.size) touched.new.keys)) }
     ensures whole { IfOk result (λ o. IfSome o (λ totals. (run : List Ran)
-        × WasRun (block_room (V.told volume.old).geometry) (readings_in (V.told volume.old).geometry.size whole bytes.now) run []
+        × WasRun (block_room (V.told volume.old).geometry) (readings_by end (V.told volume.old).geometry.size bytes.now) run []
         × Appends (O.taken sink.old) (O.taken sink.new) (text (told run))
         × RoseBy (blocks_in run) (R.state rig.old).counts.programs (R.state rig.new).counts.programs
         × V.is_disk volume.new (R.state rig.new).contents (disk_after run)
         × (touched.new.keys ≡ touched_after run) × (totals.writes ≡ writes_in run) × (totals.reads ≡ reads_in run))) }
     ensures refused { IfOk result (λ o. IfNone o ((run : List Ran) × (left : List (Result Line LineError)) × (cause : LineError)
-        × WasRun (block_room (V.told volume.old).geometry) (readings_in (V.told volume.old).geometry.size whole bytes.now) run left
+        × WasRun (block_room (V.told volume.old).geometry) (readings_by end (V.told volume.old).geometry.size bytes.now) run left
         × (next_refusal (block_room (V.told volume.old).geometry) run left ≡ Some cause)
         × Appends (O.taken sink.old) (O.taken sink.new) (text (told run ++ refusal run cause)))) }
-    ensures part { IfErr result (λ e. (run : List Ran) × (left : List (Result Line LineError))
-        × WasRun (block_room (V.told volume.old).geometry) (readings_in (V.told volume.old).geometry.size whole bytes.now) run left
-        × TookPart e (O.taken sink.old) (O.taken sink.new) (told run) (next_answers (block_room (V.told volume.old).geometry) run left)) }
+    ensures part { IfErr result (λ e. e ≢ Ended.Source → (run : List Ran) × (next : Result Line LineError) × (left : List (Result Line LineError))
+        × WasRun (block_room (V.told volume.old).geometry) (readings_by end (V.told volume.old).geometry.size bytes.now) run (next ∷ left)
+        × TookPart e (O.taken sink.old) (O.taken sink.new) (told run) (next_answers (block_room (V.told volume.old).geometry) run (next ∷ left))) }
+    ensures faulted { IsErrOf result Ended.Source → (end ≡ InputEnd.Faulted) × ((run : List Ran)
+        × WasRun (block_room (V.told volume.old).geometry) (readings_by end (V.told volume.old).geometry.size bytes.now) run []
+        × Appends (O.taken sink.old) (O.taken sink.new) (text (told run))) }
     ensures goes { GoesOn (R.state rig.old) (R.state rig.new) }
     ensures blamed { Blamed (O.faults sink.old) (O.faults sink.new) (R.state rig.old) (R.state rig.new) result }
     ensures lent { O.lent sink.new ≡ O.lent sink.old }
 {
     let geometry = volume.geometry();
+    let whole = is_whole(end);
     let mut room = geometry.l() as u64 * geometry.p() as u64;
     let mut scratch = Scratch::new(alloc);
     let mut totals = Totals::new();
@@ -85,10 +91,11 @@ pub(crate) fn run_lines<O: Sink, R: Rig, V: Volume<R>>(
         number += 1;
         rest = after;
     }
-    if !whole {
-        return refuse(alloc, sink, number, LineError::TooLong);
+    match end {
+        InputEnd::Whole => Ok(Some(totals)),
+        InputEnd::AtLimit => refuse(alloc, sink, number, LineError::TooLong),
+        InputEnd::Faulted => Err(Ended::Source),
     }
-    Ok(Some(totals))
 }
 
 /// Prints a refusal.
@@ -129,6 +136,7 @@ pub(crate) fn say_end<O: Sink, R: Rig, V: Volume<R>>(
     ensures programs { (R.state rig.new).counts.programs ≡ (R.state rig.old).counts.programs }
     ensures goes { GoesOn (R.state rig.old) (R.state rig.new) }
     ensures blamed { Blamed (O.faults sink.old) (O.faults sink.new) (R.state rig.old) (R.state rig.new) result }
+    ensures not_source { IsErrOf result Ended.Source → ⊥ }
     ensures lent { O.lent sink.new ≡ O.lent sink.old }
 {
     let Ok(addresses) = addresses(alloc, touched) else {

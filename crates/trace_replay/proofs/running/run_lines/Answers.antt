@@ -8,8 +8,9 @@ use Rattle.trace_model.specs.declared.line.LineError.TheVariants.{TooLong}
 use Rattle.trace_model.specs.declared.answer.Answer.{Answer}
 use Rattle.trace_model.specs.Lines.{plain_line_of}
 use Rattle.trace_model.specs.Run.{uncut, told, lines_of, blocks_in, block_count, disk_after, answers_of, touching, write_count, read_count}
-use Rattle.trace_model.specs.Told.{block_room, readings_in, unended, refusal}
+use Rattle.trace_model.specs.Told.{block_room, refusal}
 use Rattle.trace_replay.specs.Ends.{TookPart}
+use Rattle.trace_replay.specs.Input.{left_over, readings_by}
 use Rattle.trace_replay.proofs.GoesLemmas.{goes_none, goes_then, rose_more}
 use Rattle.trace_replay.proofs.PartLemmas.{said_then, part_after}
 use Rattle.trace_replay.proofs.ReadingsLemmas.{readings_line, readings_end, run_none, run_same, run_more, next_line_told, next_past, next_past_told}
@@ -54,10 +55,10 @@ returns-in-Err-clause-refused g c =
     let cause = c.in-Err.cause in
     let run = c.lines.invariant.run in
     let at : c.size.result ≡ geometry.size = c.size.ensures ∙ ap (λ (k : Geometry). k.size) c.geometry-geometry.ensures in
-    let left : List (Result Line LineError) = Err cause ∷ readings_in geometry.size c.args.whole after in
-    let was = run_same (block_room geometry) _ run _ left c.lines.invariant.was_run
-    (readings_line geometry.size c.args.whole c.lines.rest.now spelled after (Err cause) c.in-Some.ensures.split (subst (λ n. Err cause ≡ plain_line_of n spelled) at c.in-Err.ensures.line)) in
-    if_refused c.refuse.result _ _ c.refuse.ensures.text (λ said. (run, left, cause, was, refl, refused_said _ _ _ run _ cause c.lines.invariant.number c.lines.invariant.taken said))
+    let rest = readings_by c.args.end geometry.size after in
+    let was = run_same (block_room geometry) _ run _ (Err cause ∷ rest) c.lines.invariant.was_run
+    (readings_line geometry.size c.args.end c.is_whole-whole.result c.lines.rest.now spelled after (Err cause) c.is_whole-whole.ensures c.in-Some.ensures.split (subst (λ n. Err cause ≡ plain_line_of n spelled) at c.in-Err.ensures.line)) in
+    if_refused c.refuse.result _ _ c.refuse.ensures.text (λ said. (run, Err cause ∷ rest, cause, was, refl, refused_said _ _ _ run _ cause c.lines.invariant.number c.lines.invariant.taken said))
 
 pub returns-in-Err-clause-part : goal.returns-in-Err-clause-part
 returns-in-Err-clause-part g c =
@@ -67,10 +68,10 @@ returns-in-Err-clause-part g c =
     let cause = c.in-Err.cause in
     let run = c.lines.invariant.run in
     let at : c.size.result ≡ geometry.size = c.size.ensures ∙ ap (λ (k : Geometry). k.size) c.geometry-geometry.ensures in
-    let left : List (Result Line LineError) = Err cause ∷ readings_in geometry.size c.args.whole after in
-    let was = run_same (block_room geometry) _ run _ left c.lines.invariant.was_run
-    (readings_line geometry.size c.args.whole c.lines.rest.now spelled after (Err cause) c.in-Some.ensures.split (subst (λ n. Err cause ≡ plain_line_of n spelled) at c.in-Err.ensures.line)) in
-    if_err c.refuse.result _ _ c.refuse.ensures.part (λ e part. (run, left, was, refused_part _ _ _ run _ cause e c.lines.invariant.number c.lines.invariant.taken part))
+    let rest = readings_by c.args.end geometry.size after in
+    let was = run_same (block_room geometry) _ run _ (Err cause ∷ rest) c.lines.invariant.was_run
+    (readings_line geometry.size c.args.end c.is_whole-whole.result c.lines.rest.now spelled after (Err cause) c.is_whole-whole.ensures c.in-Some.ensures.split (subst (λ n. Err cause ≡ plain_line_of n spelled) at c.in-Err.ensures.line)) in
+    if_err c.refuse.result _ _ c.refuse.ensures.part (λ e part _. (run, Err cause, rest, was, refused_part _ _ _ run _ cause e c.lines.invariant.number c.lines.invariant.taken part))
 
 pub returns-then-blocks_of-room-clause-refused : goal.returns-then-blocks_of-room-clause-refused
 returns-then-blocks_of-room-clause-refused g c =
@@ -80,9 +81,9 @@ returns-then-blocks_of-room-clause-refused g c =
     let line = c.in-Ok.line in
     let run = c.lines.invariant.run in
     let at : c.size.result ≡ geometry.size = c.size.ensures ∙ ap (λ (k : Geometry). k.size) c.geometry-geometry.ensures in
-    let rest = readings_in geometry.size c.args.whole after in
+    let rest = readings_by c.args.end geometry.size after in
     let was = run_same (block_room geometry) _ run _ (Ok line ∷ rest) c.lines.invariant.was_run
-    (readings_line geometry.size c.args.whole c.lines.rest.now spelled after (Ok line) c.in-Some.ensures.split (subst (λ n. Ok line ≡ plain_line_of n spelled) at c.in-Ok.ensures.line)) in
+    (readings_line geometry.size c.args.end c.is_whole-whole.result c.lines.rest.now spelled after (Ok line) c.is_whole-whole.ensures c.in-Some.ensures.split (subst (λ n. Ok line ≡ plain_line_of n spelled) at c.in-Ok.ensures.line)) in
     let room = c.lines.invariant.room in
     let blocks = c.blocks_of.ensures in
     let past : block_room geometry < blocks_in run + block_count line = omega arith in
@@ -96,20 +97,33 @@ returns-then-blocks_of-room-clause-part g c =
     let line = c.in-Ok.line in
     let run = c.lines.invariant.run in
     let at : c.size.result ≡ geometry.size = c.size.ensures ∙ ap (λ (k : Geometry). k.size) c.geometry-geometry.ensures in
-    let rest = readings_in geometry.size c.args.whole after in
+    let rest = readings_by c.args.end geometry.size after in
     let was = run_same (block_room geometry) _ run _ (Ok line ∷ rest) c.lines.invariant.was_run
-    (readings_line geometry.size c.args.whole c.lines.rest.now spelled after (Ok line) c.in-Some.ensures.split (subst (λ n. Ok line ≡ plain_line_of n spelled) at c.in-Ok.ensures.line)) in
+    (readings_line geometry.size c.args.end c.is_whole-whole.result c.lines.rest.now spelled after (Ok line) c.is_whole-whole.ensures c.in-Some.ensures.split (subst (λ n. Ok line ≡ plain_line_of n spelled) at c.in-Ok.ensures.line)) in
     let room = c.lines.invariant.room in
     let blocks = c.blocks_of.ensures in
     let past : block_room geometry < blocks_in run + block_count line = omega arith in
-    if_err c.refuse-then-blocks_of-room.result _ _ c.refuse-then-blocks_of-room.ensures.part (λ e part.
-        (run, Ok line ∷ rest, was,
-          subst (λ (z : List Answer). TookPart e (g.O.Sink.taken c.args.sink.now) (g.O.Sink.taken c.refuse-then-blocks_of-room.new.sink) (told run) z) (sym (next_past_told (block_room geometry) run line rest past))
-          (refused_part _ _ _ run _ TooLong e c.lines.invariant.number c.lines.invariant.taken part)))
+    if_err c.refuse-then-blocks_of-room.result _ _ c.refuse-then-blocks_of-room.ensures.part (λ e part _. (
+      run,
+      Ok line,
+          rest,
+      was,
+      subst (λ (z : List Answer). TookPart e (g.O.Sink.taken c.args.sink.now) (g.O.Sink.taken c.refuse-then-blocks_of-room.new.sink) (told run) z) (sym (next_past_told (block_room geometry) run line rest past))
+          (refused_part _ _ _ run _ TooLong e c.lines.invariant.number c.lines.invariant.taken part),
+    ))
 
 pub returns-in_default-touch-clause-part : goal.returns-in_default-touch-clause-part
 returns-in_default-touch-clause-part g c =
-    (c.lines.invariant.run, _, c.lines.invariant.was_run, nothing_next _ _ (told c.lines.invariant.run) _ c.lines.invariant.taken)
+    let geometry = (g.V.Volume.told c.args.volume.now).geometry in
+    let spelled = c.in-Some.spelled.now in
+    let after = c.in-Some.after.now in
+    let line = c.in-Ok.line in
+    let run = c.lines.invariant.run in
+    let at : c.size.result ≡ geometry.size = c.size.ensures ∙ ap (λ (k : Geometry). k.size) c.geometry-geometry.ensures in
+    let rest = readings_by c.args.end geometry.size after in
+    let was = run_same (block_room geometry) _ run _ (Ok line ∷ rest) c.lines.invariant.was_run
+    (readings_line geometry.size c.args.end c.is_whole-whole.result c.lines.rest.now spelled after (Ok line) c.is_whole-whole.ensures c.in-Some.ensures.split (subst (λ n. Ok line ≡ plain_line_of n spelled) at c.in-Ok.ensures.line)) in
+    λ _. (run, Ok line, rest, was, nothing_next _ _ (told run) _ c.lines.invariant.taken)
 
 pub returns-in-Err-run_line-clause-part : goal.returns-in-Err-run_line-clause-part
 returns-in-Err-run_line-clause-part g c =
@@ -119,16 +133,21 @@ returns-in-Err-run_line-clause-part g c =
     let line = c.in-Ok.line in
     let run = c.lines.invariant.run in
     let at : c.size.result ≡ geometry.size = c.size.ensures ∙ ap (λ (k : Geometry). k.size) c.geometry-geometry.ensures in
-    let rest = readings_in geometry.size c.args.whole after in
+    let rest = readings_by c.args.end geometry.size after in
     let was = run_same (block_room geometry) _ run _ (Ok line ∷ rest) c.lines.invariant.was_run
-    (readings_line geometry.size c.args.whole c.lines.rest.now spelled after (Ok line) c.in-Some.ensures.split (subst (λ n. Ok line ≡ plain_line_of n spelled) at c.in-Ok.ensures.line)) in
+    (readings_line geometry.size c.args.end c.is_whole-whole.result c.lines.rest.now spelled after (Ok line) c.is_whole-whole.ensures c.in-Some.ensures.split (subst (λ n. Ok line ≡ plain_line_of n spelled) at c.in-Ok.ensures.line)) in
     let room = c.lines.invariant.room in
     let blocks = c.blocks_of.ensures in
     let fits : blocks_in run + block_count line ≤ block_room geometry = omega arith in
     let e = c.in-Err-run_line.ended in
-    (run, Ok line ∷ rest, was,
+    λ _. (
+      run,
+      Ok line,
+      rest,
+      was,
       subst (λ (z : List Answer). TookPart e (g.O.Sink.taken c.args.sink.now) (g.O.Sink.taken c.run_line.new.sink) (told run) z) (sym (next_line_told (block_room geometry) run line rest fits))
-      (part_after _ _ _ (told run) (answers_of (uncut line) (disk_after run)) c.lines.invariant.taken e (c.in-Err-run_line.ensures.part (disk_after run) c.lines.invariant.disk)))
+          (part_after _ _ _ (told run) (answers_of (uncut line) (disk_after run)) c.lines.invariant.taken e (c.in-Err-run_line.ensures.part (disk_after run) c.lines.invariant.disk)),
+    )
 
 pub lines-preserved : goal.lines-preserved
 lines-preserved g c =
@@ -139,9 +158,9 @@ lines-preserved g c =
     let run = c.lines.invariant.run in
     let at : c.size.result ≡ geometry.size = c.size.ensures ∙ ap (λ (k : Geometry). k.size) c.geometry-geometry.ensures in
     let at_touch : c.size-in-Some.result ≡ geometry.size = c.size-in-Some.ensures ∙ ap (λ (k : Geometry). k.size) c.geometry-geometry.ensures in
-    let rest = readings_in geometry.size c.args.whole after in
+    let rest = readings_by c.args.end geometry.size after in
     let was = run_same (block_room geometry) _ run _ (Ok line ∷ rest) c.lines.invariant.was_run
-    (readings_line geometry.size c.args.whole c.lines.rest.now spelled after (Ok line) c.in-Some.ensures.split (subst (λ n. Ok line ≡ plain_line_of n spelled) at c.in-Ok.ensures.line)) in
+    (readings_line geometry.size c.args.end c.is_whole-whole.result c.lines.rest.now spelled after (Ok line) c.is_whole-whole.ensures c.in-Some.ensures.split (subst (λ n. Ok line ≡ plain_line_of n spelled) at c.in-Ok.ensures.line)) in
     let room = c.lines.invariant.room in
     let blocks = c.blocks_of.ensures in
     let blocks_again = c.blocks_of-room.ensures in
@@ -180,21 +199,26 @@ lines-preserved g c =
       sink = omega arith;
       lent = c.run_line.ensures.lent ∙ c.lines.invariant.lent;
     }
-
-pub returns-then-not-whole-clause-refused : goal.returns-then-not-whole-clause-refused
-returns-then-not-whole-clause-refused g c =
+pub returns-in-AtLimit-clause-refused : goal.returns-in-AtLimit-clause-refused
+returns-in-AtLimit-clause-refused g c =
     let geometry = (g.V.Volume.told c.args.volume.now).geometry in
     let run = c.lines.invariant.run in
-    let left : List (Result Line LineError) = Err TooLong ∷ [] in
-    let was = run_same (block_room geometry) _ run _ left c.lines.invariant.was_run
-    (readings_end geometry.size c.args.whole c.lines.rest.now c.in_default.ensures.none ∙ ap unended c.if-not-whole.true) in
-    if_refused c.refuse-then-not-whole.result _ _ c.refuse-then-not-whole.ensures.text (λ said. (run, left, TooLong, was, refl, refused_said _ _ _ run _ TooLong c.lines.invariant.number c.lines.invariant.taken said))
+    let was = run_same (block_room geometry) _ run _ (Err TooLong ∷ []) c.lines.invariant.was_run
+    (readings_end geometry.size c.args.end c.is_whole-whole.result c.lines.rest.now c.is_whole-whole.ensures c.in_default.ensures.none ∙ ap left_over c.in-AtLimit.is) in
+    if_refused c.refuse-in-AtLimit.result _ _ c.refuse-in-AtLimit.ensures.text (λ said. (run, Err TooLong ∷ [], TooLong, was, refl, refused_said _ _ _ run _ TooLong c.lines.invariant.number c.lines.invariant.taken said))
 
-pub returns-then-not-whole-clause-part : goal.returns-then-not-whole-clause-part
-returns-then-not-whole-clause-part g c =
+pub returns-in-AtLimit-clause-part : goal.returns-in-AtLimit-clause-part
+returns-in-AtLimit-clause-part g c =
     let geometry = (g.V.Volume.told c.args.volume.now).geometry in
     let run = c.lines.invariant.run in
-    let left : List (Result Line LineError) = Err TooLong ∷ [] in
-    let was = run_same (block_room geometry) _ run _ left c.lines.invariant.was_run
-    (readings_end geometry.size c.args.whole c.lines.rest.now c.in_default.ensures.none ∙ ap unended c.if-not-whole.true) in
-    if_err c.refuse-then-not-whole.result _ _ c.refuse-then-not-whole.ensures.part (λ e part. (run, left, was, refused_part _ _ _ run _ TooLong e c.lines.invariant.number c.lines.invariant.taken part))
+    let was = run_same (block_room geometry) _ run _ (Err TooLong ∷ []) c.lines.invariant.was_run
+    (readings_end geometry.size c.args.end c.is_whole-whole.result c.lines.rest.now c.is_whole-whole.ensures c.in_default.ensures.none ∙ ap left_over c.in-AtLimit.is) in
+    if_err c.refuse-in-AtLimit.result _ _ c.refuse-in-AtLimit.ensures.part (λ e part _. (run, Err TooLong, [], was, refused_part _ _ _ run _ TooLong e c.lines.invariant.number c.lines.invariant.taken part))
+
+pub returns-in-Whole-clause-whole : goal.returns-in-Whole-clause-whole
+returns-in-Whole-clause-whole g c =
+    let geometry = (g.V.Volume.told c.args.volume.now).geometry in
+    let run = c.lines.invariant.run in
+    let was = run_same (block_room geometry) _ run _ [] c.lines.invariant.was_run
+    (readings_end geometry.size c.args.end c.is_whole-whole.result c.lines.rest.now c.is_whole-whole.ensures c.in_default.ensures.none ∙ ap left_over c.in-Whole.is) in
+    (run, was, c.lines.invariant.taken, c.lines.invariant.programs, c.lines.invariant.disk, c.lines.invariant.touched, c.lines.invariant.writes, c.lines.invariant.reads)

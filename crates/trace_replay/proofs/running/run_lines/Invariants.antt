@@ -3,8 +3,9 @@ use Rattle.std.specs.Io.KnownBytes.{Appends}
 use Rattle.ft_base.specs.Count.{RoseBy}
 use Rattle.trace_model.specs.Run.{Ran, told, lines_of, blocks_in, disk_after, touched_after, writes_in, reads_in}
 use Rattle.trace_model.specs.Text.{text}
-use Rattle.trace_model.specs.Told.{WasRun, block_room, readings_in}
+use Rattle.trace_model.specs.Told.{WasRun, block_room}
 use Rattle.trace_replay.specs.Ends.{GoesOn}
+use Rattle.trace_replay.specs.Input.{readings_by}
 use Rattle.trace_replay.proofs.running.run_lines.Given as goal
 
 abbrev pub invariant-lines : goal.invariant-lines
@@ -16,7 +17,7 @@ invariant-lines g l =
       owns : g.V.Volume.owns l.volume now.contents;
       same : g.V.Volume.told l.volume ≡ g.V.Volume.told l.fn.volume;
       run : List Ran;
-      was_run : WasRun (block_room geometry) (readings_in geometry.size l.whole l.bytes) run (readings_in geometry.size l.whole l.rest);
+      was_run : WasRun (block_room geometry) (readings_by l.end geometry.size l.bytes) run (readings_by l.end geometry.size l.rest);
       taken : Appends (g.O.Sink.taken l.fn.sink) (g.O.Sink.taken l.sink) (text (told run));
       disk : g.V.Volume.is_disk l.volume now.contents (disk_after run);
       programs : RoseBy (blocks_in run) first.counts.programs now.counts.programs;
