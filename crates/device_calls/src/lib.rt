@@ -10,3 +10,6 @@ mod ending;
 
 pub use calls::Calls;
 pub use ending::{Current, Ending};
+
+#[cfg(test)]
+mod tests;

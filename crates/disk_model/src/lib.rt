@@ -14,3 +14,6 @@ mod store;
 
 pub use definition::block_of_cut;
 pub use disk::MemDisk;
+
+#[cfg(test)]
+mod tests;

@@ -13,3 +13,6 @@ mod nand;
 
 pub use definition::{page_of_cut_erase, page_of_cut_program};
 pub use nand::MemNand;
+
+#[cfg(test)]
+mod tests;
