@@ -13,29 +13,29 @@ pub(crate) struct OpenBlock {
 }
 
 /// What is open once the next page was programmed. None where it was the last.
-pub(crate) fn after_page(open: &OpenBlock, pages: u32) -> Option<OpenBlock>
-    requires page { open.now.next.page < pages }
-    requires block { open.now.next.block + open.now.later < 2 ^ 32 }
-    ensures next { result ≡ room.after_page pages open.now }
-    ensures room { room.room_in pages result + 1 ≡ room.room_in pages (Some open.now) }
+pub(crate) fn after_page(opened: &OpenBlock, pages: u32) -> Option<OpenBlock>
+    requires page { opened.now.next.page < pages }
+    requires block { opened.now.next.block + opened.now.later < 2 ^ 32 }
+    ensures next { result ≡ room.after_page pages opened.now }
+    ensures room { room.room_in pages result + 1 ≡ room.room_in pages (Some opened.now) }
 {
-    if open.next.page + 1 < pages {
+    if opened.next.page + 1 < pages {
         return Some(OpenBlock {
             next: Place {
-                block: open.next.block,
-                page: open.next.page + 1,
+                block: opened.next.block,
+                page: opened.next.page + 1,
             },
-            later: open.later,
+            later: opened.later,
         });
     }
-    if open.later == 0 {
+    if opened.later == 0 {
         return None;
     }
     Some(OpenBlock {
         next: Place {
-            block: open.next.block + 1,
+            block: opened.next.block + 1,
             page: 0,
         },
-        later: open.later - 1,
+        later: opened.later - 1,
     })
 }
