@@ -54,10 +54,10 @@ split_none true [] n is before none = refl
 split_none true (b ∷ bytes) n is before none = let zero_long : n ≡ 0 = none refl in absurd (omega arith)
 split_none false bytes n is before none = no_line bytes (λ k less. before k (omega arith))
 
-word_ends : (b : ℕ) (bytes : List ℕ) → b ≡ 32 → spaced_words (b ∷ bytes) ≡ [] ∷ spaced_words bytes
+pub word_ends : (b : ℕ) (bytes : List ℕ) → b ≡ 32 → spaced_words (b ∷ bytes) ≡ [] ∷ spaced_words bytes
 word_ends b bytes is = subst (λ k. spaced_words (k ∷ bytes) ≡ [] ∷ spaced_words bytes) (sym is) refl
 
-word_goes_on : (b : ℕ) (bytes : List ℕ) → b ≢ 32 → spaced_words (b ∷ bytes) ≡ onto_first b (spaced_words bytes)
+pub word_goes_on : (b : ℕ) (bytes : List ℕ) → b ≢ 32 → spaced_words (b ∷ bytes) ≡ onto_first b (spaced_words bytes)
 word_goes_on b bytes other =
     let no : (b == 32) ≡ false = grind (arith, nat_tests) in
     ap (λ (t : Bool). if t then [] ∷ spaced_words bytes else onto_first b (spaced_words bytes)) no
@@ -77,7 +77,7 @@ one_word [] before = refl
 one_word (b ∷ bytes) before = word_goes_on b bytes (before 0 (omega arith)) ∙ ap (onto_first b) (one_word bytes (λ k less. before (suc k) (omega arith)))
 
 -- there is a word, though it may be empty
-spaced_some : (bytes : List ℕ) → (word : List ℕ) × (words : List (List ℕ)) × (spaced_words bytes ≡ word ∷ words)
+pub spaced_some : (bytes : List ℕ) → (word : List ℕ) × (words : List (List ℕ)) × (spaced_words bytes ≡ word ∷ words)
 spaced_some [] = ([], [], refl)
 spaced_some (b ∷ bytes) = elim (cases_eq b 32) [
   | inl here ↦ ([], spaced_words bytes, word_ends b bytes here)
