@@ -33,7 +33,7 @@ fn no_words(word: &[u8], size: u64) -> Result<Line, LineError>
 }
 
 /// The word before the first space, and what follows that space. None where there is no space.
-fn first_word(bytes: &[u8]) -> Option<(&[u8], &[u8])>
+pub(crate) fn first_word(bytes: &[u8]) -> Option<(&[u8], &[u8])>
     ensures none { IfNone result (spaced_words bytes.now ≡ bytes.now ∷ []) }
     ensures split { IfSome result (λ r. spaced_words bytes.now ≡ r.0.now ∷ spaced_words r.1.now) }
 {
@@ -46,7 +46,7 @@ fn first_word(bytes: &[u8]) -> Option<(&[u8], &[u8])>
 
 /// The bytes as one word. None where there is a space.
 #[tactic(auto, using(crate::proofs::SplitLemmas::spaced_more))]
-fn last_word(bytes: &[u8]) -> Option<&[u8]>
+pub(crate) fn last_word(bytes: &[u8]) -> Option<&[u8]>
     ensures none { IfNone result ((a b : List ℕ) × (more : List (List ℕ)) × (spaced_words bytes.now ≡ a ∷ b ∷ more)) }
     ensures one { IfSome result (λ word. spaced_words bytes.now ≡ word.now ∷ []) }
 {

@@ -1,16 +1,24 @@
-ghost use Rattle.std.specs.Prelude.{◌≡◌, ◌+◌, ◌≤◌, ◌∷◌, [], bytes_eq, IfOk};
+ghost use Rattle.std.specs.Prelude.{◌≡◌, ◌+◌, ◌≤◌, ◌∷◌, [], bytes_eq, IfOk, IfErr};
 ghost use Rattle.std.specs.Io.BufRead.{strip_last};
 ghost use Rattle.trace_model.specs.Lines as lines;
-ghost use Rattle.trace_model.specs.Lines.{line_of, split_words};
+ghost use Rattle.trace_model.specs.Lines.{split_words};
+ghost use Rattle.trace_text.specs.Refusals.{IsOfOneLine};
 
 use crate::number::number_in;
 use crate::words::next_word;
 use ft_base::Outcome;
 use trace_model::{Line, LineError};
 
-/// What the line says, or the first refusal that applies.
+/// What the line says, or the first refusal that applies. It is never one that only a run can tell.
 pub fn read_line(bytes: &[u8], size: u64) -> Result<Line, LineError>
-    ensures { result ≡ line_of size bytes.now }
+    ensures line { result ≡ lines.line_of size bytes.now }
+    ensures refused { IfErr result IsOfOneLine }
+{
+    line_of(bytes, size)
+}
+
+fn line_of(bytes: &[u8], size: u64) -> Result<Line, LineError>
+    ensures { result ≡ lines.line_of size bytes.now }
 {
     if bytes.len() > 200 {
         return Err(LineError::LineTooLong);
