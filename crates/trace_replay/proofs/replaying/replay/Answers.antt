@@ -21,12 +21,12 @@ returns-in-Ok-clause-whole g c =
     let trace = trace_of_source source (g.I.Source.left c.read_whole.new.source) c.in-Ok.trace.bytes.items geometry.size end c.in-Ok.ensures.bytes c.in-Ok.ensures.whole c.in-Ok.ensures.limit (λ faulted. (c.in-Ok.ensures.faulted faulted).0) in
     let is = trace.3 ∙ ap (λ bytes. readings_by end geometry.size bytes ++ trace.2) (sym c.as_slice-bytes.ensures.value) in
     on_ok c.run_trace.result _ _ (λ facts. (
-        facts.1.0,
-        runs_whole source geometry.size (block_room geometry) facts.1.0 trace.2 _ trace.0 trace.1 is (trace.4 (λ faulted. after_none end facts.0 faulted)) facts.1.1,
-        facts.1.2,
-        facts.1.3,
-        facts.1.4,
-      )) c.run_trace.ensures.whole
+      facts.1.0,
+      runs_whole source geometry.size (block_room geometry) facts.1.0 trace.2 _ trace.0 trace.1 is (trace.4 (λ faulted. after_none end facts.0 faulted)) facts.1.1,
+      facts.1.2,
+      facts.1.3,
+      facts.1.4,
+    )) c.run_trace.ensures.whole
 
 pub returns-in-Ok-clause-end : goal.returns-in-Ok-clause-end
 returns-in-Ok-clause-end g c = on_ok c.run_trace.result _ _ (λ facts. (c.in-Ok.ensures.whole facts.0).1) c.run_trace.ensures.whole
@@ -49,20 +49,18 @@ returns-in-Ok-clause-part g c =
     let trace = trace_of_source source (g.I.Source.left c.read_whole.new.source) c.in-Ok.trace.bytes.items geometry.size end c.in-Ok.ensures.bytes c.in-Ok.ensures.whole c.in-Ok.ensures.limit (λ faulted. (c.in-Ok.ensures.faulted faulted).0) in
     let is = trace.3 ∙ ap (λ bytes. readings_by end geometry.size bytes ++ trace.2) (sym c.as_slice-bytes.ensures.value) in
     if_err c.run_trace.result _ _ c.run_trace.ensures.part (λ e part trace_not source_not.
-        let facts = part trace_not source_not in
-        let same = next_stands (block_room geometry) facts.0 facts.1 trace.2 (faulted_stands end facts.1 trace.2 facts.2 trace.4) in
-        (
-          facts.0,
-          facts.1 ++ trace.2,
-          runs_over source geometry.size (block_room geometry) facts.0 facts.1 trace.2 _ trace.0 trace.1 is facts.3,
-          subst (λ (z : List Answer). TookPart e (g.O.Sink.taken c.args.sink.now) (g.O.Sink.taken c.run_trace.new.sink) (told facts.0) z) (sym same) facts.4,
-        ))
+    let facts = part trace_not source_not in
+    let same = next_stands (block_room geometry) facts.0 facts.1 trace.2 (faulted_stands end facts.1 trace.2 facts.2 trace.4) in (
+      facts.0,
+      facts.1 ++ trace.2,
+      runs_over source geometry.size (block_room geometry) facts.0 facts.1 trace.2 _ trace.0 trace.1 is facts.3,
+      subst (λ (z : List Answer). TookPart e (g.O.Sink.taken c.args.sink.now) (g.O.Sink.taken c.run_trace.new.sink) (told facts.0) z) (sym same) facts.4,
+    ))
 
 pub returns-in-Ok-clause-source : goal.returns-in-Ok-clause-source
 returns-in-Ok-clause-source g c = λ source.
     let geometry = (g.V.Volume.told c.args.volume.now).geometry in
-    let facts = c.run_trace.ensures.faulted source in
-    (
+    let facts = c.run_trace.ensures.faulted source in (
       (c.in-Ok.ensures.faulted facts.0).1,
       (
         c.in-Ok.trace.bytes.items,

@@ -106,7 +106,7 @@ returns-then-blocks_of-room-clause-part g c =
     if_err c.refuse-then-blocks_of-room.result _ _ c.refuse-then-blocks_of-room.ensures.part (λ e part _. (
       run,
       Ok line,
-          rest,
+      rest,
       was,
       subst (λ (z : List Answer). TookPart e (g.O.Sink.taken c.args.sink.now) (g.O.Sink.taken c.refuse-then-blocks_of-room.new.sink) (told run) z) (sym (next_past_told (block_room geometry) run line rest past))
           (refused_part _ _ _ run _ TooLong e c.lines.invariant.number c.lines.invariant.taken part),
@@ -199,6 +199,7 @@ lines-preserved g c =
       sink = omega arith;
       lent = c.run_line.ensures.lent ∙ c.lines.invariant.lent;
     }
+
 pub returns-in-AtLimit-clause-refused : goal.returns-in-AtLimit-clause-refused
 returns-in-AtLimit-clause-refused g c =
     let geometry = (g.V.Volume.told c.args.volume.now).geometry in
