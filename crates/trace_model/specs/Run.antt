@@ -6,6 +6,7 @@ use Rattle.std.specs.BTreeSet.{insert_key}
 use Rattle.std.specs.Int.{w64, to_be_bytes}
 use Rattle.sha2.specs.Sha256.{sha256}
 use Rattle.ft_base.specs.declared.block.Block.{Block}
+pub use Rattle.trace_model.specs.declared.ran.Ran.{Ran}
 use Rattle.ft_base.specs.Contents.{set}
 use Rattle.ft_base.specs.PlainDisk.{PlainDisk, empty}
 use Rattle.ft_base.specs.declared.power.Stop.{Stop}
@@ -14,12 +15,6 @@ use Rattle.trace_model.specs.declared.line.Line.TheVariants as line
 use Rattle.trace_model.specs.declared.answer.Answer.{Answer}
 use Rattle.trace_model.specs.declared.answer.Answer.TheVariants as answer
 use Rattle.ft_base.specs.Pattern.{pat, tag_in}
-
--- a line that was run, how many stops cut it, and how many blocks of a write count from then on
-pub record Ran : Type 0 where
-  pub line : Line
-  pub cuts : ℕ
-  pub kept : ℕ
 
 -- the lines that were run, in the order of the trace; a run has its newest line first
 abbrev pub lines_of : List Ran → List Line
