@@ -3,7 +3,8 @@ use Rattle.std.proofs.Common.{◌≡◌, ◌≢◌, ◌≤◌, ◌*◌, ◌++◌
 use Rattle.std.specs.Io.KnownBytes.{Appends}
 use Rattle.trace_model.specs.declared.line.Line.{Line}
 use Rattle.trace_model.specs.declared.line.LineError.{LineError}
-use Rattle.trace_model.specs.Run.{Ran, told}
+use Rattle.trace_model.specs.declared.ran.Ran.{Ran}
+use Rattle.trace_model.specs.Run.{told}
 use Rattle.trace_model.specs.Text.{text}
 use Rattle.trace_model.specs.Told.{RunsOver, next_answers}
 use Rattle.trace_replay.specs.declared.ended.Ended.{Ended}

@@ -7,7 +7,8 @@ use Rattle.ft_base.specs.Pattern.{tag_in}
 use Rattle.trace_model.specs.declared.answer.Answer.{Answer}
 use Rattle.trace_model.specs.declared.answer.Answer.TheVariants as answer
 use Rattle.trace_model.specs.Plain.{AreRunLines, IsRunLine}
-use Rattle.trace_model.specs.Run.{Ran, after_line, answers_of, disk_after, read_backs, told}
+use Rattle.trace_model.specs.declared.ran.Ran.{Ran}
+use Rattle.trace_model.specs.Run.{after_line, answers_of, disk_after, read_backs, told}
 
 -- each line of a run was run so
 pub run_line_at : (run : List Ran) (n : ℕ) (any : Ran) → AreRunLines run → n < length run → IsRunLine (get_or run n any)

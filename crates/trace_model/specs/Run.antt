@@ -6,7 +6,7 @@ use Rattle.std.specs.BTreeSet.{insert_key}
 use Rattle.std.specs.Int.{w64, to_be_bytes}
 use Rattle.sha2.specs.Sha256.{sha256}
 use Rattle.ft_base.specs.declared.block.Block.{Block}
-pub use Rattle.trace_model.specs.declared.ran.Ran.{Ran}
+use Rattle.trace_model.specs.declared.ran.Ran.{Ran}
 use Rattle.ft_base.specs.Contents.{set}
 use Rattle.ft_base.specs.PlainDisk.{PlainDisk, empty}
 use Rattle.ft_base.specs.declared.power.Stop.{Stop}

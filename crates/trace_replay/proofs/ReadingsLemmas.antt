@@ -11,7 +11,8 @@ use Rattle.trace_model.specs.declared.line.LineError.{LineError}
 use Rattle.trace_model.specs.declared.line.LineError.TheVariants.{TooLong}
 use Rattle.trace_model.specs.declared.answer.Answer.{Answer}
 use Rattle.trace_model.specs.Lines.{lines_in, plain_line_of, onto_first, onto_ended}
-use Rattle.trace_model.specs.Run.{Ran, uncut, lines_of, blocks_in, block_count, disk_after, answers_of}
+use Rattle.trace_model.specs.declared.ran.Ran.{Ran}
+use Rattle.trace_model.specs.Run.{uncut, lines_of, blocks_in, block_count, disk_after, answers_of}
 use Rattle.trace_model.specs.Told.{AllUncut, RunsOver, Tells, WasRun, accepted, ended_readings, finds_room, next_answers, next_refusal, readings, readings_in, refusal, trace_limit, unended}
 use Rattle.trace_replay.specs.declared.input.InputEnd.{InputEnd}
 use Rattle.trace_replay.specs.declared.input.InputEnd.TheVariants.{Whole, AtLimit, Faulted}

@@ -8,7 +8,8 @@ use Rattle.trace_model.specs.declared.line.Line.TheVariants as line
 use Rattle.trace_model.specs.declared.line.LineError.{LineError}
 use Rattle.trace_model.specs.declared.answer.Answer.{Answer}
 use Rattle.trace_model.specs.declared.answer.Answer.TheVariants as answer
-use Rattle.trace_model.specs.Run.{Ran, uncut, lines_of, told, write_count, read_count, writes_in, reads_in, touched_after, digest_of, disk_after, end_of}
+use Rattle.trace_model.specs.declared.ran.Ran.{Ran}
+use Rattle.trace_model.specs.Run.{uncut, lines_of, told, write_count, read_count, writes_in, reads_in, touched_after, digest_of, disk_after, end_of}
 use Rattle.trace_model.specs.Text.{text}
 use Rattle.trace_model.specs.Told.{refusal}
 use Rattle.trace_replay.specs.declared.ended.Ended.{Ended}

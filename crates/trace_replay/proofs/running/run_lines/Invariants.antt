@@ -1,7 +1,8 @@
 use Rattle.std.proofs.Common.{◌≡◌, ◌+◌, ◌<◌, ◌≤◌, All, List, length}
 use Rattle.std.specs.Io.KnownBytes.{Appends}
 use Rattle.ft_base.specs.Count.{RoseBy}
-use Rattle.trace_model.specs.Run.{Ran, told, lines_of, blocks_in, disk_after, touched_after, writes_in, reads_in}
+use Rattle.trace_model.specs.declared.ran.Ran.{Ran}
+use Rattle.trace_model.specs.Run.{told, lines_of, blocks_in, disk_after, touched_after, writes_in, reads_in}
 use Rattle.trace_model.specs.Text.{text}
 use Rattle.trace_model.specs.Told.{WasRun, block_room}
 use Rattle.trace_replay.specs.Ends.{GoesOn}
