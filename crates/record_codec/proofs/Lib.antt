@@ -1,0 +1,4 @@
+pub mod RecordLemmas
+pub mod HeaderLemmas
+pub mod PageLemmas
+pub mod SealLemmas

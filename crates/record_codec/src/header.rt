@@ -1,0 +1,104 @@
+ghost use Rattle.std.specs.Prelude.{◌≡◌, ◌↔◌, ◌≤◌, ◌<◌, ◌^◌, ◌&&◌, IsTrue, MatchOption};
+ghost use Rattle.cache_model.specs.declared.format.Header.{Header as HeaderValue};
+ghost use Rattle.cache_model.specs.Spelling.{spelled_header, header_in_range, is_log_or_map, kind_byte, IsHeaderOf};
+ghost use Rattle.cache_model.specs.Reading.{header_in, kind_of, read_header};
+
+use crate::line::{line_at, put_bytes, put_u32, u32_at};
+use cache_model::{Header, PageKind};
+use ft_base::Block;
+
+// What every page of records and every seal begins with.
+const MAGIC: [u8; 8] = *b"FTSCPAGE";
+
+const FORMAT: u8 = 1;
+
+// The kinds of a page.
+const LOG: u8 = 3;
+
+const MAP: u8 = 4;
+
+const SEAL: u8 = 5;
+
+fn kind_byte(kind: PageKind) -> u8
+    ensures { result ≡ kind_byte kind }
+{
+    match kind {
+        PageKind::Log => LOG,
+        PageKind::Map => MAP,
+        PageKind::Seal => SEAL,
+    }
+}
+
+/// The kind of a byte. One of no kind is taken for a seal, whose byte it isn't.
+fn kind_of(byte: u8) -> PageKind
+    ensures { result ≡ kind_of byte }
+{
+    match byte {
+        LOG => PageKind::Log,
+        MAP => PageKind::Map,
+        _ => PageKind::Seal,
+    }
+}
+
+/// The one spelling of a header.
+pub fn spelled_header(header: &Header) -> [u8; 32]
+    ensures spelled { result ≡ spelled_header header.now }
+    ensures sequence { header.now.sequence < 2 ^ 32 }
+    ensures count { header.now.count < 2 ^ 32 }
+{
+    let mut line = [0; 32];
+    put_bytes(&mut line, 0, MAGIC.as_slice());
+    line[8] = FORMAT;
+    line[9] = kind_byte(header.kind);
+    line[10] = header.era;
+    put_u32(&mut line, 12, header.sequence);
+    put_u32(&mut line, 16, header.count);
+    line
+}
+
+/// The header that a line would be.
+pub fn header_in(line: &[u8; 32]) -> Header
+    ensures { result ≡ header_in line.now }
+{
+    Header {
+        kind: kind_of(line[9]),
+        era: line[10],
+        sequence: u32_at(line, 12),
+        count: u32_at(line, 16),
+    }
+}
+
+/// Whether the numbers are those of a page of records.
+fn is_in_range(header: &Header) -> bool
+    ensures { result ≡ (header_in_range header.now && is_log_or_map header.now.kind) }
+{
+    let _sequence = header.sequence;
+    let count = header.count;
+    match header.kind {
+        PageKind::Log | PageKind::Map => header.era <= 2 && 1 <= count && count <= 127,
+        PageKind::Seal => false,
+    }
+}
+
+/// Whether the page begins with this header, and it is one of a page of records.
+pub fn has_header(page: &Block, header: &Header) -> bool
+    ensures { IsTrue result ↔ IsHeaderOf page.now.0 header.now }
+{
+    let same = spelled_header(header) == line_at(page, 0);
+    if !same {
+        return false;
+    }
+    is_in_range(header)
+}
+
+/// The header of a page of records: exactly where the page begins with one.
+pub fn read_header(page: &Block) -> Option<Header>
+    ensures value { result ≡ read_header page.now.0 }
+    ensures grammar { MatchOption result ((h : HeaderValue) → ¬ IsHeaderOf page.now.0 h) (λ h. IsHeaderOf page.now.0 h) }
+{
+    let header = header_in(&line_at(page, 0));
+    if has_header(page, &header) {
+        return Some(header);
+    }
+    None
+}

@@ -1,0 +1,174 @@
+-- What a map keeps true through a new key, another value and a removal.
+use Rattle.std.proofs.Common.{◌≡◌, ◌≢◌, ℕ, ◌+◌, ◌-◌, ◌*◌, ◌<◌, ◌≤◌, ◌⊎◌, min, List, [], Option, Some, None, true, length, set, cond, eqb, refl, sym, ap, ◌∙◌, subst, inl, inr, arith}
+use Rattle.std.specs.Prelude.{is_some}
+use Rattle.std.specs.Ordering.{nat_cmp}
+use Rattle.std.specs.FinMap as map
+use Rattle.std.specs.FinMap.{find}
+use Rattle.std.specs.Prelude.{Vec}
+use Rattle.std.specs.Vec.{vec_len, with_items}
+use Rattle.std.proofs.lemmas.List.{length-set, nil_from_length, with_items_is}
+use Rattle.std.proofs.lemmas.Bool.{cases_eq, eq-eqb, ne_eqb, cond-true, cond-false, false≢true}
+use Rattle.sparse_map.specs.declared.group.Group.{Group}
+use Rattle.sparse_map.specs.declared.map.SparseMap.TheInside.{Inside}
+use Rattle.sparse_map.specs.Slots.{slot_at, key_at, items_of}
+use Rattle.sparse_map.specs.Groups.{slots_of, small_groups}
+use Rattle.sparse_map.specs.Packed.{IsPacked, Table, map_of}
+use Rattle.sparse_map.specs.Kept.{IsKept}
+use Rattle.sparse_map.specs.Probe.{IsFreeFor}
+use Rattle.sparse_map.proofs.TableLemmas.{length-slots_of}
+use Rattle.sparse_map.proofs.HomeLemmas.{home_below}
+use Rattle.sparse_map.proofs.SlotLemmas.{is_some-key_at, length-items_of-set, length-items_of-le, find-set_new, find-set_value, slot_of_key, not_found, found_where}
+use Rattle.sparse_map.proofs.PackedLemmas.{PackedAt-from, PackedAt-to, packed-set_new, packed-set_value, key_inside}
+use Rattle.sparse_map.proofs.MapLemmas.{get-map_of, map_of-insert, map_of-remove, kept_none, kept_some}
+
+module _ {V : Type 0} (s : List (Option (ℕ × V))) (b k : ℕ) (v : V) (packed : IsPacked s) where
+  module _ (has : key_at s b ≡ Some k) where
+    pub value_packed : IsPacked (set s b (Some (k, v)))
+    value_packed = PackedAt-to (length s) (set s b (Some (k, v))) (length-set s b (Some (k, v))) (packed-set_value (length s) s b k v (PackedAt-from (length s) s refl packed) has)
+
+    pub value_count : length (items_of (set s b (Some (k, v)))) ≡ length (items_of s)
+    value_count =
+        let changed = length-items_of-set s b (Some (k, v)) (key_inside s b k has) in
+        let some : cond (is_some (slot_at s b)) 1 0 ≡ 1 = ap {B = ℕ} (λ x. cond {A = ℕ} x 1 0) (sym (is_some-key_at s b) ∙ ap is_some has) in
+        omega (arith, changed, some)
+
+    pub value_found : (q : ℕ) → find nat_cmp q (items_of (set s b (Some (k, v)))) ≡ cond (eqb q k) (Some v) (find nat_cmp q (items_of s))
+    value_found q = let old = slot_of_key s b k has in find-set_value s b k packed.once v old.0 (key_inside s b k has) old.1 q
+
+  module _ (place : IsFreeFor s k b) where
+    pub new_packed : IsPacked (set s b (Some (k, v)))
+    new_packed =
+        let some : 0 < length s = omega (arith, place.inside) in
+        PackedAt-to (length s) (set s b (Some (k, v))) (length-set s b (Some (k, v)))
+        (packed-set_new (length s) s b k v refl (home_below (length s) k some) (PackedAt-from (length s) s refl packed) place)
+
+    pub new_count : length (items_of (set s b (Some (k, v)))) ≡ length (items_of s) + 1
+    new_count =
+        let changed = length-items_of-set s b (Some (k, v)) place.inside in
+        let none : cond (is_some (slot_at s b)) 1 0 ≡ 0 = ap {B = ℕ} (λ o. cond {A = ℕ} (is_some o) 1 0) place.free in
+        omega (arith, changed, none)
+
+    pub new_found : (q : ℕ) → find nat_cmp q (items_of (set s b (Some (k, v)))) ≡ cond (eqb q k) (Some v) (find nat_cmp q (items_of s))
+    new_found = find-set_new s b k packed.once v place.inside place.free place.absent
+
+module _ {V : Type 0} (bits len spare blanks : ℕ) (us : List (Group V)) (kept : IsKept bits len spare blanks us) where
+  -- the same number of buckets, other items
+  pub kept_changed : (len_2 spare_2 blanks_2 : ℕ) (ws : List (Group V)) → length (slots_of ws) ≡ length (slots_of us) → IsPacked (slots_of ws) → len_2 ≡ length (items_of (slots_of ws))
+      → len_2 + spare_2 ≤ len + spare → min spare_2 (small_groups ws) ≤ blanks_2 → IsKept bits len_2 spare_2 blanks_2 ws
+  kept_changed len_2 spare_2 blanks_2 ws long packed counted less stocked =
+      record {
+        few = kept.few;
+        many = kept.many;
+        buckets = long ∙ kept.buckets;
+        packed = packed;
+        counted = counted;
+        room = omega (arith, kept.room, long);
+        stocked = stocked;
+      }
+
+  -- a key that is there, or room for one, shows that there are buckets
+  pub ready_has_buckets : (t : Table V) (key : ℕ) → slots_of us ≡ t.slots → spare ≡ t.spare → ((map.contains_key (map_of t) key ≡ true) ⊎ (1 ≤ t.spare)) → 0 < bits
+  ready_has_buckets t key same room ready = elim ready [
+    | inl there ↦ elim (cases_eq bits 0) [
+      | inr some ↦ omega arith
+      | inl none ↦
+          let empty : length t.slots ≡ 0 = sym (ap length same) ∙ kept_none bits len spare blanks us kept none in
+          let no_items : items_of t.slots ≡ [] = nil_from_length (items_of t.slots) (omega (arith, length-items_of-le t.slots)) in
+          absurd (false≢true (sym (ap is_some (get-map_of t key ∙ ap (find nat_cmp key) no_items)) ∙ there))
+    ]
+    | inr more ↦ kept_some bits len spare blanks us kept (omega (arith, kept.room))
+  ]
+
+-- a list written through `as_mut_slice`
+pub written : {X Z : Type 0} (v : Vec X Z) (ws : List X) → length ws ≡ vec_len v → (with_items v ws).items ≡ ws
+written v ws long = with_items_is v ws long
+
+module _ {V : Type 0} (m : Inside V) (t : Table V) (kept : IsKept m.bits m.len m.spare (vec_len m.stock) m.groups.items)
+    (is : ◌≡◌ {A = Table V} (record { slots = slots_of m.groups.items; spare = m.spare }) t) where
+  pub seen_ready : (key : ℕ) → ((map.contains_key (map_of t) key ≡ true) ⊎ (1 ≤ t.spare)) → 0 < m.bits
+  seen_ready key ready =
+      ready_has_buckets m.bits m.len m.spare (vec_len m.stock) m.groups.items kept t key (ap (λ (x : Table V). x.slots) is) (ap (λ (x : Table V). x.spare) is) ready
+
+  -- a key that is nowhere needs room
+  pub absent_needs_room : (key : ℕ) → ((b : ℕ) → key_at (slots_of m.groups.items) b ≢ Some key) → ((map.contains_key (map_of t) key ≡ true) ⊎ (1 ≤ t.spare)) → 1 ≤ m.spare
+  absent_needs_room key absent ready = elim ready [
+    | inl there ↦
+        let same : slots_of m.groups.items ≡ t.slots = ap (λ (x : Table V). x.slots) is in
+        let none = get-map_of t key ∙ ap (λ s. find nat_cmp key (items_of s)) (sym same) ∙ not_found (slots_of m.groups.items) key absent in
+        absurd (false≢true (sym (ap is_some none) ∙ there))
+    | inr more ↦ let same : m.spare ≡ t.spare = ap (λ (x : Table V). x.spare) is in omega arith
+  ]
+
+  pub get_there : (b key : ℕ) (v : V) → slot_at (slots_of m.groups.items) b ≡ Some (key, v) → map.get (map_of t) key ≡ Some v
+  get_there b key v has =
+      let same : slots_of m.groups.items ≡ t.slots = ap (λ (x : Table V). x.slots) is in
+      get-map_of t key ∙ ap (λ s. find nat_cmp key (items_of s)) (sym same) ∙ found_where (slots_of m.groups.items) b key v kept.packed.once has
+
+  pub get_absent : (key : ℕ) → ((b : ℕ) → key_at (slots_of m.groups.items) b ≢ Some key) → map.get (map_of t) key ≡ None
+  get_absent key absent =
+      let same : slots_of m.groups.items ≡ t.slots = ap (λ (x : Table V). x.slots) is in
+      get-map_of t key ∙ ap (λ s. find nat_cmp key (items_of s)) (sym same) ∙ not_found (slots_of m.groups.items) key absent
+
+  pub map_changed : (ws : List (Group V)) (spare key : ℕ) (v : V)
+      → ((q : ℕ) → find nat_cmp q (items_of (slots_of ws)) ≡ cond (eqb q key) (Some v) (find nat_cmp q (items_of (slots_of m.groups.items))))
+      → map_of (record { slots = slots_of ws; spare = spare }) ≡ map.insert (map_of t) key v
+  map_changed ws spare key v found =
+      let same : slots_of m.groups.items ≡ t.slots = ap (λ (x : Table V). x.slots) is in
+      map_of-insert t (record { slots = slots_of ws; spare = spare }) key v
+      (λ q. found q ∙ ap (λ s. cond (eqb q key) (Some v) (find nat_cmp q (items_of s))) same)
+
+  pub map_without : (ws : List (Group V)) (spare key : ℕ)
+      → ((q : ℕ) → find nat_cmp q (items_of (slots_of ws)) ≡ cond (eqb q key) None (find nat_cmp q (items_of (slots_of m.groups.items))))
+      → map_of (record { slots = slots_of ws; spare = spare }) ≡ map.remove (map_of t) key
+  map_without ws spare key found =
+      let same : slots_of m.groups.items ≡ t.slots = ap (λ (x : Table V). x.slots) is in
+      map_of-remove t (record { slots = slots_of ws; spare = spare }) key
+      (λ q. found q ∙ ap (λ s. cond (eqb q key) None (find nat_cmp q (items_of s))) same)
+
+  module _ (ws : List (Group V)) (b key : ℕ) (v : V) (e : slots_of ws ≡ set (slots_of m.groups.items) b (Some (key, v))) where
+    same_long : length (slots_of ws) ≡ length (slots_of m.groups.items)
+    same_long = ap length e ∙ length-set (slots_of m.groups.items) b (Some (key, v))
+
+    pub kept_value : key_at (slots_of m.groups.items) b ≡ Some key → small_groups ws ≡ small_groups m.groups.items → IsKept m.bits m.len m.spare (vec_len m.stock) ws
+    kept_value has small =
+        kept_changed m.bits m.len m.spare (vec_len m.stock) m.groups.items kept m.len m.spare (vec_len m.stock) ws same_long
+        (subst (λ s. IsPacked s) (sym e) (value_packed (slots_of m.groups.items) b key v kept.packed has))
+        (kept.counted ∙ sym (ap (λ s. length (items_of s)) e ∙ value_count (slots_of m.groups.items) b key v kept.packed has))
+        (omega arith)
+        (subst (λ n. min m.spare n ≤ vec_len m.stock) (sym small) kept.stocked)
+
+    pub map_value : (spare : ℕ) → key_at (slots_of m.groups.items) b ≡ Some key → map_of (record { slots = slots_of ws; spare = spare }) ≡ map.insert (map_of t) key v
+    map_value spare has =
+        map_changed ws spare key v (λ q. ap (λ s. find nat_cmp q (items_of s)) e ∙ value_found (slots_of m.groups.items) b key v kept.packed has q)
+
+    pub kept_new_key : (blanks : ℕ) → IsFreeFor (slots_of m.groups.items) key b → 1 ≤ m.spare → vec_len m.stock ≤ blanks + 1
+        → vec_len m.stock + small_groups ws ≤ blanks + small_groups m.groups.items → IsKept m.bits (m.len + 1) (m.spare - 1) blanks ws
+    kept_new_key blanks place more one_less one_widened =
+        kept_changed m.bits m.len m.spare (vec_len m.stock) m.groups.items kept (m.len + 1) (m.spare - 1) blanks ws same_long
+        (subst (λ s. IsPacked s) (sym e) (new_packed (slots_of m.groups.items) b key v kept.packed place))
+        (let count = ap (λ s. length (items_of s)) e ∙ new_count (slots_of m.groups.items) b key v kept.packed place in
+        ap (λ n. n + 1) kept.counted ∙ sym count)
+        (omega arith)
+        (omega (arith, kept.stocked, one_less, one_widened))
+
+    pub map_new_key : (spare : ℕ) → IsFreeFor (slots_of m.groups.items) key b → map_of (record { slots = slots_of ws; spare = spare }) ≡ map.insert (map_of t) key v
+    map_new_key spare place =
+        map_changed ws spare key v (λ q. ap (λ s. find nat_cmp q (items_of s)) e ∙ new_found (slots_of m.groups.items) b key v kept.packed place q)
+
+  pub kept_removed : (ws : List (Group V)) → length ws ≡ vec_len m.groups → IsPacked (slots_of ws) → length (items_of (slots_of ws)) + 1 ≡ length (items_of (slots_of m.groups.items))
+      → small_groups ws ≡ small_groups m.groups.items → IsKept m.bits (m.len - 1) m.spare (vec_len m.stock) ws
+  kept_removed ws long packed count small =
+      kept_changed m.bits m.len m.spare (vec_len m.stock) m.groups.items kept (m.len - 1) m.spare (vec_len m.stock) ws
+      (length-slots_of ws ∙ ap (λ n. 32 * n) (long ∙ m.groups.ok.0) ∙ sym (length-slots_of m.groups.items))
+      packed
+      (omega (arith, kept.counted, count))
+      (omega arith)
+      (subst (λ n. min m.spare n ≤ vec_len m.stock) (sym small) kept.stocked)
+
+-- without a key that is nowhere a map is as it is
+pub absent_stays : {V : Type 0} (t : Table V) (key : ℕ) → ((b : ℕ) → key_at t.slots b ≢ Some key) → map_of t ≡ map.remove (map_of t) key
+absent_stays t key absent =
+    map_of-remove t t key (λ q. elim (cases_eq q key) [
+      | inl e ↦ ap (λ x. find nat_cmp x (items_of t.slots)) e ∙ not_found t.slots key absent ∙ sym (cond-true (eqb q key) _ _ (eq-eqb q key e))
+      | inr ne ↦ sym (cond-false (eqb q key) _ _ (ne_eqb q key ne))
+    ])

@@ -1,0 +1,77 @@
+-- A map after a write through a `&mut` to one of its values.
+use Rattle.std.proofs.Common.{◌≡◌, ℕ, ◌*◌, ◌/◌, ◌%◌, ◌<◌, List, Some, length, get_or, set, refl, sym, ap, ◌∙◌, arith}
+use Rattle.std.specs.Prelude.{is_some, IsSome, option_map}
+use Rattle.std.specs.FinMap as map
+use Rattle.std.specs.Vec.{vec_len}
+use Rattle.std.proofs.lemmas.List.{length-set}
+use Rattle.sparse_map.specs.declared.group.Group.{Group}
+use Rattle.sparse_map.specs.declared.map.SparseMap.TheInside.{Inside}
+use Rattle.sparse_map.specs.Slots.{rank, slot_at, key_at}
+use Rattle.sparse_map.specs.Groups.{slots_in, slots_of}
+use Rattle.sparse_map.specs.Packed.{Table, map_of}
+use Rattle.sparse_map.specs.Kept.{IsKept}
+use Rattle.sparse_map.specs.Lending.{with_value, EndsWithValue}
+use Rattle.sparse_map.proofs.GroupLemmas.{taken, get_or-group_slots, unpacked_item, slots-replace}
+use Rattle.sparse_map.proofs.SlotLemmas.{slot_of_key}
+use Rattle.sparse_map.proofs.TableLemmas.{length-slots_of, slot_of_bucket, set_bucket, small_groups-same}
+use Rattle.sparse_map.proofs.PackedLemmas.{key_inside}
+use Rattle.sparse_map.proofs.ViewLemmas.{seen_slots, seen_spare}
+use Rattle.sparse_map.proofs.ChangeLemmas.{get_there, kept_value, map_value}
+
+module _ {V : Type 0} where
+  slots_in-with_value : (u : Group V) (k key : ℕ) (v w : V) → k < 32 → slot_at (slots_in u) k ≡ Some (key, v) → slots_in (with_value u k w) ≡ set (slots_in u) k (Some (key, w))
+  slots_in-with_value u k key v w lt is =
+      let set_bit = taken u k lt (ap is_some is) in
+      let read : slot_at (slots_in u) k ≡ Some (get_or u.items.items (rank u.occupied k) (0, w)) =
+      get_or-group_slots u.occupied u.items.items k _ lt ∙ unpacked_item u.occupied u.items.items k (0, w) u.fits u.counted lt set_bit in
+      let keys : Some (get_or u.items.items (rank u.occupied k) (0, w)).0 ≡ Some key = ap (option_map (λ e. e.0)) (sym read ∙ is) in
+      let same : (get_or u.items.items (rank u.occupied k) (0, w)).0 ≡ key = cc in
+      slots-replace u.occupied u.occupied k u.items.items u.fits u.counted lt ((get_or u.items.items (rank u.occupied k) (0, w)).0, w) set_bit
+      ∙ ap (λ x. set (slots_in u) k (Some (x, w))) same
+
+  -- the group of a bucket that has a key
+  pub group_of_key : (m : Inside V) (b key : ℕ) → key_at (slots_of m.groups.items) b ≡ Some key → b / 32 < vec_len m.groups
+  group_of_key m b key has = omega (arith, key_inside (slots_of m.groups.items) b key has, length-slots_of m.groups.items, m.groups.ok.0)
+
+  module _ (m : Inside V) (t : Table V) (kept : IsKept m.bits m.len m.spare (vec_len m.stock) m.groups.items)
+      (view : ◌≡◌ {A = Table V} (record { slots = slots_of m.groups.items; spare = m.spare }) t)
+      (b key : ℕ) (u : Group V) (has : key_at (slots_of m.groups.items) b ≡ Some key) (is : u ≡ get_or m.groups.items (b / 32) u) where
+    inside : b < 32 * length m.groups.items
+    inside = omega (arith, key_inside (slots_of m.groups.items) b key has, length-slots_of m.groups.items)
+
+    lent_slot : (v : V) × (slot_at (slots_in u) (b % 32) ≡ Some (key, v))
+    lent_slot =
+        let at = slot_of_key (slots_of m.groups.items) b key has in
+        (at.0, sym (slot_of_bucket m.groups.items b u u inside is) ∙ at.1)
+
+    pub lent_occupied : IsSome (slot_at (slots_in u) (b % 32))
+    lent_occupied = ap is_some lent_slot.1
+
+    ends : V → List (Group V)
+    ends w = set m.groups.items (b / 32) (with_value u (b % 32) w)
+
+    ends_slots : (w : V) → slots_of (ends w) ≡ set (slots_of m.groups.items) b (Some (key, w))
+    unfolding ends
+    ends_slots w =
+        let lt : b % 32 < 32 = omega arith in
+        set_bucket m.groups.items b u u inside is (with_value u (b % 32) w) (Some (key, w)) (slots_in-with_value u (b % 32) key lent_slot.0 w lt lent_slot.1)
+
+    pub lent_kept : (w : V) → IsKept m.bits m.len m.spare (vec_len m.stock) (set m.groups.items (b / 32) (with_value u (b % 32) w))
+    unfolding ends
+    lent_kept w =
+        kept_value m t kept view (ends w) b key w (ends_slots w) has
+        (small_groups-same m.groups.items (b / 32) u u (with_value u (b % 32) w) (omega (arith, inside)) is refl)
+
+    pub lent_ends : (w : V) → EndsWithValue t (record { slots = slots_of (set m.groups.items (b / 32) (with_value u (b % 32) w)); spare = m.spare }) key w
+    unfolding ends
+    lent_ends w =
+        record {
+          map = map_value m t kept view (ends w) b key w (ends_slots w) m.spare has;
+          buckets = ap length (ends_slots w) ∙ length-set (slots_of m.groups.items) b (Some (key, w)) ∙ ap length (seen_slots m t kept view);
+          spare = seen_spare m t kept view;
+        }
+
+    pub lent_value : (v : V) → option_map (λ e. e.1) (slot_at (slots_in u) (b % 32)) ≡ Some v → Some v ≡ map.get (map_of t) key
+    lent_value v shown =
+        let at = slot_of_key (slots_of m.groups.items) b key has in
+        sym shown ∙ ap (option_map (λ e. e.1)) (sym (slot_of_bucket m.groups.items b u u inside is) ∙ at.1) ∙ sym (get_there m t kept view b key at.0 at.1)

@@ -1,0 +1,16 @@
+pub mod HomeLemmas
+pub mod HomeRows
+pub mod RankLemmas
+pub mod GroupLemmas
+pub mod TableLemmas
+pub mod RoundLemmas
+pub mod SlotLemmas
+pub mod PackedLemmas
+pub mod ShiftLemmas
+pub mod ItemLemmas
+pub mod MapLemmas
+pub mod ViewLemmas
+pub mod ChangeLemmas
+pub mod MoveLemmas
+pub mod ReserveLemmas
+pub mod LendLemmas

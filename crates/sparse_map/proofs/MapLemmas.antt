@@ -1,0 +1,127 @@
+-- The finite map that a table of buckets holds.
+use Rattle.std.proofs.Common.{◌≡◌, ℕ, ◌+◌, ◌*◌, ◌^◌, ◌<◌, ◌≤◌, List, [], ◌∷◌, Option, Some, None, length, cond, eqb, refl, sym, ap, ◌∙◌, subst, inl, inr, arith, add-one, false}
+use Rattle.std.specs.Prelude.{is_some}
+use Rattle.std.specs.Ordering.{nat_cmp}
+use Rattle.std.specs.Cmp.{unsigned_tied, nat_cmp_total}
+use Rattle.std.specs.FinMap as map
+use Rattle.std.specs.FinMap.{find, nat_cmp-IsAntisymmetric, same_map, get-from_entries, get-insert, get-remove, len-insert, len-empty}
+use Rattle.std.proofs.lemmas.Bool.{cases_eq, eq-eqb, ne_eqb, cond-true, cond-false}
+use Rattle.sparse_map.specs.declared.group.Group.{Group}
+use Rattle.sparse_map.specs.Slots.{items_of}
+use Rattle.sparse_map.specs.Groups.{slots_of, small_groups}
+use Rattle.sparse_map.specs.Packed.{IsPacked, Table, map_of, len_of, IsSound}
+use Rattle.sparse_map.specs.Kept.{IsKept}
+use Rattle.sparse_map.specs.Moved.{IsDistinct}
+use Rattle.sparse_map.proofs.SlotLemmas.{Once, bucket_of_found, key_of_slot}
+use Rattle.std.proofs.lemmas.Nat.{pow_pos}
+
+module _ {V : Type 0} where
+  pub get-map_of : (t : Table V) (q : ℕ) → map.get (map_of t) q ≡ find nat_cmp q (items_of t.slots)
+  unfolding map_of
+  get-map_of t q = get-from_entries nat_cmp_total (items_of t.slots) q
+
+  pub map_of-same : (t u : Table V) → ((q : ℕ) → find nat_cmp q (items_of u.slots) ≡ find nat_cmp q (items_of t.slots)) → map_of u ≡ map_of t
+  map_of-same t u same = same_map nat_cmp_total nat_cmp-IsAntisymmetric (map_of u) (map_of t) (λ q. get-map_of u q ∙ same q ∙ sym (get-map_of t q))
+
+  pub map_of-insert : (t u : Table V) (k : ℕ) (v : V) → ((q : ℕ) → find nat_cmp q (items_of u.slots) ≡ cond (eqb q k) (Some v) (find nat_cmp q (items_of t.slots)))
+      → map_of u ≡ map.insert (map_of t) k v
+  map_of-insert t u k v same =
+      same_map nat_cmp_total nat_cmp-IsAntisymmetric (map_of u) (map.insert (map_of t) k v)
+      (λ q. get-map_of u q ∙ same q
+      ∙ sym (get-insert nat_cmp_total (map_of t) k v q ∙ (λ i. cond (unsigned_tied q k i) (Some v) (get-map_of t q i))))
+
+  pub map_of-remove : (t u : Table V) (k : ℕ) → ((q : ℕ) → find nat_cmp q (items_of u.slots) ≡ cond (eqb q k) None (find nat_cmp q (items_of t.slots)))
+      → map_of u ≡ map.remove (map_of t) k
+  map_of-remove t u k same =
+      same_map nat_cmp_total nat_cmp-IsAntisymmetric (map_of u) (map.remove (map_of t) k)
+      (λ q. get-map_of u q ∙ same q
+      ∙ sym (get-remove nat_cmp_total (map_of t) k q ∙ (λ i. cond (unsigned_tied q k i) None (get-map_of t q i))))
+
+  pub IsDistinct-items_of : (s : List (Option (ℕ × V))) → Once s → IsDistinct (items_of s)
+  unfolding items_of
+  IsDistinct-items_of [] once = tt
+  IsDistinct-items_of (None ∷ s) once =
+      IsDistinct-items_of s (λ a b key ka kb. let e : a + 1 ≡ b + 1 = once (a + 1) (b + 1) key (rw add-one ka) (rw add-one kb) in omega arith)
+  IsDistinct-items_of (Some (k, v) ∷ s) once = (
+    none_from (find nat_cmp k (items_of s)) refl,
+    IsDistinct-items_of s (λ a b key ka kb. let e : a + 1 ≡ b + 1 = once (a + 1) (b + 1) key (rw add-one ka) (rw add-one kb) in omega arith),
+  ) where
+    none_from : (o : Option V) → find nat_cmp k (items_of s) ≡ o → find nat_cmp k (items_of s) ≡ None
+    none_from None e = e
+    none_from (Some w) e =
+        let r = bucket_of_found s k w e in
+        let same : 0 ≡ r.0 + 1 = once 0 (r.0 + 1) k refl (rw add-one (key_of_slot s r.0 k w r.2)) in
+        absurd (omega arith)
+
+  len-from_entries : (es : List (ℕ × V)) → IsDistinct es → map.len (map.from_entries {R = nat_cmp} es) ≡ length es
+  len-from_entries [] d = len-empty nat_cmp V
+  len-from_entries (e ∷ es) d =
+      let none : is_some (map.get (map.from_entries {R = nat_cmp} es) e.0) ≡ false = ap is_some (get-from_entries nat_cmp_total es e.0 ∙ d.0) in
+      len-insert nat_cmp_total (map.from_entries es) e.0 e.1
+      ∙ cond-false (is_some (map.get (map.from_entries {R = nat_cmp} es) e.0)) _ _ none
+      ∙ ap (λ n. n + 1) (len-from_entries es d.1)
+      ∙ omega arith
+
+  pub len_of-items : (t : Table V) → Once t.slots → len_of t ≡ length (items_of t.slots)
+  unfolding map_of
+  len_of-items t once = len-from_entries (items_of t.slots) (IsDistinct-items_of t.slots once)
+
+  -- ---- what the fields keep gives what holds of every map
+  module _ (bits len spare blanks : ℕ) (groups : List (Group V)) (kept : IsKept bits len spare blanks groups) where
+    pub kept_buckets : 0 < bits → length (slots_of groups) ≡ 2 ^ bits
+    kept_buckets some = kept.buckets ∙ cond-false (eqb bits 0) _ _ (ne_eqb bits 0 (λ e. omega arith))
+
+    pub kept_none : bits ≡ 0 → length (slots_of groups) ≡ 0
+    kept_none none = kept.buckets ∙ cond-true (eqb bits 0) _ _ (eq-eqb bits 0 none)
+
+    pub kept_some : 0 < length (slots_of groups) → 0 < bits
+    kept_some some = elim (cases_eq bits 0) [ inl e ↦ absurd (let none = kept_none e in omega arith) | inr ne ↦ omega arith ]
+
+    pub kept_len : len_of (record { slots = slots_of groups; spare = spare }) ≡ len
+    kept_len = len_of-items (record { slots = slots_of groups; spare = spare }) kept.packed.once ∙ sym kept.counted
+
+    pub kept_sound : IsSound (record { slots = slots_of groups; spare = spare })
+    kept_sound =
+        record {
+          packed = kept.packed;
+          room = subst (λ n. 4 * (n + spare) ≤ 3 * length (slots_of groups)) (sym kept_len) kept.room;
+          buckets = λ some. let b = kept_some some in (bits, kept.many b, kept_buckets b);
+        }
+
+    -- a key in a bucket: there are buckets
+    pub kept_free : 0 < bits → len < 2 ^ bits
+    kept_free some = omega (arith, kept.room, kept_buckets some, pow_pos bits)
+
+-- ---- a new map
+module _ {V : Type 0} where
+  no_slots : (us : List (Group V)) → us ≡ [] → slots_of us ≡ []
+  unfolding slots_of
+  no_slots us e = rw e refl
+
+  no_small : (us : List (Group V)) → us ≡ [] → small_groups us ≡ 0
+  unfolding small_groups
+  no_small us e = rw e refl
+
+  pub buckets-new : (us : List (Group V)) → us ≡ [] → length (slots_of us) ≡ 0
+  buckets-new us e = ap length (no_slots us e)
+
+  pub map_of-new : (us : List (Group V)) (spare : ℕ) → us ≡ [] → map_of (record { slots = slots_of us; spare = spare }) ≡ map.empty
+  unfolding map_of items_of
+  map_of-new us spare e = ap (λ s. map.from_entries {R = nat_cmp} (items_of s)) (no_slots us e)
+
+  pub kept_new : (us : List (Group V)) (blanks : ℕ) → us ≡ [] → IsKept 0 0 0 blanks us
+  unfolding items_of
+  kept_new us blanks e =
+      let none = no_slots us e in
+      record {
+        few = omega arith;
+        many = λ some. absurd (omega arith);
+        buckets = ap length none;
+        packed = subst (λ s. IsPacked s) (sym none) (record {
+          once = λ a b key is. absurd (let wrong : None ≡ Some key = is in cc);
+          reached = λ b key q is. absurd (let wrong : None ≡ Some key = is in cc);
+        });
+        counted = sym (ap (λ s. length (items_of s)) none);
+        room = omega arith;
+        stocked = omega arith;
+      }

@@ -1,0 +1,132 @@
+use Rattle.std.proofs.Common.{◌≡◌, ◌+◌, ◌-◌, length, set, Some, arith, ap, sym, ◌∙◌, subst}
+use Rattle.std.specs.Prelude.{option_map}
+use Rattle.std.specs.Vec.{vec_len}
+use Rattle.sparse_map.specs.Slots.{slot_at, key_at}
+use Rattle.sparse_map.specs.Groups.{slots_of, small_groups}
+use Rattle.sparse_map.specs.Packed.{map_of, IsSound}
+use Rattle.sparse_map.specs.Kept.{IsKept}
+use Rattle.sparse_map.specs.Probe.{IsFreeFor}
+use Rattle.sparse_map.proofs.SlotLemmas.{slot_of_key}
+use Rattle.sparse_map.proofs.PackedLemmas.{key_inside}
+use Rattle.sparse_map.proofs.TableLemmas.{length-slots_of}
+use Rattle.sparse_map.proofs.MapLemmas.{kept_buckets, kept_sound}
+use Rattle.sparse_map.proofs.ChangeLemmas.{written, seen_ready, absent_needs_room, get_there, get_absent, kept_value, map_value, kept_new_key, map_new_key}
+use Rattle.sparse_map.proofs.map.SparseMap.insert_ready.Goals as goal
+
+pub probe-requires-clause-many : goal.probe-requires-clause-many
+probe-requires-clause-many g c =
+    c.self.invariant.many (seen_ready c.self.inside c.args.self.now c.self.invariant c.self.view_is c.args.key c.requires)
+
+pub probe-requires-clause-buckets : goal.probe-requires-clause-buckets
+probe-requires-clause-buckets g c =
+    let m = c.self.inside in
+    ap (λ us. length (slots_of us)) c.as_slice.ensures.value
+    ∙ kept_buckets m.bits m.len m.spare (vec_len m.stock) m.groups.items c.self.invariant (seen_ready m c.args.self.now c.self.invariant c.self.view_is c.args.key c.requires)
+
+pub replace-old-requires-clause-within : goal.replace-old-requires-clause-within
+replace-old-requires-clause-within g c =
+    let inside = key_inside (slots_of c.as_slice.result.now) c.in-Found.bucket c.args.key c.in-Found.ensures in
+    let same : length c.as_mut_slice.result.now ≡ length c.as_slice.result.now = ap length (c.as_mut_slice.ensures.value ∙ sym c.as_slice.ensures.value) in
+    omega (arith, inside, same, length-slots_of c.as_slice.result.now)
+
+pub invariant_of-self : goal.invariant_of-self
+invariant_of-self g c =
+    let m = c.self.inside in
+    let ws = c.replace-old.new.groups in
+    let long : length ws ≡ vec_len m.groups = c.replace-old.auto.groups ∙ c.as_mut_slice.ensures.len in
+    let slots = c.replace-old.ensures.slots ∙ ap (λ us. set (slots_of us) c.in-Found.bucket (Some (c.args.key, c.args.value))) c.as_mut_slice.ensures.value in
+    let has = ap (λ us. key_at (slots_of us) c.in-Found.bucket) (sym c.as_slice.ensures.value) ∙ c.in-Found.ensures in
+    subst (λ us. IsKept m.bits m.len m.spare (vec_len m.stock) us) (sym (written m.groups ws long))
+    (kept_value m c.args.self.now c.self.invariant c.self.view_is ws c.in-Found.bucket c.args.key c.args.value slots has (c.replace-old.ensures.small ∙ ap small_groups c.as_mut_slice.ensures.value))
+
+pub put-requires-clause-within : goal.put-requires-clause-within
+put-requires-clause-within g c =
+    let place = c.in-Free.ensures in
+    let same : length c.as_mut_slice-in-Free.result.now ≡ length c.as_slice.result.now = ap length (c.as_mut_slice-in-Free.ensures.value ∙ sym c.as_slice.ensures.value) in
+    omega (arith, place.inside, same, length-slots_of c.as_slice.result.now)
+
+pub put-requires-clause-stocked : goal.put-requires-clause-stocked
+put-requires-clause-stocked g c =
+    let m = c.self.inside in
+    let place : IsFreeFor (slots_of m.groups.items) c.args.key c.in-Free.bucket = subst (λ us. IsFreeFor (slots_of us) c.args.key c.in-Free.bucket) c.as_slice.ensures.value c.in-Free.ensures in
+    let more = absent_needs_room m c.args.self.now c.self.invariant c.self.view_is c.args.key place.absent c.requires in
+    let same : small_groups c.as_mut_slice-in-Free.result.now ≡ small_groups m.groups.items = ap small_groups c.as_mut_slice-in-Free.ensures.value in
+    λ some. omega (arith, c.self.invariant.stocked, more, same)
+
+pub overflow_sub-self : goal.overflow_sub-self
+overflow_sub-self g c =
+    let m = c.self.inside in
+    let place : IsFreeFor (slots_of m.groups.items) c.args.key c.in-Free.bucket = subst (λ us. IsFreeFor (slots_of us) c.args.key c.in-Free.bucket) c.as_slice.ensures.value c.in-Free.ensures in
+    let more = absent_needs_room m c.args.self.now c.self.invariant c.self.view_is c.args.key place.absent c.requires in
+    omega (arith, more)
+
+pub invariant_of-self-in-Free : goal.invariant_of-self-in-Free
+invariant_of-self-in-Free g c =
+    let m = c.self.inside in
+    let ws = c.put.new.groups in
+    let long : length ws ≡ vec_len m.groups = c.put.auto.groups ∙ c.as_mut_slice-in-Free.ensures.len in
+    let slots = c.put.ensures.slots ∙ ap (λ us. set (slots_of us) c.in-Free.bucket (Some (c.args.key, c.args.value))) c.as_mut_slice-in-Free.ensures.value in
+    let place : IsFreeFor (slots_of m.groups.items) c.args.key c.in-Free.bucket = subst (λ us. IsFreeFor (slots_of us) c.args.key c.in-Free.bucket) c.as_slice.ensures.value c.in-Free.ensures in
+    let more = absent_needs_room m c.args.self.now c.self.invariant c.self.view_is c.args.key place.absent c.requires in
+    let same : small_groups c.as_mut_slice-in-Free.result.now ≡ small_groups m.groups.items = ap small_groups c.as_mut_slice-in-Free.ensures.value in
+    subst (λ us. IsKept m.bits (m.len + 1) (m.spare - 1) (vec_len c.put.new.stock) us) (sym (written m.groups ws long))
+    (kept_new_key m c.args.self.now c.self.invariant c.self.view_is ws c.in-Free.bucket c.args.key c.args.value slots (vec_len c.put.new.stock) place more c.put.ensures.one_less (omega (arith, c.put.ensures.one_widened, same)))
+
+pub returns-in-Found-clause-old : goal.returns-in-Found-clause-old
+returns-in-Found-clause-old g c =
+    let m = c.self.inside in
+    let has = ap (λ us. key_at (slots_of us) c.in-Found.bucket) (sym c.as_slice.ensures.value) ∙ c.in-Found.ensures in
+    let at = slot_of_key (slots_of m.groups.items) c.in-Found.bucket c.args.key has in
+    let value : Some at.0 ≡ Some c.replace-old.result.1 =
+    ap (option_map (λ e. e.1)) (sym at.1 ∙ ap (λ us. slot_at (slots_of us) c.in-Found.bucket) (sym c.as_mut_slice.ensures.value) ∙ c.replace-old.ensures.item) in
+    sym value ∙ sym (get_there m c.args.self.now c.self.invariant c.self.view_is c.in-Found.bucket c.args.key at.0 at.1)
+
+pub returns-in-Found-clause-map : goal.returns-in-Found-clause-map
+returns-in-Found-clause-map g c =
+    let m = c.self.inside in
+    let ws = c.replace-old.new.groups in
+    let long : length ws ≡ vec_len m.groups = c.replace-old.auto.groups ∙ c.as_mut_slice.ensures.len in
+    let slots = c.replace-old.ensures.slots ∙ ap (λ us. set (slots_of us) c.in-Found.bucket (Some (c.args.key, c.args.value))) c.as_mut_slice.ensures.value in
+    let has = ap (λ us. key_at (slots_of us) c.in-Found.bucket) (sym c.as_slice.ensures.value) ∙ c.in-Found.ensures in
+    ap (λ us. map_of (record { slots = slots_of us; spare = m.spare })) (written m.groups ws long)
+    ∙ map_value m c.args.self.now c.self.invariant c.self.view_is ws c.in-Found.bucket c.args.key c.args.value slots m.spare has
+
+pub returns-in-Found-clause-sound : goal.returns-in-Found-clause-sound
+returns-in-Found-clause-sound g c =
+    let m = c.self.inside in
+    let ws = c.replace-old.new.groups in
+    let long : length ws ≡ vec_len m.groups = c.replace-old.auto.groups ∙ c.as_mut_slice.ensures.len in
+    let slots = c.replace-old.ensures.slots ∙ ap (λ us. set (slots_of us) c.in-Found.bucket (Some (c.args.key, c.args.value))) c.as_mut_slice.ensures.value in
+    let has = ap (λ us. key_at (slots_of us) c.in-Found.bucket) (sym c.as_slice.ensures.value) ∙ c.in-Found.ensures in
+    subst (λ us. IsSound (record { slots = slots_of us; spare = m.spare })) (sym (written m.groups ws long))
+    (kept_sound m.bits m.len m.spare (vec_len m.stock) ws
+    (kept_value m c.args.self.now c.self.invariant c.self.view_is ws c.in-Found.bucket c.args.key c.args.value slots has (c.replace-old.ensures.small ∙ ap small_groups c.as_mut_slice.ensures.value)))
+
+pub returns-in-Free-clause-old : goal.returns-in-Free-clause-old
+returns-in-Free-clause-old g c =
+    let m = c.self.inside in
+    let place : IsFreeFor (slots_of m.groups.items) c.args.key c.in-Free.bucket = subst (λ us. IsFreeFor (slots_of us) c.args.key c.in-Free.bucket) c.as_slice.ensures.value c.in-Free.ensures in
+    sym (get_absent m c.args.self.now c.self.invariant c.self.view_is c.args.key place.absent)
+
+pub returns-in-Free-clause-map : goal.returns-in-Free-clause-map
+returns-in-Free-clause-map g c =
+    let m = c.self.inside in
+    let ws = c.put.new.groups in
+    let long : length ws ≡ vec_len m.groups = c.put.auto.groups ∙ c.as_mut_slice-in-Free.ensures.len in
+    let slots = c.put.ensures.slots ∙ ap (λ us. set (slots_of us) c.in-Free.bucket (Some (c.args.key, c.args.value))) c.as_mut_slice-in-Free.ensures.value in
+    let place : IsFreeFor (slots_of m.groups.items) c.args.key c.in-Free.bucket = subst (λ us. IsFreeFor (slots_of us) c.args.key c.in-Free.bucket) c.as_slice.ensures.value c.in-Free.ensures in
+    ap (λ us. map_of (record { slots = slots_of us; spare = m.spare - 1 })) (written m.groups ws long)
+    ∙ map_new_key m c.args.self.now c.self.invariant c.self.view_is ws c.in-Free.bucket c.args.key c.args.value slots (m.spare - 1) place
+
+pub returns-in-Free-clause-sound : goal.returns-in-Free-clause-sound
+returns-in-Free-clause-sound g c =
+    let m = c.self.inside in
+    let ws = c.put.new.groups in
+    let long : length ws ≡ vec_len m.groups = c.put.auto.groups ∙ c.as_mut_slice-in-Free.ensures.len in
+    let slots = c.put.ensures.slots ∙ ap (λ us. set (slots_of us) c.in-Free.bucket (Some (c.args.key, c.args.value))) c.as_mut_slice-in-Free.ensures.value in
+    let place : IsFreeFor (slots_of m.groups.items) c.args.key c.in-Free.bucket = subst (λ us. IsFreeFor (slots_of us) c.args.key c.in-Free.bucket) c.as_slice.ensures.value c.in-Free.ensures in
+    let more = absent_needs_room m c.args.self.now c.self.invariant c.self.view_is c.args.key place.absent c.requires in
+    let same : small_groups c.as_mut_slice-in-Free.result.now ≡ small_groups m.groups.items = ap small_groups c.as_mut_slice-in-Free.ensures.value in
+    subst (λ us. IsSound (record { slots = slots_of us; spare = m.spare - 1 })) (sym (written m.groups ws long))
+    (kept_sound m.bits (m.len + 1) (m.spare - 1) (vec_len c.put.new.stock) ws
+    (kept_new_key m c.args.self.now c.self.invariant c.self.view_is ws c.in-Free.bucket c.args.key c.args.value slots (vec_len c.put.new.stock) place more c.put.ensures.one_less (omega (arith, c.put.ensures.one_widened, same))))

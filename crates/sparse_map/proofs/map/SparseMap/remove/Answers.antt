@@ -1,0 +1,81 @@
+use Rattle.std.proofs.Common.{◌≡◌, ◌+◌, ◌-◌, ◌*◌, length, cond, eqb, Some, None, ap, sym, ◌∙◌, subst}
+use Rattle.std.specs.Prelude.{option_map}
+use Rattle.std.specs.Vec.{vec_len}
+use Rattle.std.specs.Ordering.{nat_cmp}
+use Rattle.std.specs.FinMap.{find}
+use Rattle.sparse_map.specs.Slots.{slot_at, key_at, items_of}
+use Rattle.sparse_map.specs.Groups.{slots_of, small_groups}
+use Rattle.sparse_map.specs.Packed.{map_of, IsSound}
+use Rattle.sparse_map.specs.Kept.{IsKept}
+use Rattle.sparse_map.proofs.SlotLemmas.{slot_of_key, not_found}
+use Rattle.sparse_map.proofs.TableLemmas.{length-slots_of}
+use Rattle.sparse_map.proofs.MapLemmas.{kept_sound, get-map_of}
+use Rattle.sparse_map.proofs.ViewLemmas.{seen_slots, seen_sound}
+use Rattle.sparse_map.proofs.ChangeLemmas.{written, get_there, map_without, kept_removed, absent_stays}
+use Rattle.sparse_map.proofs.map.SparseMap.remove.Goals as goal
+
+pub returns-in_err-bucket-clause-value : goal.returns-in_err-bucket-clause-value
+returns-in_err-bucket-clause-value g c =
+    c.from_residual.ensures ∙ sym (get-map_of c.args.self.now c.args.key ∙ not_found c.args.self.now.slots c.args.key c.in_err-bucket.ensures)
+
+pub returns-in_err-bucket-clause-map : goal.returns-in_err-bucket-clause-map
+returns-in_err-bucket-clause-map g c = absent_stays c.args.self.now c.args.key c.in_err-bucket.ensures
+
+pub returns-in_err-bucket-clause-sound : goal.returns-in_err-bucket-clause-sound
+returns-in_err-bucket-clause-sound g c = seen_sound c.self.inside c.args.self.now c.self.invariant c.self.view_is
+
+pub invariant_of-self : goal.invariant_of-self
+invariant_of-self g c =
+    let m = c.self.inside in
+    let ws = c.remove_at-value.new.groups in
+    let long : length ws ≡ vec_len m.groups = c.remove_at-value.auto.groups ∙ c.as_mut_slice.ensures.len in
+    let count : length (items_of (slots_of ws)) + 1 ≡ length (items_of (slots_of m.groups.items)) = c.remove_at-value.ensures.count ∙ ap (λ us. length (items_of (slots_of us))) c.as_mut_slice.ensures.value in
+    subst (λ us. IsKept m.bits (m.len - 1) m.spare (vec_len m.stock) us) (sym (written m.groups ws long))
+    (kept_removed m c.args.self.now c.self.invariant c.self.view_is ws long c.remove_at-value.ensures.packed count (c.remove_at-value.ensures.small ∙ ap small_groups c.as_mut_slice.ensures.value))
+
+pub returns-clause-value : goal.returns-clause-value
+returns-clause-value g c =
+    let m = c.self.inside in
+    let b = c.in_ok-bucket.bucket in
+    let has = ap (λ s. key_at s b) (seen_slots m c.args.self.now c.self.invariant c.self.view_is) ∙ c.in_ok-bucket.ensures in
+    let at = slot_of_key (slots_of m.groups.items) b c.args.key has in
+    let value : Some at.0 ≡ Some c.remove_at-value.result.1 =
+    ap (option_map (λ e. e.1)) (sym at.1 ∙ ap (λ us. slot_at (slots_of us) b) (sym c.as_mut_slice.ensures.value) ∙ c.remove_at-value.ensures.item) in
+    sym value ∙ sym (get_there m c.args.self.now c.self.invariant c.self.view_is b c.args.key at.0 at.1)
+
+pub returns-clause-map : goal.returns-clause-map
+returns-clause-map g c =
+    let m = c.self.inside in
+    let b = c.in_ok-bucket.bucket in
+    let ws = c.remove_at-value.new.groups in
+    let long : length ws ≡ vec_len m.groups = c.remove_at-value.auto.groups ∙ c.as_mut_slice.ensures.len in
+    let has = ap (λ s. key_at s b) (seen_slots m c.args.self.now c.self.invariant c.self.view_is) ∙ c.in_ok-bucket.ensures in
+    let at = slot_of_key (slots_of m.groups.items) b c.args.key has in
+    let key : Some c.args.key ≡ Some c.remove_at-value.result.0 =
+    ap (option_map (λ e. e.0)) (sym at.1 ∙ ap (λ us. slot_at (slots_of us) b) (sym c.as_mut_slice.ensures.value) ∙ c.remove_at-value.ensures.item) in
+    let same_key : c.remove_at-value.result.0 ≡ c.args.key = cc in
+    ap (λ us. map_of (record { slots = slots_of us; spare = m.spare })) (written m.groups ws long)
+    ∙ map_without m c.args.self.now c.self.invariant c.self.view_is ws m.spare c.args.key
+    (λ q. c.remove_at-value.ensures.found q
+    ∙ (λ i. cond (eqb q (same_key i)) None (find nat_cmp q (items_of (slots_of (c.as_mut_slice.ensures.value i))))))
+
+pub returns-clause-buckets : goal.returns-clause-buckets
+returns-clause-buckets g c =
+    let m = c.self.inside in
+    let ws = c.remove_at-value.new.groups in
+    let long : length ws ≡ vec_len m.groups = c.remove_at-value.auto.groups ∙ c.as_mut_slice.ensures.len in
+    ap (λ us. length (slots_of us)) (written m.groups ws long)
+    ∙ length-slots_of ws
+    ∙ ap (λ n. 32 * n) (long ∙ m.groups.ok.0)
+    ∙ sym (length-slots_of m.groups.items)
+    ∙ ap length (seen_slots m c.args.self.now c.self.invariant c.self.view_is)
+
+pub returns-clause-sound : goal.returns-clause-sound
+returns-clause-sound g c =
+    let m = c.self.inside in
+    let ws = c.remove_at-value.new.groups in
+    let long : length ws ≡ vec_len m.groups = c.remove_at-value.auto.groups ∙ c.as_mut_slice.ensures.len in
+    let count : length (items_of (slots_of ws)) + 1 ≡ length (items_of (slots_of m.groups.items)) = c.remove_at-value.ensures.count ∙ ap (λ us. length (items_of (slots_of us))) c.as_mut_slice.ensures.value in
+    subst (λ us. IsSound (record { slots = slots_of us; spare = m.spare })) (sym (written m.groups ws long))
+    (kept_sound m.bits (m.len - 1) m.spare (vec_len m.stock) ws
+    (kept_removed m c.args.self.now c.self.invariant c.self.view_is ws long c.remove_at-value.ensures.packed count (c.remove_at-value.ensures.small ∙ ap small_groups c.as_mut_slice.ensures.value)))

@@ -1,0 +1,87 @@
+use Rattle.std.proofs.Common.{◌≡◌, ◌+◌, ◌^◌, ◌<◌, ◌≤◌, length, cond, eqb, ap, sym, ◌∙◌, subst, arith}
+use Rattle.std.specs.Vec.{vec_len}
+use Rattle.sparse_map.specs.Home.{IsDoubledFor}
+use Rattle.sparse_map.specs.Groups.{slots_of}
+use Rattle.sparse_map.specs.Packed.{len_of, buckets_of}
+use Rattle.sparse_map.proofs.MapLemmas.{kept_buckets}
+use Rattle.sparse_map.proofs.ViewLemmas.{seen_len, seen_slots, seen_sound}
+use Rattle.sparse_map.proofs.ReserveLemmas.{on_ok, on_ok_then, doubled_grows, map_of-slots, sound_stocked, sound_either}
+use Rattle.sparse_map.proofs.map.SparseMap.reserve.Goals as goal
+
+pub bits_for-bits-requires-clause-room : goal.bits_for-bits-requires-clause-room
+bits_for-bits-requires-clause-room g c =
+    let len = seen_len c.self.inside c.args.self.now c.self.invariant c.self.view_is in
+    omega (arith, len, c.requires, c.from-n.ensures)
+
+pub stock_up-requires : goal.stock_up-requires
+stock_up-requires g c =
+    let m = c.self.inside in
+    let t = c.args.self.now in
+    let len = seen_len m t c.self.invariant c.self.view_is in
+    let some : 0 < m.bits = omega (arith, c.bits_for-bits.ensures.many, c.if-bits-self.true) in
+    let size = kept_buckets m.bits m.len m.spare (vec_len m.stock) m.groups.items c.self.invariant some in
+    let long : length (slots_of m.groups.items) ≡ buckets_of t = ap length (seen_slots m t c.self.invariant c.self.view_is) in
+    let wide : 2 ^ c.bits_for-bits.result ≡ 2 ^ m.bits = ap (λ b. 2 ^ b) c.if-bits-self.true in
+    omega (arith, c.bits_for-bits.ensures.doubled.enough, wide, size, long, len)
+
+pub widen-requires-clause-wider : goal.widen-requires-clause-wider
+widen-requires-clause-wider g c =
+    let m = c.self.inside in
+    let t = c.args.self.now in
+    let narrow : cond (eqb m.bits 0) 0 (2 ^ m.bits) ≡ buckets_of t = sym c.self.invariant.buckets ∙ ap length (seen_slots m t c.self.invariant c.self.view_is) in
+    let grows = doubled_grows (m.len + c.from-n.result) (cond (eqb m.bits 0) 0 (2 ^ m.bits)) (2 ^ c.bits_for-bits.result) c.bits_for-bits.ensures.doubled in
+    subst (λ n. n ≤ 2 ^ c.bits_for-bits.result) narrow grows
+
+pub widen-requires-clause-room : goal.widen-requires-clause-room
+widen-requires-clause-room g c =
+    let len = seen_len c.self.inside c.args.self.now c.self.invariant c.self.view_is in
+    omega (arith, c.bits_for-bits.ensures.doubled.enough, len)
+
+pub returns-then-bits-self-clause-map : goal.returns-then-bits-self-clause-map
+returns-then-bits-self-clause-map g c = map_of-slots c.args.self.now c.stock_up.new.self c.stock_up.ensures.slots
+
+pub returns-then-bits-self-clause-buckets : goal.returns-then-bits-self-clause-buckets
+returns-then-bits-self-clause-buckets g c =
+    let m = c.self.inside in
+    let t = c.args.self.now in
+    let some : 0 < m.bits = omega (arith, c.bits_for-bits.ensures.many, c.if-bits-self.true) in
+    let need : m.len + c.from-n.result ≡ len_of t + c.args.n = λ i. seen_len m t c.self.invariant c.self.view_is i + c.from-n.ensures i in
+    let narrow : cond (eqb m.bits 0) 0 (2 ^ m.bits) ≡ buckets_of t = sym c.self.invariant.buckets ∙ ap length (seen_slots m t c.self.invariant c.self.view_is) in
+    let wide : 2 ^ c.bits_for-bits.result ≡ buckets_of c.stock_up.new.self =
+    ap (λ b. 2 ^ b) c.if-bits-self.true
+    ∙ sym (kept_buckets m.bits m.len m.spare (vec_len m.stock) m.groups.items c.self.invariant some)
+    ∙ ap length (seen_slots m t c.self.invariant c.self.view_is ∙ sym c.stock_up.ensures.slots) in
+    on_ok c.stock_up.result (IsDoubledFor (len_of t + c.args.n) (buckets_of t) (buckets_of c.stock_up.new.self))
+    (subst (λ x. IsDoubledFor x (buckets_of t) (buckets_of c.stock_up.new.self)) need
+    (subst (λ x. IsDoubledFor (m.len + c.from-n.result) x (buckets_of c.stock_up.new.self)) narrow
+    (subst (λ x. IsDoubledFor (m.len + c.from-n.result) (cond (eqb m.bits 0) 0 (2 ^ m.bits)) x) wide c.bits_for-bits.ensures.doubled)))
+
+pub returns-then-bits-self-clause-sound : goal.returns-then-bits-self-clause-sound
+returns-then-bits-self-clause-sound g c =
+    let m = c.self.inside in
+    let t = c.args.self.now in
+    let len = seen_len m t c.self.invariant c.self.view_is in
+    let some : 0 < m.bits = omega (arith, c.bits_for-bits.ensures.many, c.if-bits-self.true) in
+    let size = kept_buckets m.bits m.len m.spare (vec_len m.stock) m.groups.items c.self.invariant some in
+    let long : length (slots_of m.groups.items) ≡ buckets_of t = ap length (seen_slots m t c.self.invariant c.self.view_is) in
+    let wide : 2 ^ c.bits_for-bits.result ≡ 2 ^ m.bits = ap (λ b. 2 ^ b) c.if-bits-self.true in
+    sound_stocked c.stock_up.result t c.stock_up.new.self c.from-n.result (seen_sound m t c.self.invariant c.self.view_is)
+    (omega (arith, c.bits_for-bits.ensures.doubled.enough, wide, size, long, len))
+    c.stock_up.ensures.slots c.stock_up.ensures.spare c.stock_up.ensures.err
+
+pub returns-else-bits-self-clause-buckets : goal.returns-else-bits-self-clause-buckets
+returns-else-bits-self-clause-buckets g c =
+    let m = c.self.inside in
+    let t = c.args.self.now in
+    let need : m.len + c.from-n.result ≡ len_of t + c.args.n = λ i. seen_len m t c.self.invariant c.self.view_is i + c.from-n.ensures i in
+    let narrow : cond (eqb m.bits 0) 0 (2 ^ m.bits) ≡ buckets_of t = sym c.self.invariant.buckets ∙ ap length (seen_slots m t c.self.invariant c.self.view_is) in
+    on_ok_then c.widen.result (buckets_of c.widen.new.self ≡ 2 ^ c.bits_for-bits.result) (IsDoubledFor (len_of t + c.args.n) (buckets_of t) (buckets_of c.widen.new.self))
+    (λ wide.
+    subst (λ x. IsDoubledFor x (buckets_of t) (buckets_of c.widen.new.self)) need
+    (subst (λ x. IsDoubledFor (m.len + c.from-n.result) x (buckets_of c.widen.new.self)) narrow
+    (subst (λ x. IsDoubledFor (m.len + c.from-n.result) (cond (eqb m.bits 0) 0 (2 ^ m.bits)) x) (sym wide) c.bits_for-bits.ensures.doubled)))
+    c.widen.ensures.buckets
+
+pub returns-else-bits-self-clause-sound : goal.returns-else-bits-self-clause-sound
+returns-else-bits-self-clause-sound g c =
+    sound_either c.widen.result c.args.self.now c.widen.new.self (seen_sound c.self.inside c.args.self.now c.self.invariant c.self.view_is) c.widen.ensures.sound c.widen.ensures.err

@@ -1,0 +1,6 @@
+use Rattle.sparse_map.specs.Groups.{slots_of}
+use Rattle.sparse_map.proofs.PackedLemmas.{Probing}
+use Rattle.sparse_map.proofs.table.probe.Given as goal
+
+abbrev pub invariant-loop-step : goal.invariant-loop-step
+invariant-loop-step g l = Probing l.buckets (slots_of l.groups) l.key l.bucket l._step

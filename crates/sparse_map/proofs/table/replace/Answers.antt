@@ -1,0 +1,28 @@
+use Rattle.std.proofs.Common.{refl, ◌∙◌, subst, get_or, arith, ◌/◌, Some}
+use Rattle.std.specs.Prelude.{IsSome}
+use Rattle.sparse_map.proofs.TableLemmas.{slot_of_bucket, set_bucket, small_groups-same}
+use Rattle.sparse_map.proofs.table.replace.Goals as goal
+
+pub replace-requires-clause-occupied : goal.replace-requires-clause-occupied
+replace-requires-clause-occupied g c =
+    let read = c.index-groups-bucket.result in
+    let us = c.args.groups.now in
+    subst (λ o. IsSome o) (slot_of_bucket us c.args.bucket (get_or us (c.args.bucket / 32) read) read c.requires.within refl) c.requires.occupied
+
+pub returns-clause-item : goal.returns-clause-item
+returns-clause-item g c =
+    let read = c.index-groups-bucket.result in
+    let us = c.args.groups.now in
+    slot_of_bucket us c.args.bucket (get_or us (c.args.bucket / 32) read) read c.requires.within refl ∙ c.replace.ensures.item
+
+pub returns-clause-slots : goal.returns-clause-slots
+returns-clause-slots g c =
+    let read = c.index-groups-bucket.result in
+    let us = c.args.groups.now in
+    set_bucket us c.args.bucket (get_or us (c.args.bucket / 32) read) read c.requires.within refl c.replace.new.self (Some c.args.item) c.replace.ensures.slots
+
+pub returns-clause-small : goal.returns-clause-small
+returns-clause-small g c =
+    let read = c.index-groups-bucket.result in
+    let us = c.args.groups.now in
+    small_groups-same us (c.args.bucket / 32) (get_or us (c.args.bucket / 32) read) read c.replace.new.self (omega arith) refl c.replace.ensures.capacity

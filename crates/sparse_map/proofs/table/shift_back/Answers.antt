@@ -1,0 +1,102 @@
+use Rattle.std.proofs.Common.{◌≡◌, ◌+◌, ◌<◌, ◌≤◌, ◌^◌, sym, ap, ◌∙◌, subst, refl, arith, inl, inr}
+use Rattle.std.proofs.lemmas.Bool.{cases_lt, false≢true}
+use Rattle.sparse_map.specs.Home.{home, steps}
+use Rattle.sparse_map.specs.Slots.{key_at, exchanged}
+use Rattle.sparse_map.specs.Groups.{slots_of, small_groups}
+use Rattle.sparse_map.proofs.RoundLemmas.{next, next_below}
+use Rattle.sparse_map.proofs.TableLemmas.{length-slots_of}
+use Rattle.sparse_map.proofs.PackedLemmas.{PackedAt-from}
+use Rattle.sparse_map.proofs.ShiftLemmas.{Walked, walked_start, walked_stays, walked_moves, walked_done, walked_full, apart_from_hole}
+use Rattle.sparse_map.proofs.table.shift_back.Goals as goal
+use Rattle.sparse_map.proofs.table.shift_back.Goals.{then-leads_over, else-leads_over}
+
+pub loop-step-init : goal.loop-step-init
+loop-step-init g c =
+    let n = c.bucket_count-buckets.result in
+    let e = c.bucket_count-buckets.ensures.count in
+    let s = slots_of c.args.groups.now in
+    let long = c.requires.buckets ∙ sym e in
+    let inside = subst (λ m. c.args.bucket < m) (sym e) c.requires.within in
+    record { walked = walked_start n s c.args.bucket (PackedAt-from n s long c.requires.packed) long inside c.requires.occupied; small = refl }
+
+pub key_at-requires : goal.key_at-requires
+key_at-requires g c =
+    let w = c.loop-step.invariant.walked in
+    let below : next c.bucket_count-buckets.result c.loop-step.at < c.bucket_count-buckets.result = next_below c.bucket_count-buckets.result c.loop-step.at w.walk.at_inside in
+    omega (arith, below, c.next_bucket-at.ensures, w.long, length-slots_of c.loop-step.groups)
+
+pub returns-in-None-clause-shifted : goal.returns-in-None-clause-shifted
+returns-in-None-clause-shifted g c =
+    let n = c.bucket_count-buckets.result in
+    let e = c.bucket_count-buckets.ensures.count in
+    let inside = subst (λ m. c.args.bucket < m) (sym e) c.requires.within in
+    walked_done n (slots_of c.args.groups.now) (slots_of c.loop-step.groups) c.args.bucket c.loop-step.hole c.loop-step.at c.loop-step._step inside c.loop-step.invariant.walked c.loop-step-test.true
+    (ap (key_at (slots_of c.loop-step.groups)) (sym c.next_bucket-at.ensures) ∙ sym c.key_at.ensures ∙ c.in-None.is)
+
+pub exchange-requires-clause-a_within : goal.exchange-requires-clause-a_within
+exchange-requires-clause-a_within g c =
+    let w = c.loop-step.invariant.walked in
+    omega (arith, w.walk.hole_inside, w.long, length-slots_of c.loop-step.groups)
+
+pub exchange-requires-clause-b_within : goal.exchange-requires-clause-b_within
+exchange-requires-clause-b_within g c =
+    let w = c.loop-step.invariant.walked in
+    let below : next c.bucket_count-buckets.result c.loop-step.at < c.bucket_count-buckets.result = next_below c.bucket_count-buckets.result c.loop-step.at w.walk.at_inside in
+    omega (arith, below, c.next_bucket-at.ensures, w.long, length-slots_of c.loop-step.groups)
+
+pub exchange-requires-clause-apart : goal.exchange-requires-clause-apart
+exchange-requires-clause-apart g c =
+    let n = c.bucket_count-buckets.result in
+    let e = c.bucket_count-buckets.ensures.count in
+    let inside = subst (λ m. c.args.bucket < m) (sym e) c.requires.within in
+    λ same. apart_from_hole n (slots_of c.loop-step.groups) c.args.bucket c.loop-step.hole c.loop-step.at c.loop-step._step inside c.loop-step.invariant.walked.walk c.loop-step-test.true (same ∙ c.next_bucket-at.ensures)
+
+pub loop-step-preserved : goal.loop-step-preserved
+loop-step-preserved g c =
+    let n = c.bucket_count-buckets.result in
+    let e = c.bucket_count-buckets.ensures.count in
+    let inside = subst (λ m. c.args.bucket < m) (sym e) c.requires.within in
+    let old = slots_of c.args.groups.now in
+    let new = slots_of c.loop-step.groups in
+    let w = c.loop-step.invariant.walked in
+    let is = ap (key_at new) (sym c.next_bucket-at.ensures) ∙ sym c.key_at.ensures ∙ c.in-Some.is in
+    let key = c.in-Some.key in
+    let hole = c.loop-step.hole in
+    let on = c.next_bucket-at.ensures in
+    elim c.if-leads_over.branch [
+      | then-leads_over b ↦
+          let over_2 : steps (2 ^ c.args.bits) (home (2 ^ c.args.bits) key) hole ≤ steps (2 ^ c.args.bits) (home (2 ^ c.args.bits) key) c.next_bucket-at.result = c.leads_over.ensures.0 b.if-leads_over.true in
+          let over = subst (λ x. steps n (home n key) hole ≤ steps n (home n key) x) on (subst (λ m. steps m (home m key) hole ≤ steps m (home m key) c.next_bucket-at.result) (sym e) over_2) in
+          let moved = walked_moves n old new c.args.bucket hole c.loop-step.at c.loop-step._step key inside w c.loop-step-test.true is over in
+          let slots = ap slots_of b.groups-is ∙ b.exchange.ensures.slots ∙ ap (λ x. exchanged new hole x) on in
+          record {
+            walked = subst (λ t. Walked n old t c.args.bucket c.if-leads_over.hole c.next_bucket-at.result (c.loop-step._step + 1)) (sym slots)
+                (subst (λ x. Walked n old (exchanged new hole (next n c.loop-step.at)) c.args.bucket x c.next_bucket-at.result (c.loop-step._step + 1)) (sym b.hole-is)
+                (subst (λ x. Walked n old (exchanged new hole (next n c.loop-step.at)) c.args.bucket x x (c.loop-step._step + 1)) (sym on) moved));
+            small = ap small_groups b.groups-is ∙ b.exchange.ensures.small ∙ c.loop-step.invariant.small;
+          }
+      | else-leads_over b ↦
+          let short_2 : steps (2 ^ c.args.bits) (home (2 ^ c.args.bits) key) c.next_bucket-at.result < steps (2 ^ c.args.bits) (home (2 ^ c.args.bits) key) hole =
+          elim (cases_lt (steps (2 ^ c.args.bits) (home (2 ^ c.args.bits) key) c.next_bucket-at.result) (steps (2 ^ c.args.bits) (home (2 ^ c.args.bits) key) hole)) [
+            | inl lt ↦ lt
+            | inr le ↦ absurd (false≢true (sym b.if-leads_over.false ∙ c.leads_over.ensures.1 le))
+          ] in
+          let short = subst (λ x. steps n (home n key) x < steps n (home n key) hole) on (subst (λ m. steps m (home m key) c.next_bucket-at.result < steps m (home m key) hole) (sym e) short_2) in
+          let stayed = walked_stays n old new c.args.bucket hole c.loop-step.at c.loop-step._step key inside w c.loop-step-test.true is short in
+          record {
+            walked = subst (λ t. Walked n old t c.args.bucket c.if-leads_over.hole c.next_bucket-at.result (c.loop-step._step + 1)) (sym (ap slots_of b.groups-is))
+                (subst (λ x. Walked n old new c.args.bucket x c.next_bucket-at.result (c.loop-step._step + 1)) (sym b.hole-is)
+                (subst (λ x. Walked n old new c.args.bucket hole x (c.loop-step._step + 1)) (sym on) stayed));
+            small = ap small_groups b.groups-is ∙ c.loop-step.invariant.small;
+          }
+    ]
+
+pub returns-clause-shifted : goal.returns-clause-shifted
+returns-clause-shifted g c =
+    let n = c.bucket_count-buckets.result in
+    let e = c.bucket_count-buckets.ensures.count in
+    let inside = subst (λ m. c.args.bucket < m) (sym e) c.requires.within in
+    let w = c.loop-step.invariant.walked in
+    let end : c.loop-step._step ≡ n = omega arith in
+    absurd (walked_full n (slots_of c.args.groups.now) (slots_of c.loop-step.groups) c.args.bucket c.loop-step.hole c.loop-step.at inside (omega (arith, c.requires.room, e))
+    (subst (λ m. Walked n (slots_of c.args.groups.now) (slots_of c.loop-step.groups) c.args.bucket c.loop-step.hole c.loop-step.at m) end w))

@@ -1,0 +1,28 @@
+use Rattle.std.proofs.Common.{refl, ◌∙◌, subst, get_or, arith, ◌/◌, None}
+use Rattle.std.specs.Prelude.{IsSome}
+use Rattle.sparse_map.proofs.TableLemmas.{slot_of_bucket, set_bucket, small_groups-same}
+use Rattle.sparse_map.proofs.table.take.Goals as goal
+
+pub remove-requires-clause-occupied : goal.remove-requires-clause-occupied
+remove-requires-clause-occupied g c =
+    let read = c.index-groups-bucket.result in
+    let us = c.args.groups.now in
+    subst (λ o. IsSome o) (slot_of_bucket us c.args.bucket (get_or us (c.args.bucket / 32) read) read c.requires.within refl) c.requires.occupied
+
+pub returns-clause-item : goal.returns-clause-item
+returns-clause-item g c =
+    let read = c.index-groups-bucket.result in
+    let us = c.args.groups.now in
+    slot_of_bucket us c.args.bucket (get_or us (c.args.bucket / 32) read) read c.requires.within refl ∙ c.remove.ensures.item
+
+pub returns-clause-slots : goal.returns-clause-slots
+returns-clause-slots g c =
+    let read = c.index-groups-bucket.result in
+    let us = c.args.groups.now in
+    set_bucket us c.args.bucket (get_or us (c.args.bucket / 32) read) read c.requires.within refl c.remove.new.self None c.remove.ensures.slots
+
+pub returns-clause-small : goal.returns-clause-small
+returns-clause-small g c =
+    let read = c.index-groups-bucket.result in
+    let us = c.args.groups.now in
+    small_groups-same us (c.args.bucket / 32) (get_or us (c.args.bucket / 32) read) read c.remove.new.self (omega arith) refl c.remove.ensures.capacity

@@ -1,0 +1,41 @@
+-- The packed law, and what a contract sees of a `SparseMap`.
+use Rattle.std.specs.Prelude.{◌≡◌, ℕ, ◌+◌, ◌*◌, ◌^◌, ◌<◌, ◌≤◌, List, length, Option, Some, IsSome, refl}
+use Rattle.std.specs.Ordering.{nat_cmp}
+use Rattle.std.specs.FinMap as map
+use Rattle.std.specs.Coded.{Coded, code_by, coded×, coded_list, coded_option, coded_ℕ}
+use Rattle.sparse_map.specs.Home.{home, steps}
+use Rattle.sparse_map.specs.Slots.{key_at, items_of}
+
+-- each key stands in one bucket, and every bucket from its home up to its own, going round, is occupied
+pub record IsPacked {V : Type 0} (slots : List (Option (ℕ × V))) : Type 0 where
+  pub once : (a b key : ℕ) → key_at slots a ≡ Some key → key_at slots b ≡ Some key → a ≡ b
+  pub reached : (b key q : ℕ) → key_at slots b ≡ Some key → q < length slots
+      → steps (length slots) (home (length slots) key) q ≤ steps (length slots) (home (length slots) key) b
+      → IsSome (key_at slots q)
+
+-- the buckets in order, each empty or with a key and its value, and how many new keys there is room for
+pub record Table (V : Type 0) : Type 0 where
+  pub slots : List (Option (ℕ × V))
+  pub spare : ℕ
+
+module _ {V : Type 0} where
+  abbrev pub table_code : Coded V → Coded (Table V)
+  table_code v =
+      code_by (List (Option (ℕ × V)) × ℕ) (coded× (coded_list (coded_option (coded× coded_ℕ v))) coded_ℕ) (λ t. (t.slots, t.spare)) (λ p. record { slots = p.0; spare = p.1 }) (λ _. refl)
+
+  -- the map from keys to values
+  unfoldable pub map_of : Table V → map.FinMap nat_cmp V
+  map_of t = map.from_entries (items_of t.slots)
+
+  -- how many keys the map has
+  abbrev pub len_of : Table V → ℕ
+  len_of t = map.len (map_of t)
+
+  abbrev pub buckets_of : Table V → ℕ
+  buckets_of t = length t.slots
+
+  -- what holds of every map: the packed law, at most three quarters of the buckets taken and spoken for, and a power of two of buckets, at least 32, or none
+  pub record IsSound (t : Table V) : Type 0 where
+    pub packed : IsPacked t.slots
+    pub room : 4 * (len_of t + t.spare) ≤ 3 * buckets_of t
+    pub buckets : 0 < buckets_of t → (b : ℕ) × (5 ≤ b) × (buckets_of t ≡ 2 ^ b)

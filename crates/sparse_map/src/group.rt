@@ -1,0 +1,176 @@
+//! A group of 32 buckets: a number whose bit k says that bucket k is occupied, and the items of the occupied ones.
+ghost use Rattle.std.specs.Prelude.{◌≡◌, ◌+◌, ◌^◌, ◌<◌, ◌≤◌, ◌↔◌, [], length, vec_len, Some, None, IfOk, IfSome, IsTrue, count_ones, option_map, option_copied, slice_set, ℕ};
+ghost use Rattle.std.specs.Vec.{vec_capacity};
+ghost use Rattle.sparse_map.specs.Slots.{rank};
+
+use std::alloc::{AllocError, Global};
+use std::mem;
+
+/// Item slots that a group keeps free when it is trimmed, so that not each insertion moves its list.
+const SLACK: usize = 4;
+
+/// An empty list with room for the items of a whole group, kept ready for a group whose own list is full.
+#[derive(Drop)]
+pub struct Blank<V> {
+    list: Vec<(u64, V)>,
+    ghost is_empty: { vec_len list ≡ 0 },
+    ghost has_room: { 32 ≤ vec_capacity list },
+}
+
+impl<V: Drop> Blank<V> {
+    /// A list with room for 32 items.
+    pub fn new(alloc: Global) -> Result<Self, AllocError> {
+        let list = Vec::with_capacity(alloc, 32)?;
+        Ok(Blank { list })
+    }
+}
+
+/// The buckets of one group. The item of bucket k stands at the place that is the number of occupied buckets below k.
+#[derive(Drop)]
+pub struct Group<V> {
+    pub occupied: u32,
+    pub items: Vec<(u64, V)>,
+    ghost fits: { occupied < 2 ^ 32 },
+    ghost counted: { length items.items ≡ count_ones occupied },
+}
+
+/// How many buckets below bucket `k` are occupied: the place of its item in the list.
+#[tactic(auto, using(crate::proofs::RankLemmas::rank_by_mask))]
+fn rank_in(occupied: u32, k: u32) -> usize
+    requires { k < 32 }
+    ensures { result ≡ rank occupied k }
+{
+    (occupied & ((1 << k) - 1)).count_ones() as usize
+}
+
+impl<V: Drop> Group<V> {
+    ghost use Rattle.std.specs.Prelude.{◌≡◌, ◌<◌, ◌≤◌, ◌↔◌, ℕ, vec_len, Some, None, IsSome, IsTrue, is_some, option_map, slice_set};
+    ghost use Rattle.std.specs.Vec.{vec_capacity};
+    ghost use Rattle.sparse_map.specs.Slots.{slot_at, key_at};
+    ghost use Rattle.sparse_map.specs.Groups.{slots_in};
+    ghost use Rattle.std.specs.Borrow.{sem};
+    ghost use Rattle.sparse_map.specs.Lending.{LendsGroupValue};
+
+    /// A group with no item, which takes no memory.
+    pub fn new(alloc: Global) -> Self
+        ensures slots { (k : ℕ) → slot_at (slots_in result) k ≡ None }
+        ensures small { vec_capacity result.items ≡ 0 }
+    {
+        Group {
+            occupied: 0,
+            items: Vec::new(alloc),
+        }
+    }
+
+    /// Whether bucket `k` is occupied.
+    pub fn is_occupied(&self, k: u32) -> bool
+        requires { k < 32 }
+        ensures { result ≡ is_some (slot_at (slots_in self.now) k) }
+    {
+        (self.occupied >> k) & 1 == 1
+    }
+
+    /// The key in bucket `k`.
+    pub fn key(&self, k: u32) -> Option<u64>
+        requires { k < 32 }
+        ensures { result ≡ key_at (slots_in self.now) k }
+    {
+        if !self.is_occupied(k) {
+            return None;
+        }
+        Some(self.items[rank_in(self.occupied, k)].0)
+    }
+
+    /// The value in the occupied bucket `k`.
+    pub fn value(&self, k: u32) -> &V
+        requires within { k < 32 }
+        requires occupied { IsSome (slot_at (slots_in self.now) k) }
+        ensures { option_map (λ e. e.1) (slot_at (slots_in self.now) k) ≡ Some result.now }
+    {
+        &self.items[rank_in(self.occupied, k)].1
+    }
+
+    /// The value in the occupied bucket `k`, to write to.
+    pub fn value_mut(&mut self, k: u32) -> &mut V
+        requires within { k < 32 }
+        requires occupied { IsSome (slot_at (slots_in self.old) k) }
+        ensures* lends { sem 𝓛 (LendsGroupValue V.row self.entry k result) }
+        ensures value { option_map (λ e. e.1) (slot_at (slots_in self.old) k) ≡ Some result.now }
+    {
+        let place = rank_in(self.occupied, k);
+        &mut self.items[place].1
+    }
+
+    /// Whether an insertion would need memory.
+    pub fn is_full(&self) -> bool
+        ensures { IsTrue result ↔ (vec_len self.now.items ≡ vec_capacity self.now.items) }
+    {
+        self.items.len() == self.items.capacity()
+    }
+
+    /// Occupies a free bucket, within the room that the list has.
+    pub fn insert(&mut self, k: u32, item: (u64, V))
+        requires within { k < 32 }
+        requires free { slot_at (slots_in self.old) k ≡ None }
+        requires room { vec_len self.old.items < vec_capacity self.old.items }
+        ensures slots { slots_in self.new ≡ slice_set (slots_in self.old) k (Some item) }
+        ensures capacity { vec_capacity self.new.items ≡ vec_capacity self.old.items }
+    {
+        let place = rank_in(self.occupied, k);
+        match self.items.insert(place, item) {
+            Ok(()) => {}
+            Err(_) => unreachable!(),
+        }
+        self.occupied |= 1 << k;
+    }
+
+    /// Frees an occupied bucket.
+    pub fn remove(&mut self, k: u32) -> (u64, V)
+        requires within { k < 32 }
+        requires occupied { IsSome (slot_at (slots_in self.old) k) }
+        ensures item { slot_at (slots_in self.old) k ≡ Some result }
+        ensures slots { slots_in self.new ≡ slice_set (slots_in self.old) k None }
+        ensures capacity { vec_capacity self.new.items ≡ vec_capacity self.old.items }
+        ensures room { vec_len self.new.items < vec_capacity self.new.items }
+    {
+        let place = rank_in(self.occupied, k);
+        self.occupied &= !(1 << k);
+        self.items.remove(place)
+    }
+
+    /// Sets the item of an occupied bucket, and gives the old one.
+    pub fn replace(&mut self, k: u32, item: (u64, V)) -> (u64, V)
+        requires within { k < 32 }
+        requires occupied { IsSome (slot_at (slots_in self.old) k) }
+        ensures item { slot_at (slots_in self.old) k ≡ Some result }
+        ensures slots { slots_in self.new ≡ slice_set (slots_in self.old) k (Some item) }
+        ensures capacity { vec_capacity self.new.items ≡ vec_capacity self.old.items }
+        ensures room { vec_len self.new.items ≡ vec_len self.old.items }
+    {
+        let place = rank_in(self.occupied, k);
+        mem::replace(&mut self.items[place], item)
+    }
+
+    /// Moves the items into the blank list, which has room for all that the group can hold.
+    pub fn move_to(&mut self, blank: Blank<V>)
+        ensures occupied { self.new.occupied ≡ self.old.occupied }
+        ensures items { self.new.items.items ≡ self.old.items.items }
+        ensures capacity { 32 ≤ vec_capacity self.new.items }
+    {
+        let Blank { mut list } = blank;
+        match list.append(&mut self.items) {
+            Ok(()) => {}
+            Err(_) => unreachable!(),
+        }
+        self.items = list;
+    }
+
+    /// Gives back what the list holds beyond its items and a little room.
+    pub fn trim(&mut self)
+        ensures occupied { self.new.occupied ≡ self.old.occupied }
+        ensures items { self.new.items.items ≡ self.old.items.items }
+    {
+        let wanted = self.items.len() + SLACK;
+        self.items.shrink_to(wanted);
+    }
+}

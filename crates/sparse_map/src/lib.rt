@@ -1,0 +1,16 @@
+//! A map from 64-bit keys that takes little memory: groups of 32 buckets, each a 32-bit number that says which of its
+//! buckets are occupied, and the items of those alone, packed in bucket order.
+//!
+//! Room is taken ahead: after `reserve(n)` the next `n` new keys go in without memory, so a layer above can reserve
+//! before it writes anything that it could not undo. A layer above relies on the map from keys to values, on the
+//! numbers `buckets` and `spare`, and on the groups as `group_at` shows them.
+#![tactic(auto)]
+
+mod group;
+mod home;
+mod map;
+mod table;
+#[cfg(test)]
+mod tests;
+
+pub use map::SparseMap;

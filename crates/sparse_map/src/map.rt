@@ -1,0 +1,351 @@
+//! The map.
+ghost use Rattle.std.specs.Prelude.{◌≡◌, ◌≢◌, ◌⊎◌, ◌↔◌, ℕ, ◌+◌, ◌-◌, ◌*◌, ◌^◌, ◌<◌, ◌≤◌, ◌==◌, true, length, min, max, vec_len, [], Some, None, IsSome, IfSome, IfNone, IfOk, OnOk, OnErr, is_some, count_ones, option_map, option_copied, MatchOption, if◌then◌else◌};
+ghost use Rattle.std.specs.Int.{bit_at};
+ghost use Rattle.std.specs.Ordering.{nat_cmp};
+ghost use Rattle.std.specs.FinMap as map;
+ghost use Rattle.std.specs.FinMap.{find};
+ghost use Rattle.sparse_map.specs.Home.{IsDoubledFor};
+ghost use Rattle.sparse_map.specs.Slots.{slot_at, key_at, items_of, unpacked, group};
+ghost use Rattle.sparse_map.specs.Groups.{slots_of};
+ghost use Rattle.sparse_map.specs.Moved.{IsDistinct, after_items, items_in};
+ghost use Rattle.sparse_map.specs.Packed.{map_of, len_of, buckets_of, IsSound};
+
+use crate::group::{Blank, Group};
+use crate::home::{bits_for, bucket_count};
+use crate::table::{Place, probe, put, remove_at, replace, trim_all, trim_grown, value_at};
+use std::alloc::{AllocError, Global};
+use std::marker::Model;
+use std::mem;
+
+/// A map from 64-bit keys to values, with room that is taken ahead.
+#[derive(Drop)]
+pub struct SparseMap<V> {
+    alloc: Global,
+    bits: u32,
+    groups: Vec<Group<V>>,
+    len: u64,
+    spare: u64,
+    stock: Vec<Blank<V>>,
+    // The bucket of the last new key, whose group may have grown into a blank list.
+    last: u64,
+}
+
+impl<V> Model for SparseMap<V> {
+    ghost use Rattle.std.specs.Prelude.{vec_len};
+    ghost use Rattle.sparse_map.specs.Packed.{Table, table_code};
+    ghost use Rattle.sparse_map.specs.Groups.{slots_of};
+    ghost use Rattle.sparse_map.specs.Kept.{IsKept};
+
+    ghost Value = { Table V };
+
+    ghost coded = { table_code V.code };
+
+    ghost view = { λ m. record { slots = slots_of m.groups.items; spare = m.spare } };
+
+    ghost invariant = { λ m. IsKept m.bits m.len m.spare (vec_len m.stock) m.groups.items };
+}
+
+impl<V: Drop> SparseMap<V> {
+    ghost use Rattle.std.specs.Option.{option_copied_mut};
+    ghost use Rattle.std.specs.Borrow.{sem};
+    ghost use Rattle.sparse_map.specs.Lending.{LendsValue};
+
+    /// An empty map with no bucket, which takes no memory.
+    pub fn new(alloc: Global) -> Self
+        ensures none { buckets_of result ≡ 0 }
+        ensures spare { result.spare ≡ 0 }
+        ensures empty { map_of result ≡ map.empty }
+        ensures sound { IsSound result }
+    {
+        SparseMap {
+            alloc,
+            bits: 0,
+            groups: Vec::new(alloc),
+            len: 0,
+            spare: 0,
+            stock: Vec::new(alloc),
+            last: 0,
+        }
+    }
+
+    /// How many keys the map has.
+    pub fn len(&self) -> u64
+        ensures len { result ≡ len_of self.now }
+        ensures sound { IsSound self.now }
+    {
+        self.len
+    }
+
+    /// Whether the map has no key.
+    pub fn is_empty(&self) -> bool
+        ensures { result ≡ (len_of self.now == 0) }
+    {
+        self.len == 0
+    }
+
+    /// How many buckets there are: none, or a power of two from 32 on.
+    pub fn buckets(&self) -> u64
+        ensures buckets { result ≡ buckets_of self.now }
+        ensures sound { IsSound self.now }
+    {
+        32 * self.groups()
+    }
+
+    /// How many groups of 32 buckets there are.
+    pub fn groups(&self) -> u64
+        ensures groups { 32 * result ≡ buckets_of self.now }
+        ensures few { result ≤ 2 ^ 26 }
+        ensures sound { IsSound self.now }
+    {
+        self.groups.len() as u64
+    }
+
+    /// How many new keys can go in before the next `reserve`.
+    pub fn spare(&self) -> u64
+        ensures { result ≡ self.now.spare }
+    {
+        self.spare
+    }
+
+    /// Group `i` as it is packed: a number whose bit k says whether bucket k of the group is occupied, and the items of
+    /// the occupied buckets, in bucket order. The item of bucket k stands at the place that is the number of set bits
+    /// below bit k.
+    pub fn group_at(&self, i: u64) -> (u32, &[(u64, V)])
+        requires { 32 * i < buckets_of self.now }
+        ensures counted { length result.1.now ≡ count_ones result.0 }
+        ensures placed { (k : ℕ) → k < 32 → unpacked result.0 result.1.now k ≡ slot_at self.now.slots (32 * i + k) }
+        ensures items { result.1.now ≡ items_of (group self.now.slots i) }
+        ensures sound { IsSound self.now }
+    {
+        let group = &self.groups[i as usize];
+        (group.occupied, group.items.as_slice())
+    }
+
+    fn find(&self, key: u64) -> Option<u64>
+        ensures { MatchOption result ((b : ℕ) → key_at self.now.slots b ≢ Some key) (λ b. key_at self.now.slots b ≡ Some key) }
+    {
+        if self.bits == 0 {
+            return None;
+        }
+        match probe(self.groups.as_slice(), self.bits, key) {
+            Place::Found(bucket) => Some(bucket),
+            Place::Free(_) => None,
+        }
+    }
+
+    /// The value of a key.
+    pub fn get(&self, key: u64) -> Option<&V>
+        ensures { option_copied result ≡ map.get (map_of self.now) key }
+    {
+        let bucket = self.find(key)?;
+        Some(value_at(self.groups.as_slice(), bucket))
+    }
+
+    /// The value of a key, to write to.
+    pub fn get_mut(&mut self, key: u64) -> Option<&mut V>
+        ensures* writes_back { sem 𝓛 (LendsValue V.row self.entry key result) }
+        ensures value { option_copied_mut result ≡ map.get (map_of self.old) key }
+    {
+        match self.find(key) {
+            Some(bucket) => {
+                let k = (bucket % 32) as u32;
+                Some(self.groups[(bucket / 32) as usize].value_mut(k))
+            }
+            None => None,
+        }
+    }
+
+    /// Sets the value of a key, and gives the old one. It takes no memory and can't be refused: a new key takes room
+    /// that `reserve` made.
+    pub fn insert_ready(&mut self, key: u64, value: V) -> Option<V>
+        requires { (map.contains_key (map_of self.old) key ≡ true) ⊎ (1 ≤ self.old.spare) }
+        ensures old { result ≡ map.get (map_of self.old) key }
+        ensures map { map_of self.new ≡ map.insert (map_of self.old) key value }
+        ensures buckets { buckets_of self.new ≡ buckets_of self.old }
+        ensures spare { self.new.spare ≡ (if is_some result then self.old.spare else self.old.spare - 1) }
+        ensures sound { IsSound self.new }
+    {
+        match probe(self.groups.as_slice(), self.bits, key) {
+            Place::Found(bucket) => {
+                let (_, old) = replace(self.groups.as_mut_slice(), bucket, (key, value));
+                Some(old)
+            }
+            Place::Free(bucket) => {
+                put(
+                    self.groups.as_mut_slice(),
+                    &mut self.stock,
+                    bucket,
+                    (key, value),
+                );
+                self.len += 1;
+                self.spare -= 1;
+                self.last = bucket;
+                None
+            }
+        }
+    }
+
+    /// Takes a key out of the map, and gives its value. The buckets and the room stay.
+    pub fn remove(&mut self, key: u64) -> Option<V>
+        ensures value { result ≡ map.get (map_of self.old) key }
+        ensures map { map_of self.new ≡ map.remove (map_of self.old) key }
+        ensures absent { IfNone result (self.new ≡ self.old) }
+        ensures buckets { buckets_of self.new ≡ buckets_of self.old }
+        ensures spare { self.new.spare ≡ self.old.spare }
+        ensures sound { IsSound self.new }
+    {
+        let bucket = self.find(key)?;
+        let (_, value) = remove_at(self.groups.as_mut_slice(), self.bits, bucket);
+        self.len -= 1;
+        Some(value)
+    }
+
+    /// Makes room for `n` new keys. From no bucket the map goes to 32; then the buckets double just as often as more than
+    /// three quarters of them would be taken. Refused, for want of memory, map, buckets and room are as before.
+    pub fn reserve(&mut self, n: u32) -> Result<(), AllocError>
+        requires { len_of self.old + n ≤ 2 ^ 30 }
+        ensures map { map_of self.new ≡ map_of self.old }
+        ensures buckets { OnOk result (IsDoubledFor (len_of self.old + n) (buckets_of self.old) (buckets_of self.new)) }
+        ensures spare { OnOk result (self.new.spare ≡ max self.old.spare n) }
+        ensures err { OnErr result (self.new ≡ self.old) }
+        ensures sound { IsSound self.new }
+    {
+        let n = u64::from(n);
+        let bits = bits_for(self.bits, self.len + n);
+        if bits == self.bits {
+            self.stock_up(n)
+        } else {
+            self.widen(bits, n)
+        }
+    }
+
+    /// Keeps blank lists ready for `n` new keys, within the buckets that there are, and takes back what the groups that
+    /// grew into such lists don't need of them.
+    fn stock_up(&mut self, n: u64) -> Result<(), AllocError>
+        requires { 4 * (len_of self.old + n) ≤ 3 * buckets_of self.old }
+        ensures slots { self.new.slots ≡ self.old.slots }
+        ensures spare { OnOk result (self.new.spare ≡ max self.old.spare n) }
+        ensures err { OnErr result (self.new ≡ self.old) }
+    {
+        let spare = self.spare.max(n);
+        let wanted = spare.min(self.groups());
+        let several = (self.stock.len() as u64) < wanted.saturating_sub(1);
+        add_blanks(self.alloc, &mut self.stock, wanted)?;
+        trim_grown(self.groups.as_mut_slice(), self.last, several);
+        self.spare = spare;
+        Ok(())
+    }
+
+    /// Places every item anew in `2^bits` buckets, in the order of the old ones. All memory is taken before the first
+    /// item moves.
+    fn widen(&mut self, bits: u32, n: u64) -> Result<(), AllocError>
+        requires many { 5 ≤ bits }
+        requires few { bits ≤ 31 }
+        requires wider { buckets_of self.old ≤ 2 ^ bits }
+        requires room { 4 * (len_of self.old + n) ≤ 3 * 2 ^ bits }
+        ensures map { map_of self.new ≡ map_of self.old }
+        ensures buckets { OnOk result (buckets_of self.new ≡ 2 ^ bits) }
+        ensures spare { OnOk result (self.new.spare ≡ max self.old.spare n) }
+        ensures err { OnErr result (self.new ≡ self.old) }
+        ensures sound { OnOk result (IsSound self.new) }
+    {
+        let spare = self.spare.max(n);
+        let mut wider = SparseMap::with_room(self.alloc, bits, self.len + spare)?;
+        let mut stock = Vec::new(self.alloc);
+        add_blanks(self.alloc, &mut stock, spare.min(wider.groups()))?;
+        let groups = mem::replace(&mut self.groups, Vec::new(self.alloc));
+        wider.take_groups(groups);
+        wider.trim(stock);
+        *self = wider;
+        Ok(())
+    }
+
+    /// An empty map with `2^bits` buckets and room for `spare` keys.
+    fn with_room(alloc: Global, bits: u32, spare: u64) -> Result<Self, AllocError>
+        requires many { 5 ≤ bits }
+        requires few { bits ≤ 31 }
+        requires room { 4 * spare ≤ 3 * 2 ^ bits }
+        ensures buckets { IfOk result (λ m. buckets_of m ≡ 2 ^ bits) }
+        ensures spare { IfOk result (λ m. m.spare ≡ spare) }
+        ensures empty { IfOk result (λ m. items_of m.slots ≡ []) }
+    {
+        let count = bucket_count(bits - 5);
+        let groups = new_groups(alloc, count)?;
+        let mut stock = Vec::new(alloc);
+        add_blanks(alloc, &mut stock, spare.min(count))?;
+        Ok(SparseMap {
+            alloc,
+            bits,
+            groups,
+            len: 0,
+            spare,
+            stock,
+            last: 0,
+        })
+    }
+
+    fn take_groups(&mut self, groups: Vec<Group<V>>)
+        requires distinct { IsDistinct (items_in groups.items) }
+        requires fresh { (q : ℕ) → IsSome (find nat_cmp q (items_in groups.items)) → map.get (map_of self.old) q ≡ None }
+        requires room { length (items_in groups.items) ≤ self.old.spare }
+        ensures found { (q : ℕ) → map.get (map_of self.new) q ≡ after_items (items_in groups.items) (map.get (map_of self.old) q) q }
+        ensures buckets { buckets_of self.new ≡ buckets_of self.old }
+        ensures spare { self.new.spare + length (items_in groups.items) ≡ self.old.spare }
+    {
+        for group in groups {
+            let Group { occupied: _, items } = group;
+            self.take_items(items);
+        }
+    }
+
+    fn take_items(&mut self, items: Vec<(u64, V)>)
+        requires distinct { IsDistinct items.items }
+        requires fresh { (q : ℕ) → IsSome (find nat_cmp q items.items) → map.get (map_of self.old) q ≡ None }
+        requires room { length items.items ≤ self.old.spare }
+        ensures found { (q : ℕ) → map.get (map_of self.new) q ≡ after_items items.items (map.get (map_of self.old) q) q }
+        ensures buckets { buckets_of self.new ≡ buckets_of self.old }
+        ensures spare { self.new.spare + length items.items ≡ self.old.spare }
+    {
+        for (key, value) in items {
+            let _ = self.insert_ready(key, value);
+        }
+    }
+
+    /// Gives back the memory that no group needs, with blank lists ready for all that may need one now.
+    fn trim(&mut self, stock: Vec<Blank<V>>)
+        requires { min (32 * self.old.spare) (buckets_of self.old) ≤ 32 * vec_len stock }
+        ensures same { self.new ≡ self.old }
+        ensures sound { IsSound self.old }
+    {
+        trim_all(self.groups.as_mut_slice());
+        self.stock = stock;
+    }
+}
+
+/// Groups with no item.
+fn new_groups<V: Drop>(alloc: Global, count: u64) -> Result<Vec<Group<V>>, AllocError>
+    ensures count { IfOk result (λ us. vec_len us ≡ count) }
+    ensures free { IfOk result (λ us. (b : ℕ) → slot_at (slots_of us.items) b ≡ None) }
+{
+    let mut groups = Vec::with_capacity(alloc, count as usize)?;
+    for _made in 0..count {
+        groups.push(Group::new(alloc))?;
+    }
+    Ok(groups)
+}
+
+/// Adds blank lists until there are `wanted`.
+fn add_blanks<V: Drop>(
+    alloc: Global,
+    stock: &mut Vec<Blank<V>>,
+    wanted: u64,
+) -> Result<(), AllocError>
+    ensures ok { OnOk result (wanted ≤ vec_len stock.new) }
+    ensures kept { vec_len stock.old ≤ vec_len stock.new }
+{
+    for _have in stock.len() as u64..wanted {
+        let blank = Blank::new(alloc)?;
+        stock.push(blank)?;
+    }
+    Ok(())
+}

@@ -1,0 +1,204 @@
+//! The buckets of all groups as one table: bucket b is bucket b % 32 of group b / 32.
+ghost use Rattle.std.specs.Prelude.{◌≡◌, ◌≢◌, ℕ, ◌+◌, ◌*◌, ◌^◌, ◌<◌, ◌≤◌, length, vec_len, Some, None, IsSome, option_map, slice_set, ◌⊎◌, ◌==◌, if◌then◌else◌};
+ghost use Rattle.std.specs.Ordering.{nat_cmp};
+ghost use Rattle.std.specs.FinMap.{find};
+ghost use Rattle.std.specs.Vec.{vec_capacity};
+ghost use Rattle.sparse_map.specs.Slots.{slot_at, key_at, items_of, exchanged};
+ghost use Rattle.sparse_map.specs.Groups.{slots_in, slots_of, small_groups};
+ghost use Rattle.sparse_map.specs.Packed.{IsPacked};
+ghost use Rattle.sparse_map.specs.Probe.{IsPlaceOf, IsShifted};
+
+use crate::group::{Blank, Group};
+use crate::home::{bucket_count, home_of, leads_over, next_bucket};
+
+/// The bucket that has a key, or the one where it would go.
+#[derive(Clone, Copy)]
+pub enum Place {
+    Found(u64),
+    Free(u64),
+}
+
+/// The key in a bucket.
+pub fn key_at<V: Drop>(groups: &[Group<V>], bucket: u64) -> Option<u64>
+    requires { bucket < 32 * length groups.now }
+    ensures { result ≡ key_at (slots_of groups.now) bucket }
+{
+    groups[(bucket / 32) as usize].key((bucket % 32) as u32)
+}
+
+/// The value in an occupied bucket.
+pub fn value_at<V: Drop>(groups: &[Group<V>], bucket: u64) -> &V
+    requires within { bucket < 32 * length groups.now }
+    requires occupied { IsSome (slot_at (slots_of groups.now) bucket) }
+    ensures { option_map (λ e. e.1) (slot_at (slots_of groups.now) bucket) ≡ Some result.now }
+{
+    groups[(bucket / 32) as usize].value((bucket % 32) as u32)
+}
+
+/// Makes room for one item in a group that has a free bucket: a list that is full gives way to a blank one.
+fn make_room<V: Drop>(group: &mut Group<V>, stock: &mut Vec<Blank<V>>)
+    requires below { vec_len group.old.items < 32 }
+    requires stocked { vec_capacity group.old.items < 32 → 0 < vec_len stock.old }
+    ensures slots { slots_in group.new ≡ slots_in group.old }
+    ensures room { vec_len group.new.items < vec_capacity group.new.items }
+    ensures widened { ((vec_capacity group.new.items ≡ vec_capacity group.old.items) × (vec_len stock.new ≡ vec_len stock.old))
+        ⊎ ((vec_capacity group.old.items < 32) × (32 ≤ vec_capacity group.new.items) × (vec_len stock.old ≡ vec_len stock.new + 1)) }
+{
+    if !group.is_full() {
+        return;
+    }
+    match stock.pop() {
+        Some(blank) => group.move_to(blank),
+        None => unreachable!(),
+    }
+}
+
+/// Sets the item of a free bucket, with a blank list for a group whose own is full.
+pub fn put<V: Drop>(groups: &mut [Group<V>], stock: &mut Vec<Blank<V>>, bucket: u64, item: (u64, V))
+    requires within { bucket < 32 * length groups.old }
+    requires free { slot_at (slots_of groups.old) bucket ≡ None }
+    requires stocked { 0 < small_groups groups.old → 0 < vec_len stock.old }
+    ensures slots { slots_of groups.new ≡ slice_set (slots_of groups.old) bucket (Some item) }
+    ensures one_less { vec_len stock.old ≤ vec_len stock.new + 1 }
+    ensures one_widened { vec_len stock.old + small_groups groups.new ≤ vec_len stock.new + small_groups groups.old }
+{
+    let group = &mut groups[(bucket / 32) as usize];
+    make_room(group, stock);
+    group.insert((bucket % 32) as u32, item);
+}
+
+/// Sets the item of an occupied bucket, and gives the old one.
+pub fn replace<V: Drop>(groups: &mut [Group<V>], bucket: u64, item: (u64, V)) -> (u64, V)
+    requires within { bucket < 32 * length groups.old }
+    requires occupied { IsSome (slot_at (slots_of groups.old) bucket) }
+    ensures item { slot_at (slots_of groups.old) bucket ≡ Some result }
+    ensures slots { slots_of groups.new ≡ slice_set (slots_of groups.old) bucket (Some item) }
+    ensures small { small_groups groups.new ≡ small_groups groups.old }
+{
+    groups[(bucket / 32) as usize].replace((bucket % 32) as u32, item)
+}
+
+/// Frees an occupied bucket.
+fn take<V: Drop>(groups: &mut [Group<V>], bucket: u64) -> (u64, V)
+    requires within { bucket < 32 * length groups.old }
+    requires occupied { IsSome (slot_at (slots_of groups.old) bucket) }
+    ensures item { slot_at (slots_of groups.old) bucket ≡ Some result }
+    ensures slots { slots_of groups.new ≡ slice_set (slots_of groups.old) bucket None }
+    ensures small { small_groups groups.new ≡ small_groups groups.old }
+{
+    groups[(bucket / 32) as usize].remove((bucket % 32) as u32)
+}
+
+/// Exchanges the items of two occupied buckets.
+pub fn exchange<V: Drop>(groups: &mut [Group<V>], a: u64, b: u64)
+    requires a_within { a < 32 * length groups.old }
+    requires b_within { b < 32 * length groups.old }
+    requires apart { a ≢ b }
+    requires a_occupied { IsSome (slot_at (slots_of groups.old) a) }
+    requires b_occupied { IsSome (slot_at (slots_of groups.old) b) }
+    ensures slots { slots_of groups.new ≡ exchanged (slots_of groups.old) a b }
+    ensures small { small_groups groups.new ≡ small_groups groups.old }
+{
+    let first = groups[(a / 32) as usize].remove((a % 32) as u32);
+    let second = groups[(b / 32) as usize].replace((b % 32) as u32, first);
+    groups[(a / 32) as usize].insert((a % 32) as u32, second);
+}
+
+/// Looks for a key from its home on, going round.
+pub fn probe<V: Drop>(groups: &[Group<V>], bits: u32, key: u64) -> Place
+    requires many { 5 ≤ bits }
+    requires few { bits ≤ 31 }
+    requires buckets { length (slots_of groups.now) ≡ 2 ^ bits }
+    requires packed { IsPacked (slots_of groups.now) }
+    requires room { length (items_of (slots_of groups.now)) < 2 ^ bits }
+    ensures { IsPlaceOf (slots_of groups.now) key result }
+{
+    let buckets = bucket_count(bits);
+    let mut bucket = home_of(bits, key);
+    for _step in 0..buckets {
+        match key_at(groups, bucket) {
+            None => return Place::Free(bucket),
+            Some(found) => {
+                if found == key {
+                    return Place::Found(bucket);
+                }
+            }
+        }
+        bucket = next_bucket(buckets, bucket);
+    }
+    unreachable!()
+}
+
+/// Moves an item that is to go away to where its bucket can be freed, so that each other item stays reachable from its
+/// home: an item further on whose way from home leads over the hole takes its place. Gives the last such bucket.
+fn shift_back<V: Drop>(groups: &mut [Group<V>], bits: u32, bucket: u64) -> u64
+    requires many { 5 ≤ bits }
+    requires few { bits ≤ 31 }
+    requires buckets { length (slots_of groups.old) ≡ 2 ^ bits }
+    requires packed { IsPacked (slots_of groups.old) }
+    requires room { length (items_of (slots_of groups.old)) < 2 ^ bits }
+    requires within { bucket < 2 ^ bits }
+    requires occupied { IsSome (slot_at (slots_of groups.old) bucket) }
+    ensures shifted { IsShifted (slots_of groups.old) (slots_of groups.new) bucket result }
+    ensures small { small_groups groups.new ≡ small_groups groups.old }
+{
+    let buckets = bucket_count(bits);
+    let mut hole = bucket;
+    let mut at = bucket;
+    for _step in 1..buckets {
+        at = next_bucket(buckets, at);
+        match key_at(groups, at) {
+            None => return hole,
+            Some(key) => {
+                if leads_over(bits, key, hole, at) {
+                    exchange(groups, hole, at);
+                    hole = at;
+                }
+            }
+        }
+    }
+    hole
+}
+
+/// Takes the item of an occupied bucket out of the table.
+pub fn remove_at<V: Drop>(groups: &mut [Group<V>], bits: u32, bucket: u64) -> (u64, V)
+    requires many { 5 ≤ bits }
+    requires few { bits ≤ 31 }
+    requires buckets { length (slots_of groups.old) ≡ 2 ^ bits }
+    requires packed { IsPacked (slots_of groups.old) }
+    requires room { length (items_of (slots_of groups.old)) < 2 ^ bits }
+    requires within { bucket < 2 ^ bits }
+    requires occupied { IsSome (slot_at (slots_of groups.old) bucket) }
+    ensures item { slot_at (slots_of groups.old) bucket ≡ Some result }
+    ensures found { (key : ℕ) → find nat_cmp key (items_of (slots_of groups.new)) ≡ (if key == result.0 then None else find nat_cmp key (items_of (slots_of groups.old))) }
+    ensures count { length (items_of (slots_of groups.new)) + 1 ≡ length (items_of (slots_of groups.old)) }
+    ensures packed { IsPacked (slots_of groups.new) }
+    ensures small { small_groups groups.new ≡ small_groups groups.old }
+{
+    let hole = shift_back(groups, bits, bucket);
+    take(groups, hole)
+}
+
+/// Gives back the memory that the groups' lists hold beyond their items and a little room.
+pub fn trim_all<V: Drop>(groups: &mut [Group<V>])
+    ensures { slots_of groups.new ≡ slots_of groups.old }
+{
+    for group in groups.iter_mut() {
+        group.trim();
+    }
+}
+
+/// Gives back what the group of the bucket `last` holds beyond its items and a little room, or what every group holds
+/// where several may have grown.
+#[tactic(auto, using(crate::proofs::TableLemmas::slots_of_trimmed))]
+pub fn trim_grown<V: Drop>(groups: &mut [Group<V>], last: u64, several: bool)
+    ensures { slots_of groups.new ≡ slots_of groups.old }
+{
+    if several {
+        return trim_all(groups);
+    }
+    let i = (last / 32) as usize;
+    if i < groups.len() {
+        groups[i].trim();
+    }
+}

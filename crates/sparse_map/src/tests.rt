@@ -1,0 +1,124 @@
+//! Worked examples, and each public call on its happy path.
+
+use crate::SparseMap;
+use crate::home::home_of;
+use std::alloc::{AllocError, Global};
+use std::process::Abort;
+use std::test::Fail;
+
+/// Makes room for one key in a map of few keys.
+fn make_room(map: &mut SparseMap<u64>) -> Result<(), AllocError> {
+    if map.len() > 1000 {
+        return Ok(());
+    }
+    map.reserve(1)
+}
+
+/// Puts a key into a map of few keys.
+fn put(map: &mut SparseMap<u64>, key: u64, value: u64) -> Result<Option<u64>, AllocError> {
+    if map.len() > 1000 {
+        return Ok(None);
+    }
+    map.reserve(1)?;
+    Ok(map.insert_ready(key, value))
+}
+
+/// Puts the keys from `from` up to `to` into the map, each with itself and 100 more as its value.
+fn fill(map: &mut SparseMap<u64>, from: u64, to: u64) -> Result<(), AllocError> {
+    for key in from..to {
+        put(map, key, key.wrapping_add(100))?;
+    }
+    Ok(())
+}
+
+/// Checks the value of a key.
+fn holds(rt: &impl Abort, map: &SparseMap<u64>, key: u64, value: Option<u64>) {
+    assert_eq!(rt; map.get(key).copied(), value, "at key {key}");
+}
+
+/// Checks the occupancy number and the items of the first group.
+fn first_group(rt: &impl Abort, map: &SparseMap<u64>, bits: u32, items: &[(u64, u64)]) {
+    assert!(rt; map.groups() > 0);
+    let (found_bits, found_items) = map.group_at(0);
+    assert_eq!(rt; found_bits, bits);
+    assert_eq!(rt; found_items, items);
+}
+
+/// A map with three keys whose home is the last bucket.
+fn three_at_the_end(alloc: Global) -> Result<SparseMap<u64>, AllocError> {
+    let mut map = SparseMap::new(alloc);
+    map.reserve(3)?;
+    put(&mut map, 21, 210)?;
+    put(&mut map, 55, 550)?;
+    put(&mut map, 144, 1440)?;
+    Ok(map)
+}
+
+#[test]
+fn homes_in_32_buckets(rt: HostRuntime) {
+    let homes = [0, 1, 2, 3, 4, 5, 8, 21, 55, 144].map(|key| home_of(5, key));
+    assert_eq!(rt; homes, [0, 19, 7, 27, 15, 2, 30, 31, 31, 31]);
+}
+
+#[test]
+fn keys_with_one_home_go_round_the_end(rt: HostRuntime) -> Result<(), Fail> {
+    let mut map = three_at_the_end(rt.alloc())?;
+    assert_eq!(rt; map.buckets(), 32);
+    first_group(
+        &rt,
+        &map,
+        0x8000_0003,
+        [(55, 550), (144, 1440), (21, 210)].as_slice(),
+    );
+    assert_eq!(rt; map.remove(21), Some(210));
+    first_group(&rt, &map, 0x8000_0001, [(144, 1440), (55, 550)].as_slice());
+    holds(&rt, &map, 55, Some(550));
+    holds(&rt, &map, 144, Some(1440));
+    holds(&rt, &map, 21, None);
+    assert_eq!(rt; map.len(), 2);
+    Ok(())
+}
+
+#[test]
+fn a_value_is_replaced_and_written(rt: HostRuntime) -> Result<(), Fail> {
+    let mut map = three_at_the_end(rt.alloc())?;
+    assert!(rt; !map.is_empty() && map.spare() < 32);
+    if let Some(value) = map.get_mut(144) {
+        *value = 7;
+    }
+    assert_eq!(rt; put(&mut map, 55, 9)?, Some(550));
+    first_group(
+        &rt,
+        &map,
+        0x8000_0003,
+        [(55, 9), (144, 7), (21, 210)].as_slice(),
+    );
+    Ok(())
+}
+
+#[test]
+fn a_quarter_of_the_buckets_stays_free(rt: HostRuntime) -> Result<(), Fail> {
+    let mut map = SparseMap::new(rt.alloc());
+    fill(&mut map, 0, 23)?;
+    make_room(&mut map)?;
+    assert_eq!(rt; map.buckets(), 32);
+    fill(&mut map, 23, 24)?;
+    make_room(&mut map)?;
+    assert_eq!(rt; map.buckets(), 64);
+    Ok(())
+}
+
+#[test]
+fn many_keys_are_found_through_doublings_and_removals(rt: HostRuntime) -> Result<(), Fail> {
+    let mut map = SparseMap::new(rt.alloc());
+    fill(&mut map, 0, 200)?;
+    assert_eq!(rt; map.buckets(), 512);
+    for key in 0..100 {
+        assert_eq!(rt; map.remove(2 * key), Some(2 * key + 100));
+    }
+    for key in 0..100 {
+        holds(&rt, &map, 2 * key, None);
+        holds(&rt, &map, 2 * key + 1, Some(2 * key + 101));
+    }
+    Ok(())
+}
