@@ -1,0 +1,167 @@
+-- What the tests of a data block say of whether it fits.
+use Rattle.std.proofs.Common.{◌≡◌, ◌↔◌, ℕ, ◌+◌, ◌-◌, ◌*◌, ◌/◌, ◌%◌, ◌^◌, ◌<◌, ◌≤◌, ◌==◌, nat_le, min, Bool, true, false, cond, not, bit_and, length, IsTrue, refl, sym, ◌∙◌, ap, subst, arith, inl, inr, nat_cmp, eqb-true, eq-eqb, ne_eqb, nat_lt, ltb-true, lt-ltb, leb-true, le-leb}
+use Rattle.std.specs.List.{list_any}
+use Rattle.std.specs.Int.{bit_at}
+use Rattle.std.specs.FinMap.{from_entries}
+use Rattle.std.proofs.lemmas.Bool.{cases_Bool, and_parts, and_from, both_ways, not-true}
+use Rattle.std.proofs.lemmas.Nat.{div-mul-add, mod_below, pow_pos}
+use Rattle.std.proofs.lemmas.Nat.Bits.{shr_and_one, bit_at_and, bit_at-lt}
+use Rattle.ft_base.specs.declared.geometry.Geometry.{Geometry}
+use Rattle.ft_base.specs.declared.record.Record.TheVariants.{SetGroup, Remove, Clean, RemoveGroup}
+use Rattle.ft_base.specs.Layout.{first_pool, blocks}
+use Rattle.cache_model.specs.declared.entry.Entry.{Entry}
+use Rattle.cache_model.specs.Records.{Entries, after, has_bit}
+use Rattle.cache_model.specs.Entries.{each_once, IsMap, IsInReach, Fits}
+use Rattle.cache_model.proofs.CountLemmas.{remove_fits, clean_fits, remove_group_fits}
+use Rattle.std.proofs.Math.Nat.{lt-div-mul-add, div-eq_of_lt}
+use Rattle.mapping.specs.declared.marks.Mark.TheVariants.{Dirty, BlockMapped}
+use Rattle.mapping.specs.Ascending.{Ascends}
+use Rattle.mapping.specs.Counts.{groups_along}
+use Rattle.mapping.specs.Fitting.{is_marked_in, is_foreign_in, HasPageBelow, EndsBelowSize, BlockMayCome}
+use Rattle.mapping.proofs.AscendingLemmas.{Items}
+use Rattle.mapping.proofs.MarksLemmas.{found_entry, finds, ChangesGroup, mark_counts}
+use Rattle.mapping.proofs.FittingLemmas.{page_entry, group_cases, group_here, group_other, group_fits, fits_group}
+
+-- ---- bits
+
+pub bit_there : (set i : ℕ) → bit_and (set / 2 ^ i) 1 ≡ 1 → has_bit set i ≡ true
+bit_there set i is = eq-eqb _ _ (sym (shr_and_one set i) ∙ is)
+
+pub bit_absent : (set i : ℕ) → (bit_and (set / 2 ^ i) 1 ≡ 1 → ⊥) → has_bit set i ≡ false
+bit_absent set i not = ne_eqb _ _ (λ e. not (shr_and_one set i ∙ e))
+
+both_bits : (a b i : ℕ) → has_bit (bit_and a b) i ≡ true → (has_bit a i ≡ true) × (has_bit b i ≡ true)
+both_bits a b i t =
+    let is : min (bit_at a i) (bit_at b i) ≡ 1 = sym (bit_at_and a b i) ∙ eqb-true _ _ t in
+    let low = bit_at-lt a i in
+    let low' = bit_at-lt b i in
+    let one : bit_at a i ≡ 1 = omega (arith, is, low, low') in
+    let one' : bit_at b i ≡ 1 = omega (arith, is, low, low') in
+    (eq-eqb _ _ one, eq-eqb _ _ one')
+
+from_both : (a b i : ℕ) → has_bit a i ≡ true → has_bit b i ≡ true → has_bit (bit_and a b) i ≡ true
+from_both a b i t u =
+    let one : bit_at a i ≡ 1 = eqb-true _ _ t in
+    let one' : bit_at b i ≡ 1 = eqb-true _ _ u in
+    eq-eqb _ _ (bit_at_and a b i ∙ ap (λ n. min n (bit_at b i)) one ∙ ap (min 1) one')
+
+pub no_page : (set pages : ℕ) → ((i : ℕ) → i < pages → has_bit set i ≡ false) → HasPageBelow set pages → ⊥
+no_page set pages none has = both_ways (has_bit set has.0) (none has.0 has.1) has.2
+
+pub absent : (set pages : ℕ) (b : Bool) → ((b ≡ true → HasPageBelow set pages) × (HasPageBelow set pages → b ≡ true)) → b ≡ false → (i : ℕ) → i < pages → has_bit set i ≡ false
+absent set pages b is f i low = elim (cases_Bool (has_bit set i)) [
+  | inl t ↦ absurd (both_ways b f (is.1 (i, low, t)))
+  | inr f' ↦ f'
+]
+
+-- ---- the block
+
+module _ (g : Geometry) (items : Items) (up : Ascends items) (group block present : ℕ) where
+  abbrev m : Entries
+  m = from_entries items
+
+  pub free_block : ((i : ℕ) → i < g.p → has_bit present i ≡ false) → BlockMayCome g group block present m
+  free_block none = record {
+    sizes = λ i low there. absurd (both_ways (has_bit present i) (none i low) there);
+    pool = λ i low there. absurd (both_ways (has_bit present i) (none i low) there);
+    foreign = λ i low there. absurd (both_ways (has_bit present i) (none i low) there);
+  }
+
+  pub too_low : HasPageBelow present g.p → block < first_pool g → BlockMayCome g group block present m → ⊥
+  too_low has low may = let p = (may.pool has.0 has.1 has.2).0 in absurd (omega arith)
+
+  pub too_high : HasPageBelow present g.p → blocks g ≤ block → BlockMayCome g group block present m → ⊥
+  too_high has high may = let p = (may.pool has.0 has.1 has.2).1 in absurd (omega arith)
+
+  foreign_is : (a : ℕ) → not (a / g.p == group) ≡ true → a / g.p ≡ group → ⊥
+  foreign_is a t same = both_ways (a / g.p == group) (not-true (a / g.p == group) t) (eq-eqb _ _ same)
+
+  pub held_by_others : HasPageBelow present g.p → list_any (is_foreign_in g.p group block) items ≡ true → BlockMayCome g group block present m → ⊥
+  held_by_others has t may =
+      let x = found_entry items up (is_foreign_in g.p group block) t in
+      let p = and_parts (not (x.0 / g.p == group)) (x.1.place.block == block) x.3 in
+      may.foreign has.0 has.1 has.2 x.0 x.1 x.2 (foreign_is x.0 p.0) (eqb-true _ _ p.1)
+
+  pub block_decides : (b : Bool) → first_pool g ≤ block → block < blocks g → list_any (is_foreign_in g.p group block) items ≡ false → ((b ≡ true → EndsBelowSize g group present) × (EndsBelowSize g group present → b ≡ true)) → IsTrue b ↔ BlockMayCome g group block present m
+  block_decides b above below none ends = (
+    λ t. record {
+      sizes = ends.0 t;
+      pool = λ i low there. (above, below);
+      foreign = λ i low there a e is other same. both_ways (list_any (is_foreign_in g.p group block) items) none (finds items up (is_foreign_in g.p group block) a e is (and_from _ _ (ap not (ne_eqb _ _ other)) (eq-eqb _ _ same)));
+    },
+    λ may. ends.1 may.sizes,
+  )
+
+-- ---- the change
+
+module _ (g : Geometry) (items : Items) (up : Ascends items) (is_map : IsMap g (from_entries {R = nat_cmp} items)) (group block present dirty : ℕ) where
+  abbrev old : Entries
+  old = from_entries items
+
+  abbrev new : Entries
+  new = after g (SetGroup group block present dirty) (from_entries items)
+
+  some_pages : 0 < g.p
+  some_pages = omega (arith, g.in_range.p_low)
+
+  mapped_change : (has : Bool) → ((has ≡ true → HasPageBelow present g.p) × (HasPageBelow present g.p → has ≡ true)) → ChangesGroup g BlockMapped group old new has
+  mapped_change has is = record {
+    others = group_other g old is_map group block present dirty;
+    there = λ t. let p = is.0 t in (group * g.p + p.0, page_entry g old is_map group block present dirty p.0, group_here g old is_map group block present dirty p.0 p.1 p.2, div-mul-add group g.p p.0 p.1, refl);
+    from = λ a e at in_group marked. elim (group_cases g old is_map group block present dirty a e at) [
+      | inl p ↦ is.1 (a % g.p, mod_below a g.p some_pages, p.1)
+      | inr p ↦ absurd (p.0 in_group)
+    ];
+  }
+
+  dirty_change : (has : Bool) → ((has ≡ true → HasPageBelow (bit_and present dirty) g.p) × (HasPageBelow (bit_and present dirty) g.p → has ≡ true)) → ChangesGroup g Dirty group old new has
+  dirty_change has is = record {
+    others = group_other g old is_map group block present dirty;
+    there = λ t.
+        let p = is.0 t in
+        let q = both_bits present dirty p.0 p.2 in
+        (group * g.p + p.0, page_entry g old is_map group block present dirty p.0, group_here g old is_map group block present dirty p.0 p.1 q.0, div-mul-add group g.p p.0 p.1, q.1);
+    from = λ a e at in_group marked. elim (group_cases g old is_map group block present dirty a e at) [
+      | inl p ↦ is.1 (a % g.p, mod_below a g.p some_pages, from_both present dirty (a % g.p) p.1 (ap (λ (x : Entry). x.dirty) (sym p.2) ∙ marked))
+      | inr p ↦ absurd (p.0 in_group)
+    ];
+  }
+
+  pub no_reach : (IsInReach g (SetGroup group block present dirty) → ⊥) → Fits g (SetGroup group block present dirty) old → ⊥
+  no_reach not fits = not fits.in_reach
+
+  pub no_block : (BlockMayCome g group block present old → ⊥) → Fits g (SetGroup group block present dirty) old → ⊥
+  no_block not fits = let may = fits_group g old is_map group block present dirty fits in not (record { sizes = may.sizes; pool = may.pool; foreign = may.foreign })
+
+  pub too_many_blocks : (has b : Bool) → ((has ≡ true → HasPageBelow present g.p) × (HasPageBelow present g.p → has ≡ true)) → b ≡ nat_le (length (each_once (groups_along g.p BlockMapped items)) + cond has 1 0) (g.c + cond (list_any (is_marked_in BlockMapped g.p group) items) 1 0) → b ≡ false → Fits g (SetGroup group block present dirty) old → ⊥
+  too_many_blocks has b is test f fits = both_ways b f ((mark_counts g items BlockMapped group new has b up (mapped_change has is) test).1 (fits_group g old is_map group block present dirty fits).data_blocks)
+
+  pub group_decides : (has has' b b' : Bool) → IsInReach g (SetGroup group block present dirty) → BlockMayCome g group block present old → ((has ≡ true → HasPageBelow present g.p) × (HasPageBelow present g.p → has ≡ true)) → b ≡ nat_le (length (each_once (groups_along g.p BlockMapped items)) + cond has 1 0) (g.c + cond (list_any (is_marked_in BlockMapped g.p group) items) 1 0) → b ≡ true → ((has' ≡ true → HasPageBelow (bit_and present dirty) g.p) × (HasPageBelow (bit_and present dirty) g.p → has' ≡ true)) → b' ≡ nat_le (length (each_once (groups_along g.p Dirty items)) + cond has' 1 0) (g.c + cond (list_any (is_marked_in Dirty g.p group) items) 1 0) → IsTrue b' ↔ Fits g (SetGroup group block present dirty) old
+  group_decides has has' b b' reach may is test t is' test' =
+      let blocks_fit = (mark_counts g items BlockMapped group new has b up (mapped_change has is) test).0 t in
+      let decide = mark_counts g items Dirty group new has' b' up (dirty_change has' is') test' in (
+        λ u. group_fits g old is_map group block present dirty (record { reach = reach; sizes = may.sizes; pool = may.pool; foreign = may.foreign; data_blocks = blocks_fit; dirty_groups = decide.0 u }),
+        λ fits. decide.1 (fits_group g old is_map group block present dirty fits).dirty_groups,
+      )
+
+-- ---- sets of the first pages
+
+pub set_below : (set pages : ℕ) → ((set / 2 ^ pages == 0) ≡ true → set < 2 ^ pages) × (set < 2 ^ pages → (set / 2 ^ pages == 0) ≡ true)
+set_below set pages = (
+  λ t. let none : set / 2 ^ pages ≡ 0 = eqb-true _ _ t in below none (lt-div-mul-add {a = set} {b = 2 ^ pages} (pow_pos pages)),
+  λ low. eq-eqb _ _ (div-eq_of_lt low),
+)
+  where
+    below : set / 2 ^ pages ≡ 0 → set < set / 2 ^ pages * 2 ^ pages + 2 ^ pages → set < 2 ^ pages
+    below none lt = let here : set < 0 * 2 ^ pages + 2 ^ pages = subst (λ n. set < n * 2 ^ pages + 2 ^ pages) none lt in omega arith
+
+-- ---- records that take away
+
+pub remove_decides : (g : Geometry) (m : Entries) (lba : ℕ) → IsMap g m → (nat_lt lba g.size ≡ true → Fits g (Remove lba) m) × (Fits g (Remove lba) m → nat_lt lba g.size ≡ true)
+remove_decides g m lba is_map = (λ t. remove_fits g lba m is_map (ltb-true _ _ t), λ fits. lt-ltb _ _ fits.in_reach)
+
+pub clean_decides : (g : Geometry) (m : Entries) (lba : ℕ) → IsMap g m → (nat_lt lba g.size ≡ true → Fits g (Clean lba) m) × (Fits g (Clean lba) m → nat_lt lba g.size ≡ true)
+clean_decides g m lba is_map = (λ t. clean_fits g lba m is_map (ltb-true _ _ t), λ fits. lt-ltb _ _ fits.in_reach)
+
+pub remove_group_decides : (g : Geometry) (m : Entries) (group : ℕ) → IsMap g m → (nat_le group ((g.size - 1) / g.p) ≡ true → Fits g (RemoveGroup group) m) × (Fits g (RemoveGroup group) m → nat_le group ((g.size - 1) / g.p) ≡ true)
+remove_group_decides g m group is_map = (λ t. remove_group_fits g group m is_map (leb-true _ _ t), λ fits. le-leb _ _ fits.in_reach)

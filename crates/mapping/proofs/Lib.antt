@@ -1,0 +1,11 @@
+pub mod AscendingLemmas
+pub mod PagesLemmas
+pub mod CountsLemmas
+pub mod FittingLemmas
+pub mod MarksLemmas
+pub mod PageFits
+pub mod GroupFits
+pub mod BitsLemmas
+pub mod CheckpointLemmas
+pub mod PoolLemmas
+pub mod RebuildLemmas

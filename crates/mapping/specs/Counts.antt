@@ -1,0 +1,40 @@
+-- Counts and selections of the entries of a map.
+use Rattle.std.specs.Prelude.{◌≡◌, ℕ, ◌/◌, Bool, List, map, filter, length, count_by, Some}
+use Rattle.std.specs.FinMap.{get, entries}
+use Rattle.ft_base.specs.declared.geometry.Geometry.{Geometry}
+use Rattle.ft_base.specs.declared.block.Place.{Place}
+use Rattle.cache_model.specs.declared.entry.Entry.{Entry}
+use Rattle.cache_model.specs.Records.{Entries}
+use Rattle.cache_model.specs.Entries.{groups_with}
+use Rattle.mapping.specs.declared.marks.Mark.{Mark}
+use Rattle.mapping.specs.declared.marks.Mark.TheVariants.{Dirty, BlockMapped}
+
+abbrev pub held_count : Entries → ℕ
+held_count m = length (entries m)
+
+abbrev pub dirty_count : Entries → ℕ
+dirty_count m = count_by (λ x. x.1.dirty) (entries m)
+
+-- groups with a dirty entry, and groups with a data block
+abbrev pub dirty_group_count : Geometry → Entries → ℕ
+dirty_group_count g m = length (groups_with g (λ e. e.dirty) m)
+
+abbrev pub data_block_count : Geometry → Entries → ℕ
+data_block_count g m = length (groups_with g (λ e. e.block_mapped) m)
+
+-- an entry has the mark
+abbrev pub has_mark : Mark → Entry → Bool
+has_mark Dirty e = e.dirty
+has_mark BlockMapped e = e.block_mapped
+
+-- the groups of marked entries along a list
+abbrev pub groups_along : ℕ → Mark → List (ℕ × Entry) → List ℕ
+groups_along pages mark items = map (λ x. x.0 / pages) (filter (λ x. has_mark mark x.1) items)
+
+-- the address has this place
+abbrev pub Owns : Entries → Place → ℕ → Type 0
+Owns m at a = (e : Entry) × (get m a ≡ Some e) × (e.place ≡ at)
+
+-- what is told of an address that is held
+abbrev pub place_and_mark : Entry → Place × Bool
+place_and_mark e = (e.place, e.dirty)

@@ -1,0 +1,12 @@
+//! Laws of a map that the layers above rest on.
+ghost use Rattle.std.specs.Prelude.{◌≡◌, Some};
+ghost use Rattle.ft_base.specs.declared.geometry.Geometry.{Geometry};
+ghost use Rattle.cache_model.specs.Records.{Entries, no_entries};
+ghost use Rattle.cache_model.specs.Entries.{IsMap};
+ghost use Rattle.cache_model.specs.Loading.{after_all};
+ghost use Rattle.mapping.specs.Checkpoint.{checkpoint_records};
+
+/// The records of a checkpoint, applied from nothing in their order, each fit, and give the map.
+pub fn a_checkpoint_gives_the_map()
+    ensures { (g : Geometry) (m : Entries) → IsMap g m → after_all g (checkpoint_records g m) no_entries ≡ Some m }
+{}
