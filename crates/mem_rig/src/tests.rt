@@ -4,7 +4,7 @@ use crate::MemRig;
 use crate::plain::{Kept, Plain};
 use device_calls::Ending;
 use ft_base::{Block, Outcome, Place, Spare, Stop, is_same, pattern, tag, zero_block};
-use ft_media::{MediaError, PageRead};
+use ft_media::{MediaError, PageRead, Rig};
 use std::alloc::{AllocError, Global};
 use std::test::Fail;
 
@@ -289,6 +289,71 @@ fn stops_and_failures_come_at_their_numbers(rt: HostRuntime) -> Result<(), Fail>
             counts.disk_flushes
         ],
         [1, 1, 1, 0, 1]
+    );
+    Ok(())
+}
+
+/// Makes media anew and programs their first page.
+fn fit_and_program<R: Rig>(rig: &mut R, alloc: Global) -> Result<(), Fail> {
+    rig.fit(alloc, 1, 2, 4)?;
+    rig.program(Place { block: 0, page: 0 }, &tagged(1), &SPARE)?;
+    Ok(())
+}
+
+/// Reads the first page, and erases its block.
+fn read_and_erase<R: Rig>(rig: &mut R) -> Result<Option<PageRead>, Fail> {
+    if rig.blocks() == 0 || rig.pages() == 0 {
+        return Ok(None);
+    }
+    let mut block = zero_block();
+    let mut spare = Spare([0; 32]);
+    let found = rig.read_page(Place { block: 0, page: 0 }, &mut block, &mut spare)?;
+    if rig.blocks() == 0 {
+        return Ok(None);
+    }
+    rig.erase(0)?;
+    Ok(Some(found).filter(|_| is_same(&block, &tagged(1))))
+}
+
+/// Writes a disk block, flushes the disk, and reads the block.
+fn write_and_read<R: Rig>(rig: &mut R, lba: u64) -> Result<Option<u64>, Fail> {
+    if lba >= rig.disk_size() {
+        return Ok(None);
+    }
+    rig.write_block(lba, &tagged(2))?;
+    rig.flush_disk()?;
+    let mut block = zero_block();
+    if lba >= rig.disk_size() {
+        return Ok(None);
+    }
+    rig.read_block(lba, &mut block)?;
+    Ok(Some(tag(&block)))
+}
+
+/// Arms a stop and cuts power. It says how many stops are armed then, and whether power is on before and after
+/// it is turned on.
+fn cut_and_turn_on<R: Rig>(rig: &mut R) -> (u32, bool, bool) {
+    if rig.armed() < 16 {
+        rig.arm(5, Outcome::Torn);
+    }
+    rig.cut(Outcome::Blank);
+    let before = rig.is_on();
+    rig.power_on();
+    (rig.armed(), before, rig.is_on())
+}
+
+#[test]
+fn it_is_driven_through_the_traits(rt: HostRuntime) -> Result<(), Fail> {
+    let mut rig = MemRig::new(rt.alloc());
+    fit_and_program(&mut rig, rt.alloc())?;
+    assert_eq!(rt; read_and_erase(&mut rig)?, Some(PageRead::Whole));
+    assert_eq!(rt; write_and_read(&mut rig, 3)?, Some(2));
+    assert_eq!(rt; write_and_read(&mut rig, 4)?, None);
+    assert_eq!(rt; cut_and_turn_on(&mut rig), (1, false, true));
+    assert_eq!(rt; rig.counts().programs, 1);
+    assert_eq!(rt;
+        [rig.flash_faults(), rig.disk_faults(), rig.cuts()],
+        [0, 0, 1]
     );
     Ok(())
 }
