@@ -1,6 +1,8 @@
 pub mod Count
 pub mod Contents
 pub mod PlainDisk
+pub mod Plain
+pub mod PlainImages
 pub mod Pattern
 pub mod Ranges
 pub mod Layout

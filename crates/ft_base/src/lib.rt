@@ -11,6 +11,7 @@ mod block;
 mod count;
 mod geometry;
 mod patterns;
+pub mod plain;
 mod power;
 mod record;
 mod sending;

@@ -5,7 +5,6 @@ use Rattle.std.specs.Ordering.{nat_cmp}
 use Rattle.std.specs.BTreeSet.{insert_key}
 use Rattle.std.specs.Int.{w64, to_be_bytes}
 use Rattle.sha2.specs.Sha256.{sha256}
-use Rattle.ft_base.specs.declared.block.Block.{Block}
 use Rattle.trace_model.specs.declared.ran.Ran.{Ran}
 use Rattle.ft_base.specs.Contents.{set}
 use Rattle.ft_base.specs.PlainDisk.{PlainDisk, empty}

@@ -8,7 +8,7 @@ use Rattle.trace_model.specs.declared.answer.Answer.{Answer}
 use Rattle.trace_model.specs.declared.answer.Answer.TheVariants as answer
 use Rattle.trace_model.specs.Lines.{lines_in, plain_line_of}
 use Rattle.trace_model.specs.declared.ran.Ran.{Ran}
-use Rattle.trace_model.specs.Run.{uncut, lines_of, blocks_in, block_count, disk_after, answers_of, told, end_of}
+use Rattle.trace_model.specs.Run.{uncut, lines_of, blocks_in, block_count, disk_after, answers_of, end_of}
 
 -- a trace has fewer bytes than this
 unfoldable pub trace_limit : ℕ

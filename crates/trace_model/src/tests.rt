@@ -1,6 +1,27 @@
-use crate::{Answer, Line, Ran, plain_told};
+ghost use Rattle.std.specs.Prelude.{◌≡◌};
+
+use crate::{Answer, Line, Ran, plain_end, plain_fits, plain_told};
 use ft_base::Outcome;
 use std::test::Fail;
+
+fn ran(line: Line, cuts: u64, kept: u64) -> Ran
+    ensures { result ≡ record { line = line; cuts = cuts; kept = kept } }
+{
+    Ran { line, cuts, kept }
+}
+
+fn write(lba: u64, count: u64, tag: u64) -> Line
+    ensures { result ≡ Line.Write lba count tag }
+{
+    Line::Write { lba, count, tag }
+}
+
+fn stop(after: u64) -> Ran
+    ensures { result ≡ record { line = Line.Stop after Outcome.Torn; cuts = 0; kept = 0 } }
+{
+    let outcome = Outcome::Torn;
+    ran(Line::Stop { after, outcome }, 0, 0)
+}
 
 #[test]
 fn reads_tell_what_was_written(rt: HostRuntime) -> Result<(), Fail> {
@@ -53,5 +74,76 @@ fn a_cut_write_keeps_its_first_blocks(rt: HostRuntime) -> Result<(), Fail> {
         Answer::Cut,
     ];
     assert_eq!(rt; told.as_slice(), wanted.as_slice());
+    Ok(())
+}
+
+#[test]
+fn an_end_has_counts_and_a_digest(rt: HostRuntime) -> Result<(), Fail> {
+    let first = ran(write(5, 1, 7), 0, 1);
+    let here = ran(Line::Read { lba: 5, count: 1 }, 0, 0);
+    let there = ran(Line::Read { lba: 6, count: 1 }, 0, 0);
+    let end = plain_end(rt.alloc(), &[there, here, first])?;
+    let wanted = Answer::End {
+        writes: 1,
+        reads: 2,
+        touched: 2,
+        digest: *b"\x22\x7d\x37\x4b\xf9\x0b\x30\xcb\x01\x9f\xe5\x15\x8a\x70\x6a\x1b\xfa\xf9\xe9\x5d\x5f\xd3\x7c\x69\x07\xf7\xaf\x0c\xd4\xbd\x04\x83",
+    };
+    assert_eq!(rt; end, wanted);
+    let end = plain_end(rt.alloc(), &[])?;
+    let wanted = Answer::End {
+        writes: 0,
+        reads: 0,
+        touched: 0,
+        digest: *b"\xe3\xb0\xc4\x42\x98\xfc\x1c\x14\x9a\xfb\xf4\xc8\x99\x6f\xb9\x24\x27\xae\x41\xe4\x64\x9b\x93\x4c\xa4\x95\x99\x1b\x78\x52\xb8\x55",
+    };
+    assert_eq!(rt; end, wanted);
+    Ok(())
+}
+
+#[test]
+fn a_cut_write_fits_with_the_blocks_that_read_as_new(rt: HostRuntime) -> Result<(), Fail> {
+    let alloc = rt.alloc();
+    let line = write(0, 3, 9);
+    let new = ran(write(1, 1, 9), 0, 1);
+    assert!(rt; plain_fits(alloc, &[ran(line, 1, 1), stop(5)])?);
+    assert!(rt; plain_fits(alloc, &[ran(line, 1, 3), stop(5)])?);
+    assert!(rt; !plain_fits(alloc, &[ran(line, 1, 4), stop(5)])?);
+    assert!(rt; plain_fits(alloc, &[ran(line, 1, 2), stop(5), new])?);
+    assert!(rt; !plain_fits(alloc, &[ran(line, 1, 1), stop(5), new])?);
+    assert!(rt; plain_fits(alloc, &[ran(line, 1, 0), stop(5), new])?);
+    assert!(rt; plain_fits(alloc, &[ran(line, 0, 3)])?);
+    assert!(rt; !plain_fits(alloc, &[ran(line, 0, 2)])?);
+    Ok(())
+}
+
+#[test]
+fn only_armed_stops_cut(rt: HostRuntime) -> Result<(), Fail> {
+    let alloc = rt.alloc();
+    let read = Line::Read { lba: 0, count: 1 };
+    assert!(rt; plain_fits(alloc, &[])?);
+    assert!(rt; !plain_fits(alloc, &[ran(read, 1, 0)])?);
+    assert!(rt; !plain_fits(alloc, &[ran(write(0, 1, 9), 1, 1)])?);
+    assert!(rt; plain_fits(alloc, &[ran(read, 2, 0), stop(1), stop(5)])?);
+    assert!(rt; !plain_fits(alloc, &[ran(read, 3, 0), stop(1), stop(5)])?);
+    let once = ran(read, 1, 0);
+    assert!(rt; plain_fits(alloc, &[once, once, stop(1), stop(5)])?);
+    assert!(rt; !plain_fits(alloc, &[once, once, once, stop(1), stop(5)])?);
+    assert!(rt; !plain_fits(alloc, &[stop(1), once])?);
+    Ok(())
+}
+
+#[test]
+fn each_kind_of_line_is_cut_so_often_at_most(rt: HostRuntime) -> Result<(), Fail> {
+    let alloc = rt.alloc();
+    let cut = Line::Cut {
+        outcome: Outcome::Blank,
+    };
+    assert!(rt; plain_fits(alloc, &[ran(Line::Flush, 2, 0), stop(1), stop(5)])?);
+    assert!(rt; plain_fits(alloc, &[ran(Line::Idle, 1, 0), stop(1), stop(5)])?);
+    assert!(rt; !plain_fits(alloc, &[ran(Line::Idle, 2, 0), stop(1), stop(5)])?);
+    assert!(rt; plain_fits(alloc, &[ran(cut, 0, 0), stop(1)])?);
+    assert!(rt; !plain_fits(alloc, &[ran(cut, 1, 0), stop(1)])?);
+    assert!(rt; !plain_fits(alloc, &[ran(Line::Nothing, 1, 0), stop(1)])?);
     Ok(())
 }

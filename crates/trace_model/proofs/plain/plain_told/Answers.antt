@@ -1,11 +1,12 @@
-use Rattle.std.proofs.Common.{arith, get_or}
-use Rattle.trace_model.specs.Plain.{disk_of}
-use Rattle.trace_model.proofs.PlainLemmas.{told-more, disk_after-more}
+use Rattle.std.proofs.Common.{arith}
+use Rattle.ft_base.specs.Plain.{disk_of}
+use Rattle.trace_model.proofs.PlainLemmas.{told-more}
+use Rattle.trace_model.proofs.RunLemmas.{disk_after-more}
 use Rattle.trace_model.proofs.plain.plain_told.Goals as goal
 
 pub loop-left-preserved : goal.loop-left-preserved
 loop-left-preserved c = record {
   within = omega arith;
-  told = told-more c.args.run.now c.loop-left.left _ (disk_of c.loop-left.blocks) _ _ (omega arith) c.loop-left.invariant.within c.loop-left.invariant.told c.loop-left.invariant.disk c.in_ok-tell_line.ensures;
-  disk = disk_after-more c.args.run.now c.loop-left.left _ (disk_of c.loop-left.blocks) (disk_of c.run_line.new.blocks) (omega arith) c.loop-left.invariant.within c.loop-left.invariant.disk c.in_ok-run_line.ensures;
+  told = told-more c.args.run.now c.loop-left.left _ (disk_of c.loop-left.disk) _ _ (omega arith) c.loop-left.invariant.within c.loop-left.invariant.told c.loop-left.invariant.disk c.in_ok-tell_line.ensures;
+  disk = disk_after-more c.args.run.now c.loop-left.left _ (disk_of c.loop-left.disk) (disk_of c.run_line.new.disk) (omega arith) c.loop-left.invariant.within c.loop-left.invariant.disk c.in_ok-run_line.ensures;
 }

@@ -1,0 +1,63 @@
+-- What fits of a run, line by line.
+use Rattle.std.proofs.Common.{◌≡◌, ℕ, zero, suc, ◌+◌, ◌-◌, ◌<◌, ◌≤◌, arith, List, [], ◌∷◌, length, get_or, drop, ap, sym, ◌∙◌, subst, length-drop}
+use Rattle.ft_base.specs.PlainDisk.{PlainDisk}
+use Rattle.ft_base.specs.declared.power.Stop.{Stop}
+use Rattle.trace_model.specs.declared.line.Line.{Line}
+use Rattle.trace_model.specs.declared.line.Line.TheVariants as line
+use Rattle.trace_model.specs.declared.ran.Ran.{Ran}
+use Rattle.trace_model.specs.Plain.{AreAddressed, FitsNext, IsAddressed, IsKeptWithin, IsRunLine}
+use Rattle.trace_model.specs.Run.{Fits, FitsLine, armed_after, arming, disk_after}
+use Rattle.trace_model.proofs.RunLemmas.{from_here}
+
+-- the addresses of each line of a run are numbers of 64 bits
+pub addressed_at : (run : List Ran) (n : ℕ) (any : Ran) → AreAddressed run → n < length run → IsAddressed (get_or run n any).line
+addressed_at [] n any all within = absurd (omega arith)
+addressed_at (ran ∷ run) zero any all within = all.0
+addressed_at (ran ∷ run) (suc n) any all within = addressed_at run n any all.1 (omega arith)
+
+kept_within : (line : Line) (cuts kept : ℕ) (disk : PlainDisk) → FitsLine line cuts kept disk → IsKeptWithin line kept
+kept_within (line.Write lba count tag) cuts kept disk fits = fits.most
+kept_within (line.Read lba count) cuts kept disk fits = tt
+kept_within line.Flush cuts kept disk fits = tt
+kept_within line.Idle cuts kept disk fits = tt
+kept_within (line.Stop after outcome) cuts kept disk fits = tt
+kept_within (line.Cut outcome) cuts kept disk fits = tt
+kept_within line.Nothing cuts kept disk fits = tt
+
+-- a line that fits was run so
+pub fits_is_run : (ran : Ran) (armed : ℕ) (disk : PlainDisk) → IsAddressed ran.line → FitsNext ran armed disk → IsRunLine ran
+fits_is_run ran armed disk addressed fits = record { addressed = addressed; kept = kept_within ran.line ran.cuts ran.kept disk fits.1 }
+
+-- of a run that fits, the lines before one fit too
+fits_before : (run : List Ran) (n : ℕ) → Fits run → Fits (drop n run)
+fits_before run zero fits = fits
+fits_before [] (suc n) fits = fits
+fits_before (ran ∷ run) (suc n) fits = fits_before run n fits.0
+
+-- a line that fits next, after its stops and its disk
+next_fits : (earlier : List Ran) (ran : Ran) (armed : ℕ) (disk : PlainDisk) → armed ≡ length (armed_after earlier) → disk ≡ disk_after earlier → FitsNext ran armed disk → FitsNext ran (length (armed_after earlier)) (disk_after earlier)
+next_fits earlier ran armed disk armed_is disk_is fits =
+    subst (λ (n : ℕ). FitsNext ran n (disk_after earlier)) armed_is (subst (λ (d : PlainDisk). FitsNext ran armed d) disk_is fits)
+
+-- one more line that fits
+pub fits_more : (run : List Ran) (left : ℕ) (any : Ran) (armed : ℕ) (disk : PlainDisk) → 0 < left → left ≤ length run → armed ≡ length (armed_after (drop left run)) → disk ≡ disk_after (drop left run) → Fits (drop left run) → FitsNext (get_or run (left - 1) any) armed disk → Fits (drop (left - 1) run)
+fits_more run left any armed disk some within armed_is disk_is so_far fits =
+    let next = next_fits (drop left run) (get_or run (left - 1) any) armed disk armed_is disk_is fits in
+    subst (λ (r : List Ran). Fits r) (sym (from_here run left any some within)) (so_far, next.0, next.1)
+
+-- a line that doesn't fit
+pub not_fits : (run : List Ran) (left : ℕ) (any : Ran) (armed : ℕ) (disk : PlainDisk) → 0 < left → left ≤ length run → armed ≡ length (armed_after (drop left run)) → disk ≡ disk_after (drop left run) → (FitsNext (get_or run (left - 1) any) armed disk → ⊥) → Fits run → ⊥
+not_fits run left any armed disk some within armed_is disk_is not fits =
+    let here : Fits (get_or run (left - 1) any ∷ drop left run) = subst (λ (r : List Ran). Fits r) (from_here run left any some within) (fits_before run (left - 1) fits) in
+    not (subst (λ (n : ℕ). FitsNext (get_or run (left - 1) any) n disk) (sym armed_is)
+    (subst (λ (d : PlainDisk). FitsNext (get_or run (left - 1) any) (length (armed_after (drop left run))) d) (sym disk_is) (here.1, here.2)))
+
+-- how many stops are armed after one more line
+pub armed-more : (run : List Ran) (left : ℕ) (any : Ran) (armed arms : ℕ) → 0 < left → left ≤ length run → armed ≡ length (armed_after (drop left run)) → ((stops : List Stop) → length (arming (get_or run (left - 1) any).line stops) ≡ length stops + arms) → armed - (get_or run (left - 1) any).cuts + arms ≡ length (armed_after (drop (left - 1) run))
+armed-more run left any armed arms some within armed_is arming_is =
+    let ran = get_or run (left - 1) any in
+    let stops = armed_after (drop left run) in
+    ap (λ (n : ℕ). n - ran.cuts + arms) armed_is
+    ∙ ap (λ (n : ℕ). n + arms) (sym (length-drop ran.cuts stops))
+    ∙ sym (arming_is (drop ran.cuts stops))
+    ∙ ap (λ (r : List Ran). length (armed_after r)) (sym (from_here run left any some within))
