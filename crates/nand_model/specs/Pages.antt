@@ -1,23 +1,24 @@
 -- What an erase block in memory contains.
 use Rattle.std.specs.Prelude.{ℕ, slice_index_or, replicate}
+use Rattle.ft_base.specs.declared.block.Block.{Block}
+use Rattle.ft_base.specs.declared.block.Spare.{Spare}
 use Rattle.ft_base.specs.declared.block.Page.{Page}
 use Rattle.ft_base.specs.declared.block.Page.TheVariants as page
 use Rattle.ft_base.specs.Contents.{zero_block}
 use Rattle.ft_media.specs.declared.media.PageRead.{PageRead}
 use Rattle.ft_media.specs.declared.media.PageRead.TheVariants as read
-use Rattle.nand_model.specs.declared.erase_block.Bytes.{Bytes}
 use Rattle.nand_model.specs.declared.erase_block.EraseBlock.{EraseBlock}
 
--- bytes that were never programmed
-unfoldable pub no_bytes : Bytes
-no_bytes = record { block = zero_block; spare = record { 0 = replicate 32 0 } }
+-- spare bytes that were never programmed
+unfoldable pub no_spare : Spare
+no_spare = record { 0 = replicate 32 0 }
 
 -- a page that a read finds so, with these bytes where it is whole
-abbrev pub page_of : PageRead → Bytes → Page
-page_of read.Blank bytes = page.Blank
-page_of read.Whole bytes = page.Whole bytes.block bytes.spare
-page_of read.Torn bytes = page.Torn
+abbrev pub page_of : PageRead → Block → Spare → Page
+page_of read.Blank block spare = page.Blank
+page_of read.Whole block spare = page.Whole block spare
+page_of read.Torn block spare = page.Torn
 
 -- page p of a block
 abbrev pub page_in : EraseBlock → ℕ → Page
-page_in block p = page_of (slice_index_or block.found.items p read.Blank) (slice_index_or block.bytes.items p no_bytes)
+page_in block p = page_of (slice_index_or block.found.items p read.Blank) (slice_index_or block.blocks.items p zero_block) (slice_index_or block.spares.items p no_spare)

@@ -3,29 +3,26 @@ ghost use Rattle.std.specs.Vec.{vec_capacity};
 ghost use Rattle.ft_media.specs.declared.media.PageRead.TheVariants as read;
 
 use crate::cuts::{blank_all, cut_all};
+use crate::stored::put_copy;
 use ft_base::{Block, Outcome, Spare};
 use ft_media::PageRead;
 use std::alloc::{AllocError, Global};
 
-/// What was programmed into a page.
-#[derive(Clone, Copy)]
-pub(crate) struct Bytes {
-    pub(crate) block: Block,
-    pub(crate) spare: Spare,
-}
-
-/// The pages of an erase block. Pages are programmed in order, so the bytes of a page that was ever
-/// programmed stand at its number in `bytes`, which has room for all pages from the start.
+/// The pages of an erase block. Pages are programmed in order, so what was last programmed into a page
+/// stands at its number in `blocks` and `spares`, which have room for all pages from the start.
 #[derive(Drop)]
 pub(crate) struct EraseBlock {
     pub(crate) pages: u32,
     pub(crate) found: Vec<PageRead>,
-    pub(crate) bytes: Vec<Bytes>,
+    pub(crate) blocks: Vec<Block>,
+    pub(crate) spares: Vec<Spare>,
     pub(crate) next: Option<u32>,
     ghost all: { vec_len found ≡ pages },
-    ghost room: { pages ≤ vec_capacity bytes },
-    ghost held: { (p : ℕ) → slice_index_or found.items p read.Blank ≡ read.Whole → p < vec_len bytes },
-    ghost reached: { (n : ℕ) → next ≡ Some n → n ≤ vec_len bytes },
+    ghost block_room: { pages ≤ vec_capacity blocks },
+    ghost spare_room: { pages ≤ vec_capacity spares },
+    ghost paired: { vec_len spares ≡ vec_len blocks },
+    ghost held: { (p : ℕ) → slice_index_or found.items p read.Blank ≡ read.Whole → p < vec_len blocks },
+    ghost reached: { (n : ℕ) → next ≡ Some n → n ≤ vec_len blocks },
     ghost ahead: { (n p : ℕ) → next ≡ Some n → n ≤ p → slice_index_or found.items p read.Blank ≡ read.Blank },
 }
 
@@ -46,11 +43,13 @@ impl EraseBlock {
     {
         let mut found = Vec::new(alloc);
         found.resize(pages as usize, PageRead::Blank)?;
-        let bytes = Vec::with_capacity(alloc, pages as usize)?;
+        let blocks = Vec::with_capacity(alloc, pages as usize)?;
+        let spares = Vec::with_capacity(alloc, pages as usize)?;
         Ok(EraseBlock {
             pages,
             found,
-            bytes,
+            blocks,
+            spares,
             next: Some(0),
         })
     }
@@ -63,9 +62,8 @@ impl EraseBlock {
         let at = page as usize;
         let found = self.found[at];
         if found == PageRead::Whole {
-            let bytes = &self.bytes[at];
-            *block = bytes.block;
-            *spare = bytes.spare;
+            *block = self.blocks[at];
+            *spare = self.spares[at];
         }
         found
     }
@@ -89,23 +87,15 @@ impl EraseBlock {
         requires page { page < self.old.pages }
         ensures page { (p : ℕ) → page_in self.new p
             ≡ set (page_in self.old) page (content.Whole block.now spare.now) p }
-        ensures filled { page < vec_len self.new.bytes }
+        ensures filled { page < vec_len self.new.blocks }
         ensures ahead { (p : ℕ) → page < p → slice_index_or self.new.found.items p read.Blank ≡ read.Blank }
         ensures next { self.new.next ≡ None }
         ensures pages { self.new.pages ≡ self.old.pages }
     {
         let at = page as usize;
         self.next = None;
-        if at < self.bytes.len() {
-            let bytes = &mut self.bytes[at];
-            bytes.block = *block;
-            bytes.spare = *spare;
-        } else {
-            self.bytes.push_reserved(Bytes {
-                block: *block,
-                spare: *spare,
-            });
-        }
+        put_copy(&mut self.blocks, at, block);
+        put_copy(&mut self.spares, at, spare);
         self.found[at] = PageRead::Whole;
     }
 

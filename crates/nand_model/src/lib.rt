@@ -10,6 +10,7 @@ mod cuts;
 mod definition;
 mod erase_block;
 mod nand;
+mod stored;
 
 pub use definition::{page_of_cut_erase, page_of_cut_program};
 pub use nand::MemNand;

@@ -1,6 +1,7 @@
 use Rattle.std.proofs.Common.{◌≡◌, ◌<◌, ◌≤◌, ℕ, length, slice_index_or}
 use Rattle.ft_media.specs.declared.media.PageRead.TheVariants as read
-use Rattle.nand_model.specs.declared.erase_block.Bytes.{Bytes}
+use Rattle.ft_base.specs.declared.block.Block.{Block}
+use Rattle.ft_base.specs.declared.block.Spare.{Spare}
 use Rattle.nand_model.specs.Pages.{page_of}
 use Rattle.nand_model.specs.Steps.{cut_erase}
 use Rattle.nand_model.proofs.cuts.cut_all.Given as goal
@@ -8,7 +9,7 @@ use Rattle.nand_model.proofs.cuts.cut_all.Given as goal
 abbrev pub invariant-loop-p : goal.invariant-loop-p
 invariant-loop-p l = record {
   length : length l.found.items ≡ l.pages;
-  cut : (p : ℕ) (bytes : Bytes) → p < l.p → page_of (slice_index_or l.found.items p read.Blank) bytes ≡ cut_erase l.outcome p (page_of (slice_index_or l.fn.found.items p read.Blank) bytes);
+  cut : (p : ℕ) (block : Block) (spare : Spare) → p < l.p → page_of (slice_index_or l.found.items p read.Blank) block spare ≡ cut_erase l.outcome p (page_of (slice_index_or l.fn.found.items p read.Blank) block spare);
   whole : (p : ℕ) → p < l.p → slice_index_or l.found.items p read.Blank ≡ read.Whole → slice_index_or l.fn.found.items p read.Blank ≡ read.Whole;
   rest : (p : ℕ) → l.p ≤ p → slice_index_or l.found.items p read.Blank ≡ slice_index_or l.fn.found.items p read.Blank;
 }
