@@ -28,7 +28,9 @@ impl<V: Drop> Blank<V> {
 /// The buckets of one group. The item of bucket k stands at the place that is the number of occupied buckets below k.
 #[derive(Drop)]
 pub struct Group<V> {
+    /// Bit k is set where bucket k is occupied.
     pub occupied: u32,
+    /// The items of the occupied buckets, in bucket order.
     pub items: Vec<(u64, V)>,
     ghost fits: { occupied < 2 ^ 32 },
     ghost counted: { length items.items ≡ count_ones occupied },

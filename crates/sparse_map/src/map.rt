@@ -121,6 +121,7 @@ impl<V: Drop> SparseMap<V> {
         (group.occupied, group.items.as_slice())
     }
 
+    /// The bucket that has a key.
     fn find(&self, key: u64) -> Option<u64>
         ensures { MatchOption result ((b : ℕ) → key_at self.now.slots b ≢ Some key) (λ b. key_at self.now.slots b ≡ Some key) }
     {
@@ -284,6 +285,7 @@ impl<V: Drop> SparseMap<V> {
         })
     }
 
+    /// Puts in the items of all these groups, whose keys the map doesn't have.
     fn take_groups(&mut self, groups: Vec<Group<V>>)
         requires distinct { IsDistinct (items_in groups.items) }
         requires fresh { (q : ℕ) → IsSome (find nat_cmp q (items_in groups.items)) → map.get (map_of self.old) q ≡ None }
@@ -298,6 +300,7 @@ impl<V: Drop> SparseMap<V> {
         }
     }
 
+    /// Puts in these items, whose keys the map doesn't have.
     fn take_items(&mut self, items: Vec<(u64, V)>)
         requires distinct { IsDistinct items.items }
         requires fresh { (q : ℕ) → IsSome (find nat_cmp q items.items) → map.get (map_of self.old) q ≡ None }

@@ -14,7 +14,9 @@ use crate::home::{bucket_count, home_of, leads_over, next_bucket};
 /// The bucket that has a key, or the one where it would go.
 #[derive(Clone, Copy)]
 pub enum Place {
+    /// This bucket has the key.
     Found(u64),
+    /// No bucket has it, and this free one is the first on its way from home.
     Free(u64),
 }
 

@@ -122,3 +122,37 @@ fn many_keys_are_found_through_doublings_and_removals(rt: HostRuntime) -> Result
     }
     Ok(())
 }
+
+/// A key after `key`, far from it.
+fn far_key(key: u64) -> u64 {
+    key.wrapping_mul(6_364_136_223_846_793_005)
+        .wrapping_add(1_442_695_040_888_963_407)
+}
+
+/// How many keys lie in the group of their home among 1,024 buckets, and how many items all groups have.
+fn keys_at_home(map: &SparseMap<u64>) -> (usize, usize) {
+    let mut at_home = 0usize;
+    let mut all = 0usize;
+    for i in 0..map.groups() {
+        let (_, items) = map.group_at(i);
+        let here = items.iter().filter(|item| home_of(10, item.0) / 32 == i);
+        at_home = at_home.saturating_add(here.count());
+        all = all.saturating_add(items.len());
+    }
+    (at_home, all)
+}
+
+#[test]
+fn most_keys_of_a_full_map_lie_in_the_group_of_their_home(rt: HostRuntime) -> Result<(), Fail> {
+    let mut map = SparseMap::new(rt.alloc());
+    map.reserve(768)?;
+    let mut key = 0;
+    for _ in 0..768 {
+        key = far_key(key);
+        put(&mut map, key, key)?;
+    }
+    assert_eq!(rt; [map.len(), map.buckets()], [768, 1024]);
+    // A look-up of the other 38 goes on into the next group.
+    assert_eq!(rt; keys_at_home(&map), (730, 768));
+    Ok(())
+}
