@@ -7,6 +7,8 @@ use Rattle.std.specs.Ordering.{eq_by_cmp, is_lt}
 use Rattle.std.specs.Cmp.{nat_cmp_total}
 use Rattle.std.proofs.lemmas.Bool.{cases_Bool, cases_lt, and_parts, ltb-false}
 use Rattle.std.proofs.lemmas.List.{get_or_default}
+use Rattle.std.proofs.lemmas.Option.{slice_get_read, slice_get_past}
+use Rattle.std.specs.List.{slice_get}
 use Rattle.std.proofs.lemmas.Bool.Decides.{nat_tests}
 use Rattle.std.specs.FinMap.{get, insert, entries, from_entries, find, put, is_sorted, get-from_entries, get-insert, same_map, nat_cmp-IsAntisymmetric, entries_sorted, get-entries}
 use Rattle.std.specs.FinMap.Entries.{by_order, below_all, is_sorted-put, is_sorted-where_key, find-put, same_entries}
@@ -14,6 +16,7 @@ use Rattle.cache_model.specs.declared.entry.Entry.{Entry}
 use Rattle.cache_model.specs.Records.{is_in_group, put_some, cleaned}
 use Rattle.ft_base.specs.declared.geometry.Geometry.{Geometry}
 use Rattle.mapping.specs.Ascending.{Ascends, IsAt, rank_of}
+use Rattle.mapping.specs.Counts.{address_and_place}
 
 abbrev pub Items : Type 0
 Items = List (ℕ × Entry)
@@ -205,6 +208,15 @@ order_without_group g es new group up is = subst (λ (l : Items). Ascends l) (sy
 pub entries_are : (es : Items) → Ascends es → entries (from_entries {R = nat_cmp} es) ≡ es
 entries_are es up =
     same_entries nat_cmp nat_cmp_total nat_cmp-IsAntisymmetric (entries (from_entries es)) es (entries_sorted (from_entries es)) (as_T _ up.sorted) (λ q. sym (get-entries (from_entries es) q) ∙ get-from_entries nat_cmp_total es q)
+
+-- the entry of a number in the list is that in the map, and past the list there is none
+pub nth_there : (es : Items) (i : ℕ) (x : ℕ × Entry) → Ascends es → i < length es → x ≡ get_or es i x → Some (address_and_place x) ≡ option_map address_and_place (slice_get (entries {R = nat_cmp} (from_entries es)) i)
+nth_there es i x up within is =
+    sym (ap (λ (l : Items). option_map address_and_place (slice_get l i)) (entries_are es up) ∙ ap (option_map address_and_place) (slice_get_read es (length es) i x refl within is))
+
+pub nth_past : (es : Items) (i : ℕ) → Ascends es → length es ≤ i → None ≡ option_map address_and_place (slice_get (entries {R = nat_cmp} (from_entries es)) i)
+nth_past es i up past =
+    sym (ap (λ (l : Items). option_map address_and_place (slice_get l i)) (entries_are es up) ∙ ap (option_map address_and_place) (slice_get_past es i past))
 
 -- the clean entry in its place, and no change where there is none
 pub clean_there : (es new : Items) (k i : ℕ) (d : ℕ × Entry) → Ascends es → i ≡ rank_of k es → IsAt k es i → new ≡ set es i (k, cleaned (get_or es i d).1) → (from_entries {R = nat_cmp} new ≡ put_some (from_entries es) k (option_map cleaned (get {R = nat_cmp} (from_entries es) k))) × Ascends new

@@ -38,3 +38,7 @@ Owns m at a = (e : Entry) × (get m a ≡ Some e) × (e.place ≡ at)
 -- what is told of an address that is held
 abbrev pub place_and_mark : Entry → Place × Bool
 place_and_mark e = (e.place, e.dirty)
+
+-- what is told of an entry in its turn
+abbrev pub address_and_place : ℕ × Entry → ℕ × Place
+address_and_place x = (x.0, x.1.place)

@@ -1,10 +1,12 @@
 ghost use Rattle.std.specs.Prelude.{◌≡◌, ◌↔◌, ◌<◌, ◌*◌, ◌+◌, ◌≤◌, ◌-◌, ◌/◌, ◌==◌, not, filter, length, option_map, vec_len, IsTrue};
 ghost use Rattle.std.specs.Vec.{vec_capacity};
 ghost use Rattle.std.specs.Ordering.{nat_cmp};
-ghost use Rattle.std.specs.FinMap.{from_entries, get, insert, remove as map_remove};
+ghost use Rattle.std.specs.List.{slice_get};
+ghost use Rattle.std.specs.FinMap.{from_entries, entries, get, insert, remove as map_remove};
 ghost use Rattle.cache_model.specs.Records.{without_group as map_without_group, with_pages, put_some, cleaned, after};
 ghost use Rattle.cache_model.specs.Entries.{IsInReach};
 ghost use Rattle.mapping.specs.MapValue.{pages_taken, groups_taken};
+ghost use Rattle.mapping.specs.Counts.{address_and_place};
 ghost use Rattle.mapping.specs.Ascending.{Ascends, IsAt, rank_of};
 
 use cache_model::Entry;
@@ -39,6 +41,17 @@ pub fn entry_of(items: &[(u64, Entry)], lba: u64) -> Option<Entry>
         return Some(items[at].1);
     }
     None
+}
+
+/// The entry of number `i` in the order of addresses: its address and its page.
+pub fn nth_of(items: &[(u64, Entry)], i: u64) -> Option<(u64, Place)>
+    requires { Ascends items.now }
+    ensures { result ≡ option_map address_and_place (slice_get (entries {R = nat_cmp} (from_entries items.now)) i) }
+{
+    match items.get(i as usize) {
+        Some(item) => Some((item.0, item.1.place)),
+        None => None,
+    }
 }
 
 /// The entry of an address is this one. There is room for one entry more.

@@ -1,11 +1,12 @@
 ghost use Rattle.std.specs.Prelude.{◌≡◌, ◌<◌, ◌≤◌, ◌+◌, ◌*◌, ◌-◌, ◌^◌, ℕ, length, min, take, drop, IfOk, OnOk, OnErr, IfSome, IfNone, option_map, max, IsTrue, ◌↔◌};
-ghost use Rattle.std.specs.FinMap.{get};
+ghost use Rattle.std.specs.List.{slice_get};
+ghost use Rattle.std.specs.FinMap.{get, entries};
 ghost use Rattle.ft_base.specs.declared.block.Place.{Place as PlaceValue};
 ghost use Rattle.cache_model.specs.declared.entry.Entry.{Entry as EntryValue};
 ghost use Rattle.cache_model.specs.Records.{no_entries, after};
 ghost use Rattle.cache_model.specs.Entries.{Fits, IsMap};
 ghost use Rattle.mapping.specs.MapValue.{pages_taken, groups_taken};
-ghost use Rattle.mapping.specs.Counts.{held_count, dirty_count, dirty_group_count, data_block_count, Owns, place_and_mark};
+ghost use Rattle.mapping.specs.Counts.{held_count, dirty_count, dirty_group_count, data_block_count, Owns, place_and_mark, address_and_place};
 ghost use Rattle.mapping.specs.declared.bits.Choice.TheVariants.{Held, Dirty, Mapped};
 ghost use Rattle.mapping.specs.Checkpoint.{checkpoint_records};
 ghost use Rattle.mapping.specs.Bits.{chosen_of, IsDataBlock};
@@ -14,7 +15,7 @@ use crate::bits::Choice;
 use crate::checkpoint::{part_of, records_of};
 use crate::counts::{count_dirty, count_groups, owner_of};
 use crate::grouping::fits;
-use crate::list::{entry_of, step};
+use crate::list::{entry_of, nth_of, step};
 use crate::marks::Mark;
 use crate::sets::{chosen_any, data_block};
 use block_map::BlockAt;
@@ -73,6 +74,14 @@ impl Map {
             Some(entry) => Some((entry.place, entry.dirty)),
             None => None,
         }
+    }
+
+    /// The entry of number `i`, from 0, in ascending order of address: the address and its page. None
+    /// from the number of entries on.
+    pub fn nth(&self, i: u64) -> Option<(u64, Place)>
+        ensures { result ≡ option_map address_and_place (slice_get (entries self.now.entries) i) }
+    {
+        nth_of(&self.items, i)
     }
 
     /// The address whose block stands at this place.

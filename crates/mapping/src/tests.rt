@@ -52,6 +52,9 @@ fn a_map_is_built_and_told(rt: HostRuntime) -> Result<(), Fail> {
     assert_eq!(rt; map.buckets(), 0);
     assert_eq!(rt; map.place(9), Some((Place { block: 4, page: 0 }, true)));
     assert_eq!(rt; map.owner(Place { block: 6, page: 3 }), Some(7));
+    assert_eq!(rt; map.nth(0), Some((4, Place { block: 6, page: 0 })));
+    assert_eq!(rt; map.nth(3), Some((9, Place { block: 4, page: 0 })));
+    assert_eq!(rt; map.nth(4), None);
     let block = map.block_of(1).ok_or("a data block")?;
     assert_eq!(rt; block.block(), 6);
     assert_eq!(rt; block.present(), 0b1011);
