@@ -1,0 +1,81 @@
+-- Records applied one after the other, with room for all of them.
+use Rattle.std.proofs.Common.{◌≡◌, ℕ, ◌+◌, ◌<◌, ◌≤◌, ◌==◌, Bool, true, false, cond, List, length, get_or, drop, Some, None, refl, sym, ◌∙◌, ap, subst, arith}
+use Rattle.std.proofs.lemmas.List.{at_drop_more, at_drop_all}
+use Rattle.std.proofs.lemmas.List.Sums.{sum_by-drop_more}
+use Rattle.ft_base.specs.declared.geometry.Geometry.{Geometry}
+use Rattle.ft_base.specs.declared.record.Record.{Record}
+use Rattle.ft_base.specs.declared.record.Record.TheVariants.{SetPage, Remove, Clean, SetGroup, RemoveGroup}
+use Rattle.cache_model.specs.Records.{after}
+use Rattle.cache_model.specs.Entries.{Fits, fits}
+use Rattle.cache_model.specs.Loading.{after_all}
+use Rattle.cache_model.proofs.FitsLemmas.{fits-true, fits-from}
+use Rattle.mapping.specs.MapValue.{MapValue, pages_taken, groups_taken}
+use Rattle.op_log.specs.Walk.{pages_needed, groups_needed}
+
+page_taken : (r : Record) → cond (pages_taken r == 1) 1 0 ≡ pages_taken r
+page_taken (SetPage lba place dirty) = refl
+page_taken (Remove lba) = refl
+page_taken (Clean lba) = refl
+page_taken (SetGroup group block present dirty) = refl
+page_taken (RemoveGroup group) = refl
+
+group_taken : (r : Record) → cond (groups_taken r == 1) 1 0 ≡ groups_taken r
+group_taken (SetPage lba place dirty) = refl
+group_taken (Remove lba) = refl
+group_taken (Clean lba) = refl
+group_taken (SetGroup group block present dirty) = refl
+group_taken (RemoveGroup group) = refl
+
+-- the first i records are applied, and there is room for the others
+pub record AppliedSoFar (changes : List Record) (i : ℕ) (first now : MapValue) : Type 0 where
+  pub geometry : now.geometry ≡ first.geometry
+  pub entries : after_all first.geometry changes first.entries ≡ after_all first.geometry (drop i changes) now.entries
+  pub pages : pages_needed (drop i changes) ≤ now.spare_pages
+  pub groups : groups_needed (drop i changes) ≤ now.spare_groups
+
+-- the record that is next fits
+fits_here : (changes : List Record) (i : ℕ) (r : Record) (first now : MapValue) → AppliedSoFar changes i first now → Fits now.geometry r now.entries → fits first.geometry r now.entries ≡ true
+fits_here changes i r first now so fit = fits-from first.geometry r now.entries (subst (λ (g : Geometry). Fits g r now.entries) so.geometry fit)
+
+module _ (changes : List Record) (i : ℕ) (d : Record) (within : i < length changes) where
+  pages_left : pages_needed (drop i changes) ≡ pages_taken (get_or changes i d) + pages_needed (drop (i + 1) changes)
+  pages_left = sum_by-drop_more (λ r. cond (pages_taken r == 1) 1 0) changes i d within ∙ ap (λ n. n + pages_needed (drop (i + 1) changes)) (page_taken (get_or changes i d))
+
+  groups_left : groups_needed (drop i changes) ≡ groups_taken (get_or changes i d) + groups_needed (drop (i + 1) changes)
+  groups_left = sum_by-drop_more (λ r. cond (groups_taken r == 1) 1 0) changes i d within ∙ ap (λ n. n + groups_needed (drop (i + 1) changes)) (group_taken (get_or changes i d))
+
+  pub room_for_page : (first now : MapValue) → AppliedSoFar changes i first now → pages_taken (get_or changes i d) ≤ now.spare_pages
+  room_for_page first now so = let some = so.pages in omega (arith, pages_left)
+
+  pub room_for_group : (first now : MapValue) → AppliedSoFar changes i first now → groups_taken (get_or changes i d) ≤ now.spare_groups
+  room_for_group first now so = let some = so.groups in omega (arith, groups_left)
+
+  -- what is left to apply, with the next record in front
+  next_first : (first now : MapValue) → AppliedSoFar changes i first now → after_all first.geometry changes first.entries ≡ cond (fits first.geometry (get_or changes i d) now.entries) (after_all first.geometry (drop (i + 1) changes) (after first.geometry (get_or changes i d) now.entries)) None
+  next_first first now so = so.entries ∙ at_drop_more (λ rs. after_all first.geometry rs now.entries) changes i d within
+
+  pub applied_refused : (first now : MapValue) → AppliedSoFar changes i first now → (Fits now.geometry (get_or changes i d) now.entries → ⊥) → after_all first.geometry changes first.entries ≡ None
+  applied_refused first now so unfit = by_test (fits first.geometry (get_or changes i d) now.entries) refl
+    where
+      by_test : (b : Bool) → fits first.geometry (get_or changes i d) now.entries ≡ b → after_all first.geometry changes first.entries ≡ None
+      by_test true t = absurd (unfit (subst (λ (g : Geometry). Fits g (get_or changes i d) now.entries) (sym so.geometry) (fits-true first.geometry (get_or changes i d) now.entries t)))
+      by_test false t = next_first first now so ∙ ap (λ b. cond b (after_all first.geometry (drop (i + 1) changes) (after first.geometry (get_or changes i d) now.entries)) None) t
+
+  pub applied_more : (first now next : MapValue) → AppliedSoFar changes i first now → Fits now.geometry (get_or changes i d) now.entries → next.geometry ≡ now.geometry → next.entries ≡ after now.geometry (get_or changes i d) now.entries → next.spare_pages + pages_taken (get_or changes i d) ≡ now.spare_pages → next.spare_groups + groups_taken (get_or changes i d) ≡ now.spare_groups → AppliedSoFar changes (i + 1) first next
+  applied_more first now next so fit geometry entries pages groups =
+      let r = get_or changes i d in
+      let some = so.pages in
+      let others = so.groups in
+      let here : next.entries ≡ after first.geometry r now.entries = entries ∙ ap (λ g. after g r now.entries) so.geometry in
+      record {
+        geometry = geometry ∙ so.geometry;
+        entries =
+            next_first first now so
+            ∙ ap (λ b. cond b (after_all first.geometry (drop (i + 1) changes) (after first.geometry r now.entries)) None) (fits_here changes i r first now so fit)
+            ∙ ap (λ m. after_all first.geometry (drop (i + 1) changes) m) (sym here);
+        pages = omega (arith, pages_left);
+        groups = omega (arith, groups_left);
+      }
+
+pub applied_all : (changes : List Record) (i : ℕ) (first now : MapValue) → length changes ≤ i → AppliedSoFar changes i first now → after_all first.geometry changes first.entries ≡ Some now.entries
+applied_all changes i first now beyond so = so.entries ∙ at_drop_all (λ rs. after_all first.geometry rs now.entries) changes i beyond

@@ -1,0 +1,50 @@
+-- A page of the log, and what a program of it leaves.
+use Rattle.std.proofs.Common.{◌≡◌, ℕ, inl, inr, true, cond, List, Some, None, ◌∙◌, ap, subst, arith}
+use Rattle.std.proofs.lemmas.Bool.Decides.{nat_tests}
+use Rattle.ft_base.specs.declared.block.Block.{Block}
+use Rattle.ft_base.specs.declared.block.Spare.{Spare}
+use Rattle.ft_base.specs.declared.block.Place.{Place}
+use Rattle.ft_base.specs.declared.block.Page.TheVariants.{Whole}
+use Rattle.ft_base.specs.declared.record.Record.{Record}
+use Rattle.ft_base.specs.Contents.{Flash}
+use Rattle.ft_media.specs.Media.{LeavesPage, after_program}
+use Rattle.cache_model.specs.declared.format.PageKind.TheVariants.{Log}
+use Rattle.cache_model.specs.Loading.{is_page, when}
+use Rattle.cache_model.specs.Spelling.{IsPage}
+use Rattle.cache_model.proofs.SpellingLemmas.{page_read}
+use Rattle.op_log.specs.Log.{LogValue, next_place, log_header, IsLogPage, Appended, AppendedReady, LeavesLog}
+
+own_page : (era sequence : ℕ) (changes : List Record) → is_page Log era sequence (log_header era sequence changes) ≡ true
+own_page era sequence changes = grind (arith, nat_tests)
+
+pub is_log_page : (era sequence : ℕ) (changes : List Record) (block : Block) (spare : Spare) → IsPage block.0 (log_header era sequence changes) changes → IsLogPage era sequence changes (Whole block spare)
+is_log_page era sequence changes block spare is =
+    let h = log_header era sequence changes in
+    let read = page_read block.0 h changes is in
+    record {
+      header = h;
+      head = ap (λ o. when (is_page Log era sequence) o) read.0 ∙ ap (λ b. cond b (Some h) None) (own_page era sequence changes);
+      records = read.1;
+    }
+
+appended : (log : LogValue) (old new : Flash) (block : Block) (spare : Spare) → IsLogPage log.era log.next log.buffered (Whole block spare) → new.page ≡ (after_program old (next_place log) block spare).page → Appended log old new
+appended log old new block spare is pages = record { page = Whole block spare; is_page = is; pages = pages }
+
+-- the records were written into `written`, and `block`, which is the same, was to be programmed
+module _ (view log : LogValue) (same : view ≡ log) (old new : Flash) (at : Place) (here : at ≡ next_place view) (written block : Block) (same_block : written ≡ block) (spare : Spare) (is : IsPage written.0 (log_header view.era view.next view.buffered) view.buffered) where
+  whole_page : IsLogPage view.era view.next view.buffered (Whole block spare)
+  whole_page = subst (λ (b : Block). IsLogPage view.era view.next view.buffered (Whole b spare)) same_block (is_log_page view.era view.next view.buffered written spare is)
+
+  pub leaves_log : LeavesPage old new at block spare → LeavesLog log old new
+  leaves_log leaves = subst (λ (l : LogValue). LeavesLog l old new) same (elim (subst (λ (p : Place). LeavesPage old new p block spare) here leaves) [
+    | inl before ↦ inl before
+    | inr rest ↦ elim rest [ inl whole ↦ inr (inr (appended view old new block spare whole_page whole)) | inr torn ↦ inr (inl torn) ]
+  ])
+
+  pub appended_ready : new ≡ after_program old at block spare → AppendedReady log old new
+  appended_ready done =
+      let there = done ∙ ap (λ p. after_program old p block spare) here in
+      subst (λ (l : LogValue). AppendedReady l old new) same (record {
+        appended = appended view old new block spare whole_page (ap (λ (f : Flash). f.page) there);
+        next = ap (λ (f : Flash). f.next) there;
+      })

@@ -1,0 +1,6 @@
+use Rattle.op_log.proofs.ApplyLemmas.{AppliedSoFar}
+use Rattle.op_log.proofs.walk.apply_all.Given as goal
+
+-- the records so far
+abbrev pub invariant-loop-change : goal.invariant-loop-change
+invariant-loop-change l = AppliedSoFar l.changes l.change-index l.fn.map l.map

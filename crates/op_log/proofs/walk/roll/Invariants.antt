@@ -1,0 +1,12 @@
+use Rattle.std.proofs.Common.{◌≡◌, false}
+use Rattle.ft_media.specs.Reads.{ReadsFlash}
+use Rattle.op_log.proofs.WalkLemmas.{RolledSoFar}
+use Rattle.op_log.proofs.walk.roll.Given as goal
+
+-- the pages so far, and they were only read
+abbrev pub invariant-loop-i : goal.invariant-loop-i
+invariant-loop-i g l = record {
+  geometry : l.map.geometry ≡ l.geometry;
+  rolled : RolledSoFar l.geometry l.region l.era (g.M.Media.state l.fn.media).contents.flash.page l.fn.map.entries l.i l.map.entries;
+  reads : ReadsFlash (g.M.Media.state l.fn.media) (g.M.Media.state l.media) false false;
+}

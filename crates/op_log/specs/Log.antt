@@ -1,0 +1,82 @@
+-- The operation log: what is buffered, and the page that takes it.
+use Rattle.std.specs.Prelude.{◌≡◌, ◌⊎◌, ◌≤◌, ◌+◌, ℕ, List, [], ◌∷◌, ◌++◌, length, Some}
+use Rattle.ft_base.specs.declared.geometry.Geometry.{Geometry}
+use Rattle.ft_base.specs.declared.block.Place.{Place}
+use Rattle.ft_base.specs.declared.block.Page.{Page}
+use Rattle.ft_base.specs.declared.block.Page.TheVariants.{Torn}
+use Rattle.ft_base.specs.declared.record.Record.{Record}
+use Rattle.ft_base.specs.Contents.{Flash, Shape, set, set_page}
+use Rattle.ft_base.specs.Layout.{blocks, log_at}
+use Rattle.ft_media.specs.declared.rig.Counts.{Counts}
+use Rattle.ft_media.specs.Media.{program_counted}
+use Rattle.cache_model.specs.declared.format.Header.{Header}
+use Rattle.cache_model.specs.declared.format.PageKind.TheVariants.{Log}
+use Rattle.cache_model.specs.Reading.{read_records}
+use Rattle.cache_model.specs.Loading.{header_at, said}
+
+-- a log: where it lies, its era, the page to program next, and the records that no page has yet
+pub record LogValue : Type 0 where
+  pub geometry : Geometry
+  pub region : ℕ
+  pub era : ℕ
+  pub next : ℕ
+  pub buffered : List Record
+
+-- the place of the page to program next
+abbrev pub next_place : LogValue → Place
+next_place log = log_at log.geometry log.region log.next
+
+-- the media have the geometry's pages, and at least its erase blocks and its disk
+pub record FitsOn (g : Geometry) (shape : Shape) : Type 0 where
+  pub pages : shape.pages ≡ g.p
+  pub blocks : blocks g ≤ shape.blocks
+  pub size : g.size ≤ shape.size
+
+-- the log is empty, and goes on at page 0 of this region
+abbrev pub restarted : ℕ → ℕ → LogValue → LogValue
+restarted region era log = record log { region = region; era = era; next = 0; buffered = [] }
+
+abbrev pub pushed : Record → LogValue → LogValue
+pushed change log = record log { buffered = log.buffered ++ change ∷ [] }
+
+-- one thing where something is buffered, another where nothing is
+abbrev pub if_buffered : {A : Type 0} → List Record → A → A → A
+if_buffered [] some none = none
+if_buffered (change ∷ changes) some none = some
+
+-- all that was buffered has a page
+abbrev pub flushed : LogValue → LogValue
+flushed log = if_buffered log.buffered (record log { next = log.next + 1; buffered = [] }) log
+
+-- the page to program next is the next one of an erase block that is ready
+abbrev pub IsNextReady : LogValue → Flash → Type 0
+IsNextReady log flash = flash.next (next_place log).block ≡ Some (next_place log).page
+
+-- a whole page of a log with these records
+pub record IsLogPage (era sequence : ℕ) (changes : List Record) (page : Page) : Type 0 where
+  pub header : Header
+  pub head : header_at Log era sequence page ≡ Some header
+  pub records : said (read_records header) page ≡ Some changes
+
+-- the log's next page has all that was buffered, and no other page changed
+pub record Appended (log : LogValue) (old new : Flash) : Type 0 where
+  pub page : Page
+  pub is_page : IsLogPage log.era log.next log.buffered page
+  pub pages : new.page ≡ set_page old.page (next_place log) page
+
+-- and the page after it is next
+pub record AppendedReady (log : LogValue) (old new : Flash) : Type 0 where
+  pub appended : Appended log old new
+  pub next : new.next ≡ set old.next (next_place log).block (Some ((next_place log).page + 1))
+
+-- whatever is answered, the log's next page is as before, torn, or has all that was buffered
+abbrev pub LeavesLog : LogValue → Flash → Flash → Type 0
+LeavesLog log old new = (new.page ≡ old.page) ⊎ (new.page ≡ set_page old.page (next_place log) Torn) ⊎ Appended log old new
+
+-- one program, where something is buffered
+abbrev pub flush_counted : LogValue → Counts → Counts
+flush_counted log counts = if_buffered log.buffered (program_counted counts) counts
+
+-- the header of a page of a log with these records
+abbrev pub log_header : ℕ → ℕ → List Record → Header
+log_header era sequence changes = record { kind = Log; era = era; sequence = sequence; count = length changes }

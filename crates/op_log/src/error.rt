@@ -1,0 +1,65 @@
+ghost use Rattle.std.specs.Prelude.{◌≡◌};
+ghost use Rattle.op_log.specs.Refusals.{refusal_of};
+
+use cache_model::Seal;
+use ft_media::MediaError;
+use std::alloc::AllocError;
+use thiserror::Error;
+
+/// Why a cache could not be opened.
+#[derive(Clone, Copy, Debug, PartialEq, Eq, Error)]
+pub enum OpenError {
+    /// No checkpoint on the flash is complete.
+    #[error("the flash isn't formatted")]
+    NotFormatted,
+    /// The newest checkpoint was made for other numbers.
+    #[error("the flash was formatted for another geometry")]
+    OtherGeometry {
+        /// The numbers of the checkpoint.
+        found: Seal,
+        /// The numbers that were asked for.
+        wanted: Seal,
+    },
+    /// A page is none that a cache of these numbers could have written.
+    #[error("a page is damaged")]
+    Damaged {
+        /// The erase block of the page.
+        block: u32,
+        /// The page within the erase block.
+        page: u32,
+    },
+    /// The flash failed, and its count of faults rose.
+    #[error("the flash failed")]
+    FlashFault,
+    /// The disk failed, and its count of faults rose.
+    #[error("the disk failed")]
+    DiskFault,
+    /// Power went off in this call, or was off.
+    #[error("power was lost")]
+    PowerLost,
+    /// There was no memory.
+    #[error("out of memory")]
+    OutOfMemory,
+}
+
+impl From<AllocError> for OpenError {
+    ghost use Rattle.std.specs.Prelude.{◌≡◌};
+    ghost use Rattle.op_log.specs.declared.error.OpenError.TheVariants.{OutOfMemory as NoMemory};
+
+    ghost from_gives = { λ e s. s ≡ NoMemory };
+
+    fn from(error: AllocError) -> Self {
+        OpenError::OutOfMemory
+    }
+}
+
+/// A read of the flash was refused.
+pub(crate) fn of_media(error: MediaError) -> OpenError
+    ensures { result ≡ refusal_of error }
+{
+    match error {
+        MediaError::Failed => OpenError::FlashFault,
+        MediaError::PowerLost => OpenError::PowerLost,
+        MediaError::OutOfMemory => OpenError::OutOfMemory,
+    }
+}

@@ -1,0 +1,82 @@
+ghost use Rattle.std.specs.Prelude.{◌≡◌, ◌<◌, ◌≤◌, ◌++◌, ◌∷◌, [], length, take, IfOk, IsTrue};
+ghost use Rattle.std.specs.List.{list_all};
+ghost use Rattle.cache_model.specs.declared.format.PageKind.TheVariants.{Log as log_page};
+ghost use Rattle.cache_model.specs.Spelling.{may_stand_in};
+
+use circular_buffer::HeapCircularBuffer;
+use ft_base::Record;
+use std::alloc::{AllocError, Global};
+use std::marker::Model;
+
+/// The most records that a page takes.
+pub(crate) const MOST: usize = 127;
+
+/// The records that no page has yet, the oldest first.
+#[derive(Drop)]
+pub(crate) struct Ring {
+    records: HeapCircularBuffer<Record>,
+}
+
+impl Model for Ring {
+    ghost use Rattle.std.specs.Prelude.{◌≡◌, List, IsTrue};
+    ghost use Rattle.std.specs.List.{list_all};
+    ghost use Rattle.ft_base.specs.declared.record.Record.{Record};
+    ghost use Rattle.cache_model.specs.declared.format.PageKind.TheVariants.{Log as log_page};
+    ghost use Rattle.cache_model.specs.Spelling.{may_stand_in};
+
+    ghost Value = { List Record };
+
+    ghost view = { λ r. r.records.items };
+
+    ghost invariant = { λ r. (r.records.capacity ≡ 127) × IsTrue (list_all (may_stand_in log_page) r.records.items) };
+}
+
+impl Ring {
+    /// An empty ring with all the room that it will ever have.
+    pub(crate) fn new(alloc: Global) -> Result<Ring, AllocError>
+        ensures { IfOk result (λ r. r ≡ []) }
+    {
+        let records = HeapCircularBuffer::with_capacity(alloc, MOST)?;
+        Ok(Ring { records })
+    }
+
+    pub(crate) fn len(&self) -> u32
+        ensures len { result ≡ length self.now }
+        ensures within { result ≤ 127 }
+    {
+        self.records.len() as u32
+    }
+
+    /// Puts a record to the end.
+    pub(crate) fn push(&mut self, change: Record)
+        requires room { length self.old < 127 }
+        requires sound { IsTrue (may_stand_in log_page change) }
+        ensures { self.new ≡ self.old ++ change ∷ [] }
+    {
+        match self.records.try_push_back(change) {
+            Ok(()) => {}
+            Err(_) => unreachable!(),
+        }
+    }
+
+    /// Copies the records to the front of `out`.
+    pub(crate) fn copy_into(&self, out: &mut [Record; 127]) -> u32
+        ensures count { result ≡ length self.now }
+        ensures within { result ≤ 127 }
+        ensures read { take result out.new ≡ self.now }
+        ensures sound { IsTrue (list_all (may_stand_in log_page) self.now) }
+    {
+        let n = self.records.len();
+        let (right, left) = self.records.as_slices();
+        let cut = right.len();
+        out[..cut].copy_from_slice(right);
+        out[cut..n].copy_from_slice(left);
+        n as u32
+    }
+
+    pub(crate) fn clear(&mut self)
+        ensures { self.new ≡ [] }
+    {
+        self.records.clear();
+    }
+}

@@ -1,0 +1,187 @@
+ghost use Rattle.std.specs.Prelude.{◌≡◌, ◌==◌, ◌<◌, ◌≤◌, IfOk, IfErr, IfSome, if◌then◌else◌, Some, None, Ok, length};
+ghost use Rattle.ft_base.specs.Layout.{log_at, blocks};
+ghost use Rattle.ft_media.specs.Reads.{ReadsFlash};
+ghost use Rattle.cache_model.specs.declared.format.PageKind.TheVariants.{Log as log_page};
+ghost use Rattle.cache_model.specs.Loading.{after_all, after_pages, is_page, log_region, when};
+ghost use Rattle.cache_model.specs.Reading.{read_header as header_read};
+ghost use Rattle.mapping.specs.MapValue.{pages_taken, groups_taken};
+ghost use Rattle.op_log.specs.Log.{FitsOn};
+ghost use Rattle.op_log.specs.Walk.{page_step, pages_of, Stepped, IsReadAs, found_whole, pages_needed, groups_needed, after_records};
+ghost use Rattle.op_log.specs.Refusals.{open_failed, open_lost, IsRefusal, IsOfFlash};
+
+use crate::OpenError;
+use crate::error::of_media;
+use cache_model::PageKind;
+use ft_base::{Block, Geometry, Place, Record, Spare, zero_block};
+use ft_media::{Media, PageRead};
+use mapping::Map;
+use record_codec::{Header, read_header, read_records};
+use std::alloc::AllocError;
+
+/// Reads a page, and applies its records to the map where it is one of this kind and era with this
+/// sequence. False where it isn't: then the map stays.
+pub fn apply_page<M: Media>(
+    media: &mut M,
+    geometry: &Geometry,
+    at: Place,
+    kind: PageKind,
+    era: u8,
+    sequence: u32,
+    map: &mut Map,
+) -> Result<bool, OpenError>
+    requires shape { FitsOn geometry.now (M.state media.old).contents.shape }
+    requires block { at.block < blocks geometry.now }
+    requires page { at.page < geometry.now.p }
+    requires map { map.old.geometry ≡ geometry.now }
+    ensures geometry { map.new.geometry ≡ map.old.geometry }
+    ensures answers { Stepped result map.old.entries map.new.entries (page_step geometry.now kind era sequence at ((M.state media.old).contents.flash.page at) map.old.entries) }
+    ensures reads { ReadsFlash (M.state media.old) (M.state media.new) (open_failed result) (open_lost result) }
+{
+    let mut block = zero_block();
+    if !read_whole(media, at, &mut block)? {
+        return Ok(false);
+    }
+    let Some(header) = header_of(&block, kind, era, sequence) else {
+        return Ok(false);
+    };
+    if !apply_records(&block, &header, map)? {
+        return Err(OpenError::Damaged {
+            block: at.block,
+            page: at.page,
+        });
+    }
+    Ok(true)
+}
+
+/// Reads a page into `block`, and says whether it is whole.
+fn read_whole<M: Media>(media: &mut M, at: Place, block: &mut Block) -> Result<bool, OpenError>
+    requires block { at.block < (M.state media.old).contents.shape.blocks }
+    requires page { at.page < (M.state media.old).contents.shape.pages }
+    ensures whole { IfOk result (λ whole. IsReadAs whole ((M.state media.old).contents.flash.page at) block.new) }
+    ensures refused { IfErr result IsOfFlash }
+    ensures reads { ReadsFlash (M.state media.old) (M.state media.new) (open_failed result) (open_lost result) }
+{
+    let mut spare = Spare([0; 32]);
+    match media.read_page(at, block, &mut spare) {
+        Ok(found) => Ok(is_whole(found)),
+        Err(error) => Err(of_media(error)),
+    }
+}
+
+fn is_whole(found: PageRead) -> bool
+    ensures { result ≡ found_whole found }
+{
+    match found {
+        PageRead::Whole => true,
+        PageRead::Blank | PageRead::Torn => false,
+    }
+}
+
+/// The header of a page of records, where it is one of this kind and era, at its own place.
+fn header_of(block: &Block, kind: PageKind, era: u8, sequence: u32) -> Option<Header>
+    ensures value { result ≡ when (is_page kind era sequence) (header_read block.now.0) }
+    ensures read { IfSome result (λ h. header_read block.now.0 ≡ Some h) }
+{
+    let header = read_header(block)?;
+    if !is_page(&header, kind, era, sequence) {
+        return None;
+    }
+    Some(header)
+}
+
+/// Whether a header is one of this kind and era, and says that its page stands at this place.
+fn is_page(header: &Header, kind: PageKind, era: u8, sequence: u32) -> bool
+    ensures { result ≡ is_page kind era sequence header.now }
+{
+    header.kind == kind && header.era == era && header.sequence == sequence
+}
+
+/// Applies the records of a page in order. False where the page is none of records, or one of them
+/// doesn't fit when its turn comes.
+fn apply_records(page: &Block, header: &Header, map: &mut Map) -> Result<bool, AllocError>
+    requires header { header_read page.now.0 ≡ Some header.now }
+    ensures geometry { map.new.geometry ≡ map.old.geometry }
+    ensures value { IfOk result (λ applied. after_records map.old.geometry header.now page.now.0 map.old.entries ≡ (if applied then Some map.new.entries else None)) }
+{
+    let mut buffer = [Record::Remove { lba: 0 }; 127];
+    if !read_records(page, header, &mut buffer) {
+        return Ok(false);
+    }
+    let changes = &buffer[..header.count as usize];
+    map.reserve(count_pages(changes), count_groups(changes))?;
+    Ok(apply_all(changes, map))
+}
+
+/// How many records set a page.
+fn count_pages(changes: &[Record]) -> u32
+    requires { length changes.now ≤ 127 }
+    ensures needed { result ≡ pages_needed changes.now }
+    ensures few { result ≤ 127 }
+{
+    changes.iter().filter(|change| sets_page(change)).count() as u32
+}
+
+/// How many records set a group.
+fn count_groups(changes: &[Record]) -> u32
+    requires { length changes.now ≤ 127 }
+    ensures needed { result ≡ groups_needed changes.now }
+    ensures few { result ≤ 127 }
+{
+    changes.iter().filter(|change| sets_group(change)).count() as u32
+}
+
+fn sets_page(change: &Record) -> bool
+    ensures { result ≡ (pages_taken change.now == 1) }
+{
+    matches!(*change, Record::SetPage { .. })
+}
+
+fn sets_group(change: &Record) -> bool
+    ensures { result ≡ (groups_taken change.now == 1) }
+{
+    matches!(*change, Record::SetGroup { .. })
+}
+
+/// Applies records in order, for all of which there is room. False where one of them doesn't fit when
+/// its turn comes.
+fn apply_all(changes: &[Record], map: &mut Map) -> bool
+    requires pages { pages_needed changes.now ≤ map.old.spare_pages }
+    requires groups { groups_needed changes.now ≤ map.old.spare_groups }
+    ensures geometry { map.new.geometry ≡ map.old.geometry }
+    ensures value { after_all map.old.geometry changes.now map.old.entries ≡ (if result then Some map.new.entries else None) }
+{
+    for change in changes {
+        if !map.fits(change) {
+            return false;
+        }
+        map.apply(change);
+    }
+    true
+}
+
+/// Applies the pages of the log of a region and an era to a map, and says how many there are.
+pub fn roll<M: Media>(
+    media: &mut M,
+    geometry: &Geometry,
+    region: u32,
+    era: u8,
+    map: &mut Map,
+) -> Result<u32, OpenError>
+    requires region { region < 2 }
+    requires shape { FitsOn geometry.now (M.state media.old).contents.shape }
+    requires map { map.old.geometry ≡ geometry.now }
+    ensures geometry { map.new.geometry ≡ map.old.geometry }
+    ensures applied { IfOk result (λ n. after_pages geometry.now log_page era (log_at geometry.now region) 0 (log_region geometry.now (M.state media.old).contents.flash.page region) map.old.entries ≡ Ok map.new.entries) }
+    ensures count { IfOk result (λ n. n ≡ pages_of log_page era 0 (log_region geometry.now (M.state media.old).contents.flash.page region)) }
+    ensures refused { IfErr result (λ e. IsRefusal geometry.now e (after_pages geometry.now log_page era (log_at geometry.now region) 0 (log_region geometry.now (M.state media.old).contents.flash.page region) map.old.entries)) }
+    ensures reads { ReadsFlash (M.state media.old) (M.state media.new) (open_failed result) (open_lost result) }
+{
+    let pages = geometry.j * geometry.p;
+    for i in 0..pages {
+        let at = geometry.log_at(region, i);
+        if !apply_page(media, geometry, at, PageKind::Log, era, i, map)? {
+            return Ok(i);
+        }
+    }
+    Ok(pages)
+}
