@@ -1,0 +1,14 @@
+pub mod PlacesLemmas
+pub mod ListsLemmas
+pub mod ErasingLemmas
+pub mod UnsealedLemmas
+pub mod CountingLemmas
+pub mod SoundLemmas
+pub mod ProgramLemmas
+pub mod MapsLemmas
+pub mod WrittenLemmas
+pub mod SealedLemmas
+pub mod FlushLemmas
+pub mod WalkLemmas
+pub mod BegunLemmas
+pub mod FormatLemmas

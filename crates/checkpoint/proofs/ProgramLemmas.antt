@@ -1,0 +1,95 @@
+-- A page of a checkpoint, and what a program of it leaves.
+use Rattle.std.proofs.Common.{◌≡◌, ℕ, ◌≤◌, inl, inr, true, false, cond, List, Some, None, Result, Err, option_map, refl, sym, ◌∙◌, ap, subst, arith}
+use Rattle.std.proofs.lemmas.Bool.Decides.{nat_tests}
+use Rattle.ft_base.specs.declared.geometry.Geometry.{Geometry}
+use Rattle.ft_base.specs.declared.block.Block.{Block}
+use Rattle.ft_base.specs.declared.block.Spare.{Spare}
+use Rattle.ft_base.specs.declared.block.Place.{Place}
+use Rattle.ft_base.specs.declared.block.Page.{Page}
+use Rattle.ft_base.specs.declared.block.Page.TheVariants.{Blank, Whole, Torn}
+use Rattle.ft_base.specs.declared.record.Record.{Record}
+use Rattle.ft_base.specs.Contents.{Flash}
+use Rattle.ft_base.specs.Count.{Rose, last_count}
+use Rattle.ft_media.specs.State.{State, failed, lost}
+use Rattle.ft_media.specs.declared.media.MediaError.{MediaError}
+use Rattle.ft_media.specs.Drives.{DrivesFlash}
+use Rattle.ft_media.proofs.DrivesLemmas.{drives_then}
+use Rattle.ft_media.specs.Passes.{Passes, Spends}
+use Rattle.ft_media.specs.Media.{LeavesPage, after_program}
+use Rattle.cache_model.specs.declared.format.PageKind.TheVariants.{Map}
+use Rattle.cache_model.specs.declared.format.Header.{Header}
+use Rattle.cache_model.specs.declared.format.Seal.{Seal}
+use Rattle.cache_model.specs.Loading.{is_page, is_seal_of, when}
+use Rattle.cache_model.specs.Laws.{IsMapOrLost}
+use Rattle.cache_model.specs.Reading.{read_header}
+use Rattle.cache_model.specs.Spelling.{IsPage, IsSealOf}
+use Rattle.cache_model.proofs.RegionLemmas.{when_some}
+use Rattle.cache_model.proofs.SpellingLemmas.{page_read, seal_read}
+use Rattle.op_log.specs.Refusals.{seal_of}
+use Rattle.checkpoint.specs.Regions.{map_header, seal_header, IsMapPage, IsSealPage, Programmed, LeavesOne}
+
+own_page : (era sequence : ℕ) (changes : List Record) → is_page Map era sequence (map_header era sequence changes) ≡ true
+own_page era sequence changes = grind (arith, nat_tests)
+
+pub is_map_page : (era sequence : ℕ) (changes : List Record) (block : Block) (spare : Spare) → IsPage block.0 (map_header era sequence changes) changes → IsMapPage era sequence changes (Whole block spare)
+is_map_page era sequence changes block spare is =
+    let h = map_header era sequence changes in
+    let read = page_read block.0 h changes is in
+    record {
+      header = h;
+      head = ap (λ o. when (is_page Map era sequence) o) read.0 ∙ ap (λ b. cond b (Some h) None) (own_page era sequence changes);
+      count = refl;
+      records = read.1;
+    }
+
+own_seal : (era pages count : ℕ) (seal : Seal) → is_seal_of era pages count (seal_header era pages count, seal) ≡ true
+own_seal era pages count seal = grind (arith, nat_tests)
+
+pub is_seal_page : (g : Geometry) (era pages count : ℕ) (block : Block) (spare : Spare) → IsSealOf block.0 (seal_header era pages count) (seal_of g) → IsSealPage g era pages count (Whole block spare)
+is_seal_page g era pages count block spare is =
+    let h = seal_header era pages count in
+    let read = seal_read block.0 h (seal_of g) is in
+    record {
+      seal =
+          ap (λ o. option_map (λ (s : Header × Seal). s.1) (when (is_seal_of era pages count) o)) read
+          ∙ ap (λ b. option_map (λ (s : Header × Seal). s.1) (cond b (Some (h, seal_of g)) None)) (own_seal era pages count (seal_of g));
+    }
+
+-- a map page is one whose region isn't complete by it
+pub map_page_bare : (era sequence : ℕ) (changes : List Record) (page : Page) → IsMapPage era sequence changes page → IsMapOrLost page
+map_page_bare era sequence changes Blank is = tt
+map_page_bare era sequence changes Torn is = tt
+map_page_bare era sequence changes (Whole block spare) is = (is.header, (when_some (is_page Map era sequence) (read_header block.0) is.header is.head).0)
+
+module _ (kind : Page → Type 0) (old new : Flash) (at here : Place) (same : here ≡ at) (block : Block) (spare : Spare) (is : kind (Whole block spare)) where
+  pub leaves_one : LeavesPage old new here block spare → LeavesOne kind at old new
+  leaves_one leaves = elim (subst (λ (p : Place). LeavesPage old new p block spare) same leaves) [
+    | inl before ↦ inl before
+    | inr rest ↦ elim rest [ inl whole ↦ inr (inr (Whole block spare, is, whole)) | inr torn ↦ inr (inl torn) ]
+  ]
+
+  pub programmed : new ≡ after_program old here block spare → Programmed kind at old new
+  programmed done =
+      let there = done ∙ ap (λ p. after_program old p block spare) same in
+      record { page = Whole block spare; is_kind = is; pages = ap (λ (f : Flash). f.page) there; next = ap (λ (f : Flash). f.next) there }
+
+-- ---- counts and power
+
+-- a device write after others, none of which was cut
+pub spends_after : (a b c : State) → Passes a b false → Spends 1 b c → Spends 1 a c
+spends_after a b c passes spends on some =
+    let s = passes.stayed on refl in
+    let falls = s.falls some in
+    let rest = spends s.on (λ none. some (sym s.stops ∙ none)) in
+    omega arith
+
+pub rose_after : (a b c : ℕ) → a ≤ b → Rose b c → Rose a c
+rose_after a b c le rose = omega arith
+
+-- calls that drive the flash, the last of which was refused
+pub drives_err : (a b c : State) (e : MediaError) (r : Result (Unit {0}) MediaError) → DrivesFlash a b false false → DrivesFlash b c (failed {T = Unit {0}} (Err e)) (lost {T = Unit {0}} (Err e)) → r ≡ Err e → DrivesFlash a c (failed r) (lost r)
+drives_err a b c e r first then is = drives_then a b c (failed r) (lost r) first (subst (λ (q : Result (Unit {0}) MediaError). DrivesFlash b c (failed q) (lost q)) (sym is) then)
+
+-- a count that rose is no smaller
+pub rose_later : (a b c : ℕ) → a ≤ b → b ≤ last_count → Rose b c → a ≤ c
+rose_later a b c le most rose = omega arith

@@ -1,0 +1,53 @@
+use Rattle.std.proofs.Common.{sym, ◌∙◌, subst}
+use Rattle.ft_base.specs.declared.geometry.Geometry.{Geometry}
+use Rattle.cache_model.specs.Entries.{IsMap}
+use Rattle.op_log.specs.Log.{LogValue}
+use Rattle.checkpoint.specs.Current.{IsCommitted}
+use Rattle.checkpoint.proofs.SealedLemmas.{current_map, loads_one_of, log_goes_last, pool_left, ready_left, written_committed, left_of_log, written_of_log, restarted_log}
+use Rattle.checkpoint.proofs.checkpoints.Checkpoints.checkpoint.Goals as goal
+
+pub write_checkpoint-requires-clause-is_map : goal.write_checkpoint-requires-clause-is_map
+write_checkpoint-requires-clause-is_map g c =
+    subst (λ (x : Geometry). IsMap x c.args.map.now.entries) (sym (c.self.view_is ∙ c.requires.own)) (current_map c.args.log.now (g.M.Media.state c.args.media.now).contents.flash.page c.args.map.now.entries c.requires.current)
+
+pub returns-in_err-write_checkpoint-clause-stands : goal.returns-in_err-write_checkpoint-clause-stands
+returns-in_err-write_checkpoint-clause-stands g c =
+    loads_one_of c.args.log.now c.args.map.now.entries (g.M.Media.state c.args.media.now).contents.flash.page (g.M.Media.state c.write_checkpoint.new.media).contents.flash.page c.requires.current c.requires.whole
+    (left_of_log c.args.log.now c.args.map.now.entries c.self.inside.geometry c.region.result c.era.result (c.self.view_is ∙ c.requires.own) c.region.ensures.region c.era.ensures.era (g.M.Media.state c.args.media.now).contents.flash.page (g.M.Media.state c.write_checkpoint.new.media).contents.flash.page c.write_checkpoint.ensures.pages)
+
+pub returns-in_err-write_checkpoint-clause-log_last : goal.returns-in_err-write_checkpoint-clause-log_last
+returns-in_err-write_checkpoint-clause-log_last g c =
+    log_goes_last c.args.log.now c.args.map.now.entries (g.M.Media.state c.args.media.now).contents.flash.page (g.M.Media.state c.write_checkpoint.new.media).contents.flash.page c.requires.current
+    (left_of_log c.args.log.now c.args.map.now.entries c.self.inside.geometry c.region.result c.era.result (c.self.view_is ∙ c.requires.own) c.region.ensures.region c.era.ensures.era (g.M.Media.state c.args.media.now).contents.flash.page (g.M.Media.state c.write_checkpoint.new.media).contents.flash.page c.write_checkpoint.ensures.pages)
+
+pub returns-in_err-write_checkpoint-clause-pool : goal.returns-in_err-write_checkpoint-clause-pool
+returns-in_err-write_checkpoint-clause-pool g c =
+    pool_left c.args.log.now c.args.map.now.entries (g.M.Media.state c.args.media.now).contents.flash.page (g.M.Media.state c.write_checkpoint.new.media).contents.flash.page
+    (left_of_log c.args.log.now c.args.map.now.entries c.self.inside.geometry c.region.result c.era.result (c.self.view_is ∙ c.requires.own) c.region.ensures.region c.era.ensures.era (g.M.Media.state c.args.media.now).contents.flash.page (g.M.Media.state c.write_checkpoint.new.media).contents.flash.page c.write_checkpoint.ensures.pages)
+
+pub returns-clause-stands : goal.returns-clause-stands
+returns-clause-stands g c =
+    loads_one_of c.args.log.now c.args.map.now.entries (g.M.Media.state c.args.media.now).contents.flash.page (g.M.Media.state c.write_checkpoint.new.media).contents.flash.page c.requires.current c.requires.whole
+    (left_of_log c.args.log.now c.args.map.now.entries c.self.inside.geometry c.region.result c.era.result (c.self.view_is ∙ c.requires.own) c.region.ensures.region c.era.ensures.era (g.M.Media.state c.args.media.now).contents.flash.page (g.M.Media.state c.write_checkpoint.new.media).contents.flash.page c.write_checkpoint.ensures.pages)
+
+pub returns-clause-log_last : goal.returns-clause-log_last
+returns-clause-log_last g c =
+    log_goes_last c.args.log.now c.args.map.now.entries (g.M.Media.state c.args.media.now).contents.flash.page (g.M.Media.state c.write_checkpoint.new.media).contents.flash.page c.requires.current
+    (left_of_log c.args.log.now c.args.map.now.entries c.self.inside.geometry c.region.result c.era.result (c.self.view_is ∙ c.requires.own) c.region.ensures.region c.era.ensures.era (g.M.Media.state c.args.media.now).contents.flash.page (g.M.Media.state c.write_checkpoint.new.media).contents.flash.page c.write_checkpoint.ensures.pages)
+
+pub returns-clause-pool : goal.returns-clause-pool
+returns-clause-pool g c =
+    pool_left c.args.log.now c.args.map.now.entries (g.M.Media.state c.args.media.now).contents.flash.page (g.M.Media.state c.write_checkpoint.new.media).contents.flash.page
+    (left_of_log c.args.log.now c.args.map.now.entries c.self.inside.geometry c.region.result c.era.result (c.self.view_is ∙ c.requires.own) c.region.ensures.region c.era.ensures.era (g.M.Media.state c.args.media.now).contents.flash.page (g.M.Media.state c.write_checkpoint.new.media).contents.flash.page c.write_checkpoint.ensures.pages)
+
+pub returns-clause-done : goal.returns-clause-done
+returns-clause-done g c =
+    subst (λ (log : LogValue). IsCommitted (g.M.Media.state c.write_checkpoint.new.media).contents.flash log c.args.map.now.entries)
+    (sym (restarted_log c.args.log.now c.args.map.now.entries c.self.inside.geometry c.region.result c.era.result (c.self.view_is ∙ c.requires.own) c.region.ensures.region c.era.ensures.era c.restart.new.self c.restart.ensures))
+    (written_committed c.args.log.now c.args.map.now.entries (g.M.Media.state c.args.media.now).contents.flash (g.M.Media.state c.write_checkpoint.new.media).contents.flash c.requires.current c.requires.whole
+    (written_of_log c.args.log.now c.args.map.now.entries c.self.inside.geometry c.region.result c.era.result (c.self.view_is ∙ c.requires.own) c.region.ensures.region c.era.ensures.era (g.M.Media.state c.args.media.now).contents.flash (g.M.Media.state c.write_checkpoint.new.media).contents.flash c.in_ok-write_checkpoint.ensures.done))
+
+pub returns-clause-pool_ready : goal.returns-clause-pool_ready
+returns-clause-pool_ready g c =
+    ready_left c.args.log.now c.args.map.now.entries (g.M.Media.state c.args.media.now).contents.flash (g.M.Media.state c.write_checkpoint.new.media).contents.flash
+    (written_of_log c.args.log.now c.args.map.now.entries c.self.inside.geometry c.region.result c.era.result (c.self.view_is ∙ c.requires.own) c.region.ensures.region c.era.ensures.era (g.M.Media.state c.args.media.now).contents.flash (g.M.Media.state c.write_checkpoint.new.media).contents.flash c.in_ok-write_checkpoint.ensures.done)

@@ -1,0 +1,14 @@
+use Rattle.std.proofs.Common.{◌≤◌, ◌*◌, false}
+use Rattle.ft_media.specs.Reads.{ReadsFlash}
+use Rattle.checkpoint.proofs.WalkLemmas.{WalkedTo}
+use Rattle.checkpoint.proofs.regions.complete_in.Given as goal
+
+abbrev pub invariant-loop-sequence : goal.invariant-loop-sequence
+invariant-loop-sequence g l =
+    let old = g.M.Media.state l.fn.media in
+    let now = g.M.Media.state l.media in
+    record {
+      walked : WalkedTo l.geometry l.region old.contents.flash.page l.walk.era l.sequence l.walk.records;
+      few : l.walk.records ≤ 127 * l.sequence;
+      reads : ReadsFlash old now false false;
+    }

@@ -1,0 +1,66 @@
+use Rattle.std.proofs.Common.{◌+◌, ◌-◌, ◌/◌, ◌<◌, arith, rules, ap, sym, inl, subst}
+use Rattle.ft_base.specs.Layout.{checkpoint_pages}
+use Rattle.mapping.specs.Checkpoint.{checkpoint_records}
+use Rattle.ft_media.proofs.DrivesLemmas.{drives_then}
+use Rattle.checkpoint.proofs.CountingLemmas.{records_bounded, maps_fit}
+use Rattle.checkpoint.proofs.ProgramLemmas.{drives_err}
+use Rattle.checkpoint.proofs.MapsLemmas.{maps_ready}
+use Rattle.checkpoint.proofs.WrittenLemmas.{records_of, maps_unsealed, seal_left, seal_done}
+use Rattle.checkpoint.proofs.writing.write_checkpoint.Goals as goal
+
+pub overflow_add-pages : goal.overflow_add-pages
+overflow_add-pages g c =
+    let few = records_bounded c.args.geometry.now c.args.map.now.entries c.requires.is_map in
+    let same = records_of c.args.map.now.geometry c.args.geometry.now c.args.map.now.entries c.checkpoint_len-records.result c.requires.map c.checkpoint_len-records.ensures in
+    omega arith
+
+pub program_maps-requires-clause-room : goal.program_maps-requires-clause-room
+program_maps-requires-clause-room g c =
+    let same = records_of c.args.map.now.geometry c.args.geometry.now c.args.map.now.entries c.checkpoint_len-records.result c.requires.map c.checkpoint_len-records.ensures in
+    subst (λ n. (n + 127 - 1) / 127 < checkpoint_pages c.args.geometry.now) (sym same) (maps_fit c.args.geometry.now c.args.map.now.entries c.requires.is_map)
+
+pub returns-in_err-program_maps-clause-pages : goal.returns-in_err-program_maps-clause-pages
+returns-in_err-program_maps-clause-pages g c =
+    inl (maps_unsealed c.args.geometry.now c.args.target.now.region (g.M.Media.state c.args.media.now).contents.flash (g.M.Media.state c.erase_regions.new.media).contents.flash (g.M.Media.state c.program_maps.new.media).contents.flash c.in_ok-erase_regions.ensures.done c.program_maps.ensures.pages)
+
+pub returns-in_err-program_maps-clause-drives : goal.returns-in_err-program_maps-clause-drives
+returns-in_err-program_maps-clause-drives g c =
+    drives_err (g.M.Media.state c.args.media.now) (g.M.Media.state c.erase_regions.new.media) (g.M.Media.state c.program_maps.new.media) c.in_err-program_maps.field-0.0 _ c.in_ok-erase_regions.ensures.drives c.in_err-program_maps.ensures.drives (search rules)
+
+pub program_seal-requires-clause-room : goal.program_seal-requires-clause-room
+program_seal-requires-clause-room g c =
+    let same = records_of c.args.map.now.geometry c.args.geometry.now c.args.map.now.entries c.checkpoint_len-records.result c.requires.map c.checkpoint_len-records.ensures in
+    subst (λ n. (n + 127 - 1) / 127 < checkpoint_pages c.args.geometry.now) (sym same) (maps_fit c.args.geometry.now c.args.map.now.entries c.requires.is_map)
+
+pub program_seal-requires-clause-ready : goal.program_seal-requires-clause-ready
+program_seal-requires-clause-ready g c =
+    let same = records_of c.args.map.now.geometry c.args.geometry.now c.args.map.now.entries c.checkpoint_len-records.result c.requires.map c.checkpoint_len-records.ensures in
+    maps_ready c.args.geometry.now c.args.target.now.region c.args.target.now.era (checkpoint_records c.args.geometry.now c.args.map.now.entries) _ (g.M.Media.state c.erase_regions.new.media).contents.flash (g.M.Media.state c.program_maps.new.media).contents.flash c.in_ok-program_maps.ensures.done
+    (subst (λ n. (n + 127 - 1) / 127 < checkpoint_pages c.args.geometry.now) (sym same) (maps_fit c.args.geometry.now c.args.map.now.entries c.requires.is_map))
+
+pub returns-in_err-program_seal-clause-pages : goal.returns-in_err-program_seal-clause-pages
+returns-in_err-program_seal-clause-pages g c =
+    let same = records_of c.args.map.now.geometry c.args.geometry.now c.args.map.now.entries c.checkpoint_len-records.result c.requires.map c.checkpoint_len-records.ensures in
+    seal_left c.args.geometry.now c.args.target.now.region c.args.target.now.era c.args.map.now.entries c.requires.region _ c.checkpoint_len-records.result (ap (λ n. (n + 127 - 1) / 127) same) same
+    (subst (λ n. (n + 127 - 1) / 127 < checkpoint_pages c.args.geometry.now) (sym same) (maps_fit c.args.geometry.now c.args.map.now.entries c.requires.is_map))
+    (g.M.Media.state c.args.media.now).contents.flash (g.M.Media.state c.erase_regions.new.media).contents.flash (g.M.Media.state c.program_maps.new.media).contents.flash (g.M.Media.state c.program_seal.new.media).contents.flash c.in_ok-erase_regions.ensures.done c.in_ok-program_maps.ensures.done c.program_seal.ensures.pages
+
+pub returns-in_err-program_seal-clause-drives : goal.returns-in_err-program_seal-clause-drives
+returns-in_err-program_seal-clause-drives g c =
+    drives_err (g.M.Media.state c.args.media.now) (g.M.Media.state c.program_maps.new.media) (g.M.Media.state c.program_seal.new.media) c.in_err-program_seal.field-0.0 _
+    (drives_then (g.M.Media.state c.args.media.now) (g.M.Media.state c.erase_regions.new.media) (g.M.Media.state c.program_maps.new.media) _ _ c.in_ok-erase_regions.ensures.drives c.in_ok-program_maps.ensures.drives)
+    c.in_err-program_seal.ensures.drives (search rules)
+
+pub returns-clause-done : goal.returns-clause-done
+returns-clause-done g c =
+    let same = records_of c.args.map.now.geometry c.args.geometry.now c.args.map.now.entries c.checkpoint_len-records.result c.requires.map c.checkpoint_len-records.ensures in
+    seal_done c.args.geometry.now c.args.target.now.region c.args.target.now.era c.args.map.now.entries c.requires.region _ c.checkpoint_len-records.result (ap (λ n. (n + 127 - 1) / 127) same) same
+    (subst (λ n. (n + 127 - 1) / 127 < checkpoint_pages c.args.geometry.now) (sym same) (maps_fit c.args.geometry.now c.args.map.now.entries c.requires.is_map))
+    (g.M.Media.state c.args.media.now).contents.flash (g.M.Media.state c.erase_regions.new.media).contents.flash (g.M.Media.state c.program_maps.new.media).contents.flash (g.M.Media.state c.program_seal.new.media).contents.flash c.in_ok-erase_regions.ensures.done c.in_ok-program_maps.ensures.done c.in_ok-program_seal.ensures.done
+
+pub returns-clause-pages : goal.returns-clause-pages
+returns-clause-pages g c =
+    let same = records_of c.args.map.now.geometry c.args.geometry.now c.args.map.now.entries c.checkpoint_len-records.result c.requires.map c.checkpoint_len-records.ensures in
+    seal_left c.args.geometry.now c.args.target.now.region c.args.target.now.era c.args.map.now.entries c.requires.region _ c.checkpoint_len-records.result (ap (λ n. (n + 127 - 1) / 127) same) same
+    (subst (λ n. (n + 127 - 1) / 127 < checkpoint_pages c.args.geometry.now) (sym same) (maps_fit c.args.geometry.now c.args.map.now.entries c.requires.is_map))
+    (g.M.Media.state c.args.media.now).contents.flash (g.M.Media.state c.erase_regions.new.media).contents.flash (g.M.Media.state c.program_maps.new.media).contents.flash (g.M.Media.state c.program_seal.new.media).contents.flash c.in_ok-erase_regions.ensures.done c.in_ok-program_maps.ensures.done c.program_seal.ensures.pages

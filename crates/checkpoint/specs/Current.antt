@@ -1,0 +1,63 @@
+-- When a log and a map are those of the flash, and what a commit leaves of it.
+use Rattle.std.specs.Prelude.{◌≡◌, ◌⊎◌, ◌≤◌, ◌<◌, ◌+◌, ◌-◌, ◌%◌, ℕ, true, Some, Ok, [], take, nat_lt, if◌then◌else◌}
+use Rattle.std.specs.FinMap.{get}
+use Rattle.ft_base.specs.declared.geometry.Geometry.{Geometry}
+use Rattle.ft_base.specs.declared.block.Place.{Place}
+use Rattle.ft_base.specs.declared.block.Page.{Page}
+use Rattle.ft_base.specs.Contents.{Flash}
+use Rattle.ft_base.specs.Layout.{first_pool, log_at, log_pages}
+use Rattle.cache_model.specs.declared.entry.Entry.{Entry}
+use Rattle.cache_model.specs.declared.format.PageKind.TheVariants.{Log}
+use Rattle.cache_model.specs.Records.{Entries}
+use Rattle.cache_model.specs.Loading.{Complete, after_all, checkpoint_of, checkpoint_in, checkpoint_region, is_whole, load, log_region, newest}
+use Rattle.cache_model.specs.Laws.{ArePages}
+use Rattle.op_log.specs.Log.{LogValue, flushed, if_buffered, restarted}
+
+-- what loading answers, with what is buffered, is the map; and the log is that of the checkpoint that counts
+pub record IsCurrent (page : Place → Page) (log : LogValue) (m : Entries) : Type 0 where
+  pub durable : Entries
+  pub loads : load log.geometry page ≡ Ok durable
+  pub buffered : after_all log.geometry log.buffered durable ≡ Some m
+  pub newest : Complete
+  pub chosen : checkpoint_of log.geometry page ≡ Ok (log.region, newest)
+  pub era : newest.era ≡ log.era
+
+-- each place of the map is a whole page
+pub record AreWhole (page : Place → Page) (m : Entries) : Type 0 where
+  pub whole : (a : ℕ) (e : Entry) → get m a ≡ Some e → is_whole (page e.place) ≡ true
+
+-- the pages before the log's next one are those that loading applies; and of those left the next one, and the first of each erase block, is the one to program in an erase block that is ready
+pub record IsOpenLog (flash : Flash) (log : LogValue) : Type 0 where
+  pub before : ArePages Log log.era 0 (take log.next (log_region log.geometry flash.page log.region))
+  pub ready : (i : ℕ) → log.next ≤ i → i < log_pages log.geometry → (i ≡ log.next) ⊎ ((log_at log.geometry log.region i).page ≡ 0) → flash.next (log_at log.geometry log.region i).block ≡ Some (log_at log.geometry log.region i).page
+
+-- all that was buffered is on the flash, and the log can go on
+pub record IsCommitted (flash : Flash) (log : LogValue) (m : Entries) : Type 0 where
+  pub loads : load log.geometry flash.page ≡ Ok m
+  pub nothing : log.buffered ≡ []
+  pub current : IsCurrent flash.page log m
+  pub opened : IsOpenLog flash log
+
+-- no page of the pool changed
+abbrev pub PoolStays : Geometry → (Place → Page) → (Place → Page) → Type 0
+PoolStays g old new = (at : Place) → first_pool g ≤ at.block → new at ≡ old at
+
+-- nor what is ready in it
+abbrev pub PoolReadyStays : Geometry → Flash → Flash → Type 0
+PoolReadyStays g old new = (block : ℕ) → first_pool g ≤ block → new.next block ≡ old.next block
+
+-- the flash stands for the map, or for what it stood for before
+abbrev pub LoadsOneOf : Geometry → (Place → Page) → (Place → Page) → Entries → Type 0
+LoadsOneOf g old new m = (load g new ≡ Ok m) ⊎ (load g new ≡ load g old)
+
+-- the log of the other region is as before, for as long as a checkpoint there is complete; unless that one is the new one
+abbrev pub LogGoesLast : LogValue → (Place → Page) → (Place → Page) → Type 0
+LogGoesLast log old new = ((c : Complete) × (newest log.geometry new ≡ Some (1 - log.region, c))) ⊎ ((c : Complete) → checkpoint_in (checkpoint_region log.geometry new (1 - log.region)) ≡ Some c → log_region log.geometry new (1 - log.region) ≡ log_region log.geometry old (1 - log.region))
+
+-- the log after a checkpoint: empty, in the other region, of the next era
+abbrev pub log_checkpointed : LogValue → LogValue
+log_checkpointed log = restarted (1 - log.region) ((log.era + 1) % 3) log
+
+-- the log after a commit: one page longer, or after a checkpoint where it had no page left
+abbrev pub log_committed : LogValue → LogValue
+log_committed log = if_buffered log.buffered (if nat_lt log.next (log_pages log.geometry) then flushed log else log_checkpointed log) log

@@ -1,0 +1,4 @@
+pub mod Current
+pub mod Found
+pub mod Regions
+pub mod Walk

@@ -1,0 +1,130 @@
+-- The regions of a checkpoint and of its log, and what is done to them.
+use Rattle.std.specs.Prelude.{◌≡◌, ◌⊎◌, ◌≤◌, ◌<◌, ◌+◌, ◌*◌, ℕ, Some, List, length, take, drop}
+use Rattle.ft_base.specs.declared.geometry.Geometry.{Geometry}
+use Rattle.ft_base.specs.declared.block.Place.{Place}
+use Rattle.ft_base.specs.declared.block.Page.{Page}
+use Rattle.ft_base.specs.declared.block.Page.TheVariants.{Blank, Torn}
+use Rattle.ft_base.specs.declared.record.Record.{Record}
+use Rattle.ft_base.specs.Contents.{Flash, set, set_page}
+use Rattle.ft_base.specs.Layout.{up, k, first_log, checkpoint_at, checkpoint_pages}
+use Rattle.cache_model.specs.declared.format.Header.{Header}
+use Rattle.cache_model.specs.declared.format.PageKind.TheVariants.{Map, Seal as SealPage}
+use Rattle.cache_model.specs.Records.{Entries}
+use Rattle.cache_model.specs.Reading.{read_records}
+use Rattle.cache_model.specs.Loading.{header_at, seal_at, said}
+use Rattle.cache_model.specs.Laws.{IsMapOrLost}
+use Rattle.op_log.specs.Refusals.{seal_of}
+use Rattle.mapping.specs.Checkpoint.{checkpoint_records}
+
+-- one of so many erase blocks from the first on
+abbrev pub IsWithin : ℕ → ℕ → ℕ → Type 0
+IsWithin first count b = (first ≤ b) × (b < first + count)
+
+abbrev pub InCheckpoint : Geometry → ℕ → ℕ → Type 0
+InCheckpoint g region b = IsWithin (region * k g) (k g) b
+
+abbrev pub InLog : Geometry → ℕ → ℕ → Type 0
+InLog g region b = IsWithin (first_log g + region * g.j) g.j b
+
+-- each page is as before, or is one of these erase blocks and is blank or torn
+abbrev pub AreLost : ℕ → ℕ → (Place → Page) → (Place → Page) → Type 0
+AreLost first count old new = (at : Place) → (new at ≡ old at) ⊎ (IsWithin first count at.block × ((new at ≡ Blank) ⊎ (new at ≡ Torn)))
+
+-- each page of these erase blocks is blank, and the first is the one to program next
+pub record AreBlank (first count : ℕ) (flash : Flash) : Type 0 where
+  pub page : (at : Place) → IsWithin first count at.block → flash.page at ≡ Blank
+  pub next : (b : ℕ) → IsWithin first count b → flash.next b ≡ Some 0
+
+-- what is ready elsewhere stays
+abbrev pub NextStays : ℕ → ℕ → Flash → Flash → Type 0
+NextStays first count old new = (b : ℕ) → ¬ IsWithin first count b → new.next b ≡ old.next b
+
+-- each page elsewhere than in the checkpoint region and its log is as before
+abbrev pub StaysBeside : Geometry → ℕ → (Place → Page) → (Place → Page) → Type 0
+StaysBeside g region old new = (at : Place) → ¬ InCheckpoint g region at.block → ¬ InLog g region at.block → new at ≡ old at
+
+-- and so is what is ready elsewhere
+abbrev pub ReadyBeside : Geometry → ℕ → Flash → Flash → Type 0
+ReadyBeside g region old new = (b : ℕ) → ¬ InCheckpoint g region b → ¬ InLog g region b → new.next b ≡ old.next b
+
+-- the checkpoint region and its log are erased, and nothing else changed
+pub record IsPrepared (g : Geometry) (region : ℕ) (old new : Flash) : Type 0 where
+  pub checkpoint : AreBlank (region * k g) (k g) new
+  pub log : AreBlank (first_log g + region * g.j) g.j new
+  pub beside : StaysBeside g region old.page new.page
+  pub ready : ReadyBeside g region old new
+
+-- no page of the checkpoint region is a seal: each is a map page, blank or torn
+pub record IsBare (g : Geometry) (region : ℕ) (page : Place → Page) : Type 0 where
+  pub pages : (i : ℕ) → i < checkpoint_pages g → IsMapOrLost (page (checkpoint_at g region i))
+
+-- a checkpoint that isn't sealed leaves this: pages of its region are lost; or none of them is a seal, and pages of its log are lost too
+abbrev pub IsUnsealed : Geometry → ℕ → (Place → Page) → (Place → Page) → Type 0
+IsUnsealed g region old new = AreLost (region * k g) (k g) old new ⊎ (IsBare g region new × StaysBeside g region old new)
+
+-- the records of a map page
+unfoldable pub part : List Record → ℕ → List Record
+part records i = take 127 (drop (127 * i) records)
+
+-- the map pages of so many records
+abbrev pub map_pages : List Record → ℕ
+map_pages records = up (length records) 127
+
+-- the header of a map page with these records, and of a seal over so many pages with so many
+abbrev pub map_header : ℕ → ℕ → List Record → Header
+map_header era sequence changes = record { kind = Map; era = era; sequence = sequence; count = length changes }
+
+abbrev pub seal_header : ℕ → ℕ → ℕ → Header
+seal_header era pages count = record { kind = SealPage; era = era; sequence = pages; count = count }
+
+-- a whole map page with these records
+pub record IsMapPage (era sequence : ℕ) (changes : List Record) (page : Page) : Type 0 where
+  pub header : Header
+  pub head : header_at Map era sequence page ≡ Some header
+  pub count : header.count ≡ length changes
+  pub records : said (read_records header) page ≡ Some changes
+
+-- a whole page that seals so many map pages with so many records
+pub record IsSealPage (g : Geometry) (era pages count : ℕ) (page : Page) : Type 0 where
+  pub seal : seal_at era pages count page ≡ Some (seal_of g)
+
+-- a page of this kind was programmed, the page after it is next, and nothing else changed
+pub record Programmed (kind : Page → Type 0) (at : Place) (old new : Flash) : Type 0 where
+  pub page : Page
+  pub is_kind : kind page
+  pub pages : new.page ≡ set_page old.page at page
+  pub next : new.next ≡ set old.next at.block (Some (at.page + 1))
+
+-- whatever is answered, the page is as before, torn or of this kind, and no other changed
+abbrev pub LeavesOne : (Page → Type 0) → Place → Flash → Flash → Type 0
+LeavesOne kind at old new = (new.page ≡ old.page) ⊎ (new.page ≡ set_page old.page at Torn) ⊎ ((page : Page) × kind page × (new.page ≡ set_page old.page at page))
+
+-- the place is the next one of an erase block that is ready
+abbrev pub IsReadyAt : Place → Flash → Type 0
+IsReadyAt at flash = flash.next at.block ≡ Some at.page
+
+-- the first n map pages stand in the region, and the pages after them are blank and ready; nothing else changed
+pub record MapsWritten (g : Geometry) (region era : ℕ) (records : List Record) (n : ℕ) (old new : Flash) : Type 0 where
+  pub maps : (i : ℕ) → i < n → IsMapPage era i (part records i) (new.page (checkpoint_at g region i))
+  pub blank : (i : ℕ) → n ≤ i → i < checkpoint_pages g → new.page (checkpoint_at g region i) ≡ Blank
+  pub ready : (i : ℕ) → n ≤ i → i < checkpoint_pages g → (i ≡ n) ⊎ ((checkpoint_at g region i).page ≡ 0) → IsReadyAt (checkpoint_at g region i) new
+  pub beside : (at : Place) → ¬ InCheckpoint g region at.block → new.page at ≡ old.page at
+  pub next : (b : ℕ) → ¬ InCheckpoint g region b → new.next b ≡ old.next b
+
+-- whatever is answered while map pages are programmed: none is a seal, and nothing else changed
+pub record LeavesMaps (g : Geometry) (region : ℕ) (old new : Place → Page) : Type 0 where
+  pub bare : IsBare g region new
+  pub beside : (at : Place) → ¬ InCheckpoint g region at.block → new at ≡ old at
+
+-- a checkpoint of the map stands in the region, its log is blank, and nothing else changed
+pub record IsSealed (g : Geometry) (region era : ℕ) (m : Entries) (old new : Place → Page) : Type 0 where
+  pub maps : (i : ℕ) → i < map_pages (checkpoint_records g m) → IsMapPage era i (part (checkpoint_records g m) i) (new (checkpoint_at g region i))
+  pub seal : IsSealPage g era (map_pages (checkpoint_records g m)) (length (checkpoint_records g m)) (new (checkpoint_at g region (map_pages (checkpoint_records g m))))
+  pub log : (at : Place) → InLog g region at.block → new at ≡ Blank
+  pub beside : StaysBeside g region old new
+
+-- and its log is ready
+pub record IsWritten (g : Geometry) (region era : ℕ) (m : Entries) (old new : Flash) : Type 0 where
+  pub sealed : IsSealed g region era m old.page new.page
+  pub log : AreBlank (first_log g + region * g.j) g.j new
+  pub ready : ReadyBeside g region old new

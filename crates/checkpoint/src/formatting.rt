@@ -1,0 +1,31 @@
+ghost use Rattle.std.specs.Prelude.{◌≡◌, Ok, OnOk, IsErrOf};
+ghost use Rattle.ft_media.specs.State.{failed, lost};
+ghost use Rattle.ft_media.specs.Drives.{DrivesFlash};
+ghost use Rattle.cache_model.specs.Records.{no_entries};
+ghost use Rattle.cache_model.specs.Loading.{load};
+ghost use Rattle.op_log.specs.Log.{FitsOn};
+
+use crate::erasing::erase_blocks;
+use crate::writing::{Target, program_seal};
+use ft_base::{Geometry, zero_block};
+use ft_media::{Media, MediaError};
+
+/// Makes the flash that of an empty map: both checkpoint regions and the first log region are erased,
+/// in this order, and an empty checkpoint is sealed in the first. It takes no memory.
+pub fn format<M: Media>(media: &mut M, geometry: &Geometry) -> Result<(), MediaError>
+    requires shape { FitsOn geometry.now (M.state media.old).contents.shape }
+    ensures done { OnOk result (load geometry.now (M.state media.new).contents.flash.page ≡ Ok no_entries) }
+    ensures memory { IsErrOf result MediaError.OutOfMemory → ⊥ }
+    ensures drives { DrivesFlash (M.state media.old) (M.state media.new) (failed result) (lost result) }
+{
+    erase_blocks(media, 0, 2 * geometry.k() + geometry.j)?;
+    let mut page = zero_block();
+    program_seal(
+        media,
+        &mut page,
+        geometry,
+        &Target { region: 0, era: 0 },
+        0,
+        0,
+    )
+}

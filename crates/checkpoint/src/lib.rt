@@ -1,0 +1,26 @@
+//! Checkpoints: the whole map in one of two regions, which a seal makes count.
+//!
+//! The layers above rely on this: `commit` is never refused for room, since a log without a page left
+//! gives way to a checkpoint. After Ok of `commit` or `checkpoint` the flash stands for the map; at
+//! every moment of either call it stands for the map or for what it stood for before, and no page of
+//! the pool changes. `newest` finds the checkpoint that counts, and `format` makes an empty one. The
+//! laws of loading are those of `cache_model::laws`.
+#![tactic(auto)]
+
+mod checkpoints;
+mod erasing;
+mod formatting;
+mod pages;
+mod reading;
+mod regions;
+mod walk;
+mod writing;
+
+pub use cache_model::laws;
+pub use checkpoints::Checkpoints;
+pub use formatting::format;
+pub use regions::newest;
+pub use walk::Newest;
+
+#[cfg(test)]
+mod tests;

@@ -1,0 +1,96 @@
+ghost use Rattle.std.specs.Prelude.{◌≡◌, ◌≤◌, ◌*◌, ◌^◌, Some, None};
+ghost use Rattle.ft_base.specs.declared.block.Page.{Page};
+ghost use Rattle.cache_model.specs.declared.format.Seal.{Seal as SealValue};
+ghost use Rattle.cache_model.specs.Reading.{read_header, read_seal};
+ghost use Rattle.cache_model.specs.Loading.{said, is_page, is_seal_of};
+ghost use Rattle.cache_model.specs.declared.format.PageKind.TheVariants.{Map as map_page};
+ghost use Rattle.checkpoint.specs.Walk.{Finds, IsFew, Steps};
+
+use crate::reading::Found;
+use cache_model::{Header, PageKind, Seal};
+
+/// The checkpoint that counts.
+#[derive(Clone, Copy, Debug, PartialEq, Eq)]
+pub struct Newest {
+    /// The region that it lies in, 0 or 1.
+    pub region: u32,
+    /// Its era, 0 to 2.
+    pub era: u8,
+    /// Its map pages.
+    pub pages: u32,
+    /// The numbers that it was made for.
+    pub seal: Seal,
+}
+
+/// What a walk along a checkpoint region has found so far: so many records, and the era of the first
+/// page, which isn't known before it.
+#[derive(Clone, Copy, Debug, PartialEq, Eq)]
+pub(crate) struct Walk {
+    pub(crate) era: Option<u8>,
+    pub(crate) records: u32,
+}
+
+/// What the next page makes of a walk.
+#[derive(Clone, Copy, Debug, PartialEq, Eq)]
+pub(crate) enum Step {
+    /// It is a map page, and the walk goes on.
+    On(Walk),
+    /// It is the seal.
+    Complete { era: u8, seal: Seal },
+    /// It is neither.
+    Ends,
+}
+
+/// What page `sequence` of a region makes of a walk that stands at it.
+pub(crate) fn after_page(walk: Walk, sequence: u32, found: Found) -> Step
+    requires records { walk.records ≤ 127 * 2 ^ 16 }
+    requires few { IsFew found }
+    ensures { (page : Page) → Finds page found → Steps walk sequence page result }
+{
+    match found {
+        Found::Records(header) => after_records(walk, sequence, &header),
+        Found::Sealed(header, seal) => after_seal(walk, sequence, &header, &seal),
+        Found::Other => Step::Ends,
+    }
+}
+
+/// What a page of records makes of it.
+fn after_records(walk: Walk, sequence: u32, header: &Header) -> Step
+    requires records { walk.records ≤ 127 * 2 ^ 16 }
+    requires few { header.now.count ≤ 127 }
+    ensures { (page : Page) → said read_header page ≡ Some header.now → Steps walk sequence page result }
+{
+    let era = walk.era.unwrap_or(header.era);
+    if !is_map_page(header, era, sequence) {
+        return Step::Ends;
+    }
+    Step::On(Walk {
+        era: Some(era),
+        records: walk.records + header.count,
+    })
+}
+
+/// Whether the header is that of a map page of this era, at its own place.
+fn is_map_page(header: &Header, era: u8, sequence: u32) -> bool
+    ensures { result ≡ is_page map_page era sequence header.now }
+{
+    header.kind == PageKind::Map && header.era == era && header.sequence == sequence
+}
+
+/// What a seal makes of it.
+fn after_seal(walk: Walk, sequence: u32, header: &Header, seal: &Seal) -> Step
+    ensures { (page : Page) → said read_header page ≡ None → said read_seal page ≡ Some (header.now, seal.now) → Steps walk sequence page result }
+{
+    let era = walk.era.unwrap_or(header.era);
+    if !ends(header, era, sequence, walk.records) {
+        return Step::Ends;
+    }
+    Step::Complete { era, seal: *seal }
+}
+
+/// Whether a seal ends so many map pages of this era, with so many records.
+fn ends(header: &Header, era: u8, pages: u32, records: u32) -> bool
+    ensures { (seal : SealValue) → result ≡ is_seal_of era pages records (header.now, seal) }
+{
+    header.era == era && header.sequence == pages && header.count == records
+}

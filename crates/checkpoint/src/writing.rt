@@ -1,0 +1,143 @@
+ghost use Rattle.std.specs.Prelude.{◌≡◌, ◌⊎◌, ◌<◌, ◌≤◌, ◌+◌, ◌*◌, length, OnOk, IsErrOf};
+ghost use Rattle.ft_base.specs.Count.{Rose};
+ghost use Rattle.ft_base.specs.Layout.{checkpoint_at, checkpoint_pages, k};
+ghost use Rattle.ft_media.specs.State.{failed, lost};
+ghost use Rattle.ft_media.specs.Passes.{Spends};
+ghost use Rattle.ft_media.specs.Drives.{DrivesFlash};
+ghost use Rattle.cache_model.specs.Entries.{IsMap};
+ghost use Rattle.mapping.specs.Checkpoint.{checkpoint_records};
+ghost use Rattle.op_log.specs.Log.{FitsOn};
+ghost use Rattle.checkpoint.specs.Regions.{AreBlank, IsReadyAt, IsMapPage, IsSealPage, Programmed, LeavesOne, MapsWritten, LeavesMaps, IsUnsealed, IsSealed, IsWritten, part, map_pages};
+
+use crate::erasing::erase_regions;
+use crate::pages::{MOST, write_map, write_numbers};
+use cache_model::SpareKind;
+use ft_base::{Block, Geometry};
+use ft_media::{Media, MediaError};
+use mapping::Map;
+use page_oob::write_spare;
+
+/// Where a checkpoint goes, and its era.
+#[derive(Clone, Copy, Debug, PartialEq, Eq)]
+pub(crate) struct Target {
+    /// The region, 0 or 1.
+    pub(crate) region: u32,
+    /// The era, 0 to 2.
+    pub(crate) era: u8,
+}
+
+/// Programs a map page of a checkpoint.
+fn program_map<M: Media>(
+    media: &mut M,
+    page: &mut Block,
+    geometry: &Geometry,
+    map: &Map,
+    target: &Target,
+    sequence: u32,
+) -> Result<(), MediaError>
+    requires shape { FitsOn geometry.now (M.state media.old).contents.shape }
+    requires map { map.now.geometry ≡ geometry.now }
+    requires is_map { IsMap geometry.now map.now.entries }
+    requires region { target.now.region < 2 }
+    requires era { target.now.era ≤ 2 }
+    requires some { 127 * sequence < length (checkpoint_records geometry.now map.now.entries) }
+    requires room { sequence < checkpoint_pages geometry.now }
+    requires ready { IsReadyAt (checkpoint_at geometry.now target.now.region sequence) (M.state media.old).contents.flash }
+    ensures done { OnOk result (Programmed (IsMapPage target.now.era sequence (part (checkpoint_records geometry.now map.now.entries) sequence)) (checkpoint_at geometry.now target.now.region sequence) (M.state media.old).contents.flash (M.state media.new).contents.flash) }
+    ensures pages { LeavesOne (IsMapPage target.now.era sequence (part (checkpoint_records geometry.now map.now.entries) sequence)) (checkpoint_at geometry.now target.now.region sequence) (M.state media.old).contents.flash (M.state media.new).contents.flash }
+    ensures programs { OnOk result (Rose (M.state media.old).counts.programs (M.state media.new).counts.programs) }
+    ensures memory { IsErrOf result MediaError.OutOfMemory → ⊥ }
+    ensures drives { DrivesFlash (M.state media.old) (M.state media.new) (failed result) (lost result) }
+{
+    write_map(page, map, target.era, sequence);
+    let at = geometry.checkpoint_at(target.region, sequence);
+    let spare = write_spare(SpareKind::Map, target.era, sequence as u64);
+    media.program(at, page, &spare)?;
+    Ok(())
+}
+
+/// Programs so many map pages of a checkpoint, in order.
+fn program_maps<M: Media>(
+    media: &mut M,
+    page: &mut Block,
+    geometry: &Geometry,
+    map: &Map,
+    target: &Target,
+    pages: u32,
+) -> Result<(), MediaError>
+    requires shape { FitsOn geometry.now (M.state media.old).contents.shape }
+    requires map { map.now.geometry ≡ geometry.now }
+    requires is_map { IsMap geometry.now map.now.entries }
+    requires region { target.now.region < 2 }
+    requires era { target.now.era ≤ 2 }
+    requires all { pages ≡ map_pages (checkpoint_records geometry.now map.now.entries) }
+    requires room { pages < checkpoint_pages geometry.now }
+    requires blank { AreBlank (target.now.region * k geometry.now) (k geometry.now) (M.state media.old).contents.flash }
+    ensures done { OnOk result (MapsWritten geometry.now target.now.region target.now.era (checkpoint_records geometry.now map.now.entries) pages (M.state media.old).contents.flash (M.state media.new).contents.flash) }
+    ensures pages { LeavesMaps geometry.now target.now.region (M.state media.old).contents.flash.page (M.state media.new).contents.flash.page }
+    ensures programs { OnOk result ((M.state media.old).counts.programs ≤ (M.state media.new).counts.programs) }
+    ensures memory { IsErrOf result MediaError.OutOfMemory → ⊥ }
+    ensures drives { DrivesFlash (M.state media.old) (M.state media.new) (failed result) (lost result) }
+{
+    for sequence in 0..pages {
+        program_map(media, page, geometry, map, target, sequence)?;
+    }
+    Ok(())
+}
+
+/// Programs the seal of a checkpoint, over so many map pages with so many records.
+pub(crate) fn program_seal<M: Media>(
+    media: &mut M,
+    page: &mut Block,
+    geometry: &Geometry,
+    target: &Target,
+    pages: u32,
+    records: u32,
+) -> Result<(), MediaError>
+    requires shape { FitsOn geometry.now (M.state media.old).contents.shape }
+    requires region { target.now.region < 2 }
+    requires era { target.now.era ≤ 2 }
+    requires room { pages < checkpoint_pages geometry.now }
+    requires ready { IsReadyAt (checkpoint_at geometry.now target.now.region pages) (M.state media.old).contents.flash }
+    ensures done { OnOk result (Programmed (IsSealPage geometry.now target.now.era pages records) (checkpoint_at geometry.now target.now.region pages) (M.state media.old).contents.flash (M.state media.new).contents.flash) }
+    ensures pages { LeavesOne (IsSealPage geometry.now target.now.era pages records) (checkpoint_at geometry.now target.now.region pages) (M.state media.old).contents.flash (M.state media.new).contents.flash }
+    ensures programs { OnOk result (Rose (M.state media.old).counts.programs (M.state media.new).counts.programs) }
+    ensures spends { OnOk result (Spends 1 (M.state media.old) (M.state media.new)) }
+    ensures memory { IsErrOf result MediaError.OutOfMemory → ⊥ }
+    ensures drives { DrivesFlash (M.state media.old) (M.state media.new) (failed result) (lost result) }
+{
+    write_numbers(page, geometry, target.era, pages, records);
+    let at = geometry.checkpoint_at(target.region, pages);
+    let spare = write_spare(SpareKind::Seal, target.era, pages as u64);
+    media.program(at, page, &spare)?;
+    Ok(())
+}
+
+/// Erases a checkpoint region and its log, programs the map and seals it.
+pub(crate) fn write_checkpoint<M: Media>(
+    media: &mut M,
+    page: &mut Block,
+    geometry: &Geometry,
+    map: &Map,
+    target: &Target,
+) -> Result<(), MediaError>
+    requires shape { FitsOn geometry.now (M.state media.old).contents.shape }
+    requires map { map.now.geometry ≡ geometry.now }
+    requires is_map { IsMap geometry.now map.now.entries }
+    requires region { target.now.region < 2 }
+    requires era { target.now.era ≤ 2 }
+    ensures done { OnOk result (IsWritten geometry.now target.now.region target.now.era map.now.entries (M.state media.old).contents.flash (M.state media.new).contents.flash) }
+    ensures pages { IsUnsealed geometry.now target.now.region (M.state media.old).contents.flash.page (M.state media.new).contents.flash.page
+        ⊎ IsSealed geometry.now target.now.region target.now.era map.now.entries (M.state media.old).contents.flash.page (M.state media.new).contents.flash.page }
+    ensures programs { OnOk result (Rose (M.state media.old).counts.programs (M.state media.new).counts.programs) }
+    ensures spends { OnOk result (Spends 1 (M.state media.old) (M.state media.new)) }
+    ensures memory { IsErrOf result MediaError.OutOfMemory → ⊥ }
+    ensures drives { DrivesFlash (M.state media.old) (M.state media.new) (failed result) (lost result) }
+{
+    let records = map.checkpoint_len();
+    let pages = (records + MOST - 1) / MOST;
+    erase_regions(media, geometry, target.region)?;
+    program_maps(media, page, geometry, map, target, pages)?;
+    program_seal(media, page, geometry, target, pages, records)?;
+    Ok(())
+}
