@@ -1,0 +1,68 @@
+-- The steps of a loading, one after the other.
+use Rattle.std.proofs.Common.{◌≡◌, ℕ, ◌≤◌, Result, Ok, sym, ◌∙◌, ap, ap₂, subst}
+use Rattle.std.specs.FinMap.{entries}
+use Rattle.ft_base.specs.declared.geometry.Geometry.{Geometry}
+use Rattle.ft_base.specs.declared.block.Place.{Place}
+use Rattle.ft_base.specs.declared.block.Page.{Page}
+use Rattle.ft_base.specs.Layout.{checkpoint_at, checkpoint_pages, log_at}
+use Rattle.cache_model.specs.declared.format.PageKind.TheVariants.{Log, Map}
+use Rattle.cache_model.specs.Records.{Entries, no_entries}
+use Rattle.cache_model.specs.Entries.{IsMap}
+use Rattle.cache_model.specs.Loading.{Refusal, ◌>>=◌, Complete, pages_from, after_pages, log_region, checkpoint_of, replayed, entries_of, all_whole, load}
+use Rattle.cache_model.proofs.FitsLemmas.{replayed-map}
+use Rattle.op_log.specs.declared.error.OpenError.{OpenError}
+use Rattle.op_log.specs.Refusals.{IsRefusal}
+use Rattle.recovery.proofs.RefusalLemmas.{bind_refused, then_refused}
+use Rattle.recovery.proofs.WalkLemmas.{take_pages}
+
+-- the map pages of a checkpoint, from no entries on
+abbrev pub maps_applied : Geometry → (Place → Page) → ℕ × Complete → Entries → Result Entries Refusal
+maps_applied g page c m = after_pages g Map c.1.era (checkpoint_at g c.0) 0 (pages_from page (checkpoint_at g c.0) 0 c.1.pages) m
+
+-- and the pages of its log
+abbrev pub log_applied : Geometry → (Place → Page) → ℕ × Complete → Entries → Result Entries Refusal
+log_applied g page c m = after_pages g Log c.1.era (log_at g c.0) 0 (log_region g page c.0) m
+
+module _ (g : Geometry) (page : Place → Page) (c : ℕ × Complete) (within : c.1.pages ≤ checkpoint_pages g) (none : Entries) (empty : none ≡ no_entries) where
+  pub both_parts : replayed g page c ≡ (maps_applied g page c none >>= log_applied g page c)
+  unfolding replayed
+  both_parts = ap₂ (λ ps m. after_pages g Map c.1.era (checkpoint_at g c.0) 0 ps m >>= log_applied g page c) (take_pages page (checkpoint_at g c.0) 0 c.1.pages (checkpoint_pages g) within) (sym empty)
+
+  pub maps_refused : (e : OpenError) → IsRefusal g e (maps_applied g page c none) → IsRefusal g e (replayed g page c)
+  maps_refused e is = subst (λ r. IsRefusal g e r) (sym both_parts) (bind_refused g e (maps_applied g page c none) (log_applied g page c) is)
+
+  module _ (m : Entries) (maps : maps_applied g page c none ≡ Ok m) (page' : Place → Page) (pages : page' ≡ page) where
+    pub log_refused : (e : OpenError) → IsRefusal g e (log_applied g page' c m) → IsRefusal g e (replayed g page c)
+    log_refused e is = subst (λ r. IsRefusal g e r) (sym both_parts) (then_refused g e (maps_applied g page c none) m (log_applied g page c) maps (subst (λ (p : Place → Page). IsRefusal g e (log_applied g p c m)) pages is))
+
+    pub log_rolled : (n : Entries) → log_applied g page' c m ≡ Ok n → replayed g page c ≡ Ok n
+    log_rolled n is = both_parts ∙ ap (λ r. r >>= log_applied g page c) maps ∙ ap (λ (p : Place → Page). log_applied g p c m) (sym pages) ∙ is
+
+-- ---- the whole loading
+
+pub find_refused : (g : Geometry) (page : Place → Page) (e : OpenError) → IsRefusal g e (checkpoint_of g page) → IsRefusal g e (load g page)
+unfolding load
+find_refused g page e is = bind_refused g e (entries_of g page) (λ m. all_whole page (entries m) m) (bind_refused g e (checkpoint_of g page) (replayed g page) is)
+
+module _ (g : Geometry) (page : Place → Page) (c : ℕ × Complete) (there : checkpoint_of g page ≡ Ok c) (page' : Place → Page) (pages : page' ≡ page) where
+  pub replay_refused : (e : OpenError) → IsRefusal g e (replayed g page' c) → IsRefusal g e (load g page)
+  unfolding load
+  replay_refused e is =
+      bind_refused g e (entries_of g page) (λ m. all_whole page (entries m) m)
+      (then_refused g e (checkpoint_of g page) c (replayed g page) there (subst (λ (p : Place → Page). IsRefusal g e (replayed g p c)) pages is))
+
+  module _ (m : Entries) (replay : replayed g page' c ≡ Ok m) where
+    entries_are : entries_of g page ≡ Ok m
+    entries_are = ap (λ r. r >>= replayed g page) there ∙ ap (λ (p : Place → Page). replayed g p c) (sym pages) ∙ replay
+
+    pub replayed_map : IsMap g m
+    replayed_map = replayed-map g page' c m replay
+
+    module _ (page'' : Place → Page) (pages' : page'' ≡ page) where
+      pub places_refused : (e : OpenError) → IsRefusal g e (all_whole page'' (entries m) m) → IsRefusal g e (load g page)
+      unfolding load
+      places_refused e is = then_refused g e (entries_of g page) m (λ n. all_whole page (entries n) n) entries_are (subst (λ (p : Place → Page). IsRefusal g e (all_whole p (entries m) m)) pages' is)
+
+      pub places_whole : all_whole page'' (entries m) m ≡ Ok m → load g page ≡ Ok m
+      unfolding load
+      places_whole is = ap (λ r. r >>= λ n. all_whole page (entries n) n) entries_are ∙ ap (λ (p : Place → Page). all_whole p (entries m) m) (sym pages') ∙ is

@@ -1,0 +1,175 @@
+-- The plain program, step by step.
+use Rattle.std.proofs.Common.{◌≡◌, ℕ, suc, ◌+◌, ◌-◌, ◌*◌, ◌<◌, ◌≤◌, Bool, true, false, cond, List, ◌∷◌, length, get_or, drop, Option, Some, None, ok_or, Result, Ok, Err, refl, sym, ◌∙◌, ap, ap₂, subst, arith}
+use Rattle.std.specs.Option.{MatchOption, option_map, option_or, option_and_then}
+use Rattle.std.specs.FinMap.{entries}
+use Rattle.std.proofs.lemmas.List.{at_drop_more, at_drop_all}
+use Rattle.ft_base.specs.declared.geometry.Geometry.{Geometry}
+use Rattle.ft_base.specs.declared.block.Place.{Place}
+use Rattle.ft_base.specs.declared.block.Page.{Page}
+use Rattle.ft_base.specs.declared.record.Record.{Record}
+use Rattle.ft_base.specs.Layout.{checkpoint_at, checkpoint_pages}
+use Rattle.cache_model.specs.declared.format.PageKind.{PageKind}
+use Rattle.cache_model.specs.declared.format.PageKind.TheVariants.{Map}
+use Rattle.cache_model.specs.declared.format.Header.{Header}
+use Rattle.cache_model.specs.declared.format.Seal.{Seal}
+use Rattle.cache_model.specs.Records.{Entries, after, no_entries}
+use Rattle.cache_model.specs.Entries.{Fits, fits}
+use Rattle.cache_model.specs.Reading.{read_records}
+use Rattle.cache_model.specs.Loading.{Refusal, ◌>>=◌, Complete, complete, said, header_at, seal_at, sealed_from, era_in, checkpoint_in, checkpoint_region, pages_from, after_all, newest, is_wanted, wanted, checkpoint_of, replayed, all_whole, load}
+use Rattle.cache_model.specs.Loading.Refusal.{NotFormatted, OtherGeometry, Damaged as damaged}
+use Rattle.cache_model.proofs.FitsLemmas.{fits-true, fits-from}
+use Rattle.cache_model.proofs.LayoutLemmas.{checkpoint_fits}
+use Rattle.mapping.specs.MapValue.{MapValue}
+use Rattle.op_log.specs.Walk.{page_step}
+use Rattle.recovery.proofs.LoadLemmas.{maps_applied, log_applied, both_parts}
+
+-- ---- a region
+
+-- the pages below i are map pages with so many records, and those from there on are left
+pub record MapsSoFar (era : ℕ) (at : ℕ → Place) (page : Place → Page) (n i count : ℕ) : Type 0 where
+  pub same : sealed_from era 0 0 (pages_from page at 0 n) ≡ sealed_from era i count (pages_from page at i (n - i))
+  pub few : count ≤ 127 * i
+
+module _ (era : ℕ) (at : ℕ → Place) (page : Place → Page) (n : ℕ) where
+  pub maps_none : MapsSoFar era at page n 0 0
+  maps_none = record { same = let all : n ≡ n - 0 = omega arith in ap (λ k. sealed_from era 0 0 (pages_from page at 0 k)) all; few = omega arith }
+
+  pub maps_all : (i count : ℕ) → n ≤ i → MapsSoFar era at page n i count → None ≡ sealed_from era 0 0 (pages_from page at 0 n)
+  maps_all i count past so = let none : n - i ≡ 0 = omega arith in sym (so.same ∙ ap (λ k. sealed_from era i count (pages_from page at i k)) none)
+
+  module _ (i count : ℕ) (within : i < n) (so : MapsSoFar era at page n i count) where
+    next_page : (seal : Option Seal) (header : Option Header) → seal ≡ seal_at era i count (page (at i)) → header ≡ header_at Map era i (page (at i)) → sealed_from era 0 0 (pages_from page at 0 n) ≡ option_or (option_map (complete era i) seal) (option_and_then (λ h. sealed_from era (i + 1) (count + h.count) (pages_from page at (i + 1) (n - (i + 1)))) header)
+    next_page seal header is_seal is_header =
+        let some : n - i ≡ suc (n - (i + 1)) = omega arith in
+        so.same ∙ ap (λ k. sealed_from era i count (pages_from page at i k)) some
+        ∙ ap₂ (λ s h. option_or (option_map (complete era i) s) (option_and_then (λ x. sealed_from era (i + 1) (count + x.count) (pages_from page at (i + 1) (n - (i + 1)))) h)) (sym is_seal) (sym is_header)
+
+    -- with the page and the place that the program has
+    module _ (place : Place) (p : Page) (here : place ≡ at i) (read : p ≡ page place) where
+      same_page : p ≡ page (at i)
+      same_page = read ∙ ap page here
+
+      pub sealed_here : (seal : Seal) → Some seal ≡ seal_at era i count p → Some (complete era i seal) ≡ sealed_from era 0 0 (pages_from page at 0 n)
+      sealed_here seal is = sym (next_page (Some seal) (header_at Map era i (page (at i))) (is ∙ ap (seal_at era i count) same_page) refl)
+
+      pub no_map : None ≡ seal_at era i count p → None ≡ header_at Map era i p → None ≡ sealed_from era 0 0 (pages_from page at 0 n)
+      no_map unsealed none = sym (next_page None None (unsealed ∙ ap (seal_at era i count) same_page) (none ∙ ap (header_at Map era i) same_page))
+
+      pub maps_more : (h : Header) → None ≡ seal_at era i count p → Some h ≡ header_at Map era i p → h.count ≤ 127 → MapsSoFar era at page n (i + 1) (count + h.count)
+      maps_more h unsealed is short = record {
+        same = next_page None (Some h) (unsealed ∙ ap (seal_at era i count) same_page) (is ∙ ap (header_at Map era i) same_page);
+        few = let so_few = so.few in omega arith;
+      }
+
+-- the first page names the era
+pub some_page : (g : Geometry) → 0 < checkpoint_pages g
+some_page g = let fits = checkpoint_fits g in omega arith
+
+first_page : (g : Geometry) (page : Place → Page) (region : ℕ) → (rest : List Page) × (checkpoint_region g page region ≡ page (checkpoint_at g region 0) ∷ rest)
+first_page g page region =
+    let some = some_page g in
+    let long : checkpoint_pages g ≡ suc (checkpoint_pages g - 1) = omega arith in
+    (pages_from page (checkpoint_at g region) 1 (checkpoint_pages g - 1), ap (pages_from page (checkpoint_at g region) 0) long)
+
+pub by_era : (g : Geometry) (page : Place → Page) (region : ℕ) → checkpoint_in (checkpoint_region g page region) ≡ option_and_then (λ era. sealed_from era 0 0 (checkpoint_region g page region)) (era_in (page (checkpoint_at g region 0)))
+unfolding checkpoint_in
+by_era g page region =
+    let first = first_page g page region in
+    ap checkpoint_in first.1 ∙ ap (λ ps. option_and_then (λ era. sealed_from era 0 0 ps) (era_in (page (checkpoint_at g region 0)))) (sym first.1)
+
+pub era_none : (g : Geometry) (page : Place → Page) (region : ℕ) (place : Place) (p : Page) → place ≡ checkpoint_at g region 0 → p ≡ page place → None ≡ era_in p → None ≡ checkpoint_in (checkpoint_region g page region)
+era_none g page region place p here read none =
+    sym (by_era g page region ∙ ap (option_and_then (λ era. sealed_from era 0 0 (checkpoint_region g page region))) (sym (none ∙ ap era_in (read ∙ ap page here))))
+
+pub era_some : (g : Geometry) (page : Place → Page) (region : ℕ) (place : Place) (p : Page) (era : ℕ) (left : Option Complete) → place ≡ checkpoint_at g region 0 → p ≡ page place → Some era ≡ era_in p → left ≡ sealed_from era 0 0 (checkpoint_region g page region) → left ≡ checkpoint_in (checkpoint_region g page region)
+era_some g page region place p era left here read some is =
+    is ∙ sym (by_era g page region ∙ ap (option_and_then (λ e. sealed_from e 0 0 (checkpoint_region g page region))) (sym (some ∙ ap era_in (read ∙ ap page here))))
+
+-- ---- records
+
+-- the first i records are applied
+pub record AppliedSoFar (changes : List Record) (i : ℕ) (first now : MapValue) : Type 0 where
+  pub geometry : now.geometry ≡ first.geometry
+  pub entries : after_all first.geometry changes first.entries ≡ after_all first.geometry (drop i changes) now.entries
+
+pub applied_all : (changes : List Record) (i : ℕ) (first now : MapValue) → length changes ≤ i → AppliedSoFar changes i first now → after_all first.geometry changes first.entries ≡ Some now.entries
+applied_all changes i first now past so = so.entries ∙ at_drop_all (λ rs. after_all first.geometry rs now.entries) changes i past
+
+module _ (changes : List Record) (i : ℕ) (d : Record) (within : i < length changes) (first now : MapValue) (so : AppliedSoFar changes i first now) where
+  next_record : after_all first.geometry changes first.entries ≡ cond (fits first.geometry (get_or changes i d) now.entries) (after_all first.geometry (drop (i + 1) changes) (after first.geometry (get_or changes i d) now.entries)) None
+  next_record = so.entries ∙ at_drop_more (λ rs. after_all first.geometry rs now.entries) changes i d within
+
+  pub applied_refused : (Fits now.geometry (get_or changes i d) now.entries → ⊥) → after_all first.geometry changes first.entries ≡ None
+  applied_refused unfit = by_test (fits first.geometry (get_or changes i d) now.entries) refl
+    where
+      by_test : (b : Bool) → fits first.geometry (get_or changes i d) now.entries ≡ b → after_all first.geometry changes first.entries ≡ None
+      by_test true t = absurd (unfit (subst (λ (g : Geometry). Fits g (get_or changes i d) now.entries) (sym so.geometry) (fits-true first.geometry (get_or changes i d) now.entries t)))
+      by_test false t = next_record ∙ ap (λ b. cond b (after_all first.geometry (drop (i + 1) changes) (after first.geometry (get_or changes i d) now.entries)) None) t
+
+  pub applied_more : (ready next : MapValue) → ready.geometry ≡ now.geometry → ready.entries ≡ now.entries → Fits now.geometry (get_or changes i d) now.entries → next.geometry ≡ ready.geometry → next.entries ≡ after ready.geometry (get_or changes i d) ready.entries → AppliedSoFar changes (i + 1) first next
+  applied_more ready next same_geometry same fit geometry entries =
+      let r = get_or changes i d in
+      let at_first : ready.geometry ≡ first.geometry = same_geometry ∙ so.geometry in
+      let here : next.entries ≡ after first.geometry r now.entries = entries ∙ ap₂ (λ g m. after g r m) at_first same in
+      record {
+        geometry = geometry ∙ at_first;
+        entries =
+            next_record
+            ∙ ap (λ b. cond b (after_all first.geometry (drop (i + 1) changes) (after first.geometry r now.entries)) None) (fits-from first.geometry r now.entries (subst (λ (g : Geometry). Fits g r now.entries) so.geometry fit))
+            ∙ ap (λ m. after_all first.geometry (drop (i + 1) changes) m) (sym here);
+      }
+
+-- ---- a page
+
+pub step_absent : (g : Geometry) (kind : PageKind) (era i : ℕ) (at : Place) (p : Page) (m : Entries) → None ≡ header_at kind era i p → page_step g kind era i at p m ≡ None
+step_absent g kind era i at p m none = ap (option_map (λ h. ok_or (option_and_then (λ changes. after_all g changes m) (said (read_records h) p)) (damaged at))) (sym none)
+
+pub step_there : (g : Geometry) (kind : PageKind) (era i : ℕ) (at : Place) (p : Page) (m : Entries) (h : Header) (left : Option Entries) → Some h ≡ header_at kind era i p → option_and_then (λ changes. after_all g changes m) (said (read_records h) p) ≡ left → page_step g kind era i at p m ≡ Some (ok_or left (damaged at))
+step_there g kind era i at p m h left head all =
+    ap (option_map (λ h. ok_or (option_and_then (λ changes. after_all g changes m) (said (read_records h) p)) (damaged at))) (sym head) ∙ ap (λ o. Some (ok_or o (damaged at))) all
+
+-- what the program says of a page is its step
+pub step_answers : (g : Geometry) (kind : PageKind) (era i : ℕ) (place at : Place) (page : Place → Page) (p : Page) (own : Geometry) (m new : Entries) (h : Header) (b answer : Bool) → at ≡ place → p ≡ page at → own ≡ g → Some h ≡ header_at kind era i p → option_and_then (λ changes. after_all own changes m) (said (read_records h) p) ≡ cond b (Some new) None → b ≡ answer → page_step g kind era i place (page place) m ≡ Some (ok_or (cond answer (Some new) None) (damaged place))
+step_answers g kind era i place at page p own m new h b answer here read same head all is =
+    let p_is : p ≡ page place = read ∙ ap page here in
+    let all' = subst (λ (o : Geometry). option_and_then (λ changes. after_all o changes m) (said (read_records h) p) ≡ cond b (Some new) None) same all in
+    ap (λ q. page_step g kind era i place q m) (sym p_is) ∙ step_there g kind era i place p m h (cond answer (Some new) None) head (all' ∙ ap (λ x. cond x (Some new) None) is)
+
+-- ---- a loading that may name a damaged page
+
+pub is_damaged : (d : Option Place) (r : Result Entries Refusal) (n : Entries) (at : Place) → d ≡ Some at → MatchOption d (r ≡ Ok n) (λ q. r ≡ Err (damaged q)) → r ≡ Err (damaged at)
+is_damaged d r n at is answers = subst (λ (o : Option Place). MatchOption o (r ≡ Ok n) (λ q. r ≡ Err (damaged q))) is answers
+
+pub is_applied : (d : Option Place) (r : Result Entries Refusal) (n : Entries) → d ≡ None → MatchOption d (r ≡ Ok n) (λ q. r ≡ Err (damaged q)) → r ≡ Ok n
+is_applied d r n is answers = subst (λ (o : Option Place). MatchOption o (r ≡ Ok n) (λ q. r ≡ Err (damaged q))) is answers
+
+module _ (g : Geometry) (page : Place → Page) (c : ℕ × Complete) (within : c.1.pages ≤ checkpoint_pages g) (none : Entries) (empty : none ≡ no_entries) where
+  pub maps_damaged : (at : Place) → maps_applied g page c none ≡ Err (damaged at) → replayed g page c ≡ Err (damaged at)
+  maps_damaged at is = both_parts g page c within none empty ∙ ap (λ r. r >>= log_applied g page c) is
+
+  pub log_answers : (m n : Entries) (d : Option Place) → maps_applied g page c none ≡ Ok m → MatchOption d (log_applied g page c m ≡ Ok n) (λ at. log_applied g page c m ≡ Err (damaged at)) → MatchOption d (replayed g page c ≡ Ok n) (λ at. replayed g page c ≡ Err (damaged at))
+  log_answers m n None maps is = both_parts g page c within none empty ∙ ap (λ r. r >>= log_applied g page c) maps ∙ is
+  log_answers m n (Some at) maps is = both_parts g page c within none empty ∙ ap (λ r. r >>= log_applied g page c) maps ∙ is
+
+-- no region counts, or its numbers are others
+pub never_sealed : (g : Geometry) (page : Place → Page) → None ≡ newest g page → load g page ≡ Err NotFormatted
+unfolding load
+never_sealed g page none = ap (λ o. ok_or o NotFormatted >>= wanted g >>= replayed g page >>= λ m. all_whole page (entries m) m) (sym none)
+
+pub found_is : (g : Geometry) (page : Place → Page) (c : ℕ × Complete) → Some c ≡ newest g page → is_wanted g c.1.seal ≡ true → checkpoint_of g page ≡ Ok c
+found_is g page c is same = ap (λ o. ok_or o NotFormatted >>= wanted g) (sym is) ∙ ap (λ b. cond b (Ok c) (Err (OtherGeometry c.1.seal))) same
+
+pub other_numbers : (g : Geometry) (page : Place → Page) (c : ℕ × Complete) → Some c ≡ newest g page → is_wanted g c.1.seal ≡ false → load g page ≡ Err (OtherGeometry c.1.seal)
+unfolding load
+other_numbers g page c is other =
+    ap (λ o. ok_or o NotFormatted >>= wanted g >>= replayed g page >>= λ m. all_whole page (entries m) m) (sym is)
+    ∙ ap (λ b. cond b (Ok c) (Err (OtherGeometry c.1.seal)) >>= replayed g page >>= λ m. all_whole page (entries m) m) other
+
+module _ (g : Geometry) (page : Place → Page) (c : ℕ × Complete) (there : checkpoint_of g page ≡ Ok c) where
+  pub replay_damaged : (at : Place) → replayed g page c ≡ Err (damaged at) → load g page ≡ Err (damaged at)
+  unfolding load
+  replay_damaged at is = ap (λ r. r >>= replayed g page >>= λ m. all_whole page (entries m) m) there ∙ ap (λ r. r >>= λ m. all_whole page (entries m) m) is
+
+  pub place_damaged : (m : Entries) (at : Place) → replayed g page c ≡ Ok m → all_whole page (entries m) m ≡ Err (damaged at) → load g page ≡ Err (damaged at)
+  unfolding load
+  place_damaged m at replay is = ap (λ r. r >>= replayed g page >>= λ m. all_whole page (entries m) m) there ∙ ap (λ r. r >>= λ m. all_whole page (entries m) m) replay ∙ is

@@ -1,0 +1,44 @@
+use Rattle.std.proofs.Common.{ap, rules, refl, ◌∙◌}
+use Rattle.ft_base.specs.Contents.{Contents}
+use Rattle.checkpoint.specs.Found.{found_in}
+use Rattle.recovery.proofs.WalkLemmas.{maps_within}
+use Rattle.recovery.proofs.LoadLemmas.{find_refused, replay_refused, places_refused, places_whole}
+use Rattle.recovery.proofs.loading.load.Goals as goal
+
+pub returns-in_err-newest-clause-refused : goal.returns-in_err-newest-clause-refused
+returns-in_err-newest-clause-refused g c =
+    let refused = find_refused c.args.geometry.now (g.M.Media.state c.args.media.now).contents.flash.page c.in_err-newest.field-0.0 c.in_err-newest.ensures.refused in
+    search rules
+
+pub replay-requires-clause-pages : goal.replay-requires-clause-pages
+replay-requires-clause-pages g c = maps_within c.args.geometry.now (g.M.Media.state c.args.media.now).contents.flash.page (found_in c.in_ok-newest.newest) c.in_ok-newest.ensures.found
+
+pub returns-in_err-replay-clause-refused : goal.returns-in_err-replay-clause-refused
+returns-in_err-replay-clause-refused g c =
+    let refused =
+    replay_refused c.args.geometry.now (g.M.Media.state c.args.media.now).contents.flash.page (found_in c.in_ok-newest.newest) c.in_ok-newest.ensures.found (g.M.Media.state c.find_checkpoint.new.media).contents.flash.page
+    (ap (λ (k : Contents). k.flash.page) c.in_ok-newest.ensures.reads.contents) c.in_err-replay.field-0.0 c.in_err-replay.ensures.refused
+    in
+    search rules
+
+pub returns-in_err-look_at_places-clause-refused :
+    goal.returns-in_err-look_at_places-clause-refused
+returns-in_err-look_at_places-clause-refused g c =
+    let refused =
+    places_refused c.args.geometry.now (g.M.Media.state c.args.media.now).contents.flash.page (found_in c.in_ok-newest.newest) c.in_ok-newest.ensures.found (g.M.Media.state c.find_checkpoint.new.media).contents.flash.page
+    (ap (λ (k : Contents). k.flash.page) c.in_ok-newest.ensures.reads.contents) c.replay.new.map.entries c.in_ok-replay.ensures.replayed (g.M.Media.state c.replay.new.media).contents.flash.page
+    (ap (λ (k : Contents). k.flash.page) (c.in_ok-replay.ensures.reads.contents ∙ c.in_ok-newest.ensures.reads.contents)) c.in_err-look_at_places.field-0.0 c.in_err-look_at_places.ensures.refused
+    in
+    search rules
+
+pub returns-clause-loaded : goal.returns-clause-loaded
+returns-clause-loaded g c = record {
+  loads =
+      places_whole c.args.geometry.now (g.M.Media.state c.args.media.now).contents.flash.page (found_in c.in_ok-newest.newest) c.in_ok-newest.ensures.found (g.M.Media.state c.find_checkpoint.new.media).contents.flash.page
+      (ap (λ (k : Contents). k.flash.page) c.in_ok-newest.ensures.reads.contents) c.replay.new.map.entries c.in_ok-replay.ensures.replayed (g.M.Media.state c.replay.new.media).contents.flash.page
+      (ap (λ (k : Contents). k.flash.page) (c.in_ok-replay.ensures.reads.contents ∙ c.in_ok-newest.ensures.reads.contents)) c.in_ok-look_at_places.ensures.whole;
+  geometry = c.in_ok-replay.ensures.geometry ∙ c.new-map.ensures.geometry;
+  newest = (found_in c.in_ok-newest.newest).1;
+  chosen = c.in_ok-newest.ensures.found;
+  era = refl;
+}

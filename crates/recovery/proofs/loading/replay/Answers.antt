@@ -1,0 +1,23 @@
+use Rattle.std.proofs.Common.{ap, rules}
+use Rattle.ft_base.specs.Contents.{Contents}
+use Rattle.checkpoint.specs.Found.{found_in}
+use Rattle.recovery.proofs.LoadLemmas.{maps_refused, log_refused, log_rolled}
+use Rattle.recovery.proofs.loading.replay.Goals as goal
+
+pub returns-in_err-apply_maps-clause-refused : goal.returns-in_err-apply_maps-clause-refused
+returns-in_err-apply_maps-clause-refused g c =
+    let refused = maps_refused c.args.geometry.now (g.M.Media.state c.args.media.now).contents.flash.page (found_in c.args.newest.now) c.requires.pages c.args.map.now.entries c.requires.nothing c.in_err-apply_maps.field-0.0 c.in_err-apply_maps.ensures.refused in
+    search rules
+
+pub returns-in_err-roll-clause-refused : goal.returns-in_err-roll-clause-refused
+returns-in_err-roll-clause-refused g c =
+    let refused =
+    log_refused c.args.geometry.now (g.M.Media.state c.args.media.now).contents.flash.page (found_in c.args.newest.now) c.requires.pages c.args.map.now.entries c.requires.nothing c.apply_maps.new.map.entries c.in_ok-apply_maps.ensures.applied
+    (g.M.Media.state c.apply_maps.new.media).contents.flash.page (ap (λ (k : Contents). k.flash.page) c.in_ok-apply_maps.ensures.reads.contents) c.in_err-roll.field-0.0 c.in_err-roll.ensures.refused
+    in
+    search rules
+
+pub returns-clause-replayed : goal.returns-clause-replayed
+returns-clause-replayed g c =
+    log_rolled c.args.geometry.now (g.M.Media.state c.args.media.now).contents.flash.page (found_in c.args.newest.now) c.requires.pages c.args.map.now.entries c.requires.nothing c.apply_maps.new.map.entries c.in_ok-apply_maps.ensures.applied
+    (g.M.Media.state c.apply_maps.new.media).contents.flash.page (ap (λ (k : Contents). k.flash.page) c.in_ok-apply_maps.ensures.reads.contents) c.roll.new.map.entries c.in_ok-roll.ensures.applied

@@ -1,0 +1,44 @@
+-- A flash as a list of its pages, and what is loaded from it.
+use Rattle.std.specs.Prelude.{◌≡◌, ℕ, ◌+◌, ◌*◌, List, slice_index_or, Result, Ok, Err}
+use Rattle.ft_base.specs.declared.geometry.Geometry.{Geometry}
+use Rattle.ft_base.specs.declared.block.Place.{Place}
+use Rattle.ft_base.specs.declared.block.Page.{Page}
+use Rattle.ft_base.specs.declared.block.Page.TheVariants.{Blank}
+use Rattle.ft_base.specs.Layout.{checkpoint_at, checkpoint_pages, log_at, log_pages}
+use Rattle.cache_model.specs.declared.format.PageKind.{PageKind}
+use Rattle.cache_model.specs.declared.format.PageKind.TheVariants.{Log, Map, Seal}
+use Rattle.cache_model.specs.Records.{Entries}
+use Rattle.cache_model.specs.Loading.{Complete, Refusal, complete}
+use Rattle.cache_model.specs.Loading as loading
+use Rattle.recovery.specs.declared.plain.PlainLoad.{PlainLoad}
+use Rattle.recovery.specs.declared.plain.PlainLoad.TheVariants.{Loaded, NotFormatted, OtherGeometry, Damaged}
+use Rattle.recovery.specs.declared.plain.regions.Sealed.{Sealed}
+
+-- the page at a place: the list has those of each erase block in turn, and behind its last all are blank
+abbrev pub page_in : Geometry → List Page → Place → Page
+page_in g pages at = slice_index_or pages (at.block * g.p + at.page) Blank
+
+-- a complete checkpoint, and a region with one
+abbrev pub told : Sealed → Complete
+told s = complete s.era s.pages s.seal
+
+abbrev pub told_in : ℕ × Sealed → ℕ × Complete
+told_in x = (x.0, told x.1)
+
+-- where the pages of a kind lie, and how many a region has
+abbrev pub place_of : PageKind → Geometry → ℕ → ℕ → Place
+place_of Log g region i = log_at g region i
+place_of Map g region i = checkpoint_at g region i
+place_of Seal g region i = checkpoint_at g region i
+
+abbrev pub region_pages : PageKind → Geometry → ℕ
+region_pages Log g = log_pages g
+region_pages Map g = checkpoint_pages g
+region_pages Seal g = checkpoint_pages g
+
+-- what is answered is what loading answers
+abbrev pub IsPlainLoad : Geometry → PlainLoad → Result Entries Refusal → Type 0
+IsPlainLoad g (Loaded map) loads = (loads ≡ Ok map.entries) × (map.geometry ≡ g)
+IsPlainLoad g NotFormatted loads = loads ≡ Err loading.NotFormatted
+IsPlainLoad g (OtherGeometry found) loads = loads ≡ Err (loading.OtherGeometry found)
+IsPlainLoad g (Damaged at) loads = loads ≡ Err (loading.Damaged at)

@@ -1,0 +1,17 @@
+//! Recovery: what the flash stands for, loaded from the media alone.
+//!
+//! The layers above rely on this: `load` answers exactly what loading is defined to answer, refusals
+//! included, and writes nothing. `plain` has a slow program with the same definition for its contract,
+//! over all pages of a flash in one list.
+#![tactic(auto)]
+
+mod finding;
+mod loading;
+mod places;
+pub mod plain;
+
+pub use loading::{Loaded, load};
+pub use op_log::OpenError;
+
+#[cfg(test)]
+mod tests;

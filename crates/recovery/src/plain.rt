@@ -1,0 +1,58 @@
+//! Loading once more, over a list of pages: as plainly as it is defined, and as slowly.
+//!
+//! It shares the codecs and `Map` with `load`, and nothing else, so that each can be held against the
+//! other.
+
+ghost use Rattle.std.specs.Prelude.{IfOk};
+ghost use Rattle.cache_model.specs.Loading.{load};
+ghost use Rattle.recovery.specs.Plain.{page_in, IsPlainLoad};
+
+mod applying;
+mod pages;
+mod regions;
+
+use crate::plain::applying::{first_not_whole, replay};
+use crate::plain::pages::is_wanted;
+use crate::plain::regions::newest;
+use cache_model::Seal;
+use ft_base::{Geometry, Page, Place};
+use mapping::Map;
+use std::alloc::{AllocError, Global};
+
+/// What a flash is loaded as.
+#[derive(Drop)]
+pub enum PlainLoad {
+    /// The map that it stands for.
+    Loaded(Map),
+    /// No checkpoint on it is complete.
+    NotFormatted,
+    /// Its newest checkpoint was made for these numbers, and not for those asked for.
+    OtherGeometry(Seal),
+    /// This page is none that a cache of these numbers could have written.
+    Damaged(Place),
+}
+
+/// Loads the map from the pages of a flash: those of each erase block in turn, and behind the last all
+/// are blank.
+pub fn plain_load(
+    alloc: Global,
+    geometry: &Geometry,
+    pages: &[Page],
+) -> Result<PlainLoad, AllocError>
+    ensures { IfOk result (λ loaded. IsPlainLoad geometry.now loaded (load geometry.now (page_in geometry.now pages.now))) }
+{
+    let Some((region, sealed)) = newest(pages, geometry) else {
+        return Ok(PlainLoad::NotFormatted);
+    };
+    if !is_wanted(geometry, &sealed.seal) {
+        return Ok(PlainLoad::OtherGeometry(sealed.seal));
+    }
+    let mut map = Map::new(alloc, geometry);
+    if let Some(at) = replay(pages, geometry, region, &sealed, &mut map)? {
+        return Ok(PlainLoad::Damaged(at));
+    }
+    if let Some(at) = first_not_whole(pages, geometry, &map) {
+        return Ok(PlainLoad::Damaged(at));
+    }
+    Ok(PlainLoad::Loaded(map))
+}

@@ -1,0 +1,153 @@
+ghost use Rattle.std.specs.Prelude.{◌≡◌, ◌<◌, ◌≤◌, Some, None, Ok, Err, IfOk, MatchOption, option_and_then, if◌then◌else◌};
+ghost use Rattle.std.specs.FinMap.{entries};
+ghost use Rattle.ft_base.specs.Layout.{checkpoint_pages};
+ghost use Rattle.cache_model.specs.Reading.{read_records as records_read, read_header as header_read};
+ghost use Rattle.cache_model.specs.Records.{no_entries};
+ghost use Rattle.cache_model.specs.Loading as loading;
+ghost use Rattle.recovery.specs.Plain.{page_in, place_of, region_pages, told};
+
+use crate::plain::pages::{header_at, is_whole, page_at};
+use crate::plain::regions::Sealed;
+use cache_model::{Header, PageKind};
+use ft_base::{Block, Geometry, Page, Place, Record};
+use mapping::Map;
+use record_codec::read_records;
+use std::alloc::AllocError;
+
+/// Pages of one kind and era, from the start of a region on.
+#[derive(Clone, Copy, Debug, PartialEq, Eq)]
+pub(crate) struct Part {
+    /// Map pages or log pages.
+    kind: PageKind,
+    /// The region, 0 or 1.
+    region: u32,
+    /// Their era.
+    era: u8,
+    /// How many there may be.
+    pages: u32,
+}
+
+/// Applies a checkpoint and its log to an empty map, up to the first damaged page, which is told.
+pub(crate) fn replay(
+    pages: &[Page],
+    geometry: &Geometry,
+    region: u32,
+    sealed: &Sealed,
+    map: &mut Map,
+) -> Result<Option<Place>, AllocError>
+    requires region { region < 2 }
+    requires pages { sealed.now.pages ≤ checkpoint_pages geometry.now }
+    requires map { map.old.geometry ≡ geometry.now }
+    requires nothing { map.old.entries ≡ no_entries }
+    ensures geometry { map.new.geometry ≡ map.old.geometry }
+    ensures replayed { IfOk result (λ damaged. MatchOption damaged
+        (loading.replayed geometry.now (page_in geometry.now pages.now) (region, told sealed.now) ≡ Ok map.new.entries)
+        (λ at. loading.replayed geometry.now (page_in geometry.now pages.now) (region, told sealed.now) ≡ Err (loading.Damaged at))) }
+{
+    let maps = Part {
+        kind: PageKind::Map,
+        region,
+        era: sealed.era,
+        pages: sealed.pages,
+    };
+    if let Some(at) = apply_part(pages, geometry, &maps, map)? {
+        return Ok(Some(at));
+    }
+    let log = Part {
+        kind: PageKind::Log,
+        region,
+        era: sealed.era,
+        pages: geometry.j * geometry.p,
+    };
+    let damaged = apply_part(pages, geometry, &log, map)?;
+    Ok(damaged)
+}
+
+/// Applies pages in order, up to the first that is none of them, or the first damaged one, which is
+/// told.
+fn apply_part(
+    pages: &[Page],
+    geometry: &Geometry,
+    part: &Part,
+    map: &mut Map,
+) -> Result<Option<Place>, AllocError>
+    requires region { part.now.region < 2 }
+    requires pages { part.now.pages ≤ region_pages part.now.kind geometry.now }
+    requires map { map.old.geometry ≡ geometry.now }
+    ensures geometry { map.new.geometry ≡ map.old.geometry }
+    ensures applied { IfOk result (λ damaged. MatchOption damaged
+        (loading.after_pages geometry.now part.now.kind part.now.era (place_of part.now.kind geometry.now part.now.region) 0 (loading.pages_from (page_in geometry.now pages.now) (place_of part.now.kind geometry.now part.now.region) 0 part.now.pages) map.old.entries ≡ Ok map.new.entries)
+        (λ at. loading.after_pages geometry.now part.now.kind part.now.era (place_of part.now.kind geometry.now part.now.region) 0 (loading.pages_from (page_in geometry.now pages.now) (place_of part.now.kind geometry.now part.now.region) 0 part.now.pages) map.old.entries ≡ Err (loading.Damaged at))) }
+{
+    for i in 0..part.pages {
+        let at = place_in(geometry, part.kind, part.region, i);
+        let page = page_at(pages, geometry, at);
+        let Some(header) = header_at(&page, part.kind, part.era, i) else {
+            return Ok(None);
+        };
+        if !apply_page(&page, &header, map)? {
+            return Ok(Some(at));
+        }
+    }
+    Ok(None)
+}
+
+/// The place of page `i` of a region of this kind.
+fn place_in(geometry: &Geometry, kind: PageKind, region: u32, i: u32) -> Place
+    requires region { region < 2 }
+    requires page { i < region_pages kind geometry.now }
+    ensures { result ≡ place_of kind geometry.now region i }
+{
+    match kind {
+        PageKind::Log => geometry.log_at(region, i),
+        PageKind::Map | PageKind::Seal => geometry.checkpoint_at(region, i),
+    }
+}
+
+/// Applies the records of a page with this header. False where they are none, or one doesn't fit when
+/// its turn comes.
+fn apply_page(page: &Page, header: &Header, map: &mut Map) -> Result<bool, AllocError>
+    requires { loading.said header_read page.now ≡ Some header.now }
+    ensures geometry { map.new.geometry ≡ map.old.geometry }
+    ensures applied { IfOk result (λ fits. option_and_then (λ changes. loading.after_all map.old.geometry changes map.old.entries) (loading.said (records_read header.now) page.now) ≡ (if fits then Some map.new.entries else None)) }
+{
+    let Page::Whole(block, _) = page else {
+        return Ok(false);
+    };
+    let mut changes = [Record::Remove { lba: 0 }; 127];
+    if !read_records(block, header, &mut changes) {
+        return Ok(false);
+    }
+    apply_records(&changes[..header.count as usize], map)
+}
+
+/// Applies records in order. False where one doesn't fit when its turn comes.
+fn apply_records(changes: &[Record], map: &mut Map) -> Result<bool, AllocError>
+    ensures geometry { map.new.geometry ≡ map.old.geometry }
+    ensures applied { IfOk result (λ fits. loading.after_all map.old.geometry changes.now map.old.entries ≡ (if fits then Some map.new.entries else None)) }
+{
+    for change in changes {
+        if !map.fits(change) {
+            return Ok(false);
+        }
+        map.reserve(1, 1)?;
+        map.apply(change);
+    }
+    Ok(true)
+}
+
+/// The place of the first entry, in ascending order of address, whose page isn't whole.
+pub(crate) fn first_not_whole(pages: &[Page], geometry: &Geometry, map: &Map) -> Option<Place>
+    ensures { MatchOption result
+        (loading.all_whole (page_in geometry.now pages.now) (entries map.now.entries) map.now.entries ≡ Ok map.now.entries)
+        (λ at. loading.all_whole (page_in geometry.now pages.now) (entries map.now.entries) map.now.entries ≡ Err (loading.Damaged at)) }
+{
+    for i in 0..map.held() {
+        if let Some((_, at)) = map.nth(i) {
+            if !is_whole(&page_at(pages, geometry, at)) {
+                return Some(at);
+            }
+        }
+    }
+    None
+}
