@@ -1,0 +1,199 @@
+-- What is buffered between two commands, and the list without it.
+use Rattle.std.proofs.Common.{◌≡◌, ℕ, suc, ◌+◌, ◌<◌, ◌==◌, ◌||◌, true, false, cond, List, [], ◌∷◌, ◌++◌, length, Option, Some, None, refl, sym, ◌∙◌, ap, subst, arith, inl, inr, eqb-true, ne_eqb, map, length-append}
+use Rattle.std.specs.Option.{option_and_then, option_map}
+use Rattle.std.specs.List.{list_all, AllByRecursion}
+use Rattle.std.specs.FinMap.{get}
+use Rattle.std.proofs.lemmas.Bool.{cases_Bool, and_parts, and_from, or_parts}
+use Rattle.std.proofs.lemmas.Bool.Decides.{nat_tests}
+use Rattle.ft_base.specs.declared.block.Block.{Block}
+use Rattle.ft_base.specs.declared.block.Place.{Place}
+use Rattle.ft_base.specs.declared.block.Page.{Page}
+use Rattle.ft_base.specs.declared.block.Page.TheVariants.{Blank, Whole, Torn}
+use Rattle.ft_base.specs.declared.record.Record.{Record}
+use Rattle.ft_base.specs.declared.record.Record.TheVariants.{SetPage, Clean}
+use Rattle.ft_base.specs.Contents.{Contents}
+use Rattle.cache_model.specs.declared.entry.Entry.{Entry}
+use Rattle.cache_model.specs.Loading.{is_whole}
+use Rattle.cache_model.specs.Cache.{Held, held, CacheList, Buffered, Inserted, Cleaned, address_of, AreApart, MayWait, undo, written_clean, made_clean, marked_as}
+use Rattle.cache_model.specs.Stands.{held_at, block_in}
+use Rattle.cache_model.proofs.MapLemmas.{get_insert}
+use Rattle.cache_model.proofs.CountLemmas.{member, same_number}
+use Rattle.cache_model.proofs.UndoLemmas.{undone_at, undo_inserted, undo_cleaned, get_marked}
+use Rattle.mapping.proofs.CountsLemmas.{member_push}
+use Rattle.ssc.specs.CacheState.{CacheValue, Keeps, Holds, may_wait, waiting_as, waiting, pending}
+use Rattle.ssc.specs.Commands.{PendsWith}
+use Rattle.ssc.specs.Steps.{KeepsSome, KeepsAfter}
+use Rattle.ssc.proofs.PutLemmas.{push_some}
+
+-- ---- what waits, record by record
+
+pub length_waiting : (changes : List Record) → length (waiting changes) ≡ length changes
+length_waiting [] = refl
+length_waiting (change ∷ changes) = ap suc (length_waiting changes)
+
+pub waiting_push : (changes : List Record) (own : Record) → waiting (changes ++ own ∷ []) ≡ waiting changes ++ waiting_as own ∷ []
+waiting_push [] own = refl
+waiting_push (change ∷ changes) own = ap (λ l. waiting_as change ∷ l) (waiting_push changes own)
+
+kinds_push : (changes : List Record) (own : Record) → may_wait own ≡ true → list_all may_wait changes ≡ true → list_all may_wait (changes ++ own ∷ []) ≡ true
+kinds_push [] own may all = and_from _ _ may refl
+kinds_push (change ∷ changes) own may all = let p = and_parts (may_wait change) (list_all may_wait changes) all in and_from _ _ p.0 (kinds_push changes own may p.1)
+
+pub few_buffered : (c : CacheValue) (contents : Contents) (s : CacheList) → Holds c contents s → length c.log.buffered < 127
+few_buffered c contents s holds = let few = holds.waits.few in let same = length_waiting c.log.buffered in omega arith
+
+pub keeps_some : (c : CacheValue) (contents : Contents) (s : CacheList) → Holds c contents s → KeepsSome c contents
+keeps_some c contents s holds = record { list = s; durable = undo (pending c) s; keeps = holds.keeps }
+
+-- ---- what may wait beside a list
+
+abbrev pub IsCleanIn : CacheList → Buffered → Type 0
+IsCleanIn s b = (block : Block) × (get s (address_of b) ≡ Some (held block false))
+
+-- an address that isn't held clean isn't buffered
+pub not_waiting : (q : List Buffered) (s : CacheList) (a : ℕ) → ((block : Block) → get s a ≡ Some (held block false) → ⊥) → AllByRecursion (IsCleanIn s) q → member a (map address_of q) ≡ false
+not_waiting [] s a never all = refl
+not_waiting (b ∷ bs) s a never all = elim (cases_Bool (address_of b == a)) [
+  | inl t ↦ absurd (never all.0.0 (ap (λ n. get s n) (sym (eqb-true _ _ t)) ∙ all.0.1))
+  | inr f ↦ ap (λ x. x || member a (map address_of bs)) f ∙ not_waiting bs s a never all.1
+]
+
+turned : (x y : ℕ) → (x == y) ≡ (y == x)
+turned x y = grind (arith, nat_tests)
+
+-- and nothing is changed back there
+pub undone_away : (q : List Buffered) (a : ℕ) → member a (map address_of q) ≡ false → (o : Option Held) → undone_at q a o ≡ o
+undone_away [] a f o = refl
+undone_away (Inserted k ∷ bs) a f o =
+    let p = or_parts (k == a) (member a (map address_of bs)) f in
+    ap (λ x. undone_at bs a (cond x None o)) (turned a k ∙ p.0) ∙ undone_away bs a p.1 o
+undone_away (Cleaned k ∷ bs) a f o =
+    let p = or_parts (k == a) (member a (map address_of bs)) f in
+    ap (λ x. undone_at bs a (cond x (option_map (marked_as true) o) o)) (turned a k ∙ p.0) ∙ undone_away bs a p.1 o
+
+apart_push : (ns : List ℕ) (n : ℕ) → member n ns ≡ false → AreApart ns → AreApart (ns ++ n ∷ [])
+apart_push [] n f apart = (refl, tt)
+apart_push (k ∷ ks) n f apart =
+    let p = or_parts (k == n) (member n ks) f in
+    (member_push k n ks ∙ ap (λ x. x || (n == k)) apart.0 ∙ turned n k ∙ p.0, apart_push ks n p.1 apart.1)
+
+all_push : {A : Type 0} (P Q : A → Type 0) (xs : List A) (x : A) → ((y : A) → P y → Q y) → AllByRecursion P xs → Q x → AllByRecursion Q (xs ++ x ∷ [])
+all_push P Q [] x more all own = (own, tt)
+all_push P Q (y ∷ ys) x more all own = (more y all.0, all_push P Q ys x more all.1 own)
+
+map_push : (q : List Buffered) (b : Buffered) → map address_of (q ++ b ∷ []) ≡ map address_of q ++ address_of b ∷ []
+map_push [] b = refl
+map_push (x ∷ xs) b = ap (λ l. address_of x ∷ l) (map_push xs b)
+
+pub waits_none : (s : CacheList) → MayWait [] s
+waits_none s = record { apart = tt; clean = tt; few = omega arith }
+
+pub waits_push : (q : List Buffered) (own : Buffered) (s s' : CacheList) → ((block : Block) → get s (address_of own) ≡ Some (held block false) → ⊥) → ((a : ℕ) → (a ≡ address_of own → ⊥) → get s' a ≡ get s a) → IsCleanIn s' own → length q + 1 < 127 → MayWait q s → MayWait (q ++ own ∷ []) s'
+waits_push q own s s' never same clean few waits =
+    let absent = not_waiting q s (address_of own) never waits.clean in
+    record {
+      apart = subst AreApart (sym (map_push q own)) (apart_push (map address_of q) (address_of own) absent waits.apart);
+      clean = all_push (IsCleanIn s) (IsCleanIn s') q own (λ b is. (is.0, same (address_of b) (λ e. never is.0 (ap (λ n. get s n) (sym e) ∙ is.1)) ∙ is.1)) waits.clean clean;
+      few = omega (arith, length-append q (own ∷ []));
+    }
+
+-- ---- the cache between two commands
+
+pub holds_from : (c : CacheValue) (contents : Contents) (s durable : CacheList) (buffered : List Record) → c.log.buffered ≡ buffered → undo (waiting buffered) s ≡ durable → Keeps c contents s durable → list_all may_wait buffered ≡ true → MayWait (waiting buffered) s → Holds c contents s
+holds_from c contents s durable buffered is undone keeps kinds waits = record {
+  keeps = subst (λ (d : CacheList). Keeps c contents s d) (sym undone ∙ ap (λ (l : List Record). undo (waiting l) s) (sym is)) keeps;
+  kinds = subst (λ (l : List Record). list_all may_wait l ≡ true) (sym is) kinds;
+  waits = subst (λ (l : List Record). MayWait (waiting l) s) (sym is) waits;
+}
+
+pub holds_committed : (c : CacheValue) (contents : Contents) (s : CacheList) → c.log.buffered ≡ [] → Keeps c contents s s → Holds c contents s
+holds_committed c contents s is keeps = holds_from c contents s s [] is refl keeps refl (waits_none s)
+
+-- a step that waits, in a record of its own
+module _ (old new : CacheValue) (contents contents' : Contents) (s s' : CacheList) (own : Record) (holds : Holds old contents s)
+    (may : may_wait own ≡ true)
+    (never : (block : Block) → get s (address_of (waiting_as own)) ≡ Some (held block false) → ⊥)
+    (same : (a : ℕ) → (a ≡ address_of (waiting_as own) → ⊥) → get s' a ≡ get s a)
+    (clean : IsCleanIn s' (waiting_as own))
+    (undone : (q : List Buffered) → ((o : Option Held) → undone_at q (address_of (waiting_as own)) o ≡ o) → undo (q ++ waiting_as own ∷ []) s' ≡ undo q s) where
+  away : (o : Option Held) → undone_at (pending old) (address_of (waiting_as own)) o ≡ o
+  away = undone_away (pending old) (address_of (waiting_as own)) (not_waiting (pending old) s (address_of (waiting_as own)) never holds.waits.clean)
+
+  pub holds_after : length new.log.buffered < 127 → KeepsAfter old.log.buffered own new contents' (undo (pending old) s) s s' → Holds new contents' s'
+  holds_after few (inl k) =
+      let q = pending old in
+      let pushed = waiting_push old.log.buffered own in
+      let count : length q + 1 < 127 = omega (arith, length_waiting old.log.buffered, ap length k.0, length-append old.log.buffered (own ∷ [])) in
+      holds_from new contents' s' (undo q s) (old.log.buffered ++ own ∷ []) k.0 (ap (λ (l : List Buffered). undo l s') pushed ∙ undone q away) k.1
+      (kinds_push old.log.buffered own may holds.kinds)
+      (subst (λ (l : List Buffered). MayWait l s') (sym pushed) (waits_push q (waiting_as own) s s' never same clean count holds.waits))
+  holds_after few (inr (inl k)) =
+      holds_from new contents' s' s (own ∷ []) k.0 (undone [] (λ o. refl)) k.1 (and_from _ _ may refl)
+      (waits_push [] (waiting_as own) s s' never same clean (omega arith) (waits_none s))
+  holds_after few (inr (inr k)) = holds_committed new contents' s' k.0 k.1
+
+  pub pends_after : KeepsAfter old.log.buffered own new contents' (undo (pending old) s) s s' → PendsWith (pending old) (pending new) (waiting_as own)
+  pends_after (inl k) = inl (ap waiting k.0 ∙ waiting_push old.log.buffered own)
+  pends_after (inr (inl k)) = inr (inl (ap waiting k.0))
+  pends_after (inr (inr k)) = inr (inr (ap waiting k.0))
+
+-- a clean block at an address that was absent
+module _ (old new : CacheValue) (contents contents' : Contents) (s : CacheList) (lba : ℕ) (at : Place) (block : Block) (holds : Holds old contents s) (absent : get s lba ≡ None) where
+  none_clean : (b : Block) → get s lba ≡ Some (held b false) → ⊥
+  none_clean b is = let both : None ≡ Some (held b false) = sym absent ∙ is in cc
+
+  other_inserted : (a : ℕ) → (a ≡ lba → ⊥) → get (written_clean lba block s) a ≡ get s a
+  other_inserted a other = get_insert s lba (held block false) a ∙ ap (λ x. cond x (Some (held block false)) (get s a)) (ne_eqb a lba other)
+
+  here_inserted : get (written_clean lba block s) lba ≡ Some (held block false)
+  here_inserted = get_insert s lba (held block false) lba ∙ ap (λ x. cond x (Some (held block false)) (get s lba)) (same_number lba)
+
+  pub holds_inserted : length new.log.buffered < 127 → KeepsAfter old.log.buffered (SetPage lba at false) new contents' (undo (pending old) s) s (written_clean lba block s) → Holds new contents' (written_clean lba block s)
+  holds_inserted = holds_after old new contents contents' s (written_clean lba block s) (SetPage lba at false) holds refl none_clean other_inserted (block, here_inserted) (λ q away. undo_inserted q s lba block absent)
+
+  pub pends_inserted : KeepsAfter old.log.buffered (SetPage lba at false) new contents' (undo (pending old) s) s (written_clean lba block s) → PendsWith (pending old) (pending new) (Inserted lba)
+  pends_inserted = pends_after old new contents contents' s (written_clean lba block s) (SetPage lba at false) holds refl none_clean other_inserted (block, here_inserted) (λ q away. undo_inserted q s lba block absent)
+
+-- an address that was dirty, and is clean
+module _ (old new : CacheValue) (contents contents' : Contents) (s : CacheList) (lba : ℕ) (block : Block) (holds : Holds old contents s) (dirty : get s lba ≡ Some (held block true)) where
+  dirty_not_clean : (b : Block) → get s lba ≡ Some (held b false) → ⊥
+  dirty_not_clean b is =
+      let both : Some (held block true) ≡ Some (held b false) = sym dirty ∙ is in
+      let same : held block true ≡ held b false = cc in
+      let bits : true ≡ false = ap (λ (h : Held). h.dirty) same in
+      cc
+
+  other_cleaned : (a : ℕ) → (a ≡ lba → ⊥) → get (made_clean lba s) a ≡ get s a
+  other_cleaned a other = get_marked false lba s (get s lba) a refl ∙ ap (λ x. cond x (option_map (marked_as false) (get s a)) (get s a)) (ne_eqb a lba other)
+
+  here_cleaned : get (made_clean lba s) lba ≡ Some (held block false)
+  here_cleaned = get_marked false lba s (get s lba) lba refl ∙ ap (λ x. cond x (option_map (marked_as false) (get s lba)) (get s lba)) (same_number lba) ∙ ap (option_map (marked_as false)) dirty
+
+  pub holds_cleaned : length new.log.buffered < 127 → KeepsAfter old.log.buffered (Clean lba) new contents' (undo (pending old) s) s (made_clean lba s) → Holds new contents' (made_clean lba s)
+  holds_cleaned = holds_after old new contents contents' s (made_clean lba s) (Clean lba) holds refl dirty_not_clean other_cleaned (block, here_cleaned) (λ q away. undo_cleaned q s lba block dirty away)
+
+  pub pends_cleaned : KeepsAfter old.log.buffered (Clean lba) new contents' (undo (pending old) s) s (made_clean lba s) → PendsWith (pending old) (pending new) (Cleaned lba)
+  pends_cleaned = pends_after old new contents contents' s (made_clean lba s) (Clean lba) holds refl dirty_not_clean other_cleaned (block, here_cleaned) (λ q away. undo_cleaned q s lba block dirty away)
+
+-- where nothing is buffered, a clean block over a held one is committed
+pub after_none : (buffered : List Record) (own : Record) (c : CacheValue) (contents : Contents) (durable before list : CacheList) → c.log.buffered ≡ [] → KeepsAfter buffered own c contents durable before list → Keeps c contents list list
+after_none buffered own c contents durable before list none (inl k) = absurd (push_some buffered own (sym k.0 ∙ none))
+after_none buffered own c contents durable before list none (inr (inl k)) = absurd (push_some [] own (sym k.0 ∙ none))
+after_none buffered own c contents durable before list none (inr (inr k)) = k.1
+
+-- ---- entries and the list
+
+-- an address is held exactly where it has an entry
+pub held_none : (c : CacheValue) (contents : Contents) (s : CacheList) (a : ℕ) → Holds c contents s → get c.entries a ≡ None → get s a ≡ None
+held_none c contents s a holds none = holds.keeps.held a ∙ ap (option_and_then (held_at contents.flash.page)) none
+
+pub held_some : (c : CacheValue) (contents : Contents) (s : CacheList) (a : ℕ) (e : Entry) → Holds c contents s → get c.entries a ≡ Some e → (block : Block) × (get s a ≡ Some (held block e.dirty))
+held_some c contents s a e holds is = let h = held_whole contents.flash.page e (holds.keeps.whole.whole a e is) in (h.0, holds.keeps.held a ∙ ap (option_and_then (held_at contents.flash.page)) is ∙ h.1)
+  where
+    held_whole : (page : Place → Page) (e : Entry) → is_whole (page e.place) ≡ true → (block : Block) × (held_at page e ≡ Some (held block e.dirty))
+    held_whole page e whole = by_page (page e.place) whole
+      where
+        by_page : (q : Page) → is_whole q ≡ true → (block : Block) × (option_map (λ block. held block e.dirty) (block_in q) ≡ Some (held block e.dirty))
+        by_page Blank whole = absurd (cc)
+        by_page (Whole block spare) whole = (block, refl)
+        by_page Torn whole = absurd (cc)

@@ -1,0 +1,14 @@
+pub mod AheadLemmas
+pub mod ProgramLemmas
+pub mod DirtyLemmas
+pub mod NoteLemmas
+pub mod PlaceLemmas
+pub mod HoldsLemmas
+pub mod CommitLemmas
+pub mod ResultLemmas
+pub mod StepLemmas
+pub mod PutLemmas
+pub mod SpendLemmas
+pub mod CommandLemmas
+pub mod OpenLemmas
+pub mod ListedLemmas

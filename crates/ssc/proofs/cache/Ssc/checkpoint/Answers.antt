@@ -1,0 +1,15 @@
+use Rattle.cache_model.specs.Cache.{undo}
+use Rattle.ssc.specs.CacheState.{pending, geometry_of}
+use Rattle.ssc.proofs.PutLemmas.{one_first}
+use Rattle.ssc.proofs.HoldsLemmas.{holds_committed}
+use Rattle.ssc.proofs.CommandLemmas.{image_of}
+use Rattle.ssc.proofs.cache.Ssc.checkpoint.Goals as goal
+
+pub returns-in-Ok-clause-done : goal.returns-in-Ok-clause-done
+returns-in-Ok-clause-done g c = λ s holds. holds_committed c.checkpoint_now.new.self (g.M.Media.state c.checkpoint_now.new.media).contents s c.in-Ok.ensures.nothing_waits (c.in-Ok.ensures.done s (undo (pending c.args.self.now) s) holds.keeps)
+
+pub returns-in-Ok-clause-images : goal.returns-in-Ok-clause-images
+returns-in-Ok-clause-images g c = λ s holds. image_of (geometry_of c.args.self.now) (g.M.Media.state c.checkpoint_now.new.media).contents (undo (pending c.args.self.now) s) s s (one_first _ _ (undo (pending c.args.self.now) s) s s (c.checkpoint_now.ensures.stands s (undo (pending c.args.self.now) s) holds.keeps))
+
+pub returns-in-Err-clause-images : goal.returns-in-Err-clause-images
+returns-in-Err-clause-images g c = λ s holds. image_of (geometry_of c.args.self.now) (g.M.Media.state c.checkpoint_now.new.media).contents (undo (pending c.args.self.now) s) s s (one_first _ _ (undo (pending c.args.self.now) s) s s (c.checkpoint_now.ensures.stands s (undo (pending c.args.self.now) s) holds.keeps))

@@ -1,0 +1,5 @@
+pub mod Errors
+pub mod CacheState
+pub mod Commands
+pub mod Steps
+pub mod Listed

@@ -1,0 +1,233 @@
+ghost use Rattle.std.specs.Prelude.{◌≡◌, ◌≢◌, ◌≤◌, ◌<◌, ◌+◌, ◌-◌, ◌/◌, ◌++◌, ◌∷◌, [], ℕ, length, true, false, Some, None, OnOk, OnErr, IfOk, IsErrOf, ◌⊎◌};
+ghost use Rattle.std.specs.FinMap.{get};
+ghost use Rattle.ft_base.specs.Contents.{Contents};
+ghost use Rattle.ft_base.specs.Count.{Rose};
+ghost use Rattle.ft_media.specs.Drives.{DrivesFlash};
+ghost use Rattle.ft_media.specs.Reads.{ReadsFlash};
+ghost use Rattle.ft_media.specs.Passes.{Spends};
+ghost use Rattle.ft_media.specs.Media.{program_counted};
+ghost use Rattle.cache_model.specs.Cache.{CacheList, Inserted, Cleaned, written_dirty, written_clean, evicted, made_clean, dirty_between, held};
+ghost use Rattle.cache_model.specs.Loading.{load};
+ghost use Rattle.ssc.specs.Errors.{ssc_failed, ssc_lost, stops};
+ghost use Rattle.ssc.specs.CacheState.{Holds, IsUp, geometry_of, log_room, open_room, pages_left, pending};
+ghost use Rattle.ssc.specs.Commands.{ImagesOf, FullExactly, PendsWith, IsHeldIn, ReadOf};
+
+use crate::error::of_media;
+use crate::{Ssc, SscError};
+use ft_base::{Block, Spare};
+use ft_media::{Media, MediaError, PageRead};
+use std::alloc::AllocError;
+
+impl Ssc {
+    /// Holds the block at an address, dirty, on the flash when it answers.
+    ///
+    /// Full is decided first, then want of memory; both change nothing.
+    pub fn write_dirty<M: Media>(
+        &mut self,
+        media: &mut M,
+        lba: u64,
+        block: &Block,
+    ) -> Result<(), SscError>
+        requires up { IsUp self.old (M.state media.old).contents }
+        requires lba { lba < (geometry_of self.old).size }
+        requires room { 1 ≤ pages_left self.old }
+        ensures geometry { geometry_of self.new ≡ geometry_of self.old }
+        ensures full { (s : CacheList) → Holds self.old (M.state media.old).contents s → FullExactly (geometry_of self.old) s lba result }
+        ensures full_keeps { (n l : ℕ) → IsErrOf result (SscError.Full n l) → (self.new ≡ self.old) × (M.state media.new ≡ M.state media.old) }
+        ensures memory { IsErrOf result SscError.OutOfMemory → (self.old.ready ≡ false) × (self.new ≡ self.old) × (M.state media.new ≡ M.state media.old) }
+        ensures stopped { self.new.stopped ≡ stops result }
+        ensures done { OnOk result ((s : CacheList) → Holds self.old (M.state media.old).contents s → Holds self.new (M.state media.new).contents (written_dirty lba block.now s)) }
+        ensures nothing_waits { OnOk result (pending self.new ≡ []) }
+        ensures images { (s : CacheList) → Holds self.old (M.state media.old).contents s → ImagesOf self.old (M.state media.new).contents s (written_dirty lba block.now s) }
+        ensures pages { OnOk result (pages_left self.new + 1 ≡ pages_left self.old) }
+        ensures two_programs { OnOk result (1 ≤ open_room self.old → 1 ≤ log_room self.old → (M.state media.new).counts ≡ program_counted (program_counted (M.state media.old).counts)) }
+        ensures programs { OnOk result (Rose (M.state media.old).counts.programs (M.state media.new).counts.programs) }
+        ensures spends { OnOk result (Spends 2 (M.state media.old) (M.state media.new)) }
+        ensures drives { DrivesFlash (M.state media.old) (M.state media.new) (ssc_failed result) (ssc_lost result) }
+    {
+        if self.is_full(lba) {
+            return Err(SscError::Full {
+                dirty_groups: self.geometry.c + 1,
+                limit: self.geometry.c,
+            });
+        }
+        if self.reserve().is_err() {
+            return Err(SscError::OutOfMemory);
+        }
+        match self.put_dirty(media, lba, block) {
+            Ok(()) => Ok(()),
+            Err(error) => Err(self.give_up(error)),
+        }
+    }
+
+    /// Holds the block at an address, clean. At an address that was absent a crash may drop it.
+    pub fn write_clean<M: Media>(
+        &mut self,
+        media: &mut M,
+        lba: u64,
+        block: &Block,
+    ) -> Result<(), SscError>
+        requires up { IsUp self.old (M.state media.old).contents }
+        requires lba { lba < (geometry_of self.old).size }
+        requires room { 1 ≤ pages_left self.old }
+        ensures geometry { geometry_of self.new ≡ geometry_of self.old }
+        ensures full { (n l : ℕ) → IsErrOf result (SscError.Full n l) → ⊥ }
+        ensures memory { IsErrOf result SscError.OutOfMemory → (self.old.ready ≡ false) × (self.new ≡ self.old) × (M.state media.new ≡ M.state media.old) }
+        ensures stopped { self.new.stopped ≡ stops result }
+        ensures done { OnOk result ((s : CacheList) → Holds self.old (M.state media.old).contents s → Holds self.new (M.state media.new).contents (written_clean lba block.now s)) }
+        ensures over_held { OnOk result ((s : CacheList) → Holds self.old (M.state media.old).contents s → IsHeldIn s lba → pending self.new ≡ []) }
+        ensures at_absent { OnOk result ((s : CacheList) → Holds self.old (M.state media.old).contents s → get s lba ≡ None → PendsWith (pending self.old) (pending self.new) (Inserted lba)) }
+        ensures images { (s : CacheList) → Holds self.old (M.state media.old).contents s → ImagesOf self.old (M.state media.new).contents s (written_clean lba block.now s) }
+        ensures pages { OnOk result (pages_left self.new + 1 ≡ pages_left self.old) }
+        ensures one_program { OnOk result ((s : CacheList) → Holds self.old (M.state media.old).contents s → get s lba ≡ None → 1 ≤ open_room self.old → length (pending self.old) + 2 ≤ 127
+            → ((M.state media.new).counts ≡ program_counted (M.state media.old).counts) × (pending self.new ≡ pending self.old ++ Inserted lba ∷ [])) }
+        ensures programs { OnOk result (Rose (M.state media.old).counts.programs (M.state media.new).counts.programs) }
+        ensures spends { OnOk result (Spends 1 (M.state media.old) (M.state media.new)) }
+        ensures drives { DrivesFlash (M.state media.old) (M.state media.new) (ssc_failed result) (ssc_lost result) }
+    {
+        if self.reserve().is_err() {
+            return Err(SscError::OutOfMemory);
+        }
+        let is_held = self.is_held(lba);
+        match self.put_clean(media, lba, block, is_held) {
+            Ok(()) => Ok(()),
+            Err(error) => Err(self.give_up(error)),
+        }
+    }
+
+    /// Reads the block of an address: false where it isn't held. It changes nothing.
+    pub fn read<M: Media>(
+        &mut self,
+        media: &mut M,
+        lba: u64,
+        block: &mut Block,
+    ) -> Result<bool, SscError>
+        requires up { IsUp self.old (M.state media.old).contents }
+        requires lba { lba < (geometry_of self.old).size }
+        ensures same { self.new ≡ self.old }
+        ensures found { IfOk result (λ found. (s : CacheList) → Holds self.old (M.state media.old).contents s → ReadOf (get s lba) found block.new) }
+        ensures full { (n l : ℕ) → IsErrOf result (SscError.Full n l) → ⊥ }
+        ensures memory { IsErrOf result SscError.OutOfMemory → ⊥ }
+        ensures reads { ReadsFlash (M.state media.old) (M.state media.new) (ssc_failed result) (ssc_lost result) }
+    {
+        let Some((place, _)) = self.map.place(lba) else {
+            return Ok(false);
+        };
+        let mut spare = Spare([0; 32]);
+        match media.read_page(place, block, &mut spare) {
+            Ok(PageRead::Whole) => Ok(true),
+            Ok(PageRead::Blank) => unreachable!(),
+            Ok(PageRead::Torn) => unreachable!(),
+            Err(error) => Err(of_media(error)),
+        }
+    }
+
+    /// Holds an address no more, on the flash when it answers. It takes no memory.
+    pub fn evict<M: Media>(&mut self, media: &mut M, lba: u64) -> Result<(), SscError>
+        requires up { IsUp self.old (M.state media.old).contents }
+        requires lba { lba < (geometry_of self.old).size }
+        ensures geometry { geometry_of self.new ≡ geometry_of self.old }
+        ensures full { (n l : ℕ) → IsErrOf result (SscError.Full n l) → ⊥ }
+        ensures memory { IsErrOf result SscError.OutOfMemory → ⊥ }
+        ensures stopped { self.new.stopped ≡ stops result }
+        ensures done { OnOk result ((s : CacheList) → Holds self.old (M.state media.old).contents s → Holds self.new (M.state media.new).contents (evicted lba s)) }
+        ensures held { OnOk result ((s : CacheList) → Holds self.old (M.state media.old).contents s → IsHeldIn s lba → pending self.new ≡ []) }
+        ensures absent { OnOk result ((s : CacheList) → Holds self.old (M.state media.old).contents s → get s lba ≡ None → (self.new ≡ self.old) × (M.state media.new ≡ M.state media.old)) }
+        ensures images { (s : CacheList) → Holds self.old (M.state media.old).contents s → ImagesOf self.old (M.state media.new).contents s (evicted lba s) }
+        ensures pages { self.new.next ≡ self.old.next }
+        ensures ready { self.new.ready ≡ self.old.ready }
+        ensures drives { DrivesFlash (M.state media.old) (M.state media.new) (ssc_failed result) (ssc_lost result) }
+    {
+        if !self.is_held(lba) {
+            return Ok(());
+        }
+        match self.put_out(media, lba) {
+            Ok(()) => Ok(()),
+            Err(error) => Err(self.give_up(error)),
+        }
+    }
+
+    /// Marks a dirty block clean. A crash may make it dirty again. It takes no memory.
+    pub fn clean<M: Media>(&mut self, media: &mut M, lba: u64) -> Result<(), SscError>
+        requires up { IsUp self.old (M.state media.old).contents }
+        requires lba { lba < (geometry_of self.old).size }
+        ensures geometry { geometry_of self.new ≡ geometry_of self.old }
+        ensures full { (n l : ℕ) → IsErrOf result (SscError.Full n l) → ⊥ }
+        ensures memory { IsErrOf result SscError.OutOfMemory → ⊥ }
+        ensures stopped { self.new.stopped ≡ stops result }
+        ensures done { OnOk result ((s : CacheList) → Holds self.old (M.state media.old).contents s → Holds self.new (M.state media.new).contents (made_clean lba s)) }
+        ensures of_dirty { OnOk result ((s : CacheList) (b : Block) → Holds self.old (M.state media.old).contents s → get s lba ≡ Some (held b true) → PendsWith (pending self.old) (pending self.new) (Cleaned lba)) }
+        ensures of_other { OnOk result ((s : CacheList) → Holds self.old (M.state media.old).contents s → ((b : Block) → get s lba ≡ Some (held b true) → ⊥) → (self.new ≡ self.old) × (M.state media.new ≡ M.state media.old)) }
+        ensures no_write { OnOk result (length (pending self.old) + 2 ≤ 127 → M.state media.new ≡ M.state media.old) }
+        ensures images { (s : CacheList) → Holds self.old (M.state media.old).contents s → ImagesOf self.old (M.state media.new).contents s (made_clean lba s) }
+        ensures pages { self.new.next ≡ self.old.next }
+        ensures ready { self.new.ready ≡ self.old.ready }
+        ensures drives { DrivesFlash (M.state media.old) (M.state media.new) (ssc_failed result) (ssc_lost result) }
+    {
+        if !self.is_dirty(lba) {
+            return Ok(());
+        }
+        match self.mark_clean(media, lba) {
+            Ok(()) => Ok(()),
+            Err(error) => Err(self.give_up(error)),
+        }
+    }
+
+    /// Adds the dirty addresses from `from` on, `count` of them at most, ascending. Refused, `out` is
+    /// as before.
+    pub fn exists(&self, from: u64, count: u64, out: &mut Vec<u64>) -> Result<(), AllocError>
+        requires { from + count ≤ (geometry_of self.now).size }
+        ensures done { OnOk result ((contents : Contents) (s : CacheList) → Holds self.now contents s → out.new.items ≡ out.old.items ++ dirty_between from count s) }
+        ensures refused { OnErr result (out.new.items ≡ out.old.items) }
+    {
+        let before = out.len();
+        for i in 0..self.map.held() {
+            if self.list_dirty(i, from, from + count, out).is_err() {
+                out.truncate(before);
+                return Err(AllocError);
+            }
+        }
+        Ok(())
+    }
+
+    /// Puts all that is buffered on the flash. It takes no memory.
+    pub fn commit<M: Media>(&mut self, media: &mut M) -> Result<(), SscError>
+        requires up { IsUp self.old (M.state media.old).contents }
+        ensures geometry { geometry_of self.new ≡ geometry_of self.old }
+        ensures full { (n l : ℕ) → IsErrOf result (SscError.Full n l) → ⊥ }
+        ensures memory { IsErrOf result SscError.OutOfMemory → ⊥ }
+        ensures stopped { self.new.stopped ≡ stops result }
+        ensures done { OnOk result ((s : CacheList) → Holds self.old (M.state media.old).contents s → Holds self.new (M.state media.new).contents s) }
+        ensures nothing_waits { OnOk result (pending self.new ≡ []) }
+        ensures images { (s : CacheList) → Holds self.old (M.state media.old).contents s → ImagesOf self.old (M.state media.new).contents s s }
+        ensures pages { self.new.next ≡ self.old.next }
+        ensures ready { self.new.ready ≡ self.old.ready }
+        ensures drives { DrivesFlash (M.state media.old) (M.state media.new) (ssc_failed result) (ssc_lost result) }
+    {
+        match self.commit_now(media) {
+            Ok(()) => Ok(()),
+            Err(error) => Err(self.give_up(error)),
+        }
+    }
+
+    /// Makes a checkpoint of the whole map. It takes no memory.
+    pub fn checkpoint<M: Media>(&mut self, media: &mut M) -> Result<(), SscError>
+        requires up { IsUp self.old (M.state media.old).contents }
+        ensures geometry { geometry_of self.new ≡ geometry_of self.old }
+        ensures full { (n l : ℕ) → IsErrOf result (SscError.Full n l) → ⊥ }
+        ensures memory { IsErrOf result SscError.OutOfMemory → ⊥ }
+        ensures stopped { self.new.stopped ≡ stops result }
+        ensures done { OnOk result ((s : CacheList) → Holds self.old (M.state media.old).contents s → Holds self.new (M.state media.new).contents s) }
+        ensures nothing_waits { OnOk result (pending self.new ≡ []) }
+        ensures log { OnOk result (self.new.log.next ≡ 0) }
+        ensures images { (s : CacheList) → Holds self.old (M.state media.old).contents s → ImagesOf self.old (M.state media.new).contents s s }
+        ensures pages { self.new.next ≡ self.old.next }
+        ensures ready { self.new.ready ≡ self.old.ready }
+        ensures drives { DrivesFlash (M.state media.old) (M.state media.new) (ssc_failed result) (ssc_lost result) }
+    {
+        match self.checkpoint_now(media) {
+            Ok(()) => Ok(()),
+            Err(error) => Err(self.give_up(error)),
+        }
+    }
+}

@@ -1,0 +1,27 @@
+//! The solid-state cache: a device that is addressed by the disk's own addresses, with six commands.
+//!
+//! The layers above see a cache and its flash as a list of held blocks, each dirty or clean (`Holds`).
+//! They rely on this: each command that answers Ok is its step on the list; at every moment of a
+//! command a crash leaves flash that stands for the list before, without what was buffered or with it,
+//! or for the list after the step; and `open` holds exactly what the flash stands for. No call of the
+//! disk is made.
+//!
+//! Blocks go into the pages of the first pool blocks in order, and no page is used again.
+#![tactic(auto)]
+
+mod append;
+mod cache;
+mod commands;
+mod error;
+mod formatting;
+mod listing;
+mod opening;
+mod putting;
+mod unused;
+
+pub use cache::Ssc;
+pub use error::SscError;
+pub use op_log::OpenError;
+
+#[cfg(test)]
+mod tests;
