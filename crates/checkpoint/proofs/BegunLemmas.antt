@@ -1,5 +1,5 @@
 -- A cache of nothing, and a page put into it.
-use Rattle.std.proofs.Common.{◌≡◌, ℕ, ◌<◌, ◌==◌, Bool, true, false, cond, Option, List, [], ◌∷◌, ◌++◌, Some, None, sym, ◌∙◌, ap, subst, arith, nat_cmp}
+use Rattle.std.proofs.Common.{◌≡◌, ◌⊎◌, ℕ, ◌+◌, ◌-◌, ◌*◌, ◌/◌, ◌<◌, ◌==◌, Bool, true, false, cond, Option, List, [], ◌∷◌, ◌++◌, length, map, filter, Some, None, refl, sym, ◌∙◌, ap, subst, arith, inl, inr, nat_cmp}
 use Rattle.std.specs.FinMap.{get, get-empty}
 use Rattle.ft_base.specs.declared.geometry.Geometry.{Geometry}
 use Rattle.ft_base.specs.declared.block.Place.{Place}
@@ -8,19 +8,23 @@ use Rattle.ft_base.specs.declared.block.Page.TheVariants.{Blank}
 use Rattle.ft_base.specs.declared.record.Record.{Record}
 use Rattle.ft_base.specs.declared.record.Record.TheVariants.{SetPage}
 use Rattle.ft_base.specs.Contents.{Contents, Flash}
-use Rattle.ft_base.specs.Layout.{first_pool, checkpoint_at}
+use Rattle.ft_base.specs.Layout.{k, first_pool, checkpoint_at}
 use Rattle.cache_model.specs.declared.entry.Entry.{Entry}
 use Rattle.cache_model.specs.Records.{Entries, after, no_entries, in_log_block}
-use Rattle.cache_model.specs.Entries.{IsMap, Fits, fits}
+use Rattle.cache_model.specs.Entries.{IsMap, Fits, fits, each_once, page_mapped}
 use Rattle.cache_model.specs.Loading.{after_all, is_whole}
 use Rattle.cache_model.proofs.StepLemmas.{get-after}
-use Rattle.cache_model.proofs.FitsLemmas.{fits-from, no_entries-map}
+use Rattle.cache_model.proofs.FitsLemmas.{fits-from, no_entries-map, no_entries-nil}
 use Rattle.cache_model.proofs.LoadLemmas.{checkpoint_below}
+use Rattle.mapping.specs.Checkpoint.{checkpoint_records, set_group_of, set_page_of}
 use Rattle.op_log.specs.Log.{LogValue, pushed}
 use Rattle.checkpoint.specs.Current.{IsCurrent, AreWhole, IsOpenLog, IsCommitted, PoolStays}
-use Rattle.checkpoint.specs.Regions.{IsBare, IsWritten}
+use Rattle.checkpoint.specs.Regions.{InCheckpoint, IsBare, IsPrepared, IsSealPage, IsWritten, MapsWritten, Programmed}
+use Rattle.checkpoint.proofs.PlacesLemmas.{checkpoint_low, log_between}
 use Rattle.checkpoint.proofs.ErasingLemmas.{map_or_lost}
+use Rattle.checkpoint.proofs.WrittenLemmas.{seal_done}
 use Rattle.checkpoint.proofs.SealedLemmas.{formatted}
+use Rattle.checkpoint.proofs.FormatLemmas.{some_pages}
 
 -- ---- nothing
 
@@ -38,6 +42,50 @@ blank_bare g page blank = record { pages = λ i within. map_or_lost _ (blank (ch
 
 pub begun : (g : Geometry) (m : Entries) (log : LogValue) (old new : Flash) → m ≡ no_entries → log ≡ record { geometry = g; region = 0; era = 0; next = 0; buffered = [] } → ((at : Place) → at.block < first_pool g → old.page at ≡ Blank) → IsWritten g 0 0 m old new → IsCommitted new log m
 begun g m log old new none is blank written = subst (λ (l : LogValue). IsCommitted new l m) (sym is) (formatted g 0 m old new (empty_map g m none) written (blank_bare g old.page blank) (empty_whole old.page m none))
+
+-- ---- a seal alone on blank media
+
+empty_records : (g : Geometry) (m : Entries) → m ≡ no_entries → 0 ≡ length (checkpoint_records g m)
+empty_records g m none = subst (λ (n : Entries). 0 ≡ length (checkpoint_records g n)) (sym none)
+    (subst (λ (es : List (ℕ × Entry)). 0 ≡ length (map (set_group_of g no_entries) (each_once (map (λ x. x.0 / g.p) (filter (λ x. x.1.block_mapped) es))) ++ map set_page_of (filter (λ x. page_mapped x.1) es))) (sym no_entries-nil) refl)
+
+-- the first page of region 0
+pub first_page : (g : Geometry) → ◌≡◌ {A = Place} (record { block = 0; page = 0 }) (checkpoint_at g 0 0)
+first_page g =
+    let block : 0 ≡ (checkpoint_at g 0 0).block = omega (arith, g.in_range.p_low) in
+    let page : 0 ≡ (checkpoint_at g 0 0).page = omega (arith, g.in_range.p_low) in
+    λ i. record { block = block i; page = page i }
+
+module _ (g : Geometry) (m : Entries) (none : m ≡ no_entries) (old new : Flash) (blank : (at : Place) → at.block < first_pool g → old.page at ≡ Blank) (fresh : (b : ℕ) → b < first_pool g → old.next b ≡ Some 0) where
+  in_first : (b : ℕ) → InCheckpoint g 0 b → b < first_pool g
+  in_first b within = by_number (k g) (checkpoint_low g 0 b (omega arith) within)
+    where
+      by_number : (n : ℕ) → b < 2 * n → b < 2 * n + 2 * g.j
+      by_number n low = omega arith
+
+  first_of : (i : ℕ) → (i ≡ 0) ⊎ ((checkpoint_at g 0 i).page ≡ 0) → (checkpoint_at g 0 i).page ≡ 0
+  first_of i (inr start) = start
+  first_of i (inl start) = subst (λ j. (checkpoint_at g 0 j).page ≡ 0) (sym start) (omega (arith, g.in_range.p_low))
+
+  prepared : IsPrepared g 0 old old
+  prepared = record {
+    checkpoint = record { page = λ at within. blank at (in_first at.block within); next = λ b within. fresh b (in_first b within) };
+    log = record { page = λ at within. blank at (log_between g 0 at.block (omega arith) within).1; next = λ b within. fresh b (log_between g 0 b (omega arith) within).1 };
+    beside = λ at out out'. refl;
+    ready = λ b out out'. refl;
+  }
+
+  no_maps : MapsWritten g 0 0 (checkpoint_records g m) 0 old old
+  no_maps = record {
+    maps = λ i low. absurd (omega arith);
+    blank = λ i from within. blank (checkpoint_at g 0 i) (checkpoint_below g 0 i (omega arith) within);
+    ready = λ i from within which. fresh (checkpoint_at g 0 i).block (checkpoint_below g 0 i (omega arith) within) ∙ ap Some (sym (first_of i which));
+    beside = λ at out. refl;
+    next = λ b out. refl;
+  }
+
+  pub sealed_alone : Programmed (IsSealPage g 0 0 0) (checkpoint_at g 0 0) old new → IsWritten g 0 0 m old new
+  sealed_alone = seal_done g 0 0 m (omega arith) 0 0 (ap (λ n. (n + 127 - 1) / 127) (empty_records g m none)) (empty_records g m none) (some_pages g) old old old new prepared no_maps
 
 -- ---- a page more
 

@@ -1,20 +1,19 @@
 -- An empty checkpoint alone on the flash.
-use Rattle.std.proofs.Common.{◌≡◌, ℕ, zero, suc, ◌+◌, ◌-◌, ◌*◌, ◌/◌, ◌%◌, ◌<◌, ◌≤◌, Bool, true, false, cond, List, [], ◌∷◌, ◌++◌, length, take, Option, Some, None, ok_or, Ok, Err, refl, sym, ◌∙◌, ap, ap₂, subst, arith}
+use Rattle.std.proofs.Common.{◌≡◌, ℕ, zero, suc, ◌+◌, ◌-◌, ◌*◌, ◌/◌, ◌<◌, ◌≤◌, cond, List, [], ◌∷◌, take, Option, Some, None, ok_or, Ok, Err, refl, sym, ◌∙◌, ap, ap₂, subst, arith}
 use Rattle.std.specs.List.{AllByRecursion}
-use Rattle.std.specs.FinMap.{get, entries}
+use Rattle.std.specs.FinMap.{entries}
 use Rattle.std.proofs.lemmas.Nat.{mul-le, le-div}
 use Rattle.ft_base.specs.declared.geometry.Geometry.{Geometry}
 use Rattle.ft_base.specs.declared.block.Place.{Place}
 use Rattle.ft_base.specs.declared.block.Page.{Page}
 use Rattle.ft_base.specs.declared.block.Page.TheVariants.{Blank}
-use Rattle.ft_base.specs.Contents.{Flash, set_page}
+use Rattle.ft_base.specs.Contents.{Flash}
 use Rattle.ft_base.specs.Layout.{up, k, checkpoint_at, log_at, checkpoint_pages, log_pages}
-use Rattle.cache_model.specs.declared.entry.Entry.{Entry}
 use Rattle.cache_model.specs.declared.format.PageKind.TheVariants.{Map}
-use Rattle.cache_model.specs.Records.{Entries, no_entries}
-use Rattle.cache_model.specs.Loading.{Complete, complete, ◌>>=◌, pages_from, checkpoint_region, checkpoint_in, chosen, newest, checkpoint_of, wanted, after_pages, load, entries_of, all_whole, is_whole}
+use Rattle.cache_model.specs.Records.{no_entries}
+use Rattle.cache_model.specs.Loading.{Complete, complete, ◌>>=◌, pages_from, checkpoint_region, checkpoint_in, chosen, checkpoint_of, wanted, after_pages, load, entries_of, all_whole}
 use Rattle.cache_model.specs.Loading.Refusal.{NotFormatted, OtherGeometry}
-use Rattle.cache_model.specs.Laws.{IsMapOrLost, IsCheckpoint}
+use Rattle.cache_model.specs.Laws.{IsMapOrLost}
 use Rattle.cache_model.proofs.LoadLemmas.{set_page-other}
 use Rattle.cache_model.proofs.FitsLemmas.{no_entries-nil}
 use Rattle.cache_model.proofs.RegionLemmas.{maps_alone}
@@ -24,7 +23,7 @@ use Rattle.checkpoint.specs.Regions.{AreBlank, IsSealPage, Programmed}
 use Rattle.checkpoint.proofs.ErasingLemmas.{map_or_lost}
 use Rattle.checkpoint.proofs.ListsLemmas.{pages_split}
 use Rattle.checkpoint.proofs.MapsLemmas.{set_page-here}
-use Rattle.checkpoint.proofs.PlacesLemmas.{checkpoint_within, log_within, checkpoint_apart}
+use Rattle.checkpoint.proofs.PlacesLemmas.{checkpoint_within, log_within}
 use Rattle.checkpoint.proofs.SealedLemmas.{own_numbers}
 
 none_of : {A : Type 0} (o : Option A) → ((x : A) → o ≡ Some x → ⊥) → o ≡ None
@@ -79,7 +78,7 @@ some_blocks g = at_least (up (g.c + g.l * g.p) 127) g.p (omega (arith, g.in_rang
 some_log : (g : Geometry) → 0 < log_pages g
 some_log g = let some = mul-le 1 4 g.j g.p g.in_range.j_low g.in_range.p_low in omega arith
 
-some_pages : (g : Geometry) → 0 < checkpoint_pages g
+pub some_pages : (g : Geometry) → 0 < checkpoint_pages g
 some_pages g = let some = mul-le 1 4 (k g) g.p (some_blocks g) g.in_range.p_low in omega arith
 
 -- the regions were erased, and the seal programmed

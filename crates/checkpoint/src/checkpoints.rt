@@ -1,4 +1,4 @@
-ghost use Rattle.std.specs.Prelude.{◌≡◌, ◌≢◌, ◌<◌, [], IfOk, OnOk, IsOk, IsErrOf};
+ghost use Rattle.std.specs.Prelude.{◌≡◌, ◌≢◌, ◌<◌, [], IfOk, OnOk, OnErr, IsOk, IsErrOf};
 ghost use Rattle.ft_base.specs.Count.{Rose};
 ghost use Rattle.ft_base.specs.Layout.{log_pages};
 ghost use Rattle.ft_media.specs.State.{failed, lost};
@@ -64,6 +64,7 @@ impl Checkpoints {
         ensures nothing { log.old.buffered ≡ [] → IsOk result × (log.new ≡ log.old) × (M.state media.new ≡ M.state media.old) }
         ensures done { OnOk result (IsCommitted (M.state media.new).contents.flash log.new map.now.entries) }
         ensures log { OnOk result (log.new ≡ log_committed log.old) }
+        ensures refused { OnErr result (log.new ≡ log.old) }
         ensures stands { LoadsOneOf log.old.geometry (M.state media.old).contents.flash.page (M.state media.new).contents.flash.page map.now.entries }
         ensures pool { PoolStays log.old.geometry (M.state media.old).contents.flash.page (M.state media.new).contents.flash.page }
         ensures pool_ready { OnOk result (PoolReadyStays log.old.geometry (M.state media.old).contents.flash (M.state media.new).contents.flash) }
@@ -99,6 +100,7 @@ impl Checkpoints {
         ensures geometry { log.new.geometry ≡ log.old.geometry }
         ensures done { OnOk result (IsCommitted (M.state media.new).contents.flash log.new map.now.entries) }
         ensures log { OnOk result (log.new ≡ log_checkpointed log.old) }
+        ensures refused { OnErr result (log.new ≡ log.old) }
         ensures stands { LoadsOneOf log.old.geometry (M.state media.old).contents.flash.page (M.state media.new).contents.flash.page map.now.entries }
         ensures log_last { LogGoesLast log.old (M.state media.old).contents.flash.page (M.state media.new).contents.flash.page }
         ensures pool { PoolStays log.old.geometry (M.state media.old).contents.flash.page (M.state media.new).contents.flash.page }
