@@ -6,3 +6,4 @@ pub mod Kept
 pub mod Moved
 pub mod Probe
 pub mod Lending
+pub mod Trimmed

@@ -19,7 +19,9 @@ pub struct Blank<V> {
 
 impl<V: Drop> Blank<V> {
     /// A list with room for 32 items.
-    pub fn new(alloc: Global) -> Result<Self, AllocError> {
+    pub fn new(alloc: Global) -> Result<Self, AllocError>
+        ensures { IfOk result (λ b. vec_capacity b.list ≡ 32) }
+    {
         let list = Vec::with_capacity(alloc, 32)?;
         Ok(Blank { list })
     }
@@ -46,10 +48,11 @@ fn rank_in(occupied: u32, k: u32) -> usize
 }
 
 impl<V: Drop> Group<V> {
-    ghost use Rattle.std.specs.Prelude.{◌≡◌, ◌<◌, ◌≤◌, ◌↔◌, ℕ, vec_len, Some, None, IsSome, IsTrue, is_some, option_map, slice_set};
+    ghost use Rattle.std.specs.Prelude.{◌≡◌, ◌<◌, ◌≤◌, ◌↔◌, ℕ, vec_len, Some, None, IsSome, IsTrue, OnOk, OnErr, is_some, option_map, slice_set};
     ghost use Rattle.std.specs.Vec.{vec_capacity};
     ghost use Rattle.sparse_map.specs.Slots.{slot_at, key_at};
     ghost use Rattle.sparse_map.specs.Groups.{slots_in};
+    ghost use Rattle.sparse_map.specs.Trimmed.{IsTrimmed};
     ghost use Rattle.std.specs.Borrow.{sem};
     ghost use Rattle.sparse_map.specs.Lending.{LendsGroupValue};
 
@@ -167,12 +170,20 @@ impl<V: Drop> Group<V> {
         self.items = list;
     }
 
-    /// Gives back what the list holds beyond its items and a little room.
-    pub fn trim(&mut self)
+    /// Gives back what the list holds beyond its items and a little room. Refused where the allocator can't make the
+    /// list's memory smaller.
+    pub fn trim(&mut self) -> Result<(), AllocError>
         ensures occupied { self.new.occupied ≡ self.old.occupied }
         ensures items { self.new.items.items ≡ self.old.items.items }
+        ensures capacity { vec_capacity self.new.items ≤ vec_capacity self.old.items }
+        ensures ok { OnOk result (IsTrimmed self.new) }
+        ensures err { OnErr result (vec_len self.new.items + 4 < vec_capacity self.new.items) }
     {
         let wanted = self.items.len() + SLACK;
         self.items.shrink_to(wanted);
+        if self.items.capacity() > wanted {
+            return Err(AllocError);
+        }
+        Ok(())
     }
 }

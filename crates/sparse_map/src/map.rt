@@ -12,7 +12,7 @@ ghost use Rattle.sparse_map.specs.Packed.{map_of, len_of, buckets_of, IsSound};
 
 use crate::group::{Blank, Group};
 use crate::home::{bits_for, bucket_count};
-use crate::table::{Place, probe, put, remove_at, replace, trim_all, trim_grown, value_at};
+use crate::table::{Grown, Place, probe, put, remove_at, replace, trim_all, trim_grown, value_at};
 use std::alloc::{AllocError, Global};
 use std::marker::Model;
 use std::mem;
@@ -26,8 +26,8 @@ pub struct SparseMap<V> {
     len: u64,
     spare: u64,
     stock: Vec<Blank<V>>,
-    // The bucket of the last new key, whose group may have grown into a blank list.
-    last: u64,
+    // The groups that may have grown into a blank list since the last `reserve`.
+    grown: Grown,
 }
 
 impl<V> Model for SparseMap<V> {
@@ -64,7 +64,7 @@ impl<V: Drop> SparseMap<V> {
             len: 0,
             spare: 0,
             stock: Vec::new(alloc),
-            last: 0,
+            grown: Grown::Nowhere,
         }
     }
 
@@ -180,7 +180,7 @@ impl<V: Drop> SparseMap<V> {
                 );
                 self.len += 1;
                 self.spare -= 1;
-                self.last = bucket;
+                self.grown = self.grown.with(bucket);
                 None
             }
         }
@@ -220,8 +220,8 @@ impl<V: Drop> SparseMap<V> {
         }
     }
 
-    /// Keeps blank lists ready for `n` new keys, within the buckets that there are, and takes back what the groups that
-    /// grew into such lists don't need of them.
+    /// Keeps blank lists ready for `n` new keys, within the buckets that there are, and gives back what the groups that
+    /// grew into such lists don't need of them. Refused, the next call tries that again.
     fn stock_up(&mut self, n: u64) -> Result<(), AllocError>
         requires { 4 * (len_of self.old + n) ≤ 3 * buckets_of self.old }
         ensures slots { self.new.slots ≡ self.old.slots }
@@ -230,9 +230,9 @@ impl<V: Drop> SparseMap<V> {
     {
         let spare = self.spare.max(n);
         let wanted = spare.min(self.groups());
-        let several = (self.stock.len() as u64) < wanted.saturating_sub(1);
         add_blanks(self.alloc, &mut self.stock, wanted)?;
-        trim_grown(self.groups.as_mut_slice(), self.last, several);
+        trim_grown(self.groups.as_mut_slice(), self.grown)?;
+        self.grown = Grown::Nowhere;
         self.spare = spare;
         Ok(())
     }
@@ -281,7 +281,7 @@ impl<V: Drop> SparseMap<V> {
             len: 0,
             spare,
             stock,
-            last: 0,
+            grown: Grown::Nowhere,
         })
     }
 
@@ -320,7 +320,8 @@ impl<V: Drop> SparseMap<V> {
         ensures same { self.new ≡ self.old }
         ensures sound { IsSound self.old }
     {
-        trim_all(self.groups.as_mut_slice());
+        let trimmed = trim_all(self.groups.as_mut_slice());
+        self.grown = Grown::after(trimmed);
         self.stock = stock;
     }
 }

@@ -1,5 +1,6 @@
 //! The buckets of all groups as one table: bucket b is bucket b % 32 of group b / 32.
-ghost use Rattle.std.specs.Prelude.{◌≡◌, ◌≢◌, ℕ, ◌+◌, ◌*◌, ◌^◌, ◌<◌, ◌≤◌, length, vec_len, Some, None, IsSome, option_map, slice_set, ◌⊎◌, ◌==◌, if◌then◌else◌};
+ghost use Rattle.std.specs.Prelude.{◌≡◌, ◌≢◌, ℕ, ◌+◌, ◌*◌, ◌^◌, ◌<◌, ◌≤◌, length, vec_len, Some, None, IsSome, option_map, OnOk, is_ok, slice_set, ◌/◌, ◌⊎◌, ◌==◌, if◌then◌else◌};
+ghost use Rattle.std.specs.List.{All};
 ghost use Rattle.std.specs.Ordering.{nat_cmp};
 ghost use Rattle.std.specs.FinMap.{find};
 ghost use Rattle.std.specs.Vec.{vec_capacity};
@@ -7,9 +8,12 @@ ghost use Rattle.sparse_map.specs.Slots.{slot_at, key_at, items_of, exchanged};
 ghost use Rattle.sparse_map.specs.Groups.{slots_in, slots_of, small_groups};
 ghost use Rattle.sparse_map.specs.Packed.{IsPacked};
 ghost use Rattle.sparse_map.specs.Probe.{IsPlaceOf, IsShifted};
+ghost use Rattle.sparse_map.specs.Trimmed.{IsTrimmed, AreTrimmed, MayHaveGrown};
+ghost use Rattle.sparse_map.specs.declared.table.Grown.TheVariants.{Nowhere, In, Anywhere};
 
 use crate::group::{Blank, Group};
 use crate::home::{bucket_count, home_of, leads_over, next_bucket};
+use std::alloc::AllocError;
 
 /// The bucket that has a key, or the one where it would go.
 #[derive(Clone, Copy)]
@@ -18,6 +22,42 @@ pub enum Place {
     Found(u64),
     /// No bucket has it, and this free one is the first on its way from home.
     Free(u64),
+}
+
+/// Which groups may have grown into a blank list since they were last trimmed.
+#[derive(Clone, Copy)]
+pub enum Grown {
+    /// No group.
+    Nowhere,
+    /// No other than the group of this bucket.
+    In(u64),
+    /// Any group.
+    Anywhere,
+}
+
+impl Grown {
+    /// The same once a new key went into a bucket.
+    pub fn with(self, bucket: u64) -> Self
+        ensures added { MayHaveGrown result (bucket / 32) }
+        ensures kept { (i : ℕ) → MayHaveGrown self i → MayHaveGrown result i }
+        ensures first { self ≡ Nowhere → result ≡ In bucket }
+    {
+        match self {
+            Grown::Nowhere => Grown::In(bucket),
+            Grown::In(last) if last / 32 == bucket / 32 => self,
+            _ => Grown::Anywhere,
+        }
+    }
+
+    /// What is left to trim after all groups were.
+    pub fn after(trimmed: Result<(), AllocError>) -> Self
+        ensures { result ≡ (if is_ok trimmed then Nowhere else Anywhere) }
+    {
+        match trimmed {
+            Ok(()) => Grown::Nowhere,
+            Err(_) => Grown::Anywhere,
+        }
+    }
 }
 
 /// The key in a bucket.
@@ -181,26 +221,40 @@ pub fn remove_at<V: Drop>(groups: &mut [Group<V>], bits: u32, bucket: u64) -> (u
     take(groups, hole)
 }
 
-/// Gives back the memory that the groups' lists hold beyond their items and a little room.
-pub fn trim_all<V: Drop>(groups: &mut [Group<V>])
-    ensures { slots_of groups.new ≡ slots_of groups.old }
+/// Gives back the memory that the groups' lists hold beyond their items and a little room. Refused at the first list
+/// whose memory the allocator can't make smaller.
+pub fn trim_all<V: Drop>(groups: &mut [Group<V>]) -> Result<(), AllocError>
+    ensures slots { slots_of groups.new ≡ slots_of groups.old }
+    ensures ok { OnOk result (All IsTrimmed groups.new) }
 {
     for group in groups.iter_mut() {
-        group.trim();
+        group.trim()?;
+    }
+    Ok(())
+}
+
+/// Gives back what the groups hold that may have grown.
+#[tactic(auto, using(crate::proofs::TableLemmas::slots_of_trimmed))]
+pub fn trim_grown<V: Drop>(groups: &mut [Group<V>], grown: Grown) -> Result<(), AllocError>
+    ensures slots { slots_of groups.new ≡ slots_of groups.old }
+    ensures ok { OnOk result (AreTrimmed grown groups.new) }
+{
+    match grown {
+        Grown::Nowhere => Ok(()),
+        Grown::In(bucket) => trim_one(groups, bucket),
+        Grown::Anywhere => trim_all(groups),
     }
 }
 
-/// Gives back what the group of the bucket `last` holds beyond its items and a little room, or what every group holds
-/// where several may have grown.
+/// Gives back what the group of a bucket holds beyond its items and a little room.
 #[tactic(auto, using(crate::proofs::TableLemmas::slots_of_trimmed))]
-pub fn trim_grown<V: Drop>(groups: &mut [Group<V>], last: u64, several: bool)
-    ensures { slots_of groups.new ≡ slots_of groups.old }
+fn trim_one<V: Drop>(groups: &mut [Group<V>], bucket: u64) -> Result<(), AllocError>
+    ensures slots { slots_of groups.new ≡ slots_of groups.old }
+    ensures ok { OnOk result (AreTrimmed (In bucket) groups.new) }
 {
-    if several {
-        return trim_all(groups);
+    let i = (bucket / 32) as usize;
+    if i >= groups.len() {
+        return Ok(());
     }
-    let i = (last / 32) as usize;
-    if i < groups.len() {
-        groups[i].trim();
-    }
+    groups[i].trim()
 }

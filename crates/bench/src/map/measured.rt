@@ -82,8 +82,8 @@ impl Measured for SparseMap<u64> {
         self.remove(key)
     }
 
-    /// The items are there once, and no bucket has a place of its own. Up to four free places at the end of
-    /// each list aren't counted.
+    /// The items are there once, and no bucket has a place of its own. The free places at the end of each list
+    /// aren't counted: up to four where it was trimmed, and more where items were removed since.
     fn size(&self) -> Size
         ensures entries { result.entries ≡ len_of self.now }
         ensures buckets { result.buckets ≡ buckets_of self.now }

@@ -9,6 +9,18 @@ use Rattle.sparse_map.proofs.ChangeLemmas.{written}
 use Rattle.sparse_map.proofs.MoveLemmas.{kept_more_room, kept_same_slots}
 use Rattle.sparse_map.proofs.map.SparseMap.stock_up.Goals as goal
 
+pub invariant_of-self-in_err-trim_grown : goal.invariant_of-self-in_err-trim_grown
+invariant_of-self-in_err-trim_grown g c =
+    let m = c.self.inside in
+    let t = c.args.self.now in
+    let ws = c.trim_grown.new.groups in
+    let written_long : length ws ≡ vec_len m.groups = c.trim_grown.auto.groups ∙ c.as_mut_slice.ensures.len in
+    let long : length (slots_of m.groups.items) ≡ buckets_of t = ap length (seen_slots m t c.self.invariant c.self.view_is) in
+    let stocked : min m.spare (length m.groups.items) ≤ vec_len c.add_blanks.new.stock = omega (arith, c.max-spare.ensures, c.in_ok-add_blanks.ensures.ok, c.min-wanted.ensures, c.groups.ensures.groups, length-slots_of m.groups.items, long) in
+    subst (λ us. IsKept m.bits m.len m.spare (vec_len c.add_blanks.new.stock) us) (sym (written m.groups ws written_long))
+    (kept_same_slots m.bits m.len m.spare (vec_len m.stock) m.groups.items ws (vec_len c.add_blanks.new.stock) c.self.invariant
+    (c.trim_grown.ensures.slots ∙ ap slots_of c.as_mut_slice.ensures.value) stocked)
+
 pub invariant_of-self-2 : goal.invariant_of-self-2
 invariant_of-self-2 g c =
     let m = c.self.inside in
@@ -22,7 +34,7 @@ invariant_of-self-2 g c =
     subst (λ us. IsKept m.bits m.len c.max-spare.result (vec_len c.add_blanks.new.stock) us) (sym (written m.groups ws written_long))
     (kept_same_slots m.bits m.len c.max-spare.result (vec_len c.add_blanks.new.stock) m.groups.items ws (vec_len c.add_blanks.new.stock)
     (kept_more_room m.bits m.len m.spare (vec_len m.stock) m.groups.items c.max-spare.result (vec_len c.add_blanks.new.stock) c.self.invariant room stocked)
-    (c.trim_grown.ensures ∙ ap slots_of c.as_mut_slice.ensures.value) stocked)
+    (c.trim_grown.ensures.slots ∙ ap slots_of c.as_mut_slice.ensures.value) stocked)
 
 pub returns-clause-slots : goal.returns-clause-slots
 returns-clause-slots g c =
@@ -30,6 +42,6 @@ returns-clause-slots g c =
     let ws = c.trim_grown.new.groups in
     let written_long : length ws ≡ vec_len m.groups = c.trim_grown.auto.groups ∙ c.as_mut_slice.ensures.len in
     ap slots_of (written m.groups ws written_long)
-    ∙ c.trim_grown.ensures
+    ∙ c.trim_grown.ensures.slots
     ∙ ap slots_of c.as_mut_slice.ensures.value
     ∙ seen_slots m c.args.self.now c.self.invariant c.self.view_is

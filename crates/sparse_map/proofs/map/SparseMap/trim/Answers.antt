@@ -13,9 +13,9 @@ pub invariant_of-self : goal.invariant_of-self
 invariant_of-self g c =
     let m = c.self.inside in
     let t = c.args.self.now in
-    let ws = c.trim_all.new.groups in
-    let long : length ws ≡ vec_len m.groups = c.trim_all.auto.groups ∙ c.as_mut_slice.ensures.len in
-    let same = c.trim_all.ensures ∙ ap slots_of c.as_mut_slice.ensures.value in
+    let ws = c.trim_all-trimmed.new.groups in
+    let long : length ws ≡ vec_len m.groups = c.trim_all-trimmed.auto.groups ∙ c.as_mut_slice.ensures.len in
+    let same = c.trim_all-trimmed.ensures.slots ∙ ap slots_of c.as_mut_slice.ensures.value in
     let size : length (slots_of m.groups.items) ≡ buckets_of t = ap length (seen_slots m t c.self.invariant c.self.view_is) in
     let spare = seen_spare m t c.self.invariant c.self.view_is in
     subst (λ us. IsKept m.bits m.len m.spare (vec_len c.args.stock) us) (sym (written m.groups ws long))
