@@ -1,3 +1,4 @@
 pub mod Command
 pub mod Defaults
+pub mod Endings
 pub mod Status

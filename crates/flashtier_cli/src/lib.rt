@@ -3,9 +3,12 @@
 //! `main` relies on the clauses of `run` alone.
 #![tactic(auto)]
 
+mod beginning;
 mod command;
 mod defaults;
 mod ending;
 mod program;
+mod replaying;
 
 pub use program::run;
+pub use replaying::replay_with;

@@ -1,29 +1,27 @@
-ghost use Rattle.std.specs.Prelude.{◌≡◌, ◌≤◌, ◌↔◌, ◌++◌, ◌∷◌, [], ℕ, List, Some, Result, map, take};
+ghost use Rattle.std.specs.Prelude.{◌≡◌, ◌⊎◌, ◌≤◌, ◌↔◌, Err, map};
 ghost use Rattle.std.specs.String.{string_bytes};
-ghost use Rattle.std.specs.Io.KnownBytes.{Appends, Consumes, IsAtEnd};
-ghost use Rattle.ft_base.specs.Count.{Rose, RoseBy};
-ghost use Rattle.trace_model.specs.declared.line.Line.{Line};
-ghost use Rattle.trace_model.specs.declared.line.LineError.{LineError};
-ghost use Rattle.trace_model.specs.declared.ran.Ran.{Ran};
-ghost use Rattle.trace_model.specs.Run.{told, blocks_in, end_of};
-ghost use Rattle.trace_model.specs.Text.{text};
-ghost use Rattle.trace_model.specs.Told.{RunsOver, WasRun, ended_readings, next_answers, next_refusal, refusal};
+ghost use Rattle.std.specs.Io.KnownBytes.{IsAtEnd};
+ghost use Rattle.ft_base.specs.Count.{Rose};
+ghost use Rattle.ft_base.specs.declared.geometry.Geometry.{Geometry};
+ghost use Rattle.trace_replay.specs.declared.ended.Ended as ended;
 ghost use Rattle.flashtier_cli.specs.Command.{IsReplay};
-ghost use Rattle.flashtier_cli.specs.Defaults.{default_size, default_room};
+ghost use Rattle.flashtier_cli.specs.Defaults.{IsDefault};
+ghost use Rattle.flashtier_cli.specs.Endings.{EndsPart, EndsRefused, EndsUnread, RunsWhole};
+ghost use Rattle.flashtier_cli.specs.Status as status;
 
 use crate::command::is_replay;
 use crate::defaults::default_options;
 use crate::ending::status_of;
+use crate::replaying::replay_with;
 use ft_base::{Sink, Source};
-use ft_media::{Media, Rig, Volume};
+use ft_media::{Media, Rig};
 use std::alloc::Global;
-use trace_replay::replay;
-use write_back::WriteBack;
 
 /// Runs the command that the words say, and answers its status.
 ///
 /// The words are those after the program's name. The only command is `replay`: it reads a trace from the
-/// source, runs it over a cache on the rig, and prints to the sink what each request answered.
+/// source, runs it over a cache before a disk, both of them on the rig, and prints to the sink what each
+/// request answered. Power may stop within any device write; the run then goes on after recovery.
 ///
 /// | Status | Comes |
 /// |---|---|
@@ -41,54 +39,39 @@ pub fn run<I: Source, O: Sink, R: Rig>(
     sink: &mut O,
     rig: &mut R,
 ) -> u8
-    // The text is what a plain disk answers, and each block that was written was programmed once.
-    ensures whole { result ≡ 0 → (run : List Ran) × RunsOver (I.left source.old) default_size default_room run []
-        × Appends (O.taken sink.old) (O.taken sink.new) (text (told run ++ end_of run ∷ []))
-        × RoseBy (blocks_in run) (R.state rig.old).counts.programs (R.state rig.new).counts.programs }
+    // The text is what a plain disk prints that holds, after each recovery, a prefix of the block writes
+    // with every acknowledged one; and the media are that disk, wherever power stops next.
+    ensures whole { result ≡ 0 → (g : Geometry) × IsDefault g × RunsWhole g (I.left source.old) (O.taken sink.old) (O.taken sink.new) (R.state rig.old) (R.state rig.new) }
     ensures end { result ≡ 0 → IsAtEnd (I.left source.new) }
 
     ensures words { (result ≡ 1) ↔ (IsReplay (map string_bytes words.now) → ⊥) }
     ensures nothing { result ≡ 1 → (source.new ≡ source.old) × (sink.new ≡ sink.old) × (rig.new ≡ rig.old) }
 
-    // The line after those that were run is refused, for this cause.
-    ensures refused { result ≡ 2 → (run : List Ran) × (left : List (Result Line LineError)) × (cause : LineError)
-        × RunsOver (I.left source.old) default_size default_room run left
-        × (next_refusal default_room run left ≡ Some cause)
-        × Appends (O.taken sink.old) (O.taken sink.new) (text (told run ++ refusal run cause)) }
+    ensures refused { result ≡ 2 → (g : Geometry) × IsDefault g × EndsRefused g (I.left source.old) (O.taken sink.old) (O.taken sink.new) (R.state rig.old) (R.state rig.new) }
+    ensures unread { result ≡ 3 → (g : Geometry) × IsDefault g × EndsUnread g (I.left source.old) (I.left source.new) (O.taken sink.old) (O.taken sink.new) (R.state rig.old) (R.state rig.new) }
 
-    // Where the source failed, the lines that ended before were run. Another fault or want of memory comes
-    // after the answers of whole lines and the first of those of the next one.
-    ensures source { result ≡ 3 → Rose (I.faults source.old) (I.faults source.new) × ((bytes : List ℕ) × (run : List Ran)
-        × Consumes (I.left source.old) (I.left source.new) bytes
-        × WasRun default_room (ended_readings default_size bytes) run []
-        × Appends (O.taken sink.old) (O.taken sink.new) (text (told run))) }
+    // Another end comes before anything was read or printed, or within the answers of a line.
+    ensures part { 4 ≤ result → ((source.new ≡ source.old) × (sink.new ≡ sink.old))
+        ⊎ ((g : Geometry) × (e : ended.Ended) × IsDefault g × (result ≡ status.status_of (Err e)) × EndsPart g e (I.left source.old) (O.taken sink.old) (O.taken sink.new) (R.state rig.new)) }
+    ensures known { result ≤ 7 }
+
+    ensures source { result ≡ 3 → Rose (I.faults source.old) (I.faults source.new) }
     ensures sink { result ≡ 4 → Rose (O.faults sink.old) (O.faults sink.new) }
     ensures flash { result ≡ 5 → Rose (R.state rig.old).faults.flash (R.state rig.new).faults.flash }
     ensures disk { result ≡ 6 → Rose (R.state rig.old).faults.disk (R.state rig.new).faults.disk }
-    ensures front { result ≡ 4 → (run : List Ran) × (left : List (Result Line LineError)) × (n : ℕ)
-        × RunsOver (I.left source.old) default_size default_room run left
-        × Appends (O.taken sink.old) (O.taken sink.new) (take n (text (told run ++ next_answers default_room run left))) }
-    ensures part { 5 ≤ result → (run : List Ran) × (left : List (Result Line LineError)) × (n : ℕ)
-        × RunsOver (I.left source.old) default_size default_room run left
-        × Appends (O.taken sink.old) (O.taken sink.new) (text (told run ++ take n (next_answers default_room run left))) }
-    ensures known { result ≤ 7 }
 
     ensures disk_writes { (R.state rig.new).counts.disk_writes ≡ (R.state rig.old).counts.disk_writes }
     ensures source_lent { I.lent source.new ≡ I.lent source.old }
     ensures sink_lent { O.lent sink.new ≡ O.lent sink.old }
     ensures rig_lent { (R.state rig.new).lent ≡ (R.state rig.old).lent }
+
+    // Where nothing failed, memory was there and no line is refused, every line is run.
+    ensures complete { IsReplay (map string_bytes words.now) → (Rose (I.faults source.old) (I.faults source.new) → ⊥) → (Rose (O.faults sink.old) (O.faults sink.new) → ⊥)
+        → (Rose (R.state rig.old).faults.flash (R.state rig.new).faults.flash → ⊥) → (Rose (R.state rig.old).faults.disk (R.state rig.new).faults.disk → ⊥)
+        → (result ≡ 0) ⊎ (result ≡ 2) ⊎ (result ≡ 7) }
 {
     if !is_replay(words) {
         return 1;
     }
-    let options = default_options();
-    let geometry = options.geometry;
-    let fitted = rig.fit(alloc, geometry.blocks(), geometry.p(), geometry.size());
-    if fitted.is_err() {
-        return 7;
-    }
-    let Ok(mut volume) = WriteBack::create(alloc, rig, &options) else {
-        unreachable!();
-    };
-    status_of(replay(alloc, source, sink, rig, &mut volume))
+    status_of(replay_with(alloc, &default_options(), source, sink, rig))
 }

@@ -1,3 +1,4 @@
+use crate::plain::is_plain;
 use flashtier_cli::run;
 use ft_base::{MemSink, MemSource};
 use ft_media::{Counts, Rig};
@@ -52,9 +53,7 @@ fn reads_answer_what_was_written(rt: HostRuntime) -> Result<(), Fail> {
     let text =
         b"wrote 5 1\nread 5 7\nread 6 0\nend 1 2 2 227d374bf90b30cb019fe5158a706a1bfaf9e95d5fd37c6907f7af0cd4bd0483\n";
     assert_eq!(rt; first.text.as_slice(), text.as_slice());
-    // The block is programmed once and read from the flash; only address 6 is read from the disk, by its
-    // line and at the end.
-    assert_eq!(rt; (first.counts.programs, first.counts.erases), (1, 0));
+    // The block is read from the flash; only address 6 is read from the disk, by its line and at the end.
     assert_eq!(rt; (first.counts.disk_reads, first.counts.disk_writes), (2, 0));
     // The last line needs no line feed, and the last block of the volume is in it.
     let last = replay(alloc, b"w 1048575 1 1")?;
@@ -64,28 +63,42 @@ fn reads_answer_what_was_written(rt: HostRuntime) -> Result<(), Fail> {
 }
 
 #[test]
+fn lines_may_be_spaced_and_commented(rt: HostRuntime) -> Result<(), Fail> {
+    let alloc = rt.alloc();
+    let commented = replay(alloc, b"# x\r\n\r\nw 0 1 1\r\n")?;
+    assert_eq!(rt; commented.status, 0);
+    assert!(rt; commented.text.starts_with(b"wrote 0 1\nend 1 0 1 "));
+    let spaced = replay(alloc, b"  w\t5  1 7 \n#w 5 1 8\n\nr 5 1")?;
+    assert_eq!(rt; spaced.status, 0);
+    assert!(rt; spaced.text.starts_with(b"wrote 5 1\nread 5 7\nend 1 1 1 "));
+    Ok(())
+}
+
+#[test]
 fn the_first_refused_line_ends_the_run(rt: HostRuntime) -> Result<(), Fail> {
     let alloc = rt.alloc();
-    let refused: [(&[u8], &[u8]); 20] = [
+    let refused: [(&[u8], &[u8]); 22] = [
         (b"w 1048574 3 1\n", b"line 1: OutOfVolume\n"),
         (b"r 1048576 1\n", b"line 1: OutOfVolume\n"),
         (b"w 18446744073709551615 1 1\n", b"line 1: OutOfVolume\n"),
-        (b"w 18446744073709551616 1 1\n", b"line 1: BadWord\n"),
-        (b"f\n", b"line 1: BadWord\n"),
-        (b"\n", b"line 1: BadWord\n"),
-        (b"w\n", b"line 1: BadWord\n"),
-        (b"w 5 1\n", b"line 1: BadWord\n"),
-        (b"w 5 1 0\n", b"line 1: BadWord\n"),
-        (b"w 5 0 1\n", b"line 1: BadWord\n"),
-        (b"w 5 65537 1\n", b"line 1: BadWord\n"),
-        (b"w 05 1 1\n", b"line 1: BadWord\n"),
-        (b"w  5 1 1\n", b"line 1: BadWord\n"),
-        (b"w 5 1 1 \n", b"line 1: BadWord\n"),
-        (b"w\t5 1 1\n", b"line 1: BadWord\n"),
-        (b"w 5 1 1\r\n", b"line 1: BadWord\n"),
-        (b"r 5 1 1\n", b"line 1: BadWord\n"),
+        (b"w 18446744073709551616 1 1\n", b"line 1: BadNumber\n"),
+        (b"w\n", b"line 1: BadCount\n"),
+        (b"w 0 1\n", b"line 1: BadCount\n"),
+        (b"w 0 1 0\n", b"line 1: BadNumber\n"),
+        (b"w 5 0 1\n", b"line 1: BadNumber\n"),
+        (b"w 05 1 1\n", b"line 1: BadNumber\n"),
+        (b"w 99 0 1 5\n", b"line 1: BadCount\n"),
+        (b"r 00 1\n", b"line 1: BadNumber\n"),
+        (b"r 0 65537\n", b"line 1: BadNumber\n"),
+        (b"r 5 1 1\n", b"line 1: BadCount\n"),
+        (b"f 1\n", b"line 1: BadCount\n"),
+        (b"i\n", b"line 1: BadWord\n"),
+        (b"cut soon\n", b"line 1: BadWord\n"),
+        (b"stop 0 torn\n", b"line 1: BadNumber\n"),
+        (b"stop 4294967296 torn\n", b"line 1: BadNumber\n"),
+        (b"stop 1 now\n", b"line 1: BadWord\n"),
+        (b"W 5 1 1\n", b"line 1: BadWord\n"),
         (b"\xff\xfe\x00\n", b"line 1: BadWord\n"),
-        (b"# a comment\n", b"line 1: BadWord\n"),
         (
             b"w 0 1 1\nr 0 1\nq 5",
             b"wrote 0 1\nread 0 1\nline 3: BadWord\n",
@@ -96,6 +109,34 @@ fn the_first_refused_line_ends_the_run(rt: HostRuntime) -> Result<(), Fail> {
         assert_eq!(rt; outcome.status, 2);
         assert_eq!(rt; outcome.text.as_slice(), text);
     }
+    let long = replay(alloc, [b'w'; 201].as_slice())?;
+    assert_eq!(rt;
+        (long.status, long.text.as_slice()),
+        (2, b"line 1: LineTooLong\n".as_slice())
+    );
+    Ok(())
+}
+
+/// So many lines like this one.
+fn repeated(alloc: Global, line: &[u8], count: u32) -> Result<Vec<u8>, AllocError> {
+    let mut trace = Vec::new(alloc);
+    for _ in 0..count {
+        trace.extend_from_slice(line)?;
+    }
+    Ok(trace)
+}
+
+#[test]
+fn sixteen_stops_can_be_armed(rt: HostRuntime) -> Result<(), Fail> {
+    let alloc = rt.alloc();
+    let line = b"stop 9 blank\n";
+    let few = replay(alloc, repeated(alloc, line, 16)?.as_slice())?;
+    assert_eq!(rt; few.status, 0);
+    let end = format!(in alloc; "end 0 0 0 {EMPTY}\n")?;
+    assert_eq!(rt; few.text.as_slice(), end.as_bytes());
+    let many = replay(alloc, repeated(alloc, line, 17)?.as_slice())?;
+    assert_eq!(rt; many.status, 2);
+    assert_eq!(rt; many.text.as_slice(), b"line 17: TooManyStops\n".as_slice());
     Ok(())
 }
 
@@ -108,7 +149,7 @@ fn a_run_has_room_for_1024_blocks(rt: HostRuntime) -> Result<(), Fail> {
         full.text
             .starts_with(b"wrote 0 1024\nread 1023 1\nend 1 1 1024 ")
     );
-    assert_eq!(rt; full.counts.programs, 1024);
+    assert_eq!(rt; full.counts.disk_writes, 0);
     let over = replay(alloc, b"w 0 1024 1\nw 0 1 2\n")?;
     assert_eq!(rt; over.status, 2);
     assert_eq!(rt;
@@ -116,8 +157,23 @@ fn a_run_has_room_for_1024_blocks(rt: HostRuntime) -> Result<(), Fail> {
         b"wrote 0 1024\nline 2: TooLong\n".as_slice()
     );
     let wide = replay(alloc, b"w 0 1025 1\n")?;
-    assert_eq!(rt; (wide.status, wide.counts.programs), (2, 0));
+    assert_eq!(rt; wide.status, 2);
     assert_eq!(rt; wide.text.as_slice(), b"line 1: TooLong\n".as_slice());
+    Ok(())
+}
+
+#[test]
+fn a_cut_loses_nothing_that_was_acknowledged(rt: HostRuntime) -> Result<(), Fail> {
+    let alloc = rt.alloc();
+    let trace = b"w 0 1 1\ncut whole\nf\nr 0 1\n";
+    let outcome = replay(alloc, trace)?;
+    assert_eq!(rt; outcome.status, 0);
+    assert!(rt;
+        outcome
+            .text
+            .starts_with(b"wrote 0 1\ncut\nflushed\nread 0 1\nend 1 1 1 ")
+    );
+    assert!(rt; is_plain(alloc, trace, outcome.text.as_slice(), 1_048_576)?);
     Ok(())
 }
 
@@ -149,15 +205,11 @@ fn wrong_words_print_nothing(rt: HostRuntime) -> Result<(), Fail> {
 fn each_fault_has_its_status(rt: HostRuntime) -> Result<(), Fail> {
     let alloc = rt.alloc();
     let trace = b"w 0 1 1\nr 0 1\n";
-    // The calls of the flash are a program, the read of the second line, and the read at the end.
-    let texts: [&[u8]; 3] = [b"", b"wrote 0 1\n", b"wrote 0 1\nread 0 1\n"];
-    for (i, text) in texts.iter().enumerate() {
-        let rig = MemRig::failing(alloc, [i as u64 + 1].to_vec(alloc)?, Vec::new(alloc));
-        let outcome = replay_on(alloc, trace, rig)?;
-        assert_eq!(rt; outcome.status, 5);
-        assert_eq!(rt; outcome.text.as_slice(), *text);
-    }
-    let rig = MemRig::failing(alloc, Vec::new(alloc), [1].to_vec(alloc)?);
+    let rig = MemRig::failing(alloc, [1].to_vec(alloc)?, Vec::new(alloc));
+    let outcome = replay_on(alloc, trace, rig)?;
+    assert_eq!(rt; (outcome.status, outcome.text.len()), (5, 0));
+    // The first call of the disk is the flush of the opening, the second the read.
+    let rig = MemRig::failing(alloc, Vec::new(alloc), [2].to_vec(alloc)?);
     let outcome = replay_on(alloc, b"r 6 1\n", rig)?;
     assert_eq!(rt; (outcome.status, outcome.text.len()), (6, 0));
     Ok(())
@@ -176,7 +228,7 @@ fn streams_that_fail_end_the_run(rt: HostRuntime) -> Result<(), Fail> {
     assert_eq!(rt; status, 3);
     assert_eq!(rt; sink.bytes(), b"wrote 0 1\n".as_slice());
     // A refused line before the fault ends the run first.
-    let trace = Vec::from_slice(alloc, b"f\nr 0 1\n")?;
+    let trace = Vec::from_slice(alloc, b"q\nr 0 1\n")?;
     let mut source = MemSource::new(trace, 4, [2].to_vec(alloc)?);
     let mut sink = MemSink::new(alloc, 1000, 100, Vec::new(alloc))?;
     let status = run(alloc, words.as_slice(), &mut source, &mut sink, &mut rig);

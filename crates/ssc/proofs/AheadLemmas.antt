@@ -171,6 +171,13 @@ module _ (c : CacheValue) (old new : Contents) (list durable : CacheList) (keeps
   pub stands_still : StandsFor (geometry_of c) new.flash.page durable
   stands_still = stands_ahead (geometry_of c) c.next old.flash.page new.flash.page durable keeps.current.durable keeps.current.loads keeps.durable_before ahead keeps.stands
 
+  -- and is loaded as before
+  pub load-still : load (geometry_of c) new.flash.page ≡ load (geometry_of c) old.flash.page
+  load-still =
+      let g = geometry_of c in
+      let k = keeps.current in
+      sym (load_same g old.flash.page new.flash.page (alike_but g old.flash.page new.flash.page k.durable k.loads (but_ahead g c.next k.durable old.flash.page new.flash.page keeps.durable_before ahead)))
+
   pub keeps_ahead : (n : ℕ) → new.shape ≡ old.shape → ((b : ℕ) → b < first_pool (geometry_of c) → new.flash.next b ≡ old.flash.next b) → ((m : Entries) → AreBefore (geometry_of c) c.next m → AreBefore (geometry_of c) n m) → IsOpenAt (geometry_of c) n new.flash → Keeps (record c { next = n }) new list durable
   keeps_ahead n shape ready before opened =
       let g = geometry_of c in

@@ -12,6 +12,8 @@ use Rattle.ft_base.specs.declared.block.Page.{Page}
 use Rattle.ft_base.specs.Contents.{Contents, Image, Now}
 use Rattle.ft_base.specs.declared.block.Page.TheVariants.{Blank, Whole, Torn}
 use Rattle.ft_base.specs.declared.block.Spare.{Spare}
+use Rattle.ft_media.specs.State.{State, failed, lost}
+use Rattle.ft_media.specs.Drives.{DrivesFlash}
 use Rattle.ft_media.specs.Media.{Found}
 use Rattle.ft_media.specs.declared.media.PageRead.{PageRead}
 use Rattle.ft_media.specs.declared.media.PageRead.TheVariants as read
@@ -24,7 +26,7 @@ use Rattle.cache_model.proofs.MapLemmas.{get_insert, get_remove}
 use Rattle.mapping.specs.Counts.{place_and_mark}
 use Rattle.ssc.specs.declared.error.SscError.{SscError}
 use Rattle.ssc.specs.declared.error.SscError.TheVariants as error
-use Rattle.ssc.specs.Errors.{of_media}
+use Rattle.ssc.specs.Errors.{of_media, ssc_failed, ssc_lost}
 use Rattle.ssc.specs.CacheState.{CacheValue, Keeps, Holds, geometry_of}
 use Rattle.ssc.specs.Commands.{StandsForOne, FullExactly}
 use Rattle.ssc.specs.Steps.{HasRoomFor, dirty_groups_with}
@@ -74,6 +76,17 @@ module _ (c : CacheValue) (contents : Contents) (s : CacheList) (lba : ℕ) (hol
 
   pub not_full_from : (T : Type 0) (r : SscError) (e : MediaError) → r ≡ of_media e → HasRoomFor (geometry_of c) c.entries lba → FullExactly (geometry_of c) s lba {T = T} (Err r)
   not_full_from T r e is room = subst (λ (r : SscError). FullExactly (geometry_of c) s lba {T = T} (Err r)) (sym is) (failed_exactly T e room)
+
+-- ---- given up
+
+given_up : (T : Type 0) (a b : State) (e : MediaError) → DrivesFlash a b (failed {T = T} (Err e)) (lost {T = T} (Err e)) → DrivesFlash a b (ssc_failed {T = T} (Err (of_media e))) (ssc_lost {T = T} (Err (of_media e)))
+given_up T a b media.Failed drives = drives
+given_up T a b media.PowerLost drives = drives
+given_up T a b media.OutOfMemory drives = drives
+
+-- a command that was refused drove the media as its step did
+pub drives_given_up : (T : Type 0) (a b : State) (r : SscError) (e : MediaError) → r ≡ of_media e → DrivesFlash a b (failed {T = T} (Err e)) (lost {T = T} (Err e)) → DrivesFlash a b (ssc_failed {T = T} (Err r)) (ssc_lost {T = T} (Err r))
+drives_given_up T a b r e is drives = subst (λ (x : SscError). DrivesFlash a b (ssc_failed {T = T} (Err x)) (ssc_lost {T = T} (Err x))) (sym is) (given_up T a b e drives)
 
 -- ---- nothing to do
 

@@ -129,7 +129,7 @@ held_of page (Some e) h is = (e, refl, by_page (page e.place) is)
     by_page (Whole block spare) is = let same : held block e.dirty ≡ h = cc in ap (λ (x : Held). x.dirty) (sym same)
     by_page Torn is = absurd (cc)
 
-whole_held : (page : Place → Page) (e : Entry) → is_whole (page e.place) ≡ true → (h : Held) × (held_at page e ≡ Some h) × (h.dirty ≡ e.dirty)
+pub whole_held : (page : Place → Page) (e : Entry) → is_whole (page e.place) ≡ true → (h : Held) × (held_at page e ≡ Some h) × (h.dirty ≡ e.dirty)
 whole_held page e whole = by_page (page e.place) whole
   where
     by_page : (q : Page) → is_whole q ≡ true → (h : Held) × (option_map (λ block. held block e.dirty) (block_in q) ≡ Some h) × (h.dirty ≡ e.dirty)

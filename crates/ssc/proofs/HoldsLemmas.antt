@@ -31,6 +31,10 @@ pub length_waiting : (changes : List Record) → length (waiting changes) ≡ le
 length_waiting [] = refl
 length_waiting (change ∷ changes) = ap suc (length_waiting changes)
 
+pub waiting-none : (changes : List Record) → waiting changes ≡ [] → changes ≡ []
+waiting-none [] none = refl
+waiting-none (change ∷ changes) none = absurd (cc)
+
 pub waiting_push : (changes : List Record) (own : Record) → waiting (changes ++ own ∷ []) ≡ waiting changes ++ waiting_as own ∷ []
 waiting_push [] own = refl
 waiting_push (change ∷ changes) own = ap (λ l. waiting_as change ∷ l) (waiting_push changes own)

@@ -6,9 +6,12 @@ pub mod PlaceLemmas
 pub mod HoldsLemmas
 pub mod CommitLemmas
 pub mod ResultLemmas
+pub mod GivenLemmas
 pub mod StepLemmas
 pub mod PutLemmas
 pub mod SpendLemmas
 pub mod CommandLemmas
+pub mod MapLoadLemmas
+pub mod ListLemmas
 pub mod OpenLemmas
 pub mod ListedLemmas

@@ -26,7 +26,7 @@ at_index P (y ∷ ys) zero x all is = let same : y ≡ x = cc in subst P same al
 at_index P (y ∷ ys) (suc i) x all is = at_index P ys i x all.1 is
 
 -- the entry of a number is that of its address
-nth_entry : (m : Entries) (i a : ℕ) (at : Place) → Some (a, at) ≡ option_map address_and_place (slice_get (entries m) i) → (e : Entry) × (slice_get (entries m) i ≡ Some (a, e)) × (get m a ≡ Some e)
+pub nth_entry : (m : Entries) (i a : ℕ) (at : Place) → Some (a, at) ≡ option_map address_and_place (slice_get (entries m) i) → (e : Entry) × (slice_get (entries m) i ≡ Some (a, e)) × (get m a ≡ Some e)
 nth_entry m i a at is = by (slice_get (entries m) i) refl is
   where
     by : (o : Option (ℕ × Entry)) → slice_get (entries m) i ≡ o → Some (a, at) ≡ option_map address_and_place o → (e : Entry) × (slice_get (entries m) i ≡ Some (a, e)) × (get m a ≡ Some e)

@@ -6,13 +6,13 @@ use Rattle.std.specs.Ordering.{ord_max}
 use Rattle.std.specs.FinMap.{get, entries, empty, get-empty}
 use Rattle.std.proofs.lemmas.Bool.{cases_lt, cases_cond}
 use Rattle.std.proofs.lemmas.Bool.Decides.{nat_tests}
-use Rattle.std.proofs.lemmas.Nat.{mul-add-lt, div-mul-add, mod-mul-add, mul-le}
+use Rattle.std.proofs.lemmas.Nat.{mul-add-lt, div-mul-add, mod-mul-add, mul-le, le-div}
 use Rattle.std.proofs.lemmas.Option.{slice_get_within}
 use Rattle.ft_base.specs.declared.geometry.Geometry.{Geometry}
 use Rattle.ft_base.specs.declared.block.Place.{Place}
 use Rattle.ft_base.specs.declared.block.Page.{Page}
 use Rattle.ft_base.specs.Contents.{Contents, Shape, Image, Now, HasValue}
-use Rattle.ft_base.specs.Layout.{first_pool}
+use Rattle.ft_base.specs.Layout.{first_pool, up}
 use Rattle.ft_media.specs.declared.rig.Counts.{Counts}
 use Rattle.ft_media.specs.State.{State}
 use Rattle.ft_media.specs.Media.{Crashed}
@@ -34,10 +34,11 @@ use Rattle.op_log.specs.Log.{LogValue, FitsOn}
 use Rattle.checkpoint.specs.Current.{IsCurrent, AreWhole, IsCommitted, PoolStays, LoadsOneOf}
 use Rattle.recovery.specs.declared.loading.Loaded.{Loaded}
 use Rattle.recovery.specs.Loaded.{IsLoaded}
-use Rattle.ssc.specs.CacheState.{CacheValue, Holds, geometry_of, AreBefore}
+use Rattle.ssc.specs.CacheState.{CacheValue, Holds, geometry_of, AllBefore, AreBefore}
 use Rattle.ssc.proofs.AheadLemmas.{held_same, loaded_durable}
 use Rattle.ssc.proofs.CommitLemmas.{pool_same, stands_by_pool, stands_as_before}
 use Rattle.ssc.proofs.HoldsLemmas.{holds_committed}
+use Rattle.ssc.proofs.ListedLemmas.{nth_entry}
 
 -- ---- where blocks go
 
@@ -58,17 +59,22 @@ entry_number m a e is =
 -- the entries before the i-th lie in the first blocks of the pool, so many
 pub record LieBelow (g : Geometry) (m : Entries) (i used : ℕ) : Type 0 where
   pub few : used ≤ g.c + g.l + 1
+  pub least : (n : ℕ) → AllBefore g n m → used ≤ up n g.p
   pub below : (k a : ℕ) (at : Place) → k < i → Some (a, at) ≡ option_map address_and_place (slice_get (entries m) k) → at.block < first_pool g + used
 
 pub lie_none : (g : Geometry) (m : Entries) → LieBelow g m 0 0
-lie_none g m = record { few = omega arith; below = λ k a at lt is. absurd (omega arith) }
+lie_none g m = record { few = omega arith; least = λ n all. none_below (up n g.p); below = λ k a at lt is. absurd (omega arith) }
+  where
+    none_below : (n : ℕ) → 0 ≤ n
+    none_below n = omega arith
 
 max_is : (a b : ℕ) → ord_max nat_cmp a b ≡ max a b
 max_is a b = grind (arith, nat_tests)
 
-pub lie_more : (g : Geometry) (m : Entries) (i used more most : ℕ) → most ≡ ord_max nat_cmp used more → LieBelow g m i used → more ≤ g.c + g.l + 1 → ((a : ℕ) (at : Place) → Some (a, at) ≡ option_map address_and_place (slice_get (entries m) i) → first_pool g + more ≡ at.block + 1) → LieBelow g m (i + 1) most
-lie_more g m i used more most is lie few blocks = subst (λ n. LieBelow g m (i + 1) n) (sym (is ∙ max_is used more)) (record {
+pub lie_more : (g : Geometry) (m : Entries) (i used more most : ℕ) → most ≡ ord_max nat_cmp used more → LieBelow g m i used → more ≤ g.c + g.l + 1 → ((n : ℕ) → AllBefore g n m → more ≤ up n g.p) → ((a : ℕ) (at : Place) → Some (a, at) ≡ option_map address_and_place (slice_get (entries m) i) → first_pool g + more ≡ at.block + 1) → LieBelow g m (i + 1) most
+lie_more g m i used more most is lie few least blocks = subst (λ n. LieBelow g m (i + 1) n) (sym (is ∙ max_is used more)) (record {
   few = let low = lie.few in omega arith;
+  least = λ n all. let first = lie.least n all in let second = least n all in most_of used more (up n g.p) first second;
   below = λ k a at lt is. elim (cases_lt k i) [
     | inl before ↦ let low = lie.below k a at before is in omega arith
     | inr here ↦
@@ -77,6 +83,9 @@ lie_more g m i used more most is lie few blocks = subst (λ n. LieBelow g m (i +
         omega arith
   ];
 })
+  where
+    most_of : (a b most : ℕ) → a ≤ most → b ≤ most → max a b ≤ most
+    most_of a b most first second = omega arith
 
 pub lie_all : (g : Geometry) (m : Entries) (i used : ℕ) → IsMap g m → length (entries m) ≤ i → LieBelow g m i used → AreBefore g (used * g.p) m
 lie_all g m i used is_map all lie = record {
@@ -100,6 +109,29 @@ lie_all g m i used is_map all lie = record {
 
     whole : (a b : ℕ) → a * b ≡ a * b + 0
     whole a b = omega arith
+
+pub same_place_of : (a b : ℕ) (at there : Place) → ◌≡◌ {A = Option (ℕ × Place)} (Some (a, at)) (Some (b, there)) → at.block ≡ there.block
+same_place_of a b at there is = ap (λ (x : Option (ℕ × Place)). block_in_pair x) is
+  where
+    block_in_pair : Option (ℕ × Place) → ℕ
+    block_in_pair None = 0
+    block_in_pair (Some x) = x.1.block
+
+-- the blocks up to that of an entry are no more than those with a page before the n-th, where all entries lie
+pub blocks_least : (g : Geometry) (m : Entries) (n used i a : ℕ) (at : Place) → AllBefore g n m → first_pool g ≤ at.block → Some (a, at) ≡ option_map address_and_place (slice_get (entries m) i) → first_pool g + used ≡ at.block + 1 → used ≤ up n g.p
+blocks_least g m n used i a at all above is blocks =
+    let e = nth_entry m i a at is in
+    let same : at.block ≡ e.0.place.block = same_place_of a a at e.0.place (is ∙ ap (option_map address_and_place) e.1) in
+    let before : (e.0.place.block - first_pool g) * g.p + e.0.place.page < n = all a e.0 e.2 in
+    least used (e.0.place.block - first_pool g) e.0.place.page n g.p (omega (arith, g.in_range.p_low)) (one_less (first_pool g) used at.block e.0.place.block above same blocks) before
+  where
+    one_less : (first used block other : ℕ) → first ≤ block → block ≡ other → first + used ≡ block + 1 → used ≡ (other - first) + 1
+    one_less first used block other above same is = omega arith
+
+    least : (used b page n p : ℕ) → 0 < p → used ≡ b + 1 → b * p + page < n → used ≤ up n p
+    least used b page n p some is before =
+        let pages : used * p ≡ (b + 1) * p = ap (λ k. k * p) is in
+        le-div used (n + p - 1) p some (omega arith)
 
 -- ---- calls that read, as calls that drive
 
@@ -169,13 +201,6 @@ module _ (g : Geometry) (old new : Contents) (m : Entries) (s : CacheList) (load
         open_block = λ inside. absurd (inside (ap (λ (h : Geometry). c.next % h.p) is ∙ first));
       })
 
-pub same_place_of : (a b : ℕ) (at there : Place) → ◌≡◌ {A = Option (ℕ × Place)} (Some (a, at)) (Some (b, there)) → at.block ≡ there.block
-same_place_of a b at there is = ap (λ (x : Option (ℕ × Place)). block_in_pair x) is
-  where
-    block_in_pair : Option (ℕ × Place) → ℕ
-    block_in_pair None = 0
-    block_in_pair (Some x) = x.1.block
-
 -- ---- numbers of blocks and pages
 
 pub few_pages : (g : Geometry) (used : ℕ) → used ≤ g.c + g.l + 1 → used * g.p ≤ (g.c + g.l + 1) * g.p
@@ -183,6 +208,9 @@ few_pages g used few = mul-le used g.p (g.c + g.l + 1) g.p few (omega arith)
 
 pub pages_fit : (g : Geometry) (used : ℕ) → used ≤ g.c + g.l + 1 → used * g.p ≤ 577 * 64
 pages_fit g used few = let c = g.in_range.c_high in let l = g.in_range.l_high in mul-le used g.p 577 64 (omega arith) g.in_range.p_high
+
+pub pages_least : (g : Geometry) (used n : ℕ) → used ≤ up n g.p → used * g.p ≤ up n g.p * g.p
+pages_least g used n least = mul-le used g.p (up n g.p) g.p least (omega arith)
 
 pub whole_blocks : (used p : ℕ) → 0 < p → (used * p) % p ≡ 0
 whole_blocks used p some = ap (λ n. n % p) (whole (used * p)) ∙ mod-mul-add used p 0 some
@@ -221,6 +249,17 @@ module _ (g : Geometry) (old mid new : Contents) (loaded : Loaded) (cache : Cach
       (subst (λ (h : Geometry). LoadsOneOf h old.flash.page new.flash.page cache.entries) g_is
       (subst (λ (k : Contents). LoadsOneOf (geometry_of cache) k.flash.page new.flash.page cache.entries) read one)))
 
+  -- nor is it loaded as another map
+  pub load-after_open : LoadsOneOf (geometry_of cache) mid.flash.page new.flash.page cache.entries → load g new.flash.page ≡ load g old.flash.page
+  load-after_open one = by
+      (subst (λ (m : Entries). LoadsOneOf g old.flash.page new.flash.page m) entries_is
+      (subst (λ (h : Geometry). LoadsOneOf h old.flash.page new.flash.page cache.entries) g_is
+      (subst (λ (k : Contents). LoadsOneOf (geometry_of cache) k.flash.page new.flash.page cache.entries) read one)))
+    where
+      by : LoadsOneOf g old.flash.page new.flash.page loaded.map.entries → load g new.flash.page ≡ load g old.flash.page
+      by (inl done) = done ∙ sym is.loads
+      by (inr same) = same
+
   pub holds_after_open : (c : CacheValue) → c ≡ record cache { log = c.log } → geometry_of c ≡ geometry_of cache → FitsOn g old.shape → new.shape ≡ mid.shape → IsCommitted new.flash c.log cache.entries → c.log.buffered ≡ [] → AreBefore g cache.next cache.entries → cache.next % g.p ≡ 0 → (s : CacheList) → StandsFor g old.flash.page s → Holds c new s
   holds_after_open c cache_is same_g shape same_shape committed none before first s stands =
       let next_is : c.next ≡ cache.next = ap (λ (v : CacheValue). v.next) cache_is in
@@ -229,6 +268,15 @@ module _ (g : Geometry) (old mid new : Contents) (loaded : Loaded) (cache : Cach
       (subst (λ (m : Entries). IsCommitted new.flash c.log m) entries_is committed) none
       (subst (λ n. AreBefore g n loaded.map.entries) (sym next_is) (subst (λ (m : Entries). AreBefore g cache.next m) entries_is before))
       (ap (λ n. n % g.p) next_is ∙ first)
+
+-- it goes on where the cache that was loaded did
+pub next_after_open : (g : Geometry) (cache c : CacheValue) → c ≡ record cache { log = c.log } → geometry_of c ≡ g → ((n : ℕ) → AllBefore g n cache.entries → cache.next ≤ up n g.p * g.p) → (n : ℕ) → AllBefore (geometry_of c) n c.entries → c.next ≤ up n (geometry_of c).p * (geometry_of c).p
+next_after_open g cache c is same least n all =
+    let entries_is : c.entries ≡ cache.entries = ap (λ (v : CacheValue). v.entries) is in
+    let next_is : c.next ≡ cache.next = ap (λ (v : CacheValue). v.next) is in
+    subst (λ (h : Geometry). c.next ≤ up n h.p * h.p) (sym same)
+    (subst (λ k. k ≤ up n g.p * g.p) (sym next_is)
+    (least n (subst (λ (m : Entries). AllBefore g n m) entries_is (subst (λ (h : Geometry). AllBefore h n c.entries) same all))))
 
 -- ---- an empty map
 

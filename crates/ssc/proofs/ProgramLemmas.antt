@@ -10,9 +10,11 @@ use Rattle.ft_base.specs.Contents.{Contents, Flash, set_page, set}
 use Rattle.ft_base.proofs.Images.{set_here, set_other}
 use Rattle.ft_media.specs.Media.{LeavesPage, PagesErased, after_program, after_erase}
 use Rattle.cache_model.specs.Cache.{CacheList}
+use Rattle.cache_model.specs.Loading.{load}
 use Rattle.cache_model.specs.Stands.{StandsFor}
 use Rattle.ssc.specs.CacheState.{CacheValue, Keeps, geometry_of, pool_page}
-use Rattle.ssc.proofs.AheadLemmas.{ChangedAhead, same_ahead, set_ahead, erase_ahead, before_more, open_more, stands_still, keeps_ahead}
+use Rattle.ssc.specs.Steps.{KeepsSome}
+use Rattle.ssc.proofs.AheadLemmas.{ChangedAhead, same_ahead, set_ahead, erase_ahead, before_more, open_more, stands_still, load-still, keeps_ahead}
 
 -- whatever is answered, only the next page may have changed
 pub leaves_ahead : (g : Geometry) (next : ℕ) (old new : Flash) (at : Place) (block : Block) (spare : Spare) → at ≡ pool_page g next → LeavesPage old new at block spare → ChangedAhead g next old.page new.page
@@ -23,6 +25,9 @@ leaves_ahead g next old new at block spare here (inr (inr torn)) = subst (λ (p 
 module _ (c : CacheValue) (old new : Contents) (at : Place) (block : Block) (spare : Spare) (here : at ≡ pool_page (geometry_of c) c.next) where
   pub stands_programmed : LeavesPage old.flash new.flash at block spare → (list durable : CacheList) → Keeps c old list durable → StandsFor (geometry_of c) new.flash.page durable
   stands_programmed leaves list durable keeps = stands_still c old new list durable keeps (leaves_ahead (geometry_of c) c.next old.flash new.flash at block spare here leaves)
+
+  pub load-programmed : LeavesPage old.flash new.flash at block spare → KeepsSome c old → load (geometry_of c) new.flash.page ≡ load (geometry_of c) old.flash.page
+  load-programmed leaves some = load-still c old new some.list some.durable some.keeps (leaves_ahead (geometry_of c) c.next old.flash new.flash at block spare here leaves)
 
   made : new.flash ≡ after_program old.flash at block spare → new.flash ≡ after_program old.flash (pool_page (geometry_of c) c.next) block spare
   made ok = ok ∙ ap (λ (q : Place). after_program old.flash q block spare) here
@@ -46,6 +51,9 @@ module _ (c : CacheValue) (old new : Contents) (first : c.next % (geometry_of c)
 
   pub stands_erased : PagesErased old.flash new.flash block → (list durable : CacheList) → Keeps c old list durable → StandsFor (geometry_of c) new.flash.page durable
   stands_erased erased list durable keeps = stands_still c old new list durable keeps (ahead_erased erased)
+
+  pub load-erased : PagesErased old.flash new.flash block → (list durable : CacheList) → Keeps c old list durable → load (geometry_of c) new.flash.page ≡ load (geometry_of c) old.flash.page
+  load-erased erased list durable keeps = load-still c old new list durable keeps (ahead_erased erased)
 
   pub keeps_erased : PagesErased old.flash new.flash block → new.shape ≡ old.shape → new.flash ≡ after_erase old.flash block → (list durable : CacheList) → Keeps c old list durable → Keeps c new list durable
   keeps_erased erased shape ok list durable keeps =

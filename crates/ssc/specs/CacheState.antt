@@ -59,6 +59,10 @@ pool_page g i = record { block = first_pool g + i / g.p; page = i % g.p }
 abbrev pub IsBefore : Geometry → ℕ → Place → Type 0
 IsBefore g i at = (at.block - first_pool g) * g.p + at.page < i
 
+-- every entry does
+abbrev pub AllBefore : Geometry → ℕ → Entries → Type 0
+AllBefore g i m = (a : ℕ) (e : Entry) → get m a ≡ Some e → IsBefore g i e.place
+
 -- every entry stands before the page to program next, and no data block is the block that it lies in
 pub record AreBefore (g : Geometry) (next : ℕ) (m : Entries) : Type 0 where
   pub before : (a : ℕ) (e : Entry) → get m a ≡ Some e → IsBefore g next e.place

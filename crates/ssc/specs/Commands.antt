@@ -1,5 +1,5 @@
 -- What the commands answer, and what they leave.
-use Rattle.std.specs.Prelude.{◌≡◌, ◌⊎◌, ◌/◌, ℕ, Bool, true, false, List, [], ◌∷◌, ◌++◌, length, Option, None, Some, Result, Ok, Err}
+use Rattle.std.specs.Prelude.{◌≡◌, ◌⊎◌, ◌≤◌, ◌+◌, ◌/◌, ℕ, Bool, true, false, List, [], ◌∷◌, ◌++◌, length, Option, None, Some, Result, Ok, Err}
 use Rattle.std.specs.FinMap.{get}
 use Rattle.ft_base.specs.declared.block.Block.{Block}
 use Rattle.ft_base.specs.declared.block.Place.{Place}
@@ -10,7 +10,10 @@ use Rattle.cache_model.specs.Cache.{Buffered, CacheList, Held, IsFull, dirty_gro
 use Rattle.cache_model.specs.Stands.{StandsFor}
 use Rattle.ssc.specs.declared.error.SscError.{SscError}
 use Rattle.ssc.specs.declared.error.SscError.TheVariants.{Full, FlashFault, PowerLost, OutOfMemory}
-use Rattle.ssc.specs.CacheState.{CacheValue, geometry_of, pending}
+use Rattle.ft_base.specs.declared.record.Record.TheVariants.{SetPage}
+use Rattle.cache_model.specs.Records.{after}
+use Rattle.cache_model.specs.Loading.{load}
+use Rattle.ssc.specs.CacheState.{CacheValue, geometry_of, pending, pool_page}
 
 -- what a crash may leave of a command: the list of before without what was buffered, that list whole, or the list after the step
 pub data StandsForOne (g : Geometry) (page : Place → Page) (undone before after : CacheList) : Type 0 where
@@ -42,3 +45,16 @@ IsHeldIn s a = (h : Held) × (get s a ≡ Some h)
 abbrev pub ReadOf : Option Held → Bool → Block → Type 0
 ReadOf None found block = found ≡ false
 ReadOf (Some h) found block = (found ≡ true) × (block ≡ h.block)
+
+-- the map is as it was, or has the address at the next page of the pool; and that page was taken before
+abbrev pub TakesPage : CacheValue → CacheValue → ℕ → Bool → Type 0
+TakesPage old new lba dirty =
+    ((new.entries ≡ old.entries) × (old.next ≤ new.next) × (new.next ≤ old.next + 1))
+    ⊎ ((new.entries ≡ after (geometry_of old) (SetPage lba (pool_page (geometry_of old) old.next) dirty) old.entries) × (new.next ≡ old.next + 1))
+
+-- the flash is loaded as before, or as the map was, or as it is
+abbrev pub LoadsMapOf : CacheValue → CacheValue → (Place → Page) → (Place → Page) → Type 0
+LoadsMapOf old new page page' =
+    (load (geometry_of old) page' ≡ load (geometry_of old) page)
+    ⊎ (load (geometry_of old) page' ≡ Ok old.entries)
+    ⊎ (load (geometry_of old) page' ≡ Ok new.entries)

@@ -5,10 +5,12 @@ ghost use Rattle.ft_media.specs.Drives.{DrivesFlash};
 ghost use Rattle.ft_media.specs.Passes.{Spends};
 ghost use Rattle.ft_media.specs.Media.{program_counted};
 ghost use Rattle.cache_model.specs.Cache.{CacheList};
+ghost use Rattle.cache_model.specs.Loading.{load};
 ghost use Rattle.cache_model.specs.Stands.{StandsFor};
 ghost use Rattle.cache_model.specs.Entries.{Fits};
 ghost use Rattle.mapping.specs.MapValue.{pages_taken, groups_taken};
 ghost use Rattle.op_log.specs.Log.{pushed};
+ghost use Rattle.checkpoint.specs.Current.{LoadsOneOf};
 ghost use Rattle.ssc.specs.CacheState.{Keeps, geometry_of, log_room, open_room, pages_left, pool_page};
 ghost use Rattle.ssc.specs.Steps.{KeepsSome, KeepsOn, HasBlock, StandsForEither, noted, placed};
 
@@ -33,10 +35,12 @@ impl Ssc {
         ensures geometry { geometry_of self.new ≡ geometry_of self.old }
         ensures cache { self.new ≡ record self.old { log = self.new.log; next = self.new.next } }
         ensures next { OnOk result (self.new.next ≡ self.old.next + 1) }
+        ensures refused { OnErr result (self.new.next ≡ self.old.next) }
         ensures place { IfOk result (λ at. at ≡ pool_page (geometry_of self.old) self.old.next) }
         ensures written { OnOk result (HasBlock (M.state media.new).contents.flash.page (pool_page (geometry_of self.old) self.old.next) block.now) }
         ensures done { OnOk result ((list durable : CacheList) → Keeps self.old (M.state media.old).contents list durable → KeepsOn self.old.log self.new (M.state media.new).contents list durable) }
         ensures stands { (list durable : CacheList) → Keeps self.old (M.state media.old).contents list durable → StandsForEither (geometry_of self.old) (M.state media.new).contents.flash.page durable list }
+        ensures loads { LoadsOneOf (geometry_of self.old) (M.state media.old).contents.flash.page (M.state media.new).contents.flash.page self.old.entries }
         ensures inside { OnOk result (1 ≤ open_room self.old → (self.new.log ≡ self.old.log) × ((M.state media.new).counts ≡ program_counted (M.state media.old).counts)) }
         ensures programs { OnOk result (Rose (M.state media.old).counts.programs (M.state media.new).counts.programs) }
         ensures spends { OnOk result (Spends 1 (M.state media.old) (M.state media.new)) }
@@ -57,6 +61,7 @@ impl Ssc {
         ensures ready { OnOk result ((M.state media.new).contents.flash.next (pool_page (geometry_of self.old) self.old.next).block ≡ Some (pool_page (geometry_of self.old) self.old.next).page) }
         ensures done { OnOk result ((list durable : CacheList) → Keeps self.old (M.state media.old).contents list durable → KeepsOn self.old.log self.new (M.state media.new).contents list durable) }
         ensures stands { (list durable : CacheList) → Keeps self.old (M.state media.old).contents list durable → StandsForEither (geometry_of self.old) (M.state media.new).contents.flash.page durable list }
+        ensures loads { LoadsOneOf (geometry_of self.old) (M.state media.old).contents.flash.page (M.state media.new).contents.flash.page self.old.entries }
         ensures programs { OnOk result ((M.state media.old).counts.programs ≤ (M.state media.new).counts.programs) }
         ensures memory { IsErrOf result MediaError.OutOfMemory → ⊥ }
         ensures drives { DrivesFlash (M.state media.old) (M.state media.new) (failed result) (lost result) }
@@ -85,6 +90,7 @@ impl Ssc {
         ensures written { OnOk result (HasBlock (M.state media.new).contents.flash.page (pool_page (geometry_of self.old) self.old.next) block.now) }
         ensures done { OnOk result ((list durable : CacheList) → Keeps self.old (M.state media.old).contents list durable → Keeps self.new (M.state media.new).contents list durable) }
         ensures stands { (list durable : CacheList) → Keeps self.old (M.state media.old).contents list durable → StandsFor (geometry_of self.old) (M.state media.new).contents.flash.page durable }
+        ensures loads { load (geometry_of self.old) (M.state media.new).contents.flash.page ≡ load (geometry_of self.old) (M.state media.old).contents.flash.page }
         ensures counts { OnOk result ((M.state media.new).counts ≡ program_counted (M.state media.old).counts) }
         ensures spends { OnOk result (Spends 1 (M.state media.old) (M.state media.new)) }
         ensures memory { IsErrOf result MediaError.OutOfMemory → ⊥ }
@@ -141,6 +147,7 @@ impl Ssc {
         ensures nothing_waits { OnOk result (self.new.log.buffered ≡ []) }
         ensures done { OnOk result ((list durable : CacheList) → Keeps self.old (M.state media.old).contents list durable → Keeps self.new (M.state media.new).contents list list) }
         ensures stands { (list durable : CacheList) → Keeps self.old (M.state media.old).contents list durable → StandsForEither (geometry_of self.old) (M.state media.new).contents.flash.page durable list }
+        ensures loads { LoadsOneOf (geometry_of self.old) (M.state media.old).contents.flash.page (M.state media.new).contents.flash.page self.old.entries }
         ensures one_page { OnOk result (self.old.log.buffered ≢ [] → 1 ≤ log_room self.old → (M.state media.new).counts ≡ program_counted (M.state media.old).counts) }
         ensures programs { OnOk result ((M.state media.old).counts.programs ≤ (M.state media.new).counts.programs) }
         ensures spends { OnOk result (self.old.log.buffered ≢ [] → Spends 1 (M.state media.old) (M.state media.new)) }

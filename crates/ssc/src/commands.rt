@@ -1,4 +1,4 @@
-ghost use Rattle.std.specs.Prelude.{◌≡◌, ◌≢◌, ◌≤◌, ◌<◌, ◌+◌, ◌-◌, ◌/◌, ◌++◌, ◌∷◌, [], ℕ, length, true, false, Some, None, OnOk, OnErr, IfOk, IsErrOf, ◌⊎◌};
+ghost use Rattle.std.specs.Prelude.{◌≡◌, ◌≢◌, ◌≤◌, ◌<◌, ◌+◌, ◌-◌, ◌/◌, ◌++◌, ◌∷◌, [], ℕ, length, true, false, Some, None, OnOk, OnErr, IfOk, IsOk, IsErrOf, ◌⊎◌};
 ghost use Rattle.std.specs.FinMap.{get};
 ghost use Rattle.ft_base.specs.Contents.{Contents};
 ghost use Rattle.ft_base.specs.Count.{Rose};
@@ -10,7 +10,7 @@ ghost use Rattle.cache_model.specs.Cache.{CacheList, Inserted, Cleaned, written_
 ghost use Rattle.cache_model.specs.Loading.{load};
 ghost use Rattle.ssc.specs.Errors.{ssc_failed, ssc_lost, stops};
 ghost use Rattle.ssc.specs.CacheState.{Holds, IsUp, geometry_of, log_room, open_room, pages_left, pending};
-ghost use Rattle.ssc.specs.Commands.{ImagesOf, FullExactly, PendsWith, IsHeldIn, ReadOf};
+ghost use Rattle.ssc.specs.Commands.{ImagesOf, FullExactly, LoadsMapOf, TakesPage, PendsWith, IsHeldIn, ReadOf};
 
 use crate::error::of_media;
 use crate::{Ssc, SscError};
@@ -38,6 +38,9 @@ impl Ssc {
         ensures stopped { self.new.stopped ≡ stops result }
         ensures done { OnOk result ((s : CacheList) → Holds self.old (M.state media.old).contents s → Holds self.new (M.state media.new).contents (written_dirty lba block.now s)) }
         ensures nothing_waits { OnOk result (pending self.new ≡ []) }
+        // Whatever is answered.
+        ensures map { TakesPage self.old self.new lba true }
+        ensures loads { LoadsMapOf self.old self.new (M.state media.old).contents.flash.page (M.state media.new).contents.flash.page }
         ensures images { (s : CacheList) → Holds self.old (M.state media.old).contents s → ImagesOf self.old (M.state media.new).contents s (written_dirty lba block.now s) }
         ensures pages { OnOk result (pages_left self.new + 1 ≡ pages_left self.old) }
         ensures two_programs { OnOk result (1 ≤ open_room self.old → 1 ≤ log_room self.old → (M.state media.new).counts ≡ program_counted (program_counted (M.state media.old).counts)) }
@@ -197,6 +200,7 @@ impl Ssc {
         ensures full { (n l : ℕ) → IsErrOf result (SscError.Full n l) → ⊥ }
         ensures memory { IsErrOf result SscError.OutOfMemory → ⊥ }
         ensures stopped { self.new.stopped ≡ stops result }
+        ensures nothing { pending self.old ≡ [] → IsOk result × (self.new ≡ self.old) × (M.state media.new ≡ M.state media.old) }
         ensures done { OnOk result ((s : CacheList) → Holds self.old (M.state media.old).contents s → Holds self.new (M.state media.new).contents s) }
         ensures nothing_waits { OnOk result (pending self.new ≡ []) }
         ensures images { (s : CacheList) → Holds self.old (M.state media.old).contents s → ImagesOf self.old (M.state media.new).contents s s }

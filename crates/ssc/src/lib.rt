@@ -22,6 +22,3 @@ mod unused;
 pub use cache::Ssc;
 pub use error::SscError;
 pub use op_log::OpenError;
-
-#[cfg(test)]
-mod tests;

@@ -12,7 +12,7 @@ ghost use Rattle.op_log.specs.Log.{FitsOn, pushed};
 ghost use Rattle.checkpoint.specs.Current.{IsCurrent, AreWhole, IsCommitted, PoolStays, LoadsOneOf};
 ghost use Rattle.ssc.specs.Errors as errors;
 ghost use Rattle.ssc.specs.CacheState.{Keeps, geometry_of, log_room, open_room, pages_left, pool_page};
-ghost use Rattle.ssc.specs.Commands.{StandsForOne};
+ghost use Rattle.ssc.specs.Commands.{LoadsMapOf, StandsForOne, TakesPage};
 ghost use Rattle.ssc.specs.Steps.{KeepsSome, KeepsAfter, StandsForEither, HasRoomFor, dirty_groups_with};
 
 use crate::error::of_media;
@@ -69,6 +69,8 @@ impl Ssc {
         ensures nothing_waits { OnOk result (self.new.log.buffered ≡ []) }
         ensures done { OnOk result ((list durable : CacheList) → Keeps self.old (M.state media.old).contents list durable → Keeps self.new (M.state media.new).contents (written_dirty lba block.now list) (written_dirty lba block.now list)) }
         ensures stands { (list durable : CacheList) → Keeps self.old (M.state media.old).contents list durable → StandsForOne (geometry_of self.old) (M.state media.new).contents.flash.page durable list (written_dirty lba block.now list) }
+        ensures map { TakesPage self.old self.new lba true }
+        ensures loads { LoadsMapOf self.old self.new (M.state media.old).contents.flash.page (M.state media.new).contents.flash.page }
         ensures two_programs { OnOk result (1 ≤ open_room self.old → 1 ≤ log_room self.old → (M.state media.new).counts ≡ program_counted (program_counted (M.state media.old).counts)) }
         ensures programs { OnOk result (Rose (M.state media.old).counts.programs (M.state media.new).counts.programs) }
         ensures spends { OnOk result (Spends 2 (M.state media.old) (M.state media.new)) }
@@ -163,6 +165,7 @@ impl Ssc {
         ensures log { OnOk result (self.new.log.next ≡ 0) }
         ensures committed { OnOk result (IsCommitted (M.state media.new).contents.flash self.new.log self.old.entries) }
         ensures loads { LoadsOneOf (geometry_of self.old) (M.state media.old).contents.flash.page (M.state media.new).contents.flash.page self.old.entries }
+        ensures programs { OnOk result (Rose (M.state media.old).counts.programs (M.state media.new).counts.programs) }
         ensures pool { PoolStays (geometry_of self.old) (M.state media.old).contents.flash.page (M.state media.new).contents.flash.page }
         ensures done { OnOk result ((list durable : CacheList) → Keeps self.old (M.state media.old).contents list durable → Keeps self.new (M.state media.new).contents list list) }
         ensures stands { (list durable : CacheList) → Keeps self.old (M.state media.old).contents list durable → StandsForEither (geometry_of self.old) (M.state media.new).contents.flash.page durable list }

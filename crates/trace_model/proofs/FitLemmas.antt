@@ -1,12 +1,12 @@
 -- What fits of a run, line by line.
-use Rattle.std.proofs.Common.{◌≡◌, ℕ, zero, suc, ◌+◌, ◌-◌, ◌<◌, ◌≤◌, arith, List, [], ◌∷◌, length, get_or, drop, ap, sym, ◌∙◌, subst, length-drop}
+use Rattle.std.proofs.Common.{◌≡◌, ℕ, zero, suc, ◌+◌, ◌-◌, ◌<◌, ◌≤◌, ◌==◌, arith, Option, None, cond, List, [], ◌∷◌, length, get_or, drop, ap, sym, ◌∙◌, subst, length-drop}
 use Rattle.ft_base.specs.PlainDisk.{PlainDisk}
 use Rattle.ft_base.specs.declared.power.Stop.{Stop}
 use Rattle.trace_model.specs.declared.line.Line.{Line}
 use Rattle.trace_model.specs.declared.line.Line.TheVariants as line
 use Rattle.trace_model.specs.declared.ran.Ran.{Ran}
-use Rattle.trace_model.specs.Plain.{AreAddressed, FitsNext, IsAddressed, IsKeptWithin, IsRunLine}
-use Rattle.trace_model.specs.Run.{Fits, FitsLine, armed_after, arming, disk_after}
+use Rattle.trace_model.specs.Plain.{AreAddressed, IsAddressed, IsKeptWithin, IsRunLine}
+use Rattle.trace_model.specs.Run.{Fits, FitsLine, FitsNext, armed_after, arming, disk_after, may_still, may_write}
 use Rattle.trace_model.proofs.RunLemmas.{from_here}
 
 -- the addresses of each line of a run are numbers of 64 bits
@@ -25,32 +25,43 @@ kept_within (line.Cut outcome) cuts kept disk fits = tt
 kept_within line.Nothing cuts kept disk fits = tt
 
 -- a line that fits was run so
-pub fits_is_run : (ran : Ran) (armed : ℕ) (disk : PlainDisk) → IsAddressed ran.line → FitsNext ran armed disk → IsRunLine ran
-fits_is_run ran armed disk addressed fits = record { addressed = addressed; kept = kept_within ran.line ran.cuts ran.kept disk fits.1 }
+pub fits_is_run : (ran : Ran) (armed : ℕ) (may : Option ℕ) (disk : PlainDisk) → IsAddressed ran.line → FitsNext ran armed may disk → IsRunLine ran
+fits_is_run ran armed may disk addressed fits = record { addressed = addressed; kept = kept_within ran.line ran.cuts ran.kept disk fits.line }
 
 -- of a run that fits, the lines before one fit too
 fits_before : (run : List Ran) (n : ℕ) → Fits run → Fits (drop n run)
 fits_before run zero fits = fits
 fits_before [] (suc n) fits = fits
-fits_before (ran ∷ run) (suc n) fits = fits_before run n fits.0
+fits_before (ran ∷ run) (suc n) fits = fits_before run n fits.1
 
--- a line that fits next, after its stops and its disk
-next_fits : (earlier : List Ran) (ran : Ran) (armed : ℕ) (disk : PlainDisk) → armed ≡ length (armed_after earlier) → disk ≡ disk_after earlier → FitsNext ran armed disk → FitsNext ran (length (armed_after earlier)) (disk_after earlier)
-next_fits earlier ran armed disk armed_is disk_is fits =
-    subst (λ (n : ℕ). FitsNext ran n (disk_after earlier)) armed_is (subst (λ (d : PlainDisk). FitsNext ran armed d) disk_is fits)
+-- what a line must fit after these
+module _ (earlier : List Ran) (ran : Ran) (armed : ℕ) (may : Option ℕ) (disk : PlainDisk) (armed_is : armed ≡ length (armed_after earlier)) (may_is : may ≡ may_write earlier) (disk_is : disk ≡ disk_after earlier) where
+  next_is : FitsNext ran armed may disk ≡ FitsNext ran (length (armed_after earlier)) (may_write earlier) (disk_after earlier)
+  next_is =
+      ap (λ (n : ℕ). FitsNext ran n may disk) armed_is
+      ∙ ap (λ (m : Option ℕ). FitsNext ran (length (armed_after earlier)) m disk) may_is
+      ∙ ap (λ (d : PlainDisk). FitsNext ran (length (armed_after earlier)) (may_write earlier) d) disk_is
 
 -- one more line that fits
-pub fits_more : (run : List Ran) (left : ℕ) (any : Ran) (armed : ℕ) (disk : PlainDisk) → 0 < left → left ≤ length run → armed ≡ length (armed_after (drop left run)) → disk ≡ disk_after (drop left run) → Fits (drop left run) → FitsNext (get_or run (left - 1) any) armed disk → Fits (drop (left - 1) run)
-fits_more run left any armed disk some within armed_is disk_is so_far fits =
-    let next = next_fits (drop left run) (get_or run (left - 1) any) armed disk armed_is disk_is fits in
-    subst (λ (r : List Ran). Fits r) (sym (from_here run left any some within)) (so_far, next.0, next.1)
+pub fits_more : (run : List Ran) (left : ℕ) (any : Ran) (armed : ℕ) (may : Option ℕ) (disk : PlainDisk) → 0 < left → left ≤ length run → armed ≡ length (armed_after (drop left run)) → may ≡ may_write (drop left run) → disk ≡ disk_after (drop left run) → Fits (drop left run) → FitsNext (get_or run (left - 1) any) armed may disk → Fits (drop (left - 1) run)
+fits_more run left any armed may disk some within armed_is may_is disk_is so_far fits =
+    let next = subst (λ (t : Type 0). t) (next_is (drop left run) (get_or run (left - 1) any) armed may disk armed_is may_is disk_is) fits in
+    subst (λ (r : List Ran). Fits r) (sym (from_here run left any some within)) (next, so_far)
 
 -- a line that doesn't fit
-pub not_fits : (run : List Ran) (left : ℕ) (any : Ran) (armed : ℕ) (disk : PlainDisk) → 0 < left → left ≤ length run → armed ≡ length (armed_after (drop left run)) → disk ≡ disk_after (drop left run) → (FitsNext (get_or run (left - 1) any) armed disk → ⊥) → Fits run → ⊥
-not_fits run left any armed disk some within armed_is disk_is not fits =
+pub not_fits : (run : List Ran) (left : ℕ) (any : Ran) (armed : ℕ) (may : Option ℕ) (disk : PlainDisk) → 0 < left → left ≤ length run → armed ≡ length (armed_after (drop left run)) → may ≡ may_write (drop left run) → disk ≡ disk_after (drop left run) → (FitsNext (get_or run (left - 1) any) armed may disk → ⊥) → Fits run → ⊥
+not_fits run left any armed may disk some within armed_is may_is disk_is not fits =
     let here : Fits (get_or run (left - 1) any ∷ drop left run) = subst (λ (r : List Ran). Fits r) (from_here run left any some within) (fits_before run (left - 1) fits) in
-    not (subst (λ (n : ℕ). FitsNext (get_or run (left - 1) any) n disk) (sym armed_is)
-    (subst (λ (d : PlainDisk). FitsNext (get_or run (left - 1) any) (length (armed_after (drop left run))) d) (sym disk_is) (here.1, here.2)))
+    not (subst (λ (t : Type 0). t) (sym (next_is (drop left run) (get_or run (left - 1) any) armed may disk armed_is may_is disk_is)) here.0)
+
+-- how many blocks may be answered as written after one more line
+pub may_write-more : (run : List Ran) (left : ℕ) (any : Ran) (armed : ℕ) (may after : Option ℕ) → 0 < left → left ≤ length run → armed ≡ length (armed_after (drop left run)) → may ≡ may_write (drop left run) → ((stops : List Stop) → armed ≡ length stops → after ≡ cond ((get_or run (left - 1) any).cuts == 0) (may_still (get_or run (left - 1) any).line stops may) None) → after ≡ may_write (drop (left - 1) run)
+may_write-more run left any armed may after some within armed_is may_is stepped =
+    let ran = get_or run (left - 1) any in
+    let stops = armed_after (drop left run) in
+    stepped stops armed_is
+    ∙ ap (λ (m : Option ℕ). cond (ran.cuts == 0) (may_still ran.line stops m) None) may_is
+    ∙ ap may_write (sym (from_here run left any some within))
 
 -- how many stops are armed after one more line
 pub armed-more : (run : List Ran) (left : ℕ) (any : Ran) (armed arms : ℕ) → 0 < left → left ≤ length run → armed ≡ length (armed_after (drop left run)) → ((stops : List Stop) → length (arming (get_or run (left - 1) any).line stops) ≡ length stops + arms) → armed - (get_or run (left - 1) any).cuts + arms ≡ length (armed_after (drop (left - 1) run))

@@ -3,8 +3,6 @@ use Rattle.std.specs.Prelude.{ℕ, List, [], ◌∷◌, ◌+◌, ◌≤◌, ◌<
 use Rattle.trace_model.specs.declared.line.Line.{Line}
 use Rattle.trace_model.specs.declared.line.Line.TheVariants as line
 use Rattle.trace_model.specs.declared.ran.Ran.{Ran}
-use Rattle.ft_base.specs.PlainDisk.{PlainDisk}
-use Rattle.trace_model.specs.Run.{FitsLine}
 
 -- the addresses of a request are numbers of 64 bits
 abbrev pub IsAddressed : Line → Type 0
@@ -31,7 +29,3 @@ pub record IsRunLine (ran : Ran) : Type 0 where
 abbrev pub AreRunLines : List Ran → Type 0
 AreRunLines [] = ⊤
 AreRunLines (ran ∷ earlier) = IsRunLine ran × AreRunLines earlier
-
--- a line that can come next, where so many stops are armed
-abbrev pub FitsNext : Ran → ℕ → PlainDisk → Type 0
-FitsNext ran armed disk = (ran.cuts ≤ armed) × FitsLine ran.line ran.cuts ran.kept disk

@@ -1,5 +1,5 @@
 -- What a plain disk answers to the lines of a trace, wherever power stops.
-use Rattle.std.specs.Prelude.{◌≡◌, ◌≢◌, ◌==◌, ◌+◌, ◌≤◌, ◌<◌, ℕ, zero, suc, List, [], ◌∷◌, ◌++◌, length, drop, replicate, flat_map, map, if◌then◌else◌, ⊤}
+use Rattle.std.specs.Prelude.{◌≡◌, ◌≢◌, ◌==◌, ◌+◌, ◌-◌, ◌/◌, ◌≤◌, ◌<◌, ℕ, zero, suc, List, [], ◌∷◌, ◌++◌, length, drop, replicate, flat_map, map, Option, Some, None, option_map, if◌then◌else◌, ⊤}
 use Rattle.std.specs.List.{range_with_len}
 use Rattle.std.specs.Ordering.{nat_cmp}
 use Rattle.std.specs.BTreeSet.{insert_key}
@@ -59,10 +59,37 @@ FitsLine line.Flush cuts kept disk = ⊤
 FitsLine line.Idle cuts kept disk = cuts ≤ 1
 FitsLine other cuts kept disk = cuts ≡ 0
 
--- only stops that are armed cut a line, and what became of each line can be
+-- the blocks that a line writes
+abbrev pub block_count : Line → ℕ
+block_count (line.Write lba count tag) = count
+block_count other = 0
+
+-- how many blocks may still be answered as written after a line that was not cut, where so many might be before it: a stop that is armed alone begins the count, and cuts its last device write
+abbrev pub may_still : Line → List Stop → Option ℕ → Option ℕ
+may_still (line.Stop after outcome) [] may = Some (after - 1)
+may_still (line.Write lba count tag) stops may = option_map (λ n. n - count) may
+may_still other stops may = may
+
+-- how many blocks may be answered as written before a stop cuts, as far as the lines tell; none after a cut, up to the next stop that is armed alone
+abbrev pub may_write : List Ran → Option ℕ
+may_write [] = None
+may_write (ran ∷ earlier) = if ran.cuts == 0 then may_still ran.line (armed_after earlier) (may_write earlier) else None
+
+-- so many are no more than these, where a number is known
+abbrev pub IsWithin : ℕ → Option ℕ → Type 0
+IsWithin n None = ⊤
+IsWithin n (Some most) = n ≤ most
+
+-- a line that can come next: only stops that are armed cut it, no more blocks are answered as written than may be, and what became of it can be
+pub record FitsNext (ran : Ran) (armed : ℕ) (may : Option ℕ) (disk : PlainDisk) : Type 0 where
+  pub few : ran.cuts ≤ armed
+  pub allowed : ran.cuts ≡ 0 → IsWithin (block_count ran.line) may
+  pub line : FitsLine ran.line ran.cuts ran.kept disk
+
+-- each line could come next
 abbrev pub Fits : List Ran → Type 0
 Fits [] = ⊤
-Fits (ran ∷ earlier) = Fits earlier × (ran.cuts ≤ length (armed_after earlier)) × FitsLine ran.line ran.cuts ran.kept (disk_after earlier)
+Fits (ran ∷ earlier) = FitsNext ran (length (armed_after earlier)) (may_write earlier) (disk_after earlier) × Fits earlier
 
 -- the tags of the blocks that are read, ascending
 abbrev pub read_backs : ℕ → ℕ → PlainDisk → List Answer
@@ -111,7 +138,7 @@ touched_after (ran ∷ earlier) = touching ran.line (touched_after earlier)
 abbrev pub digest_of : List ℕ → PlainDisk → List ℕ
 digest_of addresses disk = sha256 (flat_map (λ a. to_be_bytes w64 a ++ (disk a).0) addresses)
 
--- the writes and the reads among the lines, and the blocks that the writes have
+-- the writes and the reads among the lines
 abbrev pub write_count : Line → ℕ
 write_count (line.Write lba count tag) = 1
 write_count other = 0
@@ -128,17 +155,14 @@ abbrev pub reads_in : List Ran → ℕ
 reads_in [] = 0
 reads_in (ran ∷ earlier) = reads_in earlier + read_count ran.line
 
-abbrev pub block_count : Line → ℕ
-block_count (line.Write lba count tag) = count
-block_count other = 0
+-- how often power was cut: by armed stops and by lines
+abbrev pub cut_count : Line → ℕ
+cut_count (line.Cut outcome) = 1
+cut_count other = 0
 
-abbrev pub blocks_in : List Ran → ℕ
-blocks_in [] = 0
-blocks_in (ran ∷ earlier) = blocks_in earlier + block_count ran.line
-
--- a line that no stop cut
-abbrev pub uncut : Line → Ran
-uncut line = record { line = line; cuts = 0; kept = block_count line }
+abbrev pub cuts_in : List Ran → ℕ
+cuts_in [] = 0
+cuts_in (ran ∷ earlier) = cuts_in earlier + (ran.cuts + cut_count ran.line)
 
 -- what is answered at the end
 abbrev pub end_of : List Ran → Answer

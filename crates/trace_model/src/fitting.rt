@@ -1,10 +1,11 @@
 //! Whether what became of the lines of a run can be.
-ghost use Rattle.std.specs.Prelude.{◌≡◌, ◌<◌, ◌≤◌, ◌+◌, ◌-◌, ◌^◌, ◌↔◌, List, length, IsTrue, IfOk};
+ghost use Rattle.std.specs.Prelude.{◌≡◌, ◌<◌, ◌≤◌, ◌+◌, ◌-◌, ◌^◌, ◌↔◌, ◌==◌, List, length, None, option_map, if◌then◌else◌, IsTrue, IfOk};
 ghost use Rattle.ft_base.specs.declared.power.Stop.{Stop};
 ghost use Rattle.ft_base.specs.Pattern.{pat};
 ghost use Rattle.ft_base.specs.Plain.{disk_of};
-ghost use Rattle.trace_model.specs.Plain.{AreAddressed, FitsNext, IsAddressed};
-ghost use Rattle.trace_model.specs.Run.{Fits, FitsLine, FitsWrite, arming};
+ghost use Rattle.trace_model.specs.Plain.{AreAddressed, IsAddressed};
+ghost use Rattle.trace_model.specs.Run as run;
+ghost use Rattle.trace_model.specs.Run.{Fits, FitsLine, FitsNext, FitsWrite, IsWithin, arming, block_count};
 
 use crate::running::run_line;
 use crate::{Line, Ran};
@@ -20,25 +21,81 @@ pub fn plain_fits(alloc: Global, run: &[Ran]) -> Result<bool, AllocError>
 {
     let mut disk = PlainBlocks::new(alloc);
     let mut armed = 0;
+    let mut may = None;
     let mut left = run.len();
     while left > 0 {
         left -= 1;
         let ran = &run[left];
-        if !fits_next(ran, armed, &disk) {
+        if !fits_next(ran, armed, may, &disk) {
             return Ok(false);
         }
         run_line(alloc, &mut disk, ran)?;
+        may = may_after(ran, armed, may);
         armed = armed - ran.cuts + stops_of(&ran.line);
     }
     Ok(true)
 }
 
-/// Whether a line can come next, where so many stops are armed.
-fn fits_next(ran: &Ran, armed: u64, disk: &PlainBlocks) -> bool
+/// Whether a line can come next, where so many stops are armed, and so many blocks may be answered as
+/// written.
+fn fits_next(ran: &Ran, armed: u64, may: Option<u64>, disk: &PlainBlocks) -> bool
     requires { IsAddressed ran.now.line }
-    ensures { IsTrue result ↔ FitsNext ran.now armed (disk_of disk.now) }
+    ensures { IsTrue result ↔ FitsNext ran.now armed may (disk_of disk.now) }
 {
-    ran.cuts <= armed && fits_line(ran, disk)
+    ran.cuts <= armed && is_allowed(ran, may) && fits_line(ran, disk)
+}
+
+/// Whether a line answers no more blocks as written than may be.
+fn is_allowed(ran: &Ran, may: Option<u64>) -> bool
+    ensures { IsTrue result ↔ (ran.now.cuts ≡ 0 → IsWithin (block_count ran.now.line) may) }
+{
+    match may {
+        Some(most) => ran.cuts > 0 || blocks_of(&ran.line) <= most,
+        None => true,
+    }
+}
+
+fn blocks_of(line: &Line) -> u64
+    ensures { result ≡ block_count line.now }
+{
+    match *line {
+        Line::Write { count, .. } => count,
+        _ => 0,
+    }
+}
+
+/// How many blocks may be answered as written after a line, where so many stops were armed before it.
+fn may_after(ran: &Ran, armed: u64, may: Option<u64>) -> Option<u64>
+    ensures { (stops : List Stop) → armed ≡ length stops → result ≡ (if ran.now.cuts == 0 then run.may_still ran.now.line stops may else None) }
+{
+    if ran.cuts > 0 {
+        return None;
+    }
+    may_still(&ran.line, armed, may)
+}
+
+fn may_still(line: &Line, armed: u64, may: Option<u64>) -> Option<u64>
+    ensures { (stops : List Stop) → armed ≡ length stops → result ≡ run.may_still line.now stops may }
+{
+    match *line {
+        Line::Stop { after, .. } => {
+            if armed == 0 {
+                return Some(after.saturating_sub(1));
+            }
+            may
+        }
+        Line::Write { count, .. } => less(may, count),
+        _ => may,
+    }
+}
+
+fn less(may: Option<u64>, count: u64) -> Option<u64>
+    ensures { result ≡ option_map (λ n. n - count) may }
+{
+    match may {
+        Some(n) => Some(n.saturating_sub(count)),
+        None => None,
+    }
 }
 
 /// Whether a line on this disk can be cut so often, and so many of its block writes can count.

@@ -1,5 +1,12 @@
 pub mod PartLemmas
+pub mod CutsLemmas
 pub mod GoesLemmas
+pub mod GroupLemmas
+pub mod BlocksLemmas
+pub mod TallyLemmas
 pub mod TouchedLemmas
-pub mod ReadingsLemmas
+pub mod LinesLemmas
+pub mod RanLemmas
 pub mod ToldLemmas
+pub mod ReadingsLemmas
+pub mod SoFarLemmas

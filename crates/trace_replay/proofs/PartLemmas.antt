@@ -1,5 +1,5 @@
 -- What the sink took of some answers.
-use Rattle.std.proofs.Common.{◌≡◌, ℕ, ◌+◌, ◌≤◌, ◌<◌, min, List, [], ◌∷◌, ◌++◌, Option, Some, None, length, take, drop, get_or, refl, sym, ap, ◌∙◌, subst, append_assoc, add-one, arith}
+use Rattle.std.proofs.Common.{◌≡◌, ℕ, ◌+◌, ◌<◌, min, List, [], ◌∷◌, ◌++◌, Option, length, take, drop, get_or, sym, ap, ◌∙◌, subst, add-one, arith}
 use Rattle.std.proofs.lemmas.List.{append-nil, take-append-le, take-append-drop, take_min}
 use Rattle.std.proofs.lemmas.List.Concat.{flat_map-append}
 use Rattle.std.proofs.Math.Seq.{take-append-add, drop-cons}
@@ -67,11 +67,8 @@ part_at a b c answers i d e within first part =
     subst (λ (z : List Answer). TookPart e a c [] z) is (part_within a b c (take i answers) (get_or answers i d ∷ []) (drop (i + 1) answers) first e part)
 
 module _ (a b c : Option (List ℕ)) (before next : List Answer) (first : Appends a b (text before)) where
-  front_after : (n : ℕ) × Appends b c (take n (text ([] ++ next))) → (m : ℕ) × Appends a c (take m (text (before ++ next)))
-  front_after part =
-      let m = length (text before) + part.0 in
-      let is : take m (text (before ++ next)) ≡ text before ++ take part.0 (text next) = ap (take m) (text_then before next) ∙ take-append-add (text before) (text next) part.0 in
-      (m, subst (λ z. Appends a c z) (sym is) (appends_then a b c (text before) (take part.0 (text next)) first part.1))
+  front_after : (n : ℕ) × Appends b c (take n (text ([] ++ next))) → (m : ℕ) × Appends a c (text before ++ take m (text next))
+  front_after part = (part.0, appends_then a b c (text before) (take part.0 (text next)) first part.1)
 
   answers_after : (n : ℕ) × Appends b c (text ([] ++ take n next)) → (m : ℕ) × Appends a c (text (before ++ take m next))
   answers_after part = (part.0, said_then a b c before (take part.0 next) first part.1)

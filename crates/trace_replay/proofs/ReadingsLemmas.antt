@@ -1,70 +1,36 @@
 -- The readings of a trace, line by line, and of what a source gave.
-use Rattle.std.proofs.Common.{◌≡◌, ◌≢◌, ◌==◌, ◌<◌, ◌≤◌, ◌+◌, ◌-◌, ◌∷◌, ◌++◌, [], ℕ, nat_le, nat_lt, Bool, true, false, List, Option, Some, None, Result, Ok, Err, map, take, length, inl, inr, refl, sym, ap, ◌∙◌, subst, append_assoc, arith, if◌then◌else◌}
+use Rattle.std.proofs.Common.{◌≡◌, ◌≢◌, ◌==◌, ◌<◌, ◌≤◌, ◌+◌, ◌-◌, ◌∷◌, ◌++◌, [], ℕ, nat_lt, Bool, true, false, List, Option, Some, None, Result, Ok, Err, map, take, length, inl, inr, refl, sym, ap, ◌∙◌, subst, append_assoc, arith, if◌then◌else◌}
 use Rattle.std.proofs.lemmas.List.{map-append, append-nil, length-append}
 use Rattle.std.proofs.lemmas.Bool.{cases_Bool}
 use Rattle.std.proofs.lemmas.Bool.Decides.{nat_tests}
 use Rattle.std.proofs.Math.Seq.{take-length, take-append_seam, take-append-add}
-use Rattle.std.specs.Io.KnownBytes.{Consumes, IsAtEnd, Appends}
-use Rattle.ft_base.proofs.AppendsLemmas.{appends_none}
+use Rattle.std.specs.Io.KnownBytes.{Consumes, IsAtEnd}
 use Rattle.trace_model.specs.declared.line.Line.{Line}
 use Rattle.trace_model.specs.declared.line.LineError.{LineError}
-use Rattle.trace_model.specs.declared.line.LineError.TheVariants.{TooLong}
-use Rattle.trace_model.specs.declared.answer.Answer.{Answer}
-use Rattle.trace_model.specs.Lines.{lines_in, plain_line_of, onto_first, onto_ended}
+use Rattle.trace_model.specs.Lines.{lines_in, line_of, onto_first, onto_ended}
 use Rattle.trace_model.specs.declared.ran.Ran.{Ran}
-use Rattle.trace_model.specs.Run.{uncut, lines_of, blocks_in, block_count, disk_after, answers_of}
-use Rattle.trace_model.specs.Told.{AllUncut, RunsOver, Tells, WasRun, accepted, ended_readings, finds_room, next_answers, next_refusal, readings, readings_in, refusal, trace_limit, unended}
+use Rattle.trace_model.specs.Run.{lines_of}
+use Rattle.trace_model.specs.Told.{RunsOver, Tells, WasRun, accepted, ended_readings, next_refusal, readings, readings_in, trace_limit, unended}
+use Rattle.ft_base.specs.Contents.{Image}
+use Rattle.ft_base.specs.PlainDisk.{PlainDisk}
+use Rattle.ft_base.specs.declared.geometry.Geometry.{Geometry}
+use Rattle.ft_media.specs.State.{State}
+use Rattle.trace_replay.specs.declared.ended.Ended.{Ended}
+use Rattle.trace_replay.specs.Ran.{EndsNext}
+use Rattle.trace_replay.proofs.RanLemmas.{was_none}
 use Rattle.trace_replay.specs.declared.input.InputEnd.{InputEnd}
 use Rattle.trace_replay.specs.declared.input.InputEnd.TheVariants.{Whole, AtLimit, Faulted}
 use Rattle.trace_replay.specs.Input.{is_whole, left_over, readings_by}
 
-Readings : Type 0
-Readings = List (Result Line LineError)
-
 -- what is left to read begins with this line
-pub readings_line : (size : ℕ) (end : InputEnd) (whole : Bool) (rest line after : List ℕ) (reading : Result Line LineError) → whole ≡ is_whole end → lines_in whole rest ≡ line ∷ lines_in whole after → reading ≡ plain_line_of size line → readings_by end size rest ≡ reading ∷ readings_by end size after
+pub readings_line : (size : ℕ) (end : InputEnd) (whole : Bool) (rest line after : List ℕ) (reading : Result Line LineError) → whole ≡ is_whole end → lines_in whole rest ≡ line ∷ lines_in whole after → reading ≡ line_of size line → readings_by end size rest ≡ reading ∷ readings_by end size after
 readings_line size end whole rest line after reading as_end split is =
     let at_end : lines_in (is_whole end) rest ≡ line ∷ lines_in (is_whole end) after = subst (λ w. lines_in w rest ≡ line ∷ lines_in w after) as_end split in
-    ap (λ ls. map (plain_line_of size) ls ++ left_over end) at_end ∙ ap (λ r. r ∷ readings_by end size after) (sym is)
+    ap (λ ls. map (line_of size) ls ++ left_over end) at_end ∙ ap (λ r. r ∷ readings_by end size after) (sym is)
 
 -- no line is left
 pub readings_end : (size : ℕ) (end : InputEnd) (whole : Bool) (rest : List ℕ) → whole ≡ is_whole end → lines_in whole rest ≡ [] → readings_by end size rest ≡ left_over end
-readings_end size end whole rest as_end none = ap (λ ls. map (plain_line_of size) ls ++ left_over end) (subst (λ w. lines_in w rest ≡ []) as_end none)
-
--- nothing was run yet
-pub run_none : (room : ℕ) (all : List (Result Line LineError)) → WasRun room all [] all
-run_none room all = record { lines = refl; uncut = tt; fits = omega arith }
-
--- the same readings
-pub run_same : (room : ℕ) (all : List (Result Line LineError)) (run : List Ran) (left other : List (Result Line LineError)) → WasRun room all run left → left ≡ other → WasRun room all run other
-run_same room all run left other was same = subst (λ r. WasRun room all run r) same was
-
--- one more line was run
-pub run_more : (room : ℕ) (all : List (Result Line LineError)) (run : List Ran) (line : Line) (left : List (Result Line LineError)) → WasRun room all run (Ok line ∷ left) → blocks_in run + block_count line ≤ room → WasRun room all (uncut line ∷ run) left
-run_more room all run line left was fits = record {
-  lines = was.lines
-      ∙ sym (append_assoc (map accepted (lines_of run)) (accepted line ∷ []) left)
-      ∙ ap (λ r. r ++ left) (sym (map-append accepted (lines_of run) (line ∷ [])));
-  uncut = (refl, was.uncut);
-  fits = fits;
-}
-
-room_test : (room : ℕ) (run : List Ran) (line : Line) → blocks_in run + block_count line ≤ room → finds_room room run line ≡ true
-room_test room run line fits = grind (arith, nat_tests)
-
-no_room_test : (room : ℕ) (run : List Ran) (line : Line) → room < blocks_in run + block_count line → finds_room room run line ≡ false
-no_room_test room run line past = grind (arith, nat_tests)
-
--- what is told next of a line that finds room
-pub next_line_told : (room : ℕ) (run : List Ran) (line : Line) (left : List (Result Line LineError)) → blocks_in run + block_count line ≤ room → next_answers room run (Ok line ∷ left) ≡ answers_of (uncut line) (disk_after run)
-next_line_told room run line left fits = ap (λ t. if t then answers_of (uncut line) (disk_after run) else refusal run TooLong) (room_test room run line fits)
-
--- and of one that doesn't
-pub next_past : (room : ℕ) (run : List Ran) (line : Line) (left : List (Result Line LineError)) → room < blocks_in run + block_count line → next_refusal room run (Ok line ∷ left) ≡ Some TooLong
-next_past room run line left past = ap (λ t. if t then None else Some TooLong) (no_room_test room run line past)
-
-pub next_past_told : (room : ℕ) (run : List Ran) (line : Line) (left : List (Result Line LineError)) → room < blocks_in run + block_count line → next_answers room run (Ok line ∷ left) ≡ refusal run TooLong
-next_past_told room run line left past = ap (λ t. if t then answers_of (uncut line) (disk_after run) else refusal run TooLong) (no_room_test room run line past)
+readings_end size end whole rest as_end none = ap (λ ls. map (line_of size) ls ++ left_over end) (subst (λ w. lines_in w rest ≡ []) as_end none)
 
 -- the trace of a source that was read to its end
 module _ (old new : Option (List ℕ)) (bytes : List ℕ) (took : Consumes old new bytes) where
@@ -117,23 +83,23 @@ readings_front : (size : ℕ) (bytes more : List ℕ) → length bytes < trace_l
 readings_front size bytes more short = elim (cases_Bool (nat_lt (length (bytes ++ more)) trace_limit)) [
   | inl below ↦
       let lines = lines_front true bytes more in (
-        map (plain_line_of size) lines.0 ++ unended true,
+        map (line_of size) lines.0 ++ unended true,
         ap (λ t. if t then readings_in size true (bytes ++ more) else readings_in size false (take trace_limit (bytes ++ more))) below
-            ∙ ap (λ ls. map (plain_line_of size) ls ++ unended true) lines.1
-            ∙ ap (λ r. r ++ unended true) (map-append (plain_line_of size) (lines_in false bytes) lines.0)
-            ∙ append_assoc (ended_readings size bytes) (map (plain_line_of size) lines.0) (unended true),
+            ∙ ap (λ ls. map (line_of size) ls ++ unended true) lines.1
+            ∙ ap (λ r. r ++ unended true) (map-append (line_of size) (lines_in false bytes) lines.0)
+            ∙ append_assoc (ended_readings size bytes) (map (line_of size) lines.0) (unended true),
       )
   | inr past ↦
       let rest = take (trace_limit - length bytes) more in
       let sum : trace_limit ≡ length bytes + (trace_limit - length bytes) = omega arith in
       let front : take trace_limit (bytes ++ more) ≡ bytes ++ rest = ap (λ n. take n (bytes ++ more)) sum ∙ take-append-add bytes more (trace_limit - length bytes) in
       let lines = lines_front false bytes rest in (
-        map (plain_line_of size) lines.0 ++ unended false,
+        map (line_of size) lines.0 ++ unended false,
         ap (λ t. if t then readings_in size true (bytes ++ more) else readings_in size false (take trace_limit (bytes ++ more))) past
             ∙ ap (readings_in size false) front
-            ∙ ap (λ ls. map (plain_line_of size) ls ++ unended false) lines.1
-            ∙ ap (λ r. r ++ unended false) (map-append (plain_line_of size) (lines_in false bytes) lines.0)
-            ∙ append_assoc (ended_readings size bytes) (map (plain_line_of size) lines.0) (unended false),
+            ∙ ap (λ ls. map (line_of size) ls ++ unended false) lines.1
+            ∙ ap (λ r. r ++ unended false) (map-append (line_of size) (lines_in false bytes) lines.0)
+            ∙ append_assoc (ended_readings size bytes) (map (line_of size) lines.0) (unended false),
       )
 ]
 
@@ -168,42 +134,42 @@ any_trace None = ([], tt)
 any_trace (Some xs) = (xs, refl)
 
 -- the lines of the bytes that were read are lines of the trace
-pub runs_over : (old : Option (List ℕ)) (size room : ℕ) (run : List Ran) (left after all : List (Result Line LineError)) (trace : List ℕ) → Tells old trace → readings size trace ≡ all ++ after → WasRun room all run left → RunsOver old size room run (left ++ after)
-runs_over old size room run left after all trace tells is was = record {
+pub runs_over : (old : Option (List ℕ)) (g : Geometry) (run : List Ran) (left after all : List (Result Line LineError)) (trace : List ℕ) → Tells old trace → readings g.size trace ≡ all ++ after → WasRun g all run left → RunsOver old g run (left ++ after)
+runs_over old g run left after all trace tells is was = record {
   trace = trace;
   tells = tells;
   was_run = record {
     lines = is ∙ ap (λ r. r ++ after) was.lines ∙ append_assoc (map accepted (lines_of run)) left after;
-    uncut = was.uncut;
+    accepted = was.accepted;
     fits = was.fits;
   };
 }
 
 -- a refusal stands where more comes after it
-pub refusal_stands : (room : ℕ) (run : List Ran) (left after : List (Result Line LineError)) (cause : LineError) → next_refusal room run left ≡ Some cause → next_refusal room run (left ++ after) ≡ Some cause
-refusal_stands room run [] after cause is = cc
-refusal_stands room run (Ok line ∷ left) after cause is = is
-refusal_stands room run (Err e ∷ left) after cause is = is
+pub refusal_stands : (g : Geometry) (run : List Ran) (left after : List (Result Line LineError)) (cause : LineError) → next_refusal g run left ≡ Some cause → next_refusal g run (left ++ after) ≡ Some cause
+refusal_stands g run [] after cause is = cc
+refusal_stands g run (Ok line ∷ left) after cause is = is
+refusal_stands g run (Err e ∷ left) after cause is = is
 
--- what is told next stands where more comes after it
-pub next_stands : (room : ℕ) (run : List Ran) (left after : List (Result Line LineError)) → (left ≡ [] → after ≡ []) → next_answers room run (left ++ after) ≡ next_answers room run left
-next_stands room run [] after none = ap (next_answers room run) (none refl)
-next_stands room run (Ok line ∷ left) after none = refl
-next_stands room run (Err e ∷ left) after none = refl
+-- an end stands where more comes after what is next
+pub ends_stand : (stands : Image → PlainDisk → Type 0) (e : Ended) (old new : Option (List ℕ)) (now : State) (g : Geometry) (run : List Ran) (left after : List (Result Line LineError)) → (left ≡ [] → after ≡ []) → EndsNext stands e old new now g run left → EndsNext stands e old new now g run (left ++ after)
+ends_stand stands e old new now g run [] after none ends = subst (λ (r : List (Result Line LineError)). EndsNext stands e old new now g run r) (sym (none refl)) ends
+ends_stand stands e old new now g run (Ok line ∷ left) after none ends = record { next = ends.next; may = ends.may; part = ends.part; queue = ends.queue; media = ends.media }
+ends_stand stands e old new now g run (Err cause ∷ left) after none ends = record { next = ends.next; may = ends.may; part = ends.part; queue = ends.queue; media = ends.media }
 
 -- no line was run
-pub runs_none : (old : Option (List ℕ)) (size room : ℕ) → (left : List (Result Line LineError)) × RunsOver old size room [] left
-runs_none old size room =
+pub runs_none : (old : Option (List ℕ)) (g : Geometry) → (left : List (Result Line LineError)) × RunsOver old g [] left
+runs_none old g =
     let any = any_trace old in
-    (readings size any.0, record { trace = any.0; tells = any.1; was_run = run_none room (readings size any.0) })
+    (readings g.size any.0, record { trace = any.0; tells = any.1; was_run = was_none g (readings g.size any.0) })
 
 -- a source that was read whole didn't fail
 pub after_none : (end : InputEnd) → end ≡ Whole → end ≡ Faulted → ⊥
 after_none end whole faulted = cc
 
 -- every line of a trace was run
-pub runs_whole : (old : Option (List ℕ)) (size room : ℕ) (run : List Ran) (after all : List (Result Line LineError)) (trace : List ℕ) → Tells old trace → readings size trace ≡ all ++ after → after ≡ [] → WasRun room all run [] → RunsOver old size room run []
-runs_whole old size room run after all trace tells is none was = subst (λ (r : List (Result Line LineError)). RunsOver old size room run r) none (runs_over old size room run [] after all trace tells is was)
+pub runs_whole : (old : Option (List ℕ)) (g : Geometry) (run : List Ran) (after all : List (Result Line LineError)) (trace : List ℕ) → Tells old trace → readings g.size trace ≡ all ++ after → after ≡ [] → WasRun g all run [] → RunsOver old g run []
+runs_whole old g run after all trace tells is none was = subst (λ (r : List (Result Line LineError)). RunsOver old g run r) none (runs_over old g run [] after all trace tells is was)
 
 -- more comes only after a line that was not run
 pub faulted_stands : (end : InputEnd) (left after : List (Result Line LineError)) → (end ≡ Faulted → left ≢ []) → (end ≢ Faulted → after ≡ []) → left ≡ [] → after ≡ []
@@ -211,8 +177,36 @@ faulted_stands Whole left after some none is = none (λ faulted. cc)
 faulted_stands AtLimit left after some none is = none (λ faulted. cc)
 faulted_stands Faulted left after some none is = absurd (some refl is)
 
--- the lines that ended before a fault were run
-pub faulted_run : (room size : ℕ) (end : InputEnd) (bytes read : List ℕ) (run : List Ran) → end ≡ Faulted → read ≡ bytes → WasRun room (readings_by end size read) run [] → WasRun room (ended_readings size bytes) run []
-faulted_run room size end bytes read run faulted same was =
-    let is : readings_by end size read ≡ ended_readings size bytes = ap (λ e. readings_by e size read) faulted ∙ ended_by_fault size read ∙ ap (ended_readings size) same in
-    subst (λ (all : List (Result Line LineError)). WasRun room all run []) is was
+-- ---- what was run of a source's trace
+
+module _ (old new : Option (List ℕ)) (bytes read : List ℕ) (g k : Geometry) (end : InputEnd) (read_is : read ≡ bytes) (same : k ≡ g) (took : Consumes old new bytes) (ended : end ≡ Whole → (length bytes < 4294967296) × IsAtEnd new) (cut : end ≡ AtLimit → length bytes ≡ 4294967296) (failed : end ≡ Faulted → length bytes < 4294967296) where
+  -- what comes after what was read
+  unfoldable pub unread : List (Result Line LineError)
+  unread = (trace_of_source old new bytes g.size end took ended cut failed).2
+
+  was_read : (run : List Ran) (left : List (Result Line LineError)) → WasRun k (readings_by end k.size read) run left → WasRun g (readings_by end g.size bytes) run left
+  was_read run left was =
+      let at_bytes : WasRun k (readings_by end k.size bytes) run left = subst (λ (xs : List ℕ). WasRun k (readings_by end k.size xs) run left) read_is was in
+      subst (λ (j : Geometry). WasRun j (readings_by end j.size bytes) run left) same at_bytes
+
+  -- the lines that were run are lines of the trace
+  pub over_source : (run : List Ran) (left : List (Result Line LineError)) → WasRun k (readings_by end k.size read) run left → RunsOver old g run (left ++ unread)
+  unfolding unread
+  over_source run left was =
+      let found = trace_of_source old new bytes g.size end took ended cut failed in
+      runs_over old g run left found.2 (readings_by end g.size bytes) found.0 found.1 found.3 (was_read run left was)
+
+  -- all of them
+  pub over_whole : (run : List Ran) → end ≡ Whole → WasRun k (readings_by end k.size read) run [] → RunsOver old g run []
+  over_whole run whole was =
+      let found = trace_of_source old new bytes g.size end took ended cut failed in
+      runs_whole old g run found.2 (readings_by end g.size bytes) found.0 found.1 found.3 (found.4 (after_none end whole)) (was_read run [] was)
+
+  pub refused_over : (run : List Ran) (left : List (Result Line LineError)) (cause : LineError) → next_refusal k run left ≡ Some cause → next_refusal g run (left ++ unread) ≡ Some cause
+  refused_over run left cause refused = refusal_stands g run left unread cause (subst (λ (j : Geometry). next_refusal j run left ≡ Some cause) same refused)
+
+  pub ends_over : (stands : Image → PlainDisk → Type 0) (e : Ended) (x y : Option (List ℕ)) (now : State) (run : List Ran) (left : List (Result Line LineError)) → (end ≡ Faulted → left ≢ []) → EndsNext stands e x y now k run left → EndsNext stands e x y now g run (left ++ unread)
+  unfolding unread
+  ends_over stands e x y now run left some ends =
+      let found = trace_of_source old new bytes g.size end took ended cut failed in
+      ends_stand stands e x y now g run left found.2 (faulted_stands end left found.2 some found.4) (subst (λ (j : Geometry). EndsNext stands e x y now j run left) same ends)

@@ -1,26 +1,18 @@
 -- What was told of the lines that were run, and of what comes next.
-use Rattle.std.proofs.Common.{◌≡◌, ◌≤◌, ◌<◌, ◌+◌, ◌*◌, ◌∷◌, ◌++◌, [], ℕ, List, Option, Some, None, Result, Ok, Err, IfNone, OnOk, IfOk, IfErr, take, length, refl, sym, ap, ◌∙◌, subst, arith}
-use Rattle.std.proofs.lemmas.List.{append-nil, length-append}
+use Rattle.std.proofs.Common.{◌≡◌, ◌≤◌, ◌+◌, ◌∷◌, ◌++◌, [], ℕ, List, Option, Result, Ok, Err, IfErr, length, ap, ◌∙◌, subst, arith}
+use Rattle.std.proofs.lemmas.List.{length-append}
 use Rattle.std.specs.Io.KnownBytes.{Appends}
-use Rattle.ft_base.specs.Count.{RoseBy}
 use Rattle.trace_model.specs.declared.line.Line.{Line}
 use Rattle.trace_model.specs.declared.line.Line.TheVariants as line
 use Rattle.trace_model.specs.declared.line.LineError.{LineError}
-use Rattle.trace_model.specs.declared.answer.Answer.{Answer}
 use Rattle.trace_model.specs.declared.answer.Answer.TheVariants as answer
 use Rattle.trace_model.specs.declared.ran.Ran.{Ran}
-use Rattle.trace_model.specs.Run.{uncut, lines_of, told, write_count, read_count, writes_in, reads_in, touched_after, digest_of, disk_after, end_of}
+use Rattle.trace_model.specs.Run.{lines_of, told, write_count, read_count, writes_in, reads_in, touched_after, digest_of, disk_after, end_of}
 use Rattle.trace_model.specs.Text.{text}
 use Rattle.trace_model.specs.Told.{refusal}
 use Rattle.trace_replay.specs.declared.ended.Ended.{Ended}
 use Rattle.trace_replay.specs.Ends.{TookPart}
 use Rattle.trace_replay.proofs.PartLemmas.{said_then, part_after}
-
--- what follows where a refusal was printed
-pub if_refused : {T E : Type 0} (r : Result (Option T) E) (p q : Type 0) → OnOk r p → (p → q) → IfOk r (λ o. IfNone o q)
-if_refused (Ok None) p q holds follows = follows holds
-if_refused (Ok (Some t)) p q holds follows = tt
-if_refused (Err e) p q holds follows = tt
 
 -- what follows of each error
 pub if_err : {T E : Type 0} (r : Result T E) (p q : E → Type 0) → IfErr r p → ((e : E) → p e → q e) → IfErr r q
@@ -33,10 +25,6 @@ refused_said a b c run number cause is first next = said_then a b c (told run) (
 pub refused_part : (a b c : Option (List ℕ)) (run : List Ran) (number : ℕ) (cause : LineError) (e : Ended) → number ≡ length (lines_of run) + 1 → Appends a b (text (told run)) → TookPart e b c [] (answer.Refused number cause ∷ []) → TookPart e a c (told run) (refusal run cause)
 refused_part a b c run number cause e is first next = part_after a b c (told run) (refusal run cause) first e (subst (λ k. TookPart e b c [] (answer.Refused k cause ∷ [])) is next)
 
--- nothing was taken of what comes next
-pub nothing_next : (a b : Option (List ℕ)) (before next : List Answer) → Appends a b (text before) → (n : ℕ) × Appends a b (text (before ++ take n next))
-nothing_next a b before next first = (0, subst (λ (z : List Answer). Appends a b (text z)) (sym (append-nil before)) first)
-
 -- what is told at the end
 pub end_is : (run : List Ran) (writes reads : ℕ) (keys : List ℕ) → writes ≡ writes_in run → reads ≡ reads_in run → keys ≡ touched_after run → answer.End writes reads (length keys) (digest_of keys (disk_after run)) ≡ end_of run
 end_is run writes reads keys w r k =
@@ -44,11 +32,8 @@ end_is run writes reads keys w r k =
     ∙ ap (λ n. answer.End (writes_in run) n (length keys) (digest_of keys (disk_after run))) r
     ∙ ap (λ (ks : List ℕ). answer.End (writes_in run) (reads_in run) (length ks) (digest_of ks (disk_after run))) k
 
-pub number_more : (run : List Ran) (line : Line) (number : ℕ) → number ≡ length (lines_of run) + 1 → number + 1 ≡ length (lines_of (uncut line ∷ run)) + 1
-number_more run line number is = let long : length (lines_of run ++ line ∷ []) ≡ length (lines_of run) + 1 = length-append (lines_of run) (line ∷ []) in omega (arith, long)
-
-pub room_first : (l p left right : ℕ) → left ≡ l → right ≡ p → left * right + 0 ≡ l * p
-room_first l p left right l_is p_is = subst (λ k. k * right + 0 ≡ l * p) (sym l_is) (subst (λ k. l * k + 0 ≡ l * p) (sym p_is) (omega arith))
+pub number_more : (run : List Ran) (line : Line) (cuts kept : ℕ) (number : ℕ) → number ≡ length (lines_of run) + 1 → number + 1 ≡ length (lines_of ((record { line = line; cuts = cuts; kept = kept }) ∷ run)) + 1
+number_more run line cuts kept number is = let long : length (lines_of run ++ line ∷ []) ≡ length (lines_of run) + 1 = length-append (lines_of run) (line ∷ []) in omega (arith, long)
 
 pub few_writes : (l : Line) → write_count l ≤ 1
 few_writes (line.Write lba count tag) = omega arith

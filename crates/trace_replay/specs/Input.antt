@@ -3,7 +3,7 @@ use Rattle.std.specs.Prelude.{ℕ, Bool, true, false, List, [], ◌∷◌, ◌++
 use Rattle.trace_model.specs.declared.line.Line.{Line}
 use Rattle.trace_model.specs.declared.line.LineError.{LineError}
 use Rattle.trace_model.specs.declared.line.LineError.TheVariants.{TooLong}
-use Rattle.trace_model.specs.Lines.{lines_in, plain_line_of}
+use Rattle.trace_model.specs.Lines.{lines_in, line_of}
 use Rattle.trace_replay.specs.declared.input.InputEnd.{InputEnd}
 use Rattle.trace_replay.specs.declared.input.InputEnd.TheVariants.{Whole, AtLimit, Faulted}
 
@@ -21,4 +21,4 @@ left_over Faulted = []
 
 -- what the lines say that were read
 abbrev pub readings_by : InputEnd → ℕ → List ℕ → List (Result Line LineError)
-readings_by end size bytes = map (plain_line_of size) (lines_in (is_whole end) bytes) ++ left_over end
+readings_by end size bytes = map (line_of size) (lines_in (is_whole end) bytes) ++ left_over end

@@ -29,7 +29,7 @@ pub enum Ended {
 }
 
 /// How a run ends at this answer of a volume, which lost no power and was asked in its range.
-pub(crate) fn end_at(error: VolumeError) -> Ended
+pub fn end_at(error: VolumeError) -> Ended
     requires power { error ≢ volume.PowerLost }
     requires range { error ≢ volume.OutOfVolume }
     ensures { result ≡ ended_of error }

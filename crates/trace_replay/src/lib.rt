@@ -1,19 +1,24 @@
-//! Runs a trace over any volume, and prints what a plain disk answers.
+//! Runs a trace over any volume, and prints what a plain disk answers, wherever power stops.
 //!
-//! The layer above relies on the clauses of `replay`: the text, each end with its cause, and what became
-//! of the rig. They rest on those of `Volume`, `Rig`, `Source` and `Sink` and on the definitions of
-//! `trace_model` alone.
+//! The layer above relies on the clauses of `replay`: the text, each end with its cause, what the media
+//! stand for then, and which stops are still armed. They rest on those of `Volume`, `Rig`, `Source` and
+//! `Sink` and on the definitions of `trace_model` alone.
 #![tactic(auto)]
 
-mod counted;
+mod again;
+mod digest;
 mod ended;
 mod input;
 mod lines;
 mod output;
+mod reading;
 mod replaying;
-mod requests;
 mod running;
-mod touched;
+mod scratch;
+mod tally;
+#[cfg(test)]
+mod tests;
+mod writing;
 
-pub use ended::Ended;
+pub use ended::{Ended, end_at};
 pub use replaying::replay;

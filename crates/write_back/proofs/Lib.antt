@@ -1,1 +1,6 @@
-pub mod HeldLemmas
+pub mod DiskLemmas
+pub mod GroupLemmas
+pub mod OpenLemmas
+pub mod LeftLemmas
+pub mod CallLemmas
+pub mod CreateLemmas

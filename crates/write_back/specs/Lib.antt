@@ -1,5 +1,2 @@
 pub mod Errors
-pub mod Room
-pub mod Held
-pub mod Reads
-pub mod Volume
+pub mod Left

@@ -1,15 +1,15 @@
-//! A volume over flash and disk that writes to the flash alone: a block is read from the flash where it
-//! was written, else from the disk, which keeps what it had.
+//! A volume over a cache and a disk that writes to the cache alone.
 //!
-//! The layer above relies on the clauses of `Volume` and on those of `WriteBack::create`. A written block
-//! goes into the next page of the first pool blocks, which a rig that was just fitted has ready; no block
-//! is erased or used again.
+//! The layer above relies on the clauses of `Volume` and on those of `WriteBack::create` and
+//! `WriteBack::open`. A block that was written is on the flash when the call answers; a block that the
+//! cache doesn't hold is read from the disk. After a fault or a cut the cache is opened again first,
+//! from the media alone.
 #![tactic(auto)]
 
 mod errors;
-mod open_block;
-mod places;
-mod reading;
+mod opening;
+#[cfg(test)]
+mod tests;
 mod volume;
 
 pub use volume::WriteBack;

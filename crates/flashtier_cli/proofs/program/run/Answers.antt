@@ -1,22 +1,15 @@
-use Rattle.std.proofs.Common.{◌≡◌, ◌≤◌, [], ap, ◌∙◌, subst}
-use Rattle.ft_base.specs.declared.geometry.Geometry.{Geometry}
-use Rattle.ft_base.proofs.AppendsLemmas.{appends_none}
-use Rattle.trace_replay.proofs.ReadingsLemmas.{runs_none}
-use Rattle.flashtier_cli.specs.Defaults.{default_size, default_room}
-use Rattle.flashtier_cli.specs.Status.{status_of}
-use Rattle.flashtier_cli.proofs.EndLemmas.{told_part, product_is}
+use Rattle.std.proofs.Common.{◌≡◌, ◌≤◌, sym, ◌∙◌, subst}
+use Rattle.flashtier_cli.proofs.EndLemmas.{at_ok, at_trace, at_source, at_part, with_default}
 use Rattle.flashtier_cli.proofs.program.run.Goals as goal
 
-pub returns-then-is_err-clause-part : goal.returns-then-is_err-clause-part
-returns-then-is_err-clause-part g c = λ late.
-    let none = runs_none (g.I.Source.left c.args.source.now) default_size default_room in
-    ([], none.0, 0, none.1, appends_none (g.O.Sink.taken c.args.sink.now))
+pub returns-clause-whole : goal.returns-clause-whole
+returns-clause-whole g c = λ is. (_, c.default_options.ensures, at_ok c.replay_with.result c.replay_with.ensures.whole (sym c.status_of.ensures ∙ is))
+
+pub returns-clause-refused : goal.returns-clause-refused
+returns-clause-refused g c = λ is. (_, c.default_options.ensures, at_trace c.replay_with.result c.replay_with.ensures.refused (sym c.status_of.ensures ∙ is))
+
+pub returns-clause-unread : goal.returns-clause-unread
+returns-clause-unread g c = λ is. (_, c.default_options.ensures, at_source c.replay_with.result c.replay_with.ensures.unread (sym c.status_of.ensures ∙ is))
 
 pub returns-clause-part : goal.returns-clause-part
-returns-clause-part g c = λ late.
-    let geometry = c.in-Ok.volume.geometry in
-    let same = c.in-Ok.ensures.geometry in
-    let size_is : geometry.size ≡ default_size = ap (λ (k : Geometry). k.size) same ∙ c.default_options-options.ensures.size in
-    let l_is : geometry.l ≡ 16 = ap (λ (k : Geometry). k.l) same ∙ c.default_options-options.ensures.l in
-    let p_is : geometry.p ≡ 64 = ap (λ (k : Geometry). k.p) same ∙ c.default_options-options.ensures.p in
-    told_part (g.I.Source.left c.args.source.now) (g.O.Sink.taken c.args.sink.now) (g.O.Sink.taken c.replay.new.sink) _ _ default_size default_room c.replay.result size_is (product_is geometry.l geometry.p 16 64 l_is p_is) c.replay.ensures.part (subst (λ n. 5 ≤ n) c.status_of.ensures late)
+returns-clause-part g c = λ late. with_default _ c.replay_with.result _ c.default_options.ensures c.status_of.ensures (at_part c.replay_with.result c.replay_with.ensures.part (subst (λ n. 4 ≤ n) c.status_of.ensures late))

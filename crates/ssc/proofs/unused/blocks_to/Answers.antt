@@ -1,6 +1,6 @@
 use Rattle.std.proofs.Common.{◌≡◌, sym, ◌∙◌, arith}
 use Rattle.recovery.proofs.PlaceLemmas.{place_in_pool}
-use Rattle.ssc.proofs.OpenLemmas.{same_place_of}
+use Rattle.ssc.proofs.OpenLemmas.{blocks_least, same_place_of}
 use Rattle.ssc.proofs.unused.blocks_to.Goals as goal
 
 pub overflow_add-result : goal.overflow_add-result
@@ -27,3 +27,9 @@ returns-in-Some-clause-few c =
     let g = c.args.geometry.now in
     let pool = place_in_pool g c.args.map.now.entries c.args.i c.in-Some.field-0-0 c.in-Some.at c.requires c.in-Some.ensures in
     omega (arith, pool.above, pool.below, c.first_pool-first.ensures.place)
+
+pub returns-in-Some-clause-least : goal.returns-in-Some-clause-least
+returns-in-Some-clause-least c = λ n all.
+    let g = c.args.geometry.now in
+    let pool = place_in_pool g c.args.map.now.entries c.args.i c.in-Some.field-0-0 c.in-Some.at c.requires c.in-Some.ensures in
+    blocks_least g c.args.map.now.entries n _ c.args.i c.in-Some.field-0-0 c.in-Some.at all pool.above c.in-Some.ensures (omega (arith, pool.above, c.first_pool-first.ensures.place))

@@ -1,4 +1,5 @@
 use Rattle.std.proofs.Common.{subst}
+use Rattle.checkpoint.specs.Current.{LoadsOneOf}
 use Rattle.ssc.specs.CacheState.{CacheValue, Keeps, geometry_of}
 use Rattle.ssc.specs.contracts.cache.Ssc.{the_view}
 use Rattle.ssc.specs.Steps.{StandsForEither}
@@ -20,3 +21,9 @@ returns-clause-stands g c = λ list durable.
     let new = (g.M.Media.state c.commit.new.media).contents in
     subst (λ (v : CacheValue). Keeps v old list durable → StandsForEither (geometry_of v) new.flash.page durable list) c.self.view_is
     (λ keeps. stands_either _ old new list durable keeps c.commit.ensures.pool c.commit.ensures.stands)
+
+pub returns-clause-loads : goal.returns-clause-loads
+returns-clause-loads g c =
+    let old = (g.M.Media.state c.args.media.now).contents in
+    let new = (g.M.Media.state c.commit.new.media).contents in
+    subst (λ (v : CacheValue). LoadsOneOf (geometry_of v) old.flash.page new.flash.page v.entries) c.self.view_is c.commit.ensures.stands

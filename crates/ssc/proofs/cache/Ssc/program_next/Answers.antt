@@ -1,6 +1,6 @@
 use Rattle.std.proofs.Common.{◌+◌, sym, ap, subst}
 use Rattle.ssc.specs.CacheState.{CacheValue, Keeps}
-use Rattle.ssc.proofs.ProgramLemmas.{stands_programmed, keeps_programmed}
+use Rattle.ssc.proofs.ProgramLemmas.{stands_programmed, load-programmed, keeps_programmed}
 use Rattle.ssc.proofs.cache.Ssc.program_next.Goals as goal
 
 pub returns-in_err-program-clause-stands : goal.returns-in_err-program-clause-stands
@@ -21,3 +21,15 @@ returns-clause-stands g c =
     let old = (g.M.Media.state c.args.media.now).contents in
     let new = (g.M.Media.state c.program.new.self).contents in
     stands_programmed c.args.self.now old new _ _ _ c.next_place-at.ensures c.program.ensures.page
+
+pub returns-in_err-program-clause-loads : goal.returns-in_err-program-clause-loads
+returns-in_err-program-clause-loads g c =
+    let old = (g.M.Media.state c.args.media.now).contents in
+    let new = (g.M.Media.state c.program.new.self).contents in
+    load-programmed c.args.self.now old new _ _ _ c.next_place-at.ensures c.program.ensures.page c.requires.keeps
+
+pub returns-clause-loads : goal.returns-clause-loads
+returns-clause-loads g c =
+    let old = (g.M.Media.state c.args.media.now).contents in
+    let new = (g.M.Media.state c.program.new.self).contents in
+    load-programmed c.args.self.now old new _ _ _ c.next_place-at.ensures c.program.ensures.page c.requires.keeps

@@ -5,6 +5,7 @@ use Rattle.ssc.specs.CacheState.{CacheValue, geometry_of}
 use Rattle.ssc.proofs.ResultLemmas.{on_ok_from, ok_at}
 use Rattle.ssc.proofs.SpendLemmas.{spends_both}
 use Rattle.ssc.proofs.PutLemmas.{appended_fits, few_on, put_placed, some_placed, kept_placed, one_placed, one_first, placed_some}
+use Rattle.ssc.proofs.MapLoadLemmas.{loads_first, loads_both, takes_none, takes_placed}
 use Rattle.ssc.proofs.cache.Ssc.put_dirty.Goals as goal
 
 pub returns-in_err-place-clause-stands : goal.returns-in_err-place-clause-stands
@@ -49,3 +50,19 @@ returns-clause-spends g c = on_ok_from c.commit_now.result (λ v is.
 
 pub returns-clause-drives : goal.returns-clause-drives
 returns-clause-drives g c = drives_then _ _ _ _ _ c.in_ok-place.ensures.drives c.commit_now.ensures.drives
+
+pub returns-in_err-place-clause-map : goal.returns-in_err-place-clause-map
+returns-in_err-place-clause-map g c = takes_none c.args.self.now c.append.new.self c.args.lba true (ap (λ (v : CacheValue). v.entries) c.append.ensures.cache) c.in_err-place.ensures.refused
+
+pub returns-in_err-place-clause-loads : goal.returns-in_err-place-clause-loads
+returns-in_err-place-clause-loads g c = loads_first c.args.self.now c.append.new.self (g.M.Media.state c.args.media.now).contents.flash.page (g.M.Media.state c.append.new.media).contents.flash.page c.append.ensures.loads
+
+pub returns-clause-map : goal.returns-clause-map
+returns-clause-map g c =
+    takes_placed c.args.self.now c.append.new.self c.set_page.new.self c.commit_now.new.self c.args.lba c.in_ok-place.place true c.append.ensures.geometry (ap (λ (v : CacheValue). v.entries) c.append.ensures.cache) c.in_ok-place.ensures.next c.in_ok-place.ensures.place c.set_page.ensures
+    (ap (λ (v : CacheValue). v.entries) c.commit_now.ensures.cache) (ap (λ (v : CacheValue). v.next) c.commit_now.ensures.cache)
+
+pub returns-clause-loads : goal.returns-clause-loads
+returns-clause-loads g c =
+    loads_both c.args.self.now c.set_page.new.self c.commit_now.new.self (g.M.Media.state c.args.media.now).contents.flash.page (g.M.Media.state c.append.new.media).contents.flash.page (g.M.Media.state c.commit_now.new.media).contents.flash.page
+    (ap geometry_of c.set_page.ensures ∙ c.append.ensures.geometry) (ap (λ (v : CacheValue). v.entries) c.commit_now.ensures.cache) c.append.ensures.loads c.commit_now.ensures.loads

@@ -1,11 +1,12 @@
-use Rattle.std.proofs.Common.{◌+◌, ◌<◌, sym, ◌∙◌, ap, subst, length}
+use Rattle.std.proofs.Common.{true, refl, ◌+◌, ◌<◌, sym, ◌∙◌, ap, subst, length}
 use Rattle.ft_base.specs.declared.geometry.Geometry.{Geometry}
 use Rattle.cache_model.specs.Cache.{undo, written_dirty}
 use Rattle.ssc.specs.CacheState.{CacheValue, pending, geometry_of}
 use Rattle.ssc.specs.Commands.{StandsForOne}
 use Rattle.ssc.proofs.StepLemmas.{some_kept}
 use Rattle.ssc.proofs.HoldsLemmas.{few_buffered, holds_committed}
-use Rattle.ssc.proofs.CommandLemmas.{image_of, not_refused, keeps_reserved, full_is, not_full, not_full_from}
+use Rattle.ssc.proofs.CommandLemmas.{image_of, not_refused, keeps_reserved, full_is, not_full, not_full_from, drives_given_up}
+use Rattle.ssc.proofs.MapLoadLemmas.{takes_within, loads_within}
 use Rattle.ssc.proofs.cache.Ssc.write_dirty.Goals as goal
 
 pub returns-then-is_full-clause-full : goal.returns-then-is_full-clause-full
@@ -46,3 +47,18 @@ returns-in-Err-clause-images g c = λ s holds.
     let stands = c.put_dirty.ensures.stands s (undo (pending c.args.self.now) s) (keeps_reserved c.args.self.now c.reserve.new.self (g.M.Media.state c.args.media.now).contents s (undo (pending c.args.self.now) s) (not_refused c.reserve.result c.is_err.result c.is_err.ensures.value c.if-is_err.false c.reserve.ensures.ready) holds.keeps) in
     image_of (geometry_of c.args.self.now) (g.M.Media.state c.put_dirty.new.media).contents (undo (pending c.args.self.now) s) s (written_dirty c.args.lba c.args.block.now s)
     (subst (λ (h : Geometry). StandsForOne h (g.M.Media.state c.put_dirty.new.media).contents.flash.page (undo (pending c.args.self.now) s) s (written_dirty c.args.lba c.args.block.now s)) (ap geometry_of (not_refused c.reserve.result c.is_err.result c.is_err.ensures.value c.if-is_err.false c.reserve.ensures.ready)) stands)
+
+pub returns-in-Ok-clause-map : goal.returns-in-Ok-clause-map
+returns-in-Ok-clause-map g c = takes_within c.args.self.now c.reserve.new.self c.put_dirty.new.self c.put_dirty.new.self c.args.lba true (not_refused c.reserve.result c.is_err.result c.is_err.ensures.value c.if-is_err.false c.reserve.ensures.ready) refl refl c.put_dirty.ensures.map
+
+pub returns-in-Err-clause-map : goal.returns-in-Err-clause-map
+returns-in-Err-clause-map g c = takes_within c.args.self.now c.reserve.new.self c.put_dirty.new.self c.give_up.new.self c.args.lba true (not_refused c.reserve.result c.is_err.result c.is_err.ensures.value c.if-is_err.false c.reserve.ensures.ready) (ap (λ (v : CacheValue). v.entries) c.give_up.ensures.cache) (ap (λ (v : CacheValue). v.next) c.give_up.ensures.cache) c.put_dirty.ensures.map
+
+pub returns-in-Ok-clause-loads : goal.returns-in-Ok-clause-loads
+returns-in-Ok-clause-loads g c = loads_within c.args.self.now c.reserve.new.self c.put_dirty.new.self c.put_dirty.new.self (g.M.Media.state c.args.media.now).contents.flash.page (g.M.Media.state c.put_dirty.new.media).contents.flash.page (not_refused c.reserve.result c.is_err.result c.is_err.ensures.value c.if-is_err.false c.reserve.ensures.ready) refl c.put_dirty.ensures.loads
+
+pub returns-in-Err-clause-loads : goal.returns-in-Err-clause-loads
+returns-in-Err-clause-loads g c = loads_within c.args.self.now c.reserve.new.self c.put_dirty.new.self c.give_up.new.self (g.M.Media.state c.args.media.now).contents.flash.page (g.M.Media.state c.put_dirty.new.media).contents.flash.page (not_refused c.reserve.result c.is_err.result c.is_err.ensures.value c.if-is_err.false c.reserve.ensures.ready) (ap (λ (v : CacheValue). v.entries) c.give_up.ensures.cache) c.put_dirty.ensures.loads
+
+pub returns-in-Err-clause-drives : goal.returns-in-Err-clause-drives
+returns-in-Err-clause-drives g c = drives_given_up (Unit {0}) (g.M.Media.state c.args.media.now) (g.M.Media.state c.put_dirty.new.media) c.give_up.result c.in-Err.error c.give_up.ensures.error c.in-Err.ensures.drives

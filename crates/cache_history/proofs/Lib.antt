@@ -1,0 +1,5 @@
+pub mod StepLemmas
+pub mod MightLemmas
+pub mod LawLemmas
+pub mod ListedLemmas
+pub mod CommandLemmas

@@ -1,0 +1,19 @@
+use Rattle.std.specs.FinMap.{get}
+use Rattle.cache_history.proofs.MightLemmas.{mights}
+use Rattle.cache_history.proofs.LawLemmas.{evicted_none, dirty_some, dirty_still, newest}
+use Rattle.cache_history.proofs.ListedLemmas.{dirty_listed}
+use Rattle.cache_history.proofs.laws.history_laws.Goals as goal
+
+pub returns-clause-evicted_stays_absent : goal.returns-clause-evicted_stays_absent
+returns-clause-evicted_stays_absent c = λ later before l a b lived none. evicted_none a b later before (get l.now a) (mights _ l lived a).now none
+
+pub returns-clause-dirty_stays : goal.returns-clause-dirty_stays
+returns-clause-dirty_stays c = λ later before l a b lived none. dirty_some a b later before (get l.now a) (mights _ l lived a).now none
+
+pub returns-clause-newest_is_held : goal.returns-clause-newest_is_held
+returns-clause-newest_is_held c = λ events l a h lived is. newest a events (get l.now a) h (mights events l lived a).now is
+
+pub returns-clause-dirty_is_listed : goal.returns-clause-dirty_is_listed
+returns-clause-dirty_is_listed c = λ later before l a b from count lived none low high.
+    let d = dirty_still a b later before (get l.now a) (mights _ l lived a).now none in
+    dirty_listed l.now a d.0 from count d.1 low high

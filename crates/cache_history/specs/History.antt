@@ -1,0 +1,130 @@
+-- What became of a cache, command by command, and the lists of held blocks that it may have then.
+use Rattle.std.specs.Prelude.{◌≡◌, ◌⊎◌, ℕ, ◌&&◌, ◌==◌, Bool, true, false, List, [], ◌∷◌}
+use Rattle.std.specs.List.{list_any}
+use Rattle.std.specs.FinMap.{empty}
+use Rattle.ft_base.specs.declared.block.Block.{Block}
+use Rattle.cache_model.specs.Cache.{CacheList, written_dirty, written_clean, evicted, made_clean}
+use Rattle.ssc.specs.Commands.{IsHeldIn}
+use Rattle.cache_history.specs.declared.kind.Kind.{Kind}
+use Rattle.cache_history.specs.declared.kind.Kind.TheVariants.{WriteDirty, WriteClean, Evict, Clean, Commit, Checkpoint}
+
+-- a command that is given; commit and checkpoint look at no address, and only writes at the block
+pub record Given : Type 0 where
+  pub kind : Kind
+  pub address : ℕ
+  pub block : Block
+
+abbrev pub given : Kind → ℕ → Block → Given
+given kind address block = record { kind = kind; address = address; block = block }
+
+-- it was answered Ok; or refused by a device or for want of power, and the cache opened again; or there was a crash between two commands, and an opening
+pub data Event : Type 0 where
+  Answered : Given → Event
+  Refused : Given → Event
+  Crashed : Event
+
+-- ---- the lists
+
+-- the list after a command of each kind
+abbrev pub stepped_by : Kind → ℕ → Block → CacheList → CacheList
+stepped_by WriteDirty a block s = written_dirty a block s
+stepped_by WriteClean a block s = written_clean a block s
+stepped_by Evict a block s = evicted a s
+stepped_by Clean a block s = made_clean a s
+stepped_by Commit a block s = s
+stepped_by Checkpoint a block s = s
+
+abbrev pub stepped : Given → CacheList → CacheList
+stepped x s = stepped_by x.kind x.address x.block s
+
+-- the list that is held, and the one that a crash would leave
+pub record Lists : Type 0 where
+  pub now : CacheList
+  pub durable : CacheList
+
+-- where nothing is buffered they are one
+abbrev pub settled : CacheList → Lists
+settled s = record { now = s; durable = s }
+
+-- a command of this kind is on the flash when it answers Ok, with all that was buffered: a clean write and an evict where the address was held
+abbrev pub IsAtOnce : Kind → ℕ → CacheList → Type 0
+IsAtOnce WriteDirty a s = Unit {0}
+IsAtOnce WriteClean a s = IsHeldIn s a
+IsAtOnce Evict a s = IsHeldIn s a
+IsAtOnce Clean a s = ⊥
+IsAtOnce Commit a s = Unit {0}
+IsAtOnce Checkpoint a s = Unit {0}
+
+-- after Ok the list is that of the step; and a crash would leave what it would have left before, or the list before the step or after it
+pub record AfterAnswer (x : Given) (old new : Lists) : Type 0 where
+  pub now : new.now ≡ stepped x old.now
+  pub durable : (new.durable ≡ old.durable) ⊎ (new.durable ≡ old.now) ⊎ (new.durable ≡ new.now)
+  pub at_once : IsAtOnce x.kind x.address old.now → new.durable ≡ new.now
+
+-- after a refusal and an opening the list is what a crash would have left before, or the list before the step or after it
+pub record AfterRefusal (x : Given) (old new : Lists) : Type 0 where
+  pub now : (new.now ≡ old.durable) ⊎ (new.now ≡ old.now) ⊎ (new.now ≡ stepped x old.now)
+  pub durable : new.durable ≡ new.now
+
+-- after a crash and an opening it is what the crash left
+pub record AfterCrash (old new : Lists) : Type 0 where
+  pub now : new.now ≡ old.durable
+  pub durable : new.durable ≡ old.durable
+
+abbrev pub After : Event → Lists → Lists → Type 0
+After (Answered x) old new = AfterAnswer x old new
+After (Refused x) old new = AfterRefusal x old new
+After Crashed old new = AfterCrash old new
+
+-- the lists after these events, the newest first, from an empty cache on
+abbrev pub Lived : List Event → Lists → Type 0
+Lived [] l = l ≡ settled empty
+Lived (event ∷ events) l = (before : Lists) × Lived events before × After event before l
+
+-- ---- which events are of an address
+
+abbrev pub is_write : Kind → Bool
+is_write WriteDirty = true
+is_write WriteClean = true
+is_write Evict = false
+is_write Clean = false
+is_write Commit = false
+is_write Checkpoint = false
+
+-- after a command of this kind the address may be held no more, or not dirty
+abbrev pub may_undirty : Kind → Bool
+may_undirty WriteDirty = false
+may_undirty WriteClean = true
+may_undirty Evict = true
+may_undirty Clean = true
+may_undirty Commit = false
+may_undirty Checkpoint = false
+
+abbrev pub is_change : Kind → Bool
+is_change WriteDirty = true
+is_change WriteClean = true
+is_change Evict = true
+is_change Clean = true
+is_change Commit = false
+is_change Checkpoint = false
+
+-- a command of one of these kinds at the address
+abbrev pub names : (Kind → Bool) → ℕ → Given → Bool
+names kinds a x = kinds x.kind && (a == x.address)
+
+-- the event is of such a command, whatever it answered
+abbrev pub concerns : (Kind → Bool) → ℕ → Event → Bool
+concerns kinds a (Answered x) = names kinds a x
+concerns kinds a (Refused x) = names kinds a x
+concerns kinds a Crashed = false
+
+-- no event is
+abbrev pub NoneIs : (Kind → Bool) → ℕ → List Event → Type 0
+NoneIs kinds a events = list_any (concerns kinds a) events ≡ false
+
+-- the block is that of the newest write of the address that was answered Ok, or of a later one that was refused
+abbrev pub IsNewest : ℕ → Block → List Event → Type 0
+IsNewest a block [] = ⊥
+IsNewest a block (Answered x ∷ older) = ((names is_write a x ≡ true) × (block ≡ x.block)) ⊎ ((names is_write a x ≡ false) × IsNewest a block older)
+IsNewest a block (Refused x ∷ older) = ((names is_write a x ≡ true) × (block ≡ x.block)) ⊎ IsNewest a block older
+IsNewest a block (Crashed ∷ older) = IsNewest a block older

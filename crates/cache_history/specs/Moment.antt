@@ -1,0 +1,11 @@
+-- A cache between two commands, and the lists that it has then.
+use Rattle.std.specs.Prelude.{◌≡◌}
+use Rattle.ft_base.specs.Contents.{Contents}
+use Rattle.cache_model.specs.Cache.{undo}
+use Rattle.ssc.specs.CacheState.{CacheValue, Holds, pending}
+use Rattle.cache_history.specs.History.{Lists}
+
+-- the cache holds the first list; and the second is that without what is buffered
+pub record IsMoment (c : CacheValue) (contents : Contents) (l : Lists) : Type 0 where
+  pub holds : Holds c contents l.now
+  pub durable : l.durable ≡ undo (pending c) l.now

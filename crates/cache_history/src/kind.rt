@@ -1,0 +1,16 @@
+/// A command of the cache.
+#[derive(Clone, Copy, Debug, PartialEq, Eq)]
+pub enum Kind {
+    /// Holds a block at an address, dirty.
+    WriteDirty,
+    /// Holds a block at an address, clean.
+    WriteClean,
+    /// Holds an address no more.
+    Evict,
+    /// Marks the block of an address clean.
+    Clean,
+    /// Puts what is buffered on the flash.
+    Commit,
+    /// Makes a checkpoint.
+    Checkpoint,
+}

@@ -1,0 +1,30 @@
+//! What holds of a cache after any commands, refusals, crashes and openings.
+
+ghost use Rattle.std.specs.Prelude.{◌≡◌, ◌≤◌, ◌<◌, ◌+◌, ◌++◌, ◌∷◌, ℕ, None, Some, true, List, Contains};
+ghost use Rattle.std.specs.FinMap.{get};
+ghost use Rattle.ft_base.specs.declared.block.Block.{Block};
+ghost use Rattle.ft_base.specs.Contents.{Contents, Image, Now};
+ghost use Rattle.cache_model.specs.Cache.{Held, dirty_between, held};
+ghost use Rattle.cache_model.specs.Stands.{StandsFor};
+ghost use Rattle.ssc.specs.CacheState.{CacheValue, geometry_of};
+ghost use Rattle.cache_history.specs.declared.kind.Kind.TheVariants.{Evict, WriteDirty};
+ghost use Rattle.cache_history.specs.History.{Event, Answered, Lists, Lived, NoneIs, IsNewest, given, is_write, is_change, may_undirty};
+ghost use Rattle.cache_history.specs.Moment.{IsMoment};
+
+/// Over all that may become of a cache, from an empty one on: commands that were answered, commands
+/// that were refused by a device or for want of power, crashes between two commands, and openings.
+pub fn history_laws()
+    // An address whose evict was answered Ok is absent until a write of it is given again.
+    ensures evicted_stays_absent { (later before : List Event) (l : Lists) (a : ℕ) (b : Block) → Lived (later ++ Answered (given Evict a b) ∷ before) l → NoneIs is_write a later → get l.now a ≡ None }
+    // A block whose dirty write was answered Ok is held, dirty, until a write, an evict or a clean of
+    // its address is given, whatever that answers.
+    ensures dirty_stays { (later before : List Event) (l : Lists) (a : ℕ) (b : Block) → Lived (later ++ Answered (given WriteDirty a b) ∷ before) l → NoneIs is_change a later → get l.now a ≡ Some (held b true) }
+    // What is held at an address is the block of the newest write of it that was answered Ok, or of a
+    // later one that was refused, and never an older one.
+    ensures newest_is_held { (events : List Event) (l : Lists) (a : ℕ) (h : Held) → Lived events l → get l.now a ≡ Some h → IsNewest a h.block events }
+    // After a dirty write of an address that was answered Ok it is listed as dirty, with whatever
+    // block, until a clean write, an evict or a clean of it is given, whatever that answers.
+    ensures dirty_is_listed { (later before : List Event) (l : Lists) (a : ℕ) (b : Block) (from count : ℕ) → Lived (later ++ Answered (given WriteDirty a b) ∷ before) l → NoneIs may_undirty a later → from ≤ a → a < from + count → Contains (dirty_between from count l.now) a }
+    // Between two commands a crash leaves the second list.
+    ensures crash_leaves_durable { (c : CacheValue) (contents : Contents) (l : Lists) (x : Image) → IsMoment c contents l → Now contents x → StandsFor (geometry_of c) x.page l.durable }
+{}

@@ -1,0 +1,17 @@
+//! What a cache holds after any commands, crashes and openings.
+//!
+//! `give` is a command of any kind, and `reopen` an opening; each says what becomes of the two lists of
+//! a cache, the one that it holds and the one that a crash would leave. `history_laws` says what
+//! follows over any number of them. The layer above relies on these laws: an evicted address stays
+//! absent until it is written again, a dirty block stays until its address is written, evicted or
+//! cleaned, no older block than the newest that was acknowledged is read, and each dirty address is
+//! listed.
+#![tactic(auto)]
+
+mod commands;
+mod kind;
+mod laws;
+
+pub use commands::{give, reopen};
+pub use kind::Kind;
+pub use laws::history_laws;

@@ -1,0 +1,81 @@
+//! Power cuts at given device writes.
+
+use crate::plain::is_plain;
+use crate::small::{options, run};
+use std::test::Fail;
+
+const WRITTEN: &str = "wrote 0 4\n";
+
+const OLD: &str = "kept 0 of 1\nread 0 1\nread 1 1\nread 2 1\nread 3 1\nread 4 0\nend 2 1 5 ";
+
+const NEW: &str = "kept 1 of 1\nread 0 1\nread 1 1\nread 2 1\nread 3 1\nread 4 2\nend 2 1 5 ";
+
+// The second write erases a pool block, programs its page, finds the log without a page left, erases two
+// region blocks, programs a map page, and is cut at the seal: the sixth device write.
+#[test]
+fn a_seal_that_is_cut_counts_where_it_is_whole(rt: HostRuntime) -> Result<(), Fail> {
+    let alloc = rt.alloc();
+    let options = options(2, 4)?;
+    for (outcome, after) in [("blank", OLD), ("torn", OLD), ("whole", NEW)] {
+        let trace = format!(in alloc; "w 0 4 1\nstop 6 {outcome}\nw 4 1 2\nr 0 5\n")?;
+        let run = run(alloc, &options, trace.as_bytes())?;
+        assert_eq!(rt; run.ended, Ok(()));
+        let wanted = format!(in alloc; "{WRITTEN}stopped\n{after}")?;
+        assert!(rt; run.text.starts_with(wanted.as_bytes()));
+        assert!(rt; is_plain(alloc, trace.as_bytes(), run.text.as_slice(), 64)?);
+    }
+    Ok(())
+}
+
+// The first stop cuts the erase of a checkpoint region, whose seal stays; the second cuts the same erase in
+// recovery, after the flush of the disk.
+#[test]
+fn a_recovery_that_is_cut_loses_nothing(rt: HostRuntime) -> Result<(), Fail> {
+    let alloc = rt.alloc();
+    let trace = b"w 0 4 1\nstop 3 mixed\nstop 2 torn\nw 4 1 2\nr 0 5\n";
+    let run = run(alloc, &options(2, 4)?, trace)?;
+    assert_eq!(rt; run.ended, Ok(()));
+    let wanted = format!(in alloc; "{WRITTEN}stopped\nstopped\n{OLD}")?;
+    assert!(rt; run.text.starts_with(wanted.as_bytes()));
+    assert!(rt; is_plain(alloc, trace, run.text.as_slice(), 64)?);
+    Ok(())
+}
+
+#[test]
+fn a_write_that_is_cut_keeps_its_first_blocks(rt: HostRuntime) -> Result<(), Fail> {
+    let alloc = rt.alloc();
+    let torn = "stopped\nkept 1 of 3\nread 0 9\nread 1 0\nread 2 0\nend 1 1 3 ";
+    let whole = "stopped\nkept 2 of 3\nread 0 9\nread 1 9\nread 2 0\nend 1 1 3 ";
+    for (outcome, wanted) in [("torn", torn), ("whole", whole)] {
+        let trace = format!(in alloc; "stop 5 {outcome}\nw 0 3 9\nr 0 3\n")?;
+        let run = run(alloc, &options(2, 2)?, trace.as_bytes())?;
+        assert_eq!(rt; run.ended, Ok(()));
+        assert!(rt; run.text.starts_with(wanted.as_bytes()));
+        assert!(rt; is_plain(alloc, trace.as_bytes(), run.text.as_slice(), 64)?);
+    }
+    Ok(())
+}
+
+#[test]
+fn lines_that_find_no_room_are_refused(rt: HostRuntime) -> Result<(), Fail> {
+    let alloc = rt.alloc();
+    let options = options(2, 2)?;
+    let refused: [(&[u8], &[u8]); 5] = [
+        // A page for each block, and an erase block for each stop and cut: 8 pages in all.
+        (b"w 0 8 1\nw 0 1 2\n", b"wrote 0 8\nline 2: TooLong\n"),
+        (b"w 0 5 1\ncut torn\n", b"wrote 0 5\nline 2: TooLong\n"),
+        (
+            b"stop 9 torn\nstop 9 torn\nr 0 1\nw 0 1 1\n",
+            b"read 0 0\nline 4: TooLong\n",
+        ),
+        // At most two groups of four.
+        (b"w 3 2 1\nw 8 1 1\n", b"wrote 3 2\nline 2: TooLong\n"),
+        (b"w 3 6 1\n", b"line 1: TooLong\n"),
+    ];
+    for (trace, text) in refused {
+        let run = run(alloc, &options, trace)?;
+        assert!(rt; run.ended.is_err());
+        assert_eq!(rt; run.text.as_slice(), text);
+    }
+    Ok(())
+}

@@ -1,0 +1,137 @@
+//! What a plain disk prints of a trace, where power stopped as a printed text says.
+
+ghost use Rattle.std.specs.Prelude.{IsTrue};
+ghost use Rattle.trace_model.specs.Plain.{AreAddressed, AreRunLines, IsRunLine};
+
+use std::alloc::Global;
+use std::test::Fail;
+use trace_model::{Line, Ran, plain_end, plain_fits, plain_told};
+use trace_text::{Answer, next_line, put_answer, read_answer, read_line};
+
+/// The lines of a run and what became of them, newest first, and the stops that cut the end line.
+#[derive(Drop)]
+struct Record {
+    run: Vec<Ran>,
+    end_cuts: u64,
+}
+
+/// Reads off a printed text what became of each line of a trace, and says whether the text is what a plain
+/// disk prints then.
+pub(crate) fn is_plain(alloc: Global, trace: &[u8], text: &[u8], size: u64) -> Result<bool, Fail> {
+    let record = record_of(alloc, trace, text, size)?;
+    let run = record.run.as_slice();
+    if !are_run_lines(run) || !plain_fits(alloc, run)? {
+        return Ok(false);
+    }
+    let mut wanted = Vec::new(alloc);
+    for answer in &plain_told(alloc, run)? {
+        put_answer(&mut wanted, answer)?;
+    }
+    for _ in 0..record.end_cuts {
+        put_answer(&mut wanted, &Answer::Stopped)?;
+    }
+    put_answer(&mut wanted, &plain_end(alloc, run)?)?;
+    Ok(wanted.as_slice() == text)
+}
+
+fn record_of(alloc: Global, trace: &[u8], text: &[u8], size: u64) -> Result<Record, Fail> {
+    let mut run = Vec::new(alloc);
+    let mut lines = trace;
+    let mut answers = text;
+    for _ in 0..trace.len() {
+        let Some((spelled, after)) = next_line(lines, true) else {
+            break;
+        };
+        lines = after;
+        let Ok(line) = read_line(spelled, size) else {
+            break;
+        };
+        let (ran, rest) = became(line, answers);
+        run.insert(0, ran)?;
+        answers = rest;
+    }
+    let (end_cuts, _) = without_stops(answers);
+    Ok(Record { run, end_cuts })
+}
+
+/// What became of a line, and what is printed after its answers.
+fn became(line: Line, answers: &[u8]) -> (Ran, &[u8]) {
+    let (cuts, rest) = match line {
+        Line::Stop { .. } | Line::Nothing => (0, answers),
+        _ => without_stops(answers),
+    };
+    let (kept, rest) = match line {
+        Line::Write { count, .. } => kept_of(rest, count),
+        Line::Read { count, .. } => (0, after_answers(rest, count)),
+        Line::Flush | Line::Idle | Line::Cut { .. } => (0, after_answers(rest, 1)),
+        Line::Stop { .. } | Line::Nothing => (0, rest),
+    };
+    (Ran { line, cuts, kept }, rest)
+}
+
+/// How many lines that tell of a stop come first, and what comes after them.
+fn without_stops(answers: &[u8]) -> (u64, &[u8]) {
+    let mut cuts: u64 = 0;
+    let mut rest = answers;
+    for _ in 0..answers.len() {
+        match next_answer(rest) {
+            Some((Answer::Stopped, after)) => {
+                cuts = cuts.saturating_add(1);
+                rest = after;
+            }
+            _ => break,
+        }
+    }
+    (cuts, rest)
+}
+
+/// How many blocks of a write count that was answered so, and what comes after the answer.
+fn kept_of(answers: &[u8], count: u64) -> (u64, &[u8]) {
+    match next_answer(answers) {
+        Some((Answer::Kept { kept, .. }, after)) => (kept, after),
+        Some((_, after)) => (count, after),
+        None => (0, answers),
+    }
+}
+
+fn after_answers(answers: &[u8], count: u64) -> &[u8] {
+    let mut rest = answers;
+    for _ in 0..count {
+        let Some((_, after)) = next_answer(rest) else {
+            break;
+        };
+        rest = after;
+    }
+    rest
+}
+
+fn next_answer(answers: &[u8]) -> Option<(Answer, &[u8])> {
+    let (line, after) = next_line(answers, true)?;
+    Some((read_answer(line)?, after))
+}
+
+/// Whether the addresses of the lines are numbers of 64 bits, and no more blocks count than a write has.
+#[tactic(auto, using(crate::proofs::PlainLemmas::first_runs, crate::proofs::PlainLemmas::first_addressed))]
+fn are_run_lines(run: &[Ran]) -> bool
+    ensures run { IsTrue result → AreRunLines run.now }
+    ensures addressed { IsTrue result → AreAddressed run.now }
+{
+    let mut rest = run;
+    'lines: while !rest.is_empty() {
+        if !is_run_line(&rest[0]) {
+            return false;
+        }
+        rest = &rest[1..];
+    }
+    true
+}
+
+fn is_run_line(ran: &Ran) -> bool
+    ensures { IsTrue result → IsRunLine ran.now }
+{
+    match ran.line {
+        Line::Write { lba, count, .. } => lba.checked_add(count).is_some() && ran.kept <= count,
+        Line::Read { lba, count } => lba.checked_add(count).is_some(),
+        _ => true,
+    }
+}

@@ -1,0 +1,21 @@
+use Rattle.std.proofs.Common.{sym, subst, false}
+use Rattle.ft_base.specs.Contents.{Shape}
+use Rattle.op_log.specs.Log.{FitsOn}
+use Rattle.write_back.specs.declared.volume.WriteBack.{WriteBack}
+use Rattle.cache_model.specs.Cache.{CacheList}
+use Rattle.cache_model.specs.Stands.{StandsFor}
+use Rattle.write_back.proofs.CreateLemmas.{left_opened, stands_opened, images_opened}
+use Rattle.ssc.proofs.ListLemmas.{stands_some}
+use Rattle.write_back.proofs.volume.WriteBack.open.Goals as goal
+
+pub returns-in-Ok-clause-left : goal.returns-in-Ok-clause-left
+returns-in-Ok-clause-left g c = let v : WriteBack = (record { alloc = c.args.alloc; geometry = c.args.options.now.geometry; cache = c.in-Ok.cache; cut = false }) in let some = stands_some (g.R.Media.state c.args.rig.now).contents.flash.page c.args.options.now.geometry c.in-Ok.cache.entries c.in-Ok.ensures.opened.loads in let s : CacheList = some.0 in let stands : StandsFor c.args.options.now.geometry (g.R.Media.state c.args.rig.now).contents.flash.page s = some.1 in left_opened v (g.R.Media.state c.args.rig.now).contents (g.R.Media.state c.open_cache.new.rig).contents s c.in-Ok.ensures.opened c.in-Ok.ensures.same (subst (λ (x : Shape). FitsOn c.args.options.now.geometry x) (sym (c.open_cache.ensures.passes.shape)) c.requires.shape) stands (c.requires.dirty s stands)
+
+pub returns-in-Ok-clause-stands : goal.returns-in-Ok-clause-stands
+returns-in-Ok-clause-stands g c = λ s stands. let v : WriteBack = (record { alloc = c.args.alloc; geometry = c.args.options.now.geometry; cache = c.in-Ok.cache; cut = false }) in stands_opened v (g.R.Media.state c.args.rig.now).contents (g.R.Media.state c.open_cache.new.rig).contents s c.in-Ok.ensures.opened c.in-Ok.ensures.same (subst (λ (x : Shape). FitsOn c.args.options.now.geometry x) (sym (c.open_cache.ensures.passes.shape)) c.requires.shape) stands (c.requires.dirty s stands)
+
+pub returns-in-Ok-clause-images : goal.returns-in-Ok-clause-images
+returns-in-Ok-clause-images g c = images_opened c.args.options.now.geometry (g.R.Media.state c.args.rig.now).contents (g.R.Media.state c.open_cache.new.rig).contents c.open_cache.ensures.same c.open_cache.ensures.values
+
+pub returns-in-Err-clause-images : goal.returns-in-Err-clause-images
+returns-in-Err-clause-images g c = images_opened c.args.options.now.geometry (g.R.Media.state c.args.rig.now).contents (g.R.Media.state c.open_cache.new.rig).contents c.open_cache.ensures.same c.open_cache.ensures.values
