@@ -1,4 +1,4 @@
-ghost use Rattle.std.specs.Prelude.{◌≡◌, ◌≤◌, ◌<◌, ◌+◌, ◌*◌, ◌/◌, ◌∷◌, [], ℕ, length, true, false, OnOk, OnErr, IfOk, IfErr, IsOk, IsErrOf};
+ghost use Rattle.std.specs.Prelude.{◌≡◌, ◌≤◌, ◌<◌, ◌+◌, ◌*◌, ◌/◌, ◌∷◌, [], ℕ, length, true, false, OnOk, OnErr, Ok, IfOk, IfErr, IsOk, IsErrOf};
 ghost use Rattle.ft_base.specs.PlainDisk.{PlainDisk};
 ghost use Rattle.ft_base.specs.Count.{Rose};
 ghost use Rattle.ft_media.specs.Media.{KeepsReady};
@@ -81,6 +81,8 @@ impl WriteBack {
             → (d : PlainDisk) → IsVolume options.now.geometry s (R.state rig.old).contents d → StandFor (image_is (told_of v)) (R.state rig.new).contents d) }
         // Whatever is answered, and wherever power went off.
         ensures images { (d : PlainDisk) → StandFor (image_is (record { geometry = options.now.geometry })) (R.state rig.old).contents d → StandFor (image_is (record { geometry = options.now.geometry })) (R.state rig.new).contents d }
+        // Ok comes only where the flash stands for a list.
+        ensures loads { IfOk result (λ v. load options.now.geometry (R.state rig.old).contents.flash.page ≡ Ok v.cache.entries) }
         ensures refused { IfErr result (λ e. IsOpenRefusal options.now.geometry e (load options.now.geometry (R.state rig.old).contents.flash.page)) }
         ensures disk_reads { (R.state rig.new).counts.disk_reads ≡ (R.state rig.old).counts.disk_reads }
         ensures disk_writes { (R.state rig.new).counts.disk_writes ≡ (R.state rig.old).counts.disk_writes }
