@@ -89,15 +89,13 @@ impl WriteBack {
         ensures cause { CausedBy (R.state rig.old).faults (R.state rig.new).faults (open_failed result) (disk_failed result) (open_lost result) }
         ensures passes { Passes (R.state rig.old) (R.state rig.new) (open_lost result) }
     {
-        match open_cache(alloc, rig, &options.geometry) {
-            Ok(cache) => Ok(WriteBack {
-                alloc,
-                geometry: options.geometry,
-                cache,
-                cut: false,
-            }),
-            Err(error) => Err(error),
-        }
+        let cache = open_cache(alloc, rig, &options.geometry)?;
+        Ok(WriteBack {
+            alloc,
+            geometry: options.geometry,
+            cache,
+            cut: false,
+        })
     }
 
     /// Opens the cache again where it was cut off or given up.

@@ -1,0 +1,17 @@
+//! Which clean group gives way when an erase block is needed. The disk has all that a clean group
+//! holds, so its data block can be taken back and nothing need be written first.
+//!
+//! The layer above relies on this: a victim is a group with a data block of which nothing is dirty, no
+//! such group has fewer held pages in its data block, and there is no answer exactly where there is no
+//! such group. Which of several equals is answered is left open. Choosing takes no memory.
+#![tactic(auto)]
+
+mod candidate;
+pub mod laws;
+pub mod plain;
+mod victims;
+
+pub use victims::Victims;
+
+#[cfg(test)]
+mod tests;

@@ -1,0 +1,58 @@
+ghost use Rattle.std.specs.Prelude.{◌≡◌, ℕ, IfOk, IfSome, IfNone};
+ghost use Rattle.silent_evict.specs.Candidates.{IsCandidate, IsVictim};
+
+use crate::candidate::{candidate_of, fewer};
+use ft_base::Geometry;
+use mapping::Map;
+use std::alloc::{AllocError, Global};
+use std::marker::Model;
+
+/// Chooses which clean group gives way.
+#[derive(Drop)]
+pub struct Victims {
+    geometry: Geometry,
+}
+
+impl Model for Victims {
+    ghost use Rattle.ft_base.specs.declared.geometry.Geometry.{Geometry};
+
+    ghost Value = { Geometry };
+
+    ghost view = { λ v. v.geometry };
+}
+
+impl Victims {
+    /// A chooser for maps of this geometry. It takes no memory yet, so it is never refused.
+    pub fn new(_alloc: Global, geometry: &Geometry) -> Result<Victims, AllocError>
+        ensures { IfOk result (λ v. v ≡ geometry.now) }
+    {
+        Ok(Victims {
+            geometry: *geometry,
+        })
+    }
+
+    /// The group that gives way: of those with a data block and nothing dirty, one whose data block has
+    /// the fewest held pages. None exactly where there is no such group. It takes no memory.
+    pub fn victim(&mut self, map: &Map) -> Option<u64>
+        requires { self.old ≡ map.now.geometry }
+        ensures own { self.new ≡ self.old }
+        ensures some { IfSome result (IsVictim map.now.geometry map.now.entries) }
+        ensures none { IfNone result ((group : ℕ) → IsCandidate map.now.geometry map.now.entries group → ⊥) }
+    {
+        let mut fewest = None;
+        let mut last = None;
+        for i in 0..map.held() {
+            let Some((lba, _)) = map.nth(i) else {
+                unreachable!()
+            };
+            // Entries of a group stand side by side, so each group is looked at once.
+            let group = lba / self.geometry.p as u64;
+            if last != Some(group) {
+                fewest = fewer(fewest, candidate_of(map, group));
+                last = Some(group);
+            }
+        }
+        let found = fewest?;
+        Some(found.group)
+    }
+}
