@@ -8,14 +8,14 @@ use Rattle.write_back.proofs.CreateLemmas.{left_opened, stands_opened, images_op
 use Rattle.ssc.proofs.ListLemmas.{stands_some}
 use Rattle.write_back.proofs.volume.WriteBack.open.Goals as goal
 
-pub returns-in-Ok-clause-left : goal.returns-in-Ok-clause-left
-returns-in-Ok-clause-left g c = let v : WriteBack = (record { alloc = c.args.alloc; geometry = c.args.options.now.geometry; cache = c.in-Ok.cache; cut = false }) in let some = stands_some (g.R.Media.state c.args.rig.now).contents.flash.page c.args.options.now.geometry c.in-Ok.cache.entries c.in-Ok.ensures.opened.loads in let s : CacheList = some.0 in let stands : StandsFor c.args.options.now.geometry (g.R.Media.state c.args.rig.now).contents.flash.page s = some.1 in left_opened v (g.R.Media.state c.args.rig.now).contents (g.R.Media.state c.open_cache.new.rig).contents s c.in-Ok.ensures.opened c.in-Ok.ensures.same (subst (λ (x : Shape). FitsOn c.args.options.now.geometry x) (sym (c.open_cache.ensures.passes.shape)) c.requires.shape) stands (c.requires.dirty s stands)
+pub returns-clause-left : goal.returns-clause-left
+returns-clause-left g c = let v : WriteBack = (record { alloc = c.args.alloc; geometry = c.args.options.now.geometry; cache = c.in_ok-cache.cache; cut = false }) in let some = stands_some (g.R.Media.state c.args.rig.now).contents.flash.page c.args.options.now.geometry c.in_ok-cache.cache.entries c.in_ok-cache.ensures.opened.loads in let s : CacheList = some.0 in let stands : StandsFor c.args.options.now.geometry (g.R.Media.state c.args.rig.now).contents.flash.page s = some.1 in left_opened v (g.R.Media.state c.args.rig.now).contents (g.R.Media.state c.open_cache.new.rig).contents s c.in_ok-cache.ensures.opened c.in_ok-cache.ensures.same (subst (λ (x : Shape). FitsOn c.args.options.now.geometry x) (sym (c.open_cache.ensures.passes.shape)) c.requires.shape) stands (c.requires.dirty s stands)
 
-pub returns-in-Ok-clause-stands : goal.returns-in-Ok-clause-stands
-returns-in-Ok-clause-stands g c = λ s stands. let v : WriteBack = (record { alloc = c.args.alloc; geometry = c.args.options.now.geometry; cache = c.in-Ok.cache; cut = false }) in stands_opened v (g.R.Media.state c.args.rig.now).contents (g.R.Media.state c.open_cache.new.rig).contents s c.in-Ok.ensures.opened c.in-Ok.ensures.same (subst (λ (x : Shape). FitsOn c.args.options.now.geometry x) (sym (c.open_cache.ensures.passes.shape)) c.requires.shape) stands (c.requires.dirty s stands)
+pub returns-clause-stands : goal.returns-clause-stands
+returns-clause-stands g c = λ s stands. let v : WriteBack = (record { alloc = c.args.alloc; geometry = c.args.options.now.geometry; cache = c.in_ok-cache.cache; cut = false }) in stands_opened v (g.R.Media.state c.args.rig.now).contents (g.R.Media.state c.open_cache.new.rig).contents s c.in_ok-cache.ensures.opened c.in_ok-cache.ensures.same (subst (λ (x : Shape). FitsOn c.args.options.now.geometry x) (sym (c.open_cache.ensures.passes.shape)) c.requires.shape) stands (c.requires.dirty s stands)
 
-pub returns-in-Ok-clause-images : goal.returns-in-Ok-clause-images
-returns-in-Ok-clause-images g c = images_opened c.args.options.now.geometry (g.R.Media.state c.args.rig.now).contents (g.R.Media.state c.open_cache.new.rig).contents c.open_cache.ensures.same c.open_cache.ensures.values
+pub returns-clause-images : goal.returns-clause-images
+returns-clause-images g c = images_opened c.args.options.now.geometry (g.R.Media.state c.args.rig.now).contents (g.R.Media.state c.open_cache.new.rig).contents c.open_cache.ensures.same c.open_cache.ensures.values
 
-pub returns-in-Err-clause-images : goal.returns-in-Err-clause-images
-returns-in-Err-clause-images g c = images_opened c.args.options.now.geometry (g.R.Media.state c.args.rig.now).contents (g.R.Media.state c.open_cache.new.rig).contents c.open_cache.ensures.same c.open_cache.ensures.values
+pub returns-in_err-cache-clause-images : goal.returns-in_err-cache-clause-images
+returns-in_err-cache-clause-images g c = images_opened c.args.options.now.geometry (g.R.Media.state c.args.rig.now).contents (g.R.Media.state c.open_cache.new.rig).contents c.open_cache.ensures.same c.open_cache.ensures.values
