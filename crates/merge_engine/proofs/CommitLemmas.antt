@@ -1,0 +1,97 @@
+-- What was buffered is on the flash: it stands for the map, or for what it stood for before.
+use Rattle.std.proofs.Common.{◌≡◌, ◌⊎◌, ℕ, Some, Ok, sym, ◌∙◌, ap, subst, inl, inr}
+use Rattle.std.specs.FinMap.{get}
+use Rattle.ft_base.specs.declared.geometry.Geometry.{Geometry}
+use Rattle.ft_base.specs.declared.block.Place.{Place}
+use Rattle.ft_base.specs.declared.block.Page.{Page}
+use Rattle.ft_base.specs.Contents.{Contents, Shape}
+use Rattle.cache_model.specs.declared.entry.Entry.{Entry}
+use Rattle.cache_model.specs.Records.{Entries}
+use Rattle.cache_model.specs.Entries.{IsMap}
+use Rattle.cache_model.specs.Loading.{load, is_whole}
+use Rattle.cache_model.specs.Cache.{CacheList}
+use Rattle.cache_model.specs.Stands.{StandsFor}
+use Rattle.cache_model.proofs.FitsLemmas.{load-map}
+use Rattle.op_log.specs.Log.{LogValue, FitsOn}
+use Rattle.checkpoint.specs.Current.{IsCommitted, PoolStays, PoolReadyStays, LoadsOneOf}
+use Rattle.checkpoint.proofs.SealedLemmas.{current_map}
+use Rattle.log_blocks.specs.Logs.{next_place}
+use Rattle.merge_engine.specs.declared.parts.Parts.{Parts}
+use Rattle.merge_engine.proofs.BesideLemmas.{held_same}
+use Rattle.merge_engine.proofs.RoleLemmas.{open_in_use}
+use Rattle.merge_engine.specs.Agreement.{IsSound, Agree, Lists, IsListOn}
+
+-- ---- the pool is as before
+
+-- what lies in the pool is as before
+pub pool_same : (g : Geometry) (page page' : Place → Page) (m : Entries) → IsMap g m → PoolStays g page page' → (a : ℕ) (e : Entry) → get m a ≡ Some e → page e.place ≡ page' e.place
+pool_same g page page' m is_map stays a e is = sym (stays e.place (is_map.in_pool a e is).above)
+
+-- flash that is loaded as a map whose pages are as before stands for the list that it made before
+pub stands_by_pool : (g : Geometry) (page page' : Place → Page) (m : Entries) (list : CacheList) → IsMap g m → PoolStays g page page' → load g page' ≡ Ok m → IsListOn page m list → StandsFor g page' list
+stands_by_pool g page page' m list is_map stays loads on = record {
+  loaded = m;
+  loads = loads;
+  held = λ a. on a ∙ held_same page page' (get m a) (pool_same g page page' m is_map stays a);
+}
+
+-- flash that is loaded as before, with its pool as before, stands for what it stood for
+pub stands_as_before : (g : Geometry) (page page' : Place → Page) (list : CacheList) → PoolStays g page page' → load g page' ≡ load g page → StandsFor g page list → StandsFor g page' list
+stands_as_before g page page' list stays same stands = stands_by_pool g page page' stands.loaded list (load-map g page stands.loaded stands.loads) stays (same ∙ stands.loads) stands.held
+
+-- ---- after a commit
+
+module _ (old : Parts) (log : LogValue) (marks : Geometry) (before now : Contents) (sound : IsSound old before) (pool : PoolStays old.log.geometry before.flash.page now.flash.page) where
+  abbrev pub committed : Parts
+  committed = record old { log = log; marks = marks }
+
+  own : old.log.geometry ≡ old.geometry
+  own = sound.of_one.log
+
+  is_map : IsMap old.geometry old.map.entries
+  is_map = subst (λ (h : Geometry). IsMap h old.map.entries) own (current_map old.log before.flash.page old.map.entries sound.current)
+
+  stays : PoolStays old.geometry before.flash.page now.flash.page
+  stays = subst (λ (h : Geometry). PoolStays h before.flash.page now.flash.page) own pool
+
+  same : (a : ℕ) (e : Entry) → get old.map.entries a ≡ Some e → before.flash.page e.place ≡ now.flash.page e.place
+  same = pool_same old.geometry before.flash.page now.flash.page old.map.entries is_map stays
+
+  -- whatever is answered
+  pub committed_stands : LoadsOneOf old.log.geometry before.flash.page now.flash.page old.map.entries → (list durable : CacheList) → Lists old before.flash.page list durable
+      → StandsFor old.geometry now.flash.page durable ⊎ StandsFor old.geometry now.flash.page list
+  committed_stands one list durable lists = by (subst (λ (h : Geometry). LoadsOneOf h before.flash.page now.flash.page old.map.entries) own one)
+    where
+      by : LoadsOneOf old.geometry before.flash.page now.flash.page old.map.entries → StandsFor old.geometry now.flash.page durable ⊎ StandsFor old.geometry now.flash.page list
+      by (inl loads) = inr (stands_by_pool old.geometry before.flash.page now.flash.page old.map.entries list is_map stays loads lists.held)
+      by (inr as_before) = inl (stands_as_before old.geometry before.flash.page now.flash.page durable stays as_before lists.stands)
+
+  pub committed_lists : log.geometry ≡ old.log.geometry → IsCommitted now.flash log old.map.entries → (list durable : CacheList) → Lists old before.flash.page list durable → Lists committed now.flash.page list list
+  committed_lists own_log done list durable lists = record {
+    held = λ a. lists.held a ∙ held_same before.flash.page now.flash.page (get old.map.entries a) (same a);
+    stands = stands_by_pool old.geometry before.flash.page now.flash.page old.map.entries list is_map stays (subst (λ (h : Geometry). load h now.flash.page ≡ Ok old.map.entries) (own_log ∙ own) done.loads) lists.held;
+  }
+
+  pub committed_agree : log.geometry ≡ old.log.geometry → marks ≡ old.marks → now.shape ≡ before.shape → PoolReadyStays old.log.geometry before.flash now.flash → IsCommitted now.flash log old.map.entries → Agree committed now
+  committed_agree own_log own_marks shape ready done = record {
+    sound = record {
+      of_one = record {
+        map = sound.of_one.map;
+        log = own_log ∙ own;
+        pool = sound.of_one.pool;
+        victims = sound.of_one.victims;
+        logs = sound.of_one.logs;
+        marks = own_marks ∙ sound.of_one.marks;
+      };
+      shape = subst (λ (s : Shape). FitsOn old.geometry s) (sym shape) sound.shape;
+      current = done.current;
+      whole = record { whole = λ a e at. ap is_whole (sym (same a e at)) ∙ sound.whole.whole a e at };
+      roles = record { data_blocks = sound.roles.data_blocks; log_blocks = sound.roles.log_blocks; in_pool = sound.roles.in_pool; page_mapped = sound.roles.page_mapped };
+      logs = sound.logs;
+      open_block = λ room.
+          let block = (next_place old.logs).block in
+          let within = sound.roles.in_pool block (open_in_use old.logs sound.logs room) in
+          subst (λ (h : Geometry). PoolReadyStays h before.flash now.flash) own ready block within.0 ∙ sound.open_block room;
+    };
+    open_log = done.opened;
+  }

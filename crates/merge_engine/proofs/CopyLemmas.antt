@@ -1,0 +1,232 @@
+-- The pages of a group are copied into an erase block in which nothing stands.
+use Rattle.std.proofs.Common.{◌≡◌, ℕ, zero, suc, ◌+◌, ◌-◌, ◌*◌, ◌/◌, ◌%◌, ◌^◌, ◌<◌, ◌≤◌, inl, inr, Bool, true, false, cond, Option, Some, None, Ok, refl, sym, ◌∙◌, ap, subst, arith, pow-suc}
+use Rattle.std.specs.Option.{option_map}
+use Rattle.std.specs.FinMap.{get}
+use Rattle.std.specs.Int.Count.{count_leading_zeros}
+use Rattle.std.proofs.Math.Nat.{pow-le-pow_right}
+use Rattle.std.proofs.lemmas.Bool.{cases_Bool, cases_lt, both_ways}
+use Rattle.std.proofs.lemmas.Nat.{div-add-mod', mod_below, pow_pos, leading_length}
+use Rattle.ft_base.specs.declared.geometry.Geometry.{Geometry}
+use Rattle.ft_base.specs.declared.block.Block.{Block}
+use Rattle.ft_base.specs.declared.block.Spare.{Spare}
+use Rattle.ft_base.specs.declared.block.Place.{Place}
+use Rattle.ft_base.specs.declared.block.Page.{Page}
+use Rattle.ft_base.specs.declared.block.Page.TheVariants.{Blank, Whole, Torn}
+use Rattle.ft_base.specs.Contents.{Contents, Flash}
+use Rattle.ft_base.proofs.Images.{set_other}
+use Rattle.ft_media.specs.Media.{IsBlankAhead, LeavesPage, after_program}
+use Rattle.cache_model.specs.declared.entry.Entry.{Entry}
+use Rattle.cache_model.specs.Records.{Entries}
+use Rattle.cache_model.specs.Entries.{IsMap, InPool}
+use Rattle.cache_model.specs.Loading.{is_whole, load}
+use Rattle.cache_model.specs.Stands.{block_in}
+use Rattle.mapping.specs.Counts.{place_and_mark}
+use Rattle.cache_model.specs.Cache.{CacheList}
+use Rattle.cache_model.proofs.LoadLemmas.{set_page-other}
+use Rattle.block_pool.specs.Pool.{IsFree, IsInPool}
+use Rattle.log_blocks.specs.Logs.{IsInUse, next_place, data_spare}
+use Rattle.mapping.specs.declared.bits.Choice.TheVariants.{Held}
+use Rattle.mapping.specs.Bits.{set_of, is_chosen, chosen_of}
+use Rattle.mapping.proofs.BitsLemmas.{set_below}
+use Rattle.merge_engine.specs.declared.parts.Parts.{Parts}
+use Rattle.merge_engine.specs.Agreement.{Agree, AreOfOne, Lists}
+use Rattle.merge_engine.specs.Steps.{IsCopyOf}
+use Rattle.merge_engine.proofs.BesideLemmas.{ChangedBeside, leaves_beside, lists_beside, agree_beside, loaded_whole, current_map}
+use Rattle.checkpoint.proofs.MapsLemmas.{set_page-here}
+use Rattle.merge_engine.proofs.RoleLemmas.{free_in_pool, free_not_in_use, open_in_use}
+
+-- ---- the next page of a free erase block is programmed
+
+module _ (parts : Parts) (old new : Contents) (agree : Agree parts old) (at : Place) (block : Block) (spare : Spare) (free : IsFree parts.pool at.block) (ready : old.flash.next at.block ≡ Some at.page) (ahead : IsBlankAhead old) where
+  in_pool : IsInPool parts.geometry at.block
+  in_pool = free_in_pool parts agree.sound.of_one at.block free
+
+  beside : LeavesPage old.flash new.flash at block spare → ChangedBeside parts.geometry parts.map.entries agree.sound.current.durable old.flash.page new.flash.page
+  beside leaves =
+      leaves_beside parts.geometry parts.map.entries agree.sound.current.durable old.flash new.flash at block spare in_pool.0 (ahead at at.page ready (omega arith)) agree.sound.whole.whole
+      (loaded_whole parts.geometry old.flash.page agree.sound.current.durable (subst (λ (g : Geometry). load g old.flash.page ≡ Ok agree.sound.current.durable) agree.sound.of_one.log agree.sound.current.loads))
+      leaves
+
+  pub lists_unheld : LeavesPage old.flash new.flash at block spare → (list durable : CacheList) → Lists parts old.flash.page list durable → Lists parts new.flash.page list durable
+  lists_unheld leaves = lists_beside parts old new agree (beside leaves)
+
+  pub agree_unheld : LeavesPage old.flash new.flash at block spare → new.shape ≡ old.shape → new.flash ≡ after_program old.flash at block spare → Agree parts new
+  agree_unheld leaves shape ok =
+      let others : (b : ℕ) → (at.block ≡ b → ⊥) → new.flash.next b ≡ old.flash.next b = λ b apart. ap (λ (f : Flash). f.next b) ok ∙ set_other old.flash.next at.block b (Some (at.page + 1)) apart in
+      let above = in_pool.0 in
+      agree_beside parts old new agree (beside leaves) parts.pool parts.logs shape
+      (λ b low. others b (λ same. absurd (omega (arith, same))))
+      agree.sound.of_one agree.sound.roles agree.sound.logs
+      (λ some. others (next_place parts.logs).block (λ same. free_not_in_use parts agree.sound.of_one agree.sound.roles at.block free (subst (λ b. IsInUse parts.logs b) (sym same) (open_in_use parts.logs agree.sound.logs some))) ∙ agree.sound.open_block some)
+
+-- ---- one page is copied
+
+placed_entry : (o : Option Entry) (at : Place) (dirty : Bool) → Some (at, dirty) ≡ option_map place_and_mark o → (e : Entry) × (o ≡ Some e) × (e.place ≡ at)
+placed_entry None at dirty is = absurd (cc)
+placed_entry (Some e) at dirty is =
+    let same : (at, dirty) ≡ place_and_mark e = cc in
+    (e, refl, sym (ap (λ (x : Place × Bool). x.0) same))
+
+-- the page of an entry is there, and whole
+pub record IsReadable (contents : Contents) (at : Place) : Type 0 where
+  pub block : at.block < contents.shape.blocks
+  pub page : at.page < contents.shape.pages
+  pub whole : is_whole (contents.flash.page at) ≡ true
+
+pub readable : (parts : Parts) (contents : Contents) (lba : ℕ) (from : Place) (dirty : Bool) → Agree parts contents → Some (from, dirty) ≡ option_map place_and_mark (get parts.map.entries lba) → IsReadable contents from
+readable parts contents lba from dirty agree is =
+    let s = agree.sound in
+    let x = placed_entry (get parts.map.entries lba) from dirty is in
+    let pool : InPool parts.geometry x.0.place = subst (λ (g : Geometry). InPool g x.0.place) s.of_one.log ((current_map contents.flash.page parts.log parts.map.entries s.current).in_pool lba x.0 x.1) in
+    subst (λ (p : Place). IsReadable contents p) x.2 (record {
+      block = let below = pool.below in let most = s.shape.blocks in omega arith;
+      page = subst (λ n. x.0.place.page < n) (sym s.shape.pages) pool.page;
+      whole = s.whole.whole lba x.0 x.1;
+    })
+
+-- a page that is whole isn't one that is blank
+whole_apart : (page : Place → Page) (at to : Place) → is_whole (page at) ≡ true → page to ≡ Blank → at ≡ to → ⊥
+whole_apart page at to whole blank same = let both : is_whole Blank ≡ true = ap is_whole (sym blank) ∙ ap (λ q. is_whole (page q)) (sym same) ∙ whole in absurd (cc)
+
+held_block : (q : Page) (block : Block) → block_in q ≡ Some block → (spare : Spare) × (q ≡ Whole block spare)
+held_block Blank block is = absurd (cc)
+held_block (Whole b s) block is = let same : b ≡ block = cc in (s, ap (λ x. Whole x s) same)
+held_block Torn block is = absurd (cc)
+
+pub copy_is : (parts : Parts) (old new : Contents) (agree : Agree parts old) (lba : ℕ) (from to : Place) (dirty : Bool) (block : Block) (spare : Spare) → old.flash.next to.block ≡ Some to.page → IsBlankAhead old → Some (from, dirty) ≡ option_map place_and_mark (get parts.map.entries lba)
+    → block_in (old.flash.page from) ≡ Some block → spare ≡ data_spare lba → new.flash ≡ after_program old.flash to block spare → (e : Entry) → get parts.map.entries lba ≡ Some e → IsCopyOf new.flash.page e.place to lba
+copy_is parts old new agree lba from to dirty block spare ready ahead is read spelled ok e there =
+    let x = placed_entry (get parts.map.entries lba) from dirty is in
+    let same : x.0 ≡ e = let both : Some x.0 ≡ Some e = sym x.1 ∙ there in cc in
+    let here : e.place ≡ from = ap (λ (y : Entry). y.place) (sym same) ∙ x.2 in
+    let was = held_block (old.flash.page from) block read in
+    let apart = whole_apart old.flash.page e.place to (agree.sound.whole.whole lba e there) (ahead to to.page ready (omega arith)) in
+    record {
+      block = block;
+      spare = was.0;
+      original = ap (λ (f : Flash). f.page e.place) ok ∙ set_page-other old.flash.page to e.place (Whole block spare) apart ∙ ap old.flash.page here ∙ was.1;
+      copy = ap (λ (f : Flash). f.page to) ok ∙ set_page-here old.flash.page to (Whole block spare) ∙ ap (λ s. Whole block s) spelled;
+    }
+
+-- ---- the copies so far
+
+-- each held address of the group whose page is below this one has its copy
+pub record IsCopiedBelow (g : Geometry) (m : Entries) (group block n : ℕ) (page : Place → Page) : Type 0 where
+  pub each : (a : ℕ) (e : Entry) → get m a ≡ Some e → a / g.p ≡ group → a % g.p < n → IsCopyOf page e.place (record { block = block; page = a % g.p }) a
+
+-- one more page was copied, and no other one changed
+pub copied_more : (parts : Parts) (old : Contents) (new : Flash) (group block lba n : ℕ) (to : Place) → Agree parts old → IsBlankAhead old → lba ≡ group * parts.geometry.p + n → to ≡ record { block = block; page = n } → old.flash.next block ≡ Some n
+    → IsCopiedBelow parts.geometry parts.map.entries group block n old.flash.page
+    → ((at : Place) → (at ≡ to → ⊥) → new.page at ≡ old.flash.page at)
+    → ((e : Entry) → get parts.map.entries lba ≡ Some e → IsCopyOf new.page e.place to lba)
+    → IsCopiedBelow parts.geometry parts.map.entries group block (n + 1) new.page
+copied_more parts old new group block lba n to agree ahead address here ready so_far others copied = record {
+  each = λ a e there in_group low. elim (cases_lt (a % parts.geometry.p) n) [
+    | inl less ↦
+        let was = so_far.each a e there in_group less in
+        let from_apart = whole_apart old.flash.page e.place (record { block = block; page = n }) (agree.sound.whole.whole a e there) (ahead (record { block = block; page = n }) n ready (omega arith)) in
+        record {
+          block = was.block;
+          spare = was.spare;
+          original = others e.place (λ same. from_apart (same ∙ here)) ∙ was.original;
+          copy = others (record { block = block; page = a % parts.geometry.p }) (λ same. let page : a % parts.geometry.p ≡ n = ap (λ (x : Place). x.page) (same ∙ here) in absurd (omega arith)) ∙ was.copy;
+        }
+    | inr high ↦
+        let same : a % parts.geometry.p ≡ n = omega arith in
+        let this : lba ≡ a = address ∙ ap (λ q. q * parts.geometry.p + n) (sym in_group) ∙ ap (λ r. a / parts.geometry.p * parts.geometry.p + r) (sym same) ∙ div-add-mod' a parts.geometry.p in
+        let place : to ≡ record { block = block; page = a % parts.geometry.p } = here ∙ ap (λ r. record { block = block; page = r }) (sym same) in
+        subst (λ (q : Place). IsCopyOf new.page e.place q a) place (subst (λ k. IsCopyOf new.page e.place to k) this (copied e (ap (get parts.map.entries) this ∙ there)))
+  ];
+}
+
+-- ---- the held pages of a group
+
+powers : (i j : ℕ) → i ≤ j → 2 ^ i ≤ 2 ^ j
+powers i j low = pow-le-pow_right (omega arith) low
+
+twice : (n : ℕ) → 2 ^ suc n ≡ 2 ^ n + 2 ^ n
+twice n = rw pow-suc (omega arith)
+
+-- a page that is in a set is worth no more than the set
+set_of-least : (test : ℕ → Bool) (n i : ℕ) → i < n → test i ≡ true → 2 ^ i ≤ set_of test n
+set_of-least test zero i low here = absurd (omega arith)
+set_of-least test (suc n) i low here = elim (cases_lt i n) [
+  | inl less ↦ let rest = set_of-least test n i less here in omega (arith, rest)
+  | inr high ↦
+      let same : i ≡ n = omega arith in
+      let last : set_of test (suc n) ≡ set_of test n + 2 ^ n = ap (λ b. set_of test n + cond b (2 ^ n) 0) (ap test (sym same) ∙ here) in
+      let power : 2 ^ i ≡ 2 ^ n = ap (λ k. 2 ^ k) same in
+      omega (arith, last, power)
+]
+
+-- a set that is worth a page has one from it on
+page_from_on : (test : ℕ → Bool) (n page : ℕ) → 2 ^ page ≤ set_of test n → (i : ℕ) × (page ≤ i) × (i < n) × (test i ≡ true)
+page_from_on test zero page worth = absurd (omega (arith, pow_pos page))
+page_from_on test (suc n) page worth = elim (cases_lt n page) [
+  | inl low ↦ absurd (omega (arith, set_below test (suc n), powers (suc n) page (omega arith)))
+  | inr high ↦ elim (cases_Bool (test n)) [
+    | inl t ↦ (n, high, omega arith, t)
+    | inr f ↦
+        let fewer : set_of test (suc n) ≡ set_of test n + 0 = ap (λ b. set_of test n + cond b (2 ^ n) 0) f in
+        let rest = page_from_on test n page (omega (arith, fewer)) in
+        let below = rest.2 in
+        (rest.0, rest.1, omega arith, rest.3)
+  ]
+]
+
+held_entry : (o : Option Entry) → is_chosen Held o ≡ true → (e : Entry) × (o ≡ Some e)
+held_entry None t = absurd (let f : is_chosen Held None ≡ false = refl in both_ways (is_chosen Held None) f t)
+held_entry (Some e) t = (e, refl)
+
+module _ (g : Geometry) (m : Entries) (group held : ℕ) (is : held ≡ chosen_of Held g m group) where
+  -- so many bits as there are below the leading zeros
+  bits : (n : ℕ) × (64 - count_leading_zeros 64 held ≡ n) × (held < 2 ^ n) × (2 ^ n ≤ 2 * held + 1)
+  bits =
+      let below : held < 2 ^ g.p = subst (λ n. n < 2 ^ g.p) (sym is) (set_below (λ i. is_chosen Held (get m (group * g.p + i))) g.p) in
+      let high : g.p ≤ 64 = omega (arith, g.in_range.p_high) in
+      let n = leading_length 64 held (omega (arith, below, powers g.p 64 high)) in
+      let all = n.1 in
+      (n.0, omega arith, n.2, n.3)
+
+  -- a held page of the group is below the first of the leading zeros
+  pub held_below : (a : ℕ) (e : Entry) → get m a ≡ Some e → a / g.p ≡ group → a % g.p < 64 - count_leading_zeros 64 held
+  held_below a e there in_group =
+      let n = bits in
+      let within : a % g.p < g.p = mod_below a g.p (omega (arith, g.in_range.p_low)) in
+      let address : group * g.p + a % g.p ≡ a = ap (λ q. q * g.p + a % g.p) (sym in_group) ∙ div-add-mod' a g.p in
+      let worth : 2 ^ (a % g.p) ≤ held = subst (λ k. 2 ^ (a % g.p) ≤ k) (sym is) (set_of-least (λ i. is_chosen Held (get m (group * g.p + i))) g.p (a % g.p) within (ap (λ k. is_chosen Held (get m k)) address ∙ ap (is_chosen Held) there)) in
+      let less = n.2 in
+      let count = n.1 in
+      elim (cases_lt (a % g.p) n.0) [
+        | inl low ↦ omega (arith, count, low)
+        | inr high ↦ absurd (omega (arith, worth, less, powers n.0 (a % g.p) high))
+      ]
+
+  -- and a page below that first one is one of the group's, and none past the last that is held
+  pub page_below : (page : ℕ) → IsMap g m → page < 64 - count_leading_zeros 64 held → (page < g.p) × (group * g.p + page < g.size)
+  page_below page is_map low =
+      let n = bits in
+      let count = n.1 in
+      let most = n.3 in
+      let worth : 2 ^ page ≤ held = omega (arith, most, powers (suc page) n.0 (omega (arith, count)), twice page) in
+      let at = page_from_on (λ i. is_chosen Held (get m (group * g.p + i))) g.p page (subst (λ k. 2 ^ page ≤ k) is worth) in
+      let e = held_entry (get m (group * g.p + at.0)) at.3 in
+      let within = is_map.within (group * g.p + at.0) e.0 e.1 in
+      let above = at.1 in
+      let below = at.2 in
+      (omega arith, omega (arith, within, above))
+
+-- ---- the same of the parts
+
+module _ (parts : Parts) (group held : ℕ) (of_one : AreOfOne parts) (is : held ≡ chosen_of Held parts.map.geometry parts.map.entries group) where
+  held_is : held ≡ chosen_of Held parts.geometry parts.map.entries group
+  held_is = subst (λ (g : Geometry). held ≡ chosen_of Held g parts.map.entries group) of_one.map is
+
+  pub held_is_below : (a : ℕ) (e : Entry) → get parts.map.entries a ≡ Some e → a / parts.geometry.p ≡ group → a % parts.geometry.p < 64 - count_leading_zeros 64 held
+  held_is_below = held_below parts.geometry parts.map.entries group held held_is
+
+pub is_page_of_group : (parts : Parts) (contents : Contents) (group held page : ℕ) → Agree parts contents → held ≡ chosen_of Held parts.map.geometry parts.map.entries group → page < 64 - count_leading_zeros 64 held → (page < parts.geometry.p) × (group * parts.geometry.p + page < parts.geometry.size)
+is_page_of_group parts contents group held page agree is low =
+    let of_one = agree.sound.of_one in
+    page_below parts.geometry parts.map.entries group held (subst (λ (g : Geometry). held ≡ chosen_of Held g parts.map.entries group) of_one.map is) page
+    (subst (λ (g : Geometry). IsMap g parts.map.entries) of_one.log (current_map contents.flash.page parts.log parts.map.entries agree.sound.current)) low

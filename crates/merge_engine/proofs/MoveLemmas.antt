@@ -1,0 +1,113 @@
+-- What a group's move leaves, step by step.
+use Rattle.std.proofs.Common.{◌≡◌, ℕ, ◌≤◌, false, [], Result, Err, Some, sym, ◌∙◌, ap, ap₂, subst, arith, inl, inr}
+use Rattle.std.specs.FinMap.{get}
+use Rattle.ft_base.specs.declared.geometry.Geometry.{Geometry}
+use Rattle.ft_base.specs.declared.block.Place.{Place}
+use Rattle.ft_base.specs.declared.block.Page.{Page}
+use Rattle.ft_base.specs.Contents.{Contents, Flash}
+use Rattle.ft_base.proofs.Images.{set_other}
+use Rattle.ft_media.specs.declared.media.MediaError.{MediaError}
+use Rattle.ft_media.specs.declared.media.MediaError.TheVariants.{Failed, PowerLost, OutOfMemory}
+use Rattle.ft_media.specs.State.{State, failed, lost}
+use Rattle.ft_media.specs.Drives.{DrivesFlash}
+use Rattle.ft_media.specs.Media.{after_erase}
+use Rattle.ft_media.proofs.DrivesLemmas.{drives_then}
+use Rattle.cache_model.specs.declared.entry.Entry.{Entry}
+use Rattle.cache_model.specs.Records.{Entries}
+use Rattle.cache_model.specs.Cache.{CacheList}
+use Rattle.cache_model.specs.Stands.{StandsFor}
+use Rattle.block_pool.specs.Pool.{PoolValue, IsFree, IsInPool, role_of}
+use Rattle.log_blocks.specs.Logs.{IsInUse, next_place}
+use Rattle.silent_evict.specs.Candidates.{IsHeld}
+use Rattle.merge_engine.specs.declared.parts.Parts.{Parts}
+use Rattle.merge_engine.specs.Agreement.{Agree, IsOpenBlock, Lists, RolesAgree}
+use Rattle.merge_engine.specs.Merges.{HasBlockOrRoom, OthersStay, StandsForEither, moved}
+use Rattle.merge_engine.specs.Steps.{IsCopied, IsMerged, IsUnheld}
+use Rattle.merge_engine.proofs.BesideLemmas.{ChangedBeside, erased_beside, agree_beside, nothing_buffered}
+use Rattle.merge_engine.proofs.RoleLemmas.{free_in_pool, free_unheld, free_not_in_use, open_in_use}
+use Rattle.merge_engine.proofs.TakeLemmas.{erased_pages}
+use Rattle.merge_engine.proofs.PutLemmas.{of_one_roles}
+use Rattle.merge_engine.proofs.MovedLemmas.{moved_from, moved_other}
+
+-- the list is the same, whatever the pool is used for
+pub lists_roles : (parts : Parts) (pool : PoolValue) (page : Place → Page) (list durable : CacheList) → Lists parts page list durable → Lists (record parts { pool = pool }) page list durable
+lists_roles parts pool page list durable lists = record { held = lists.held; stands = lists.stands }
+
+-- an erase block is taken, which stays free: the parts agree with the flash where it is erased
+module _ (parts : Parts) (old new : Contents) (agree : Agree parts old) (none : parts.log.buffered ≡ []) (block : ℕ) (free : IsFree parts.pool block)
+    (pool : PoolValue) (same : pool.geometry ≡ parts.pool.geometry) (kept : (b : ℕ) → role_of pool b ≡ role_of parts.pool b)
+    (shape : new.shape ≡ old.shape) (ok : new.flash ≡ after_erase old.flash block) where
+  in_pool : IsInPool parts.geometry block
+  in_pool = free_in_pool parts agree.sound.of_one block free
+
+  unheld : IsUnheld parts.map.entries block
+  unheld = free_unheld parts agree.sound.of_one agree.sound.roles block free
+
+  beside : ChangedBeside parts.geometry parts.map.entries agree.sound.current.durable old.flash.page new.flash.page
+  beside =
+      let is = nothing_buffered old.flash.page parts.log parts.map.entries agree.sound.current none in
+      erased_beside parts.geometry parts.map.entries agree.sound.current.durable old.flash new.flash block in_pool.0 unheld (subst (λ (m : Entries). IsUnheld m block) (sym is) unheld) (erased_pages old.flash new.flash block ok)
+
+  next_other : (b : ℕ) → (block ≡ b → ⊥) → new.flash.next b ≡ old.flash.next b
+  next_other b other = ap (λ (f : Flash). f.next b) ok ∙ set_other old.flash.next block b (Some 0) other
+
+  roles_taken : RolesAgree (record parts { pool = pool })
+  roles_taken =
+      let r = agree.sound.roles in
+      record {
+        data_blocks = λ b inside. (λ is. (r.data_blocks b inside).0 (sym (kept b) ∙ is), λ x. kept b ∙ (r.data_blocks b inside).1 x);
+        log_blocks = λ b inside. (λ is. (r.log_blocks b inside).0 (sym (kept b) ∙ is), λ used. kept b ∙ (r.log_blocks b inside).1 used);
+        in_pool = r.in_pool;
+        page_mapped = r.page_mapped;
+      }
+
+  opened : IsOpenBlock parts.logs new.flash
+  opened = λ some. next_other (next_place parts.logs).block (λ is. free_not_in_use parts agree.sound.of_one agree.sound.roles block free (subst (λ n. IsInUse parts.logs n) (sym is) (open_in_use parts.logs agree.sound.logs some))) ∙ agree.sound.open_block some
+
+  pub agree_taken : Agree (record parts { pool = pool }) new
+  agree_taken = agree_beside parts old new agree beside pool parts.logs shape (λ b low. next_other b (λ is. let high = in_pool.0 in absurd (omega arith))) (of_one_roles parts pool same agree.sound.of_one) roles_taken agree.sound.logs opened
+
+-- ---- over parts that are known by equations
+
+module _ (g h : Geometry) (m n : Entries) (group : ℕ) (same : h ≡ g) (is : n ≡ m) where
+  pub room_still : HasBlockOrRoom g m group → HasBlockOrRoom h n group
+  room_still room = subst (λ (k : Geometry). HasBlockOrRoom k n group) (sym same) (subst (λ (x : Entries). HasBlockOrRoom g x group) (sym is) room)
+
+  pub held_still : IsHeld g m group → IsHeld h n group
+  held_still held = subst (λ (k : Geometry). IsHeld k n group) (sym same) (subst (λ (x : Entries). IsHeld g x group) (sym is) held)
+
+  pub copied_still : (block : ℕ) (page : Place → Page) → IsCopied g m group block page → IsCopied h n group block page
+  copied_still block page copied = subst (λ (k : Geometry). IsCopied k n group block page) (sym same) (subst (λ (x : Entries). IsCopied g x group block page) (sym is) copied)
+
+  pub moved_still : (block : ℕ) → moved h n group block ≡ moved g m group block
+  moved_still block = ap₂ (λ (k : Geometry) (x : Entries). moved k x group block) same is
+
+pub stands_still : (g h : Geometry) (page : Place → Page) (s t : CacheList) → h ≡ g → StandsForEither h page s t → StandsForEither g page s t
+stands_still g h page s t same stands = subst (λ (k : Geometry). StandsForEither k page s t) same stands
+
+-- the flash stands for the list of parts whose list is all on the flash
+pub stands_listed : (g : Geometry) (parts : Parts) (page : Place → Page) (durable list : CacheList) → parts.geometry ≡ g → Lists parts page list list → StandsForEither g page durable list
+stands_listed g parts page durable list same lists = inr (subst (λ (k : Geometry). StandsFor k page list) same lists.stands)
+
+pub either_same : (g : Geometry) (page : Place → Page) (s : CacheList) → StandsForEither g page s s → StandsFor g page s
+either_same g page s (inl stands) = stands
+either_same g page s (inr stands) = stands
+
+module _ (g : Geometry) (m n : Entries) (group block : ℕ) (is : n ≡ moved g m group block) where
+  pub merged_moved : IsMerged g n group
+  merged_moved a e at same = ap (λ (x : Entry). x.block_mapped) (moved_from g m group block a e (sym (ap (λ k. get k a) is) ∙ at) same).2
+
+  pub others_moved : OthersStay g group m n
+  others_moved a other = ap (λ k. get k a) is ∙ moved_other g m group block a other
+
+-- ---- calls of the flash
+
+-- three calls, of which none takes a count back
+pub risen : (a b c d : ℕ) → a ≤ b → b ≤ c → c ≤ d → a ≤ d
+risen a b c d one two three = omega arith
+
+-- a call failed after another, which did not
+pub drives_failed : {T : Type 0} (U : Type 0) (a b c : State) (e : MediaError) (r : Result T MediaError) → DrivesFlash a b false false → DrivesFlash b c (failed {T = U} (Err e)) (lost {T = U} (Err e)) → r ≡ Err e → DrivesFlash a c (failed r) (lost r)
+drives_failed {T} U a b c Failed r first then is = drives_then a b c (failed r) (lost r) first (subst (λ (q : Result T MediaError). DrivesFlash b c (failed q) (lost q)) (sym is) then)
+drives_failed {T} U a b c PowerLost r first then is = drives_then a b c (failed r) (lost r) first (subst (λ (q : Result T MediaError). DrivesFlash b c (failed q) (lost q)) (sym is) then)
+drives_failed {T} U a b c OutOfMemory r first then is = drives_then a b c (failed r) (lost r) first (subst (λ (q : Result T MediaError). DrivesFlash b c (failed q) (lost q)) (sym is) then)

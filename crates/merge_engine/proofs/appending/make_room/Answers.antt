@@ -1,0 +1,36 @@
+use Rattle.std.proofs.Common.{ap, subst, arith}
+use Rattle.ft_base.specs.declared.geometry.Geometry.{Geometry}
+use Rattle.op_log.specs.Log.{LogValue}
+use Rattle.merge_engine.specs.declared.parts.Parts.{Parts}
+use Rattle.merge_engine.specs.Room.{StandsForGiven}
+use Rattle.merge_engine.specs.Steps.{GoesOn}
+use Rattle.merge_engine.proofs.ResultLemmas.{on_ok_from, ok_at}
+use Rattle.merge_engine.proofs.BesideLemmas.{lists_as}
+use Rattle.merge_engine.proofs.GiveBackLemmas.{room_after}
+use Rattle.merge_engine.proofs.appending.make_room.Goals as goal
+
+pub returns-clause-few : goal.returns-clause-few
+returns-clause-few g c = on_ok_from c.free_log_block.result (λ v is.
+    let mid = c.free_unheld.new.cache in
+    let new = c.free_log_block.new.cache in
+    let agree = c.free_unheld.ensures.agree (g.M.Media.state c.args.media.now).contents c.requires.agree in
+    let low = room_after mid.logs new.logs c.used.ensures.sound (omega (arith, c.used.ensures.used, c.if-used-cache.false, mid.geometry.in_range.l_low)) (ok_at c.free_log_block.result v is c.free_log_block.ensures.logs) in
+    let first = ap (λ (h : Geometry). h.l) agree.sound.of_one.logs in
+    let then = ap (λ (h : Geometry). h.l) c.free_log_block.ensures.geometry in
+    omega arith)
+
+pub returns-clause-lists : goal.returns-clause-lists
+returns-clause-lists g c = on_ok_from c.free_log_block.result (λ v is. λ list durable lists.
+    let mid = c.free_unheld.new.cache in
+    let gave = c.free_unheld.ensures.cache in
+    subst (λ (l : LogValue). GoesOn l c.free_log_block.new.cache (g.M.Media.state c.free_log_block.new.media).contents.flash.page list durable) (ap (λ (p : Parts). p.log) gave)
+    ((ok_at c.free_log_block.result v is c.free_log_block.ensures.lists) list durable
+    (lists_as c.args.cache.now mid (g.M.Media.state c.args.media.now).contents.flash.page list durable (ap (λ (p : Parts). p.map) gave) (ap (λ (p : Parts). p.geometry) gave) lists)))
+
+pub returns-clause-stands : goal.returns-clause-stands
+returns-clause-stands g c = λ list durable lists.
+    let mid = c.free_unheld.new.cache in
+    let gave = c.free_unheld.ensures.cache in
+    subst (λ (h : Geometry). StandsForGiven h (g.M.Media.state c.free_log_block.new.media).contents.flash.page durable list) (ap (λ (p : Parts). p.geometry) gave)
+    (c.free_log_block.ensures.stands list durable
+    (lists_as c.args.cache.now mid (g.M.Media.state c.args.media.now).contents.flash.page list durable (ap (λ (p : Parts). p.map) gave) (ap (λ (p : Parts). p.geometry) gave) lists))

@@ -1,0 +1,38 @@
+use Rattle.std.proofs.Common.{◌+◌, ◌*◌, arith, rules, refl}
+use Rattle.ft_media.proofs.DrivesLemmas.{drives_then}
+use Rattle.checkpoint.proofs.ProgramLemmas.{drives_err}
+use Rattle.merge_engine.proofs.CopyLemmas.{copied_more, held_is_below, is_page_of_group}
+use Rattle.merge_engine.proofs.copying.copy_group.Goals as goal
+
+pub overflow_mul-lba : goal.overflow_mul-lba
+overflow_mul-lba g c = let page = is_page_of_group c.args.cache.now (g.M.Media.state c.args.media.now).contents c.args.group c.held_bits-held.result c.loop-page.page c.requires.agree c.held_bits-held.ensures c.loop-page-test.true in let low = page.1 in omega (arith, low, c.args.cache.now.geometry.in_range.size_high)
+
+pub overflow_add-lba : goal.overflow_add-lba
+overflow_add-lba g c = let page = is_page_of_group c.args.cache.now (g.M.Media.state c.args.media.now).contents c.args.group c.held_bits-held.result c.loop-page.page c.requires.agree c.held_bits-held.ensures c.loop-page-test.true in let low = page.1 in omega (arith, low, c.args.cache.now.geometry.in_range.size_high)
+
+pub copy_page-requires-clause-page : goal.copy_page-requires-clause-page
+copy_page-requires-clause-page g c = (is_page_of_group c.args.cache.now (g.M.Media.state c.args.media.now).contents c.args.group c.held_bits-held.result c.loop-page.page c.requires.agree c.held_bits-held.ensures c.loop-page-test.true).0
+
+pub returns-in_err-copy_page-clause-lists : goal.returns-in_err-copy_page-clause-lists
+returns-in_err-copy_page-clause-lists g c list durable lists = c.copy_page.ensures.lists list durable (c.loop-page.invariant.lists list durable lists)
+
+pub returns-in_err-copy_page-clause-drives : goal.returns-in_err-copy_page-clause-drives
+returns-in_err-copy_page-clause-drives g c =
+    drives_err (g.M.Media.state c.args.media.now) (g.M.Media.state c.loop-page.media) (g.M.Media.state c.copy_page.new.media) c.in_err-copy_page.field-0.0 _ c.loop-page.invariant.drives c.in_err-copy_page.ensures.drives (search rules)
+
+pub loop-page-preserved : goal.loop-page-preserved
+loop-page-preserved g c = record {
+  agree = c.in_ok-copy_page.ensures.agree;
+  lists = λ list durable lists. c.copy_page.ensures.lists list durable (c.loop-page.invariant.lists list durable lists);
+  next = c.in_ok-copy_page.ensures.next;
+  copied = copied_more c.args.cache.now (g.M.Media.state c.loop-page.media).contents (g.M.Media.state c.copy_page.new.media).contents.flash c.args.group c.args.block (c.args.group * c.args.cache.now.geometry.p + c.loop-page.page) c.loop-page.page (record { block = c.args.block; page = c.loop-page.page })
+      c.loop-page.invariant.agree (g.met.M.Media.blank_ahead c.loop-page.media) refl refl c.loop-page.invariant.next c.loop-page.invariant.copied c.in_ok-copy_page.ensures.others c.in_ok-copy_page.ensures.copied;
+  programs = let first = c.loop-page.invariant.programs in let then = c.in_ok-copy_page.ensures.programs in omega arith;
+  drives = drives_then (g.M.Media.state c.args.media.now) (g.M.Media.state c.loop-page.media) (g.M.Media.state c.copy_page.new.media) _ _ c.loop-page.invariant.drives c.in_ok-copy_page.ensures.drives;
+}
+
+pub returns-clause-copied : goal.returns-clause-copied
+returns-clause-copied g c a e there in_group =
+    let low = held_is_below c.args.cache.now c.args.group c.held_bits-held.result c.requires.agree.sound.of_one c.held_bits-held.ensures a e there in_group in
+    let past = c.loop-page-test.false in
+    c.loop-page.invariant.copied.each a e there in_group (omega arith)

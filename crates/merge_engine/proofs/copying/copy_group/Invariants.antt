@@ -1,0 +1,19 @@
+use Rattle.std.proofs.Common.{◌≡◌, ◌≤◌, Some, false}
+use Rattle.ft_media.specs.Drives.{DrivesFlash}
+use Rattle.cache_model.specs.Cache.{CacheList}
+use Rattle.merge_engine.specs.Agreement.{Agree, Lists}
+use Rattle.merge_engine.proofs.CopyLemmas.{IsCopiedBelow}
+use Rattle.merge_engine.proofs.copying.copy_group.Given as goal
+
+abbrev pub invariant-loop-page : goal.invariant-loop-page
+invariant-loop-page g l =
+    let old = g.M.Media.state l.fn.media in
+    let now = g.M.Media.state l.media in
+    record {
+      agree : Agree l.cache now.contents;
+      lists : (list durable : CacheList) → Lists l.cache old.contents.flash.page list durable → Lists l.cache now.contents.flash.page list durable;
+      next : now.contents.flash.next l.block ≡ Some l.page;
+      copied : IsCopiedBelow l.cache.geometry l.cache.map.entries l.group l.block l.page now.contents.flash.page;
+      programs : old.counts.programs ≤ now.counts.programs;
+      drives : DrivesFlash old now false false;
+    }

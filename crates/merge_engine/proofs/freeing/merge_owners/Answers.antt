@@ -1,0 +1,54 @@
+use Rattle.std.proofs.Common.{◌≡◌, rules, sym, ◌∙◌, ap, subst, arith}
+use Rattle.ft_base.specs.declared.geometry.Geometry.{Geometry}
+use Rattle.ft_media.proofs.DrivesLemmas.{drives_then}
+use Rattle.checkpoint.proofs.ProgramLemmas.{drives_err}
+use Rattle.log_blocks.specs.Logs.{LogBlocksValue, IsInUse}
+use Rattle.merge_engine.proofs.GoesLemmas.{given_then, given_from, goes_then}
+use Rattle.merge_engine.proofs.OwnerLemmas.{none_before-more, none_before-all, unowned_still}
+use Rattle.merge_engine.proofs.TakeLemmas.{agree_map}
+use Rattle.merge_engine.proofs.freeing.merge_owners.Goals as goal
+
+pub returns-in_err-merge_owner-clause-stands : goal.returns-in_err-merge_owner-clause-stands
+returns-in_err-merge_owner-clause-stands g c = λ list durable lists.
+    let l = c.loop-page in
+    given_then c.args.cache.now.log l.cache (g.M.Media.state l.media).contents.flash.page c.args.cache.now.geometry l.invariant.geometry list durable (g.M.Media.state c.merge_owner.new.media).contents.flash.page
+    (l.invariant.lists list durable lists) c.merge_owner.ensures.stands
+
+pub returns-in_err-merge_owner-clause-drives : goal.returns-in_err-merge_owner-clause-drives
+returns-in_err-merge_owner-clause-drives g c =
+    drives_err (g.M.Media.state c.args.media.now) (g.M.Media.state c.loop-page.media) (g.M.Media.state c.merge_owner.new.media) c.in_err-merge_owner.field-0.0 _ c.loop-page.invariant.drives c.in_err-merge_owner.ensures.drives (search rules)
+
+pub loop-page-preserved : goal.loop-page-preserved
+loop-page-preserved g c =
+    let l = c.loop-page in
+    let k = l.invariant in
+    let e = c.in_ok-merge_owner.ensures in
+    let logs : c.merge_owner.new.cache.logs ≡ c.args.cache.now.logs = c.merge_owner.ensures.logs ∙ k.logs in
+    record {
+      geometry = c.merge_owner.ensures.geometry ∙ k.geometry;
+      logs = logs;
+      pages = c.merge_owner.ensures.pages ∙ k.pages;
+      groups = let first = k.groups in let then = c.merge_owner.ensures.groups in omega arith;
+      agree = e.agree;
+      room = e.room;
+      unowned = none_before-more c.merge_owner.new.cache.map.entries c.args.block l.page
+          (λ page low. unowned_still l.cache.map.entries c.merge_owner.new.cache (record { block = c.args.block; page = page }) e.agree.sound.roles (subst (λ (b : LogBlocksValue). IsInUse b c.args.block) (sym logs) c.requires.in_use) e.page_mapped (k.unowned page low))
+          e.unowned;
+      lists = λ list durable lists. goes_then c.args.cache.now.log l.cache (g.M.Media.state l.media).contents.flash.page c.args.cache.now.geometry k.geometry list durable c.merge_owner.new.cache (g.M.Media.state c.merge_owner.new.media).contents.flash.page
+          (c.merge_owner.ensures.geometry ∙ k.geometry) (k.lists list durable lists) e.lists;
+      programs = let first = k.programs in let then = e.programs in omega arith;
+      drives = drives_then _ _ _ _ _ k.drives e.drives;
+    }
+
+pub returns-clause-unheld : goal.returns-clause-unheld
+returns-clause-unheld g c =
+    let l = c.loop-page in
+    let past = c.loop-page-test.false in
+    let same = ap (λ (h : Geometry). h.p) l.invariant.geometry in
+    none_before-all l.cache.geometry l.cache.map.entries c.args.block (agree_map l.cache (g.M.Media.state l.media).contents l.invariant.agree)
+    (λ page low. l.invariant.unowned page (omega arith))
+
+pub returns-clause-stands : goal.returns-clause-stands
+returns-clause-stands g c = λ list durable lists.
+    let l = c.loop-page in
+    given_from c.args.cache.now.log l.cache (g.M.Media.state l.media).contents.flash.page c.args.cache.now.geometry l.invariant.geometry list durable (l.invariant.lists list durable lists)

@@ -1,0 +1,24 @@
+use Rattle.std.proofs.Common.{◌≡◌, ◌≤◌, ◌<◌, ◌+◌, false, length}
+use Rattle.ft_media.specs.Drives.{DrivesFlash}
+use Rattle.cache_model.specs.Cache.{CacheList}
+use Rattle.merge_engine.specs.Agreement.{Agree, Lists}
+use Rattle.merge_engine.specs.Steps.{GoesOn}
+use Rattle.merge_engine.proofs.OwnerLemmas.{NoneBefore}
+use Rattle.merge_engine.proofs.freeing.merge_owners.Given as goal
+
+abbrev pub invariant-loop-page : goal.invariant-loop-page
+invariant-loop-page g l =
+    let old = g.M.Media.state l.fn.media in
+    let now = g.M.Media.state l.media in
+    record {
+      geometry : l.cache.geometry ≡ l.fn.cache.geometry;
+      logs : l.cache.logs ≡ l.fn.cache.logs;
+      pages : l.cache.map.spare_pages ≡ l.fn.cache.map.spare_pages;
+      groups : l.fn.cache.map.spare_groups ≤ l.cache.map.spare_groups + l.page;
+      agree : Agree l.cache now.contents;
+      room : length l.cache.log.buffered < 127;
+      unowned : NoneBefore l.cache.map.entries l.block l.page;
+      lists : (list durable : CacheList) → Lists l.fn.cache old.contents.flash.page list durable → GoesOn l.fn.cache.log l.cache now.contents.flash.page list durable;
+      programs : old.counts.programs ≤ now.counts.programs;
+      drives : DrivesFlash old now false false;
+    }

@@ -1,0 +1,20 @@
+use Rattle.std.proofs.Common.{rules, ◌≡◌, refl, sym, ◌∙◌, ap, arith}
+use Rattle.block_pool.specs.Pool.{PoolValue, IsInPool, role_of}
+use Rattle.block_pool.specs.declared.pool.Role.TheVariants.{Log}
+use Rattle.merge_engine.specs.declared.parts.Parts.{Parts}
+use Rattle.merge_engine.proofs.LoadedLemmas.{adopted_none, few_adopted}
+use Rattle.merge_engine.proofs.loading.adopt_log_blocks.Goals as goal
+
+pub loop-block-init : goal.loop-block-init
+loop-block-init c =
+    let parts = c.args.parts.now in
+    record { parts = refl; adopted = adopted_none parts.geometry parts.pool parts.logs c.first_pool-block.result c.requires.none c.first_pool-block.ensures.place }
+
+pub adopt-requires-clause-few : goal.adopt-requires-clause-few
+adopt-requires-clause-few c =
+    let parts = c.args.parts.now in
+    let pool : c.loop-block.parts.pool ≡ parts.pool = ap (λ (p : Parts). p.pool) c.loop-block.invariant.parts in
+    let found : c.role.result ≡ Log = search rules in
+    let is_log : role_of parts.pool c.loop-block.block ≡ Log = ap (λ (p : PoolValue). role_of p c.loop-block.block) (sym pool) ∙ sym c.role.ensures ∙ found in
+    let in_pool : IsInPool parts.geometry c.loop-block.block = (omega (arith, c.first_pool-block.ensures.place, c.loop-block.auto.block), omega (arith, c.blocks-block-end.ensures, c.loop-block-test.true)) in
+    few_adopted parts.geometry parts.pool c.loop-block.parts.logs c.loop-block.block c.loop-block.invariant.adopted parts.map.entries c.requires.map c.requires.roles in_pool is_log

@@ -1,0 +1,10 @@
+use Rattle.std.proofs.Common.{◌≡◌}
+use Rattle.merge_engine.proofs.LoadedLemmas.{AdoptedBelow}
+use Rattle.merge_engine.proofs.loading.adopt_log_blocks.Given as goal
+
+-- the list of log blocks alone changed, and it has those so far
+abbrev pub invariant-loop-block : goal.invariant-loop-block
+invariant-loop-block l = record {
+  parts : l.parts ≡ record l.initial.parts { logs = l.parts.logs };
+  adopted : AdoptedBelow l.initial.parts.geometry l.initial.parts.pool l.parts.logs l.block;
+}

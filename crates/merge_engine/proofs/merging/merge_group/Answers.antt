@@ -1,0 +1,128 @@
+use Rattle.std.proofs.Common.{ap}
+use Rattle.ft_media.proofs.DrivesLemmas.{drives_then}
+use Rattle.merge_engine.specs.declared.parts.Parts.{Parts}
+use Rattle.merge_engine.specs.Merges.{HasBlockOrRoom, list_without}
+use Rattle.merge_engine.proofs.ResultLemmas.{on_ok_from, ok_at}
+use Rattle.merge_engine.proofs.GaveLemmas.{page_mapped_stay, given_either}
+use Rattle.merge_engine.proofs.MergeLemmas.{lists_victims, has_own, has_room, lacks_room, victim_is, no_candidate, victim_gave, victim_way, group_gave, group_way, stays_way, held_then, room_then, merged_then, others_after, mapped_after, merged_gone, others_gone, mapped_gone, given_itself, given_after}
+use Rattle.merge_engine.proofs.merging.merge_group.Goals.{then-own-via-then-own, then-own-via-else-own+then-data_blocks-cache}
+use Rattle.merge_engine.proofs.merging.merge_group.Goals as goal
+
+pub move_group-requires-clause-block : goal.move_group-requires-clause-block
+move_group-requires-clause-block g c =
+    let room : HasBlockOrRoom c.args.cache.now.geometry c.args.cache.now.map.entries c.args.group = elim c.then-own.branch [
+      | then-own-via-then-own w ↦ has_own c.args.cache.now.geometry c.args.cache.now.map.geometry c.args.cache.now.map.entries c.args.group c.requires.agree.sound.of_one.map c.block_of.result c.is_some-own.result c.is_some-own.ensures w.if-own.true c.block_of.ensures.some
+      | then-own-via-else-own+then-data_blocks-cache w ↦ has_room c.args.cache.now.geometry c.args.cache.now.map.geometry c.args.cache.now.map.entries c.args.group c.requires.agree.sound.of_one.map w.data_blocks.result w.data_blocks.ensures.count w.if-data_blocks-cache.true
+    ] in
+    room
+
+pub returns-then-own-clause-lists : goal.returns-then-own-clause-lists
+returns-then-own-clause-lists g c =
+    let room : HasBlockOrRoom c.args.cache.now.geometry c.args.cache.now.map.entries c.args.group = elim c.then-own.branch [
+      | then-own-via-then-own w ↦ has_own c.args.cache.now.geometry c.args.cache.now.map.geometry c.args.cache.now.map.entries c.args.group c.requires.agree.sound.of_one.map c.block_of.result c.is_some-own.result c.is_some-own.ensures w.if-own.true c.block_of.ensures.some
+      | then-own-via-else-own+then-data_blocks-cache w ↦ has_room c.args.cache.now.geometry c.args.cache.now.map.geometry c.args.cache.now.map.entries c.args.group c.requires.agree.sound.of_one.map w.data_blocks.result w.data_blocks.ensures.count w.if-data_blocks-cache.true
+    ] in
+    on_ok_from c.move_group.result (λ v is. λ list durable lists.
+    (list, stays_way c.args.cache.now (g.M.Media.state c.args.media.now).contents c.args.group list durable c.requires.agree room lists, ok_at c.move_group.result v is c.move_group.ensures.lists list durable lists))
+
+pub returns-then-own-clause-page_mapped : goal.returns-then-own-clause-page_mapped
+returns-then-own-clause-page_mapped g c =
+    on_ok_from c.move_group.result (λ v is.
+    page_mapped_stay c.args.cache.now.geometry c.args.cache.now.map.entries c.args.group c.move_group.new.cache.map.entries (ok_at c.move_group.result v is c.move_group.ensures.merged) (ok_at c.move_group.result v is c.move_group.ensures.others))
+
+pub returns-then-own-clause-stands : goal.returns-then-own-clause-stands
+returns-then-own-clause-stands g c =
+    λ list durable lists. given_itself c.args.cache.now.geometry (g.M.Media.state c.move_group.new.media).contents.flash.page durable list (c.move_group.ensures.stands list durable lists)
+
+pub returns-in_err-drop_group-in-Some-clause-stands : goal.returns-in_err-drop_group-in-Some-clause-stands
+returns-in_err-drop_group-in-Some-clause-stands g c =
+    let lacks = lacks_room c.args.cache.now.geometry c.args.cache.now.map.geometry c.args.cache.now.map.entries c.args.group c.requires.agree.sound.of_one.map c.block_of.result c.is_some-own.result c.data_blocks.result c.is_some-own.ensures c.if-own.false c.block_of.ensures.none c.data_blocks.ensures.count c.data_blocks.ensures.most c.if-data_blocks-cache.false in
+    let victim = victim_is c.args.cache.now.geometry c.args.cache.now.map.geometry c.args.cache.now.map.entries c.args.group c.requires.agree.sound.of_one.map c.in-Some.victim c.in-Some.ensures.some in
+    λ list durable lists.
+    given_either c.args.cache.now.geometry (g.M.Media.state c.drop_group.new.media).contents.flash.page durable list (list_without c.args.cache.now.geometry c.in-Some.victim list)
+    (victim_gave c.args.cache.now (g.M.Media.state c.args.media.now).contents c.requires.agree c.args.group lacks c.requires.held c.in-Some.victim list durable victim lists)
+    (c.drop_group.ensures.stands list durable (lists_victims c.args.cache.now c.victim.new.self (g.M.Media.state c.args.media.now).contents.flash.page list durable lists))
+
+pub move_group-requires-in-Some-clause-held : goal.move_group-requires-in-Some-clause-held
+move_group-requires-in-Some-clause-held g c =
+    let lacks = lacks_room c.args.cache.now.geometry c.args.cache.now.map.geometry c.args.cache.now.map.entries c.args.group c.requires.agree.sound.of_one.map c.block_of.result c.is_some-own.result c.data_blocks.result c.is_some-own.ensures c.if-own.false c.block_of.ensures.none c.data_blocks.ensures.count c.data_blocks.ensures.most c.if-data_blocks-cache.false in
+    let victim = victim_is c.args.cache.now.geometry c.args.cache.now.map.geometry c.args.cache.now.map.entries c.args.group c.requires.agree.sound.of_one.map c.in-Some.victim c.in-Some.ensures.some in
+    let same = ap (λ (p : Parts). p.geometry) c.drop_group.ensures.cache in
+    held_then c.args.cache.now.geometry c.drop_group.new.cache.geometry c.args.cache.now.map.entries c.drop_group.new.cache.map.entries c.args.group c.in-Some.victim same c.drop_group.ensures.entries lacks victim c.requires.held
+
+pub move_group-requires-in-Some-clause-block : goal.move_group-requires-in-Some-clause-block
+move_group-requires-in-Some-clause-block g c =
+    let lacks = lacks_room c.args.cache.now.geometry c.args.cache.now.map.geometry c.args.cache.now.map.entries c.args.group c.requires.agree.sound.of_one.map c.block_of.result c.is_some-own.result c.data_blocks.result c.is_some-own.ensures c.if-own.false c.block_of.ensures.none c.data_blocks.ensures.count c.data_blocks.ensures.most c.if-data_blocks-cache.false in
+    let victim = victim_is c.args.cache.now.geometry c.args.cache.now.map.geometry c.args.cache.now.map.entries c.args.group c.requires.agree.sound.of_one.map c.in-Some.victim c.in-Some.ensures.some in
+    let same = ap (λ (p : Parts). p.geometry) c.drop_group.ensures.cache in
+    room_then c.args.cache.now.geometry c.drop_group.new.cache.geometry c.args.cache.now.map.entries c.drop_group.new.cache.map.entries c.args.group c.in-Some.victim same c.drop_group.ensures.entries lacks victim
+
+pub returns-in_ok-drop_group-in-Some-clause-lists : goal.returns-in_ok-drop_group-in-Some-clause-lists
+returns-in_ok-drop_group-in-Some-clause-lists g c =
+    let lacks = lacks_room c.args.cache.now.geometry c.args.cache.now.map.geometry c.args.cache.now.map.entries c.args.group c.requires.agree.sound.of_one.map c.block_of.result c.is_some-own.result c.data_blocks.result c.is_some-own.ensures c.if-own.false c.block_of.ensures.none c.data_blocks.ensures.count c.data_blocks.ensures.most c.if-data_blocks-cache.false in
+    let victim = victim_is c.args.cache.now.geometry c.args.cache.now.map.geometry c.args.cache.now.map.entries c.args.group c.requires.agree.sound.of_one.map c.in-Some.victim c.in-Some.ensures.some in
+    on_ok_from c.move_group-in-Some.result (λ v is. λ list durable lists. (
+      list_without c.args.cache.now.geometry c.in-Some.victim list,
+      victim_way c.args.cache.now (g.M.Media.state c.args.media.now).contents c.requires.agree c.args.group lacks c.requires.held c.in-Some.victim list durable victim lists,
+      ok_at c.move_group-in-Some.result v is c.move_group-in-Some.ensures.lists (list_without c.args.cache.now.geometry c.in-Some.victim list) (list_without c.args.cache.now.geometry c.in-Some.victim list) (c.in_ok-drop_group-in-Some.ensures.lists list durable (lists_victims c.args.cache.now c.victim.new.self (g.M.Media.state c.args.media.now).contents.flash.page list durable lists)),
+    ))
+
+pub returns-in_ok-drop_group-in-Some-clause-merged : goal.returns-in_ok-drop_group-in-Some-clause-merged
+returns-in_ok-drop_group-in-Some-clause-merged g c =
+    let same = ap (λ (p : Parts). p.geometry) c.drop_group.ensures.cache in
+    on_ok_from c.move_group-in-Some.result (λ v is. merged_then c.args.cache.now.geometry c.drop_group.new.cache.geometry c.args.cache.now.map.entries c.drop_group.new.cache.map.entries c.args.group c.in-Some.victim same c.drop_group.ensures.entries c.move_group-in-Some.new.cache.map.entries (ok_at c.move_group-in-Some.result v is c.move_group-in-Some.ensures.merged))
+
+pub returns-in_ok-drop_group-in-Some-clause-others : goal.returns-in_ok-drop_group-in-Some-clause-others
+returns-in_ok-drop_group-in-Some-clause-others g c =
+    let same = ap (λ (p : Parts). p.geometry) c.drop_group.ensures.cache in
+    on_ok_from c.move_group-in-Some.result (λ v is. others_after c.args.cache.now.geometry c.drop_group.new.cache.geometry c.args.cache.now.map.entries c.drop_group.new.cache.map.entries c.args.group c.in-Some.victim same c.drop_group.ensures.entries c.move_group-in-Some.new.cache.map.entries (ok_at c.move_group-in-Some.result v is c.move_group-in-Some.ensures.others))
+
+pub returns-in_ok-drop_group-in-Some-clause-page_mapped : goal.returns-in_ok-drop_group-in-Some-clause-page_mapped
+returns-in_ok-drop_group-in-Some-clause-page_mapped g c =
+    let same = ap (λ (p : Parts). p.geometry) c.drop_group.ensures.cache in
+    on_ok_from c.move_group-in-Some.result (λ v is. mapped_after c.args.cache.now.geometry c.drop_group.new.cache.geometry c.args.cache.now.map.entries c.drop_group.new.cache.map.entries c.args.group c.in-Some.victim same c.drop_group.ensures.entries c.move_group-in-Some.new.cache.map.entries (ok_at c.move_group-in-Some.result v is c.move_group-in-Some.ensures.merged) (ok_at c.move_group-in-Some.result v is c.move_group-in-Some.ensures.others))
+
+pub returns-in_ok-drop_group-in-Some-clause-stands : goal.returns-in_ok-drop_group-in-Some-clause-stands
+returns-in_ok-drop_group-in-Some-clause-stands g c =
+    let lacks = lacks_room c.args.cache.now.geometry c.args.cache.now.map.geometry c.args.cache.now.map.entries c.args.group c.requires.agree.sound.of_one.map c.block_of.result c.is_some-own.result c.data_blocks.result c.is_some-own.ensures c.if-own.false c.block_of.ensures.none c.data_blocks.ensures.count c.data_blocks.ensures.most c.if-data_blocks-cache.false in
+    let victim = victim_is c.args.cache.now.geometry c.args.cache.now.map.geometry c.args.cache.now.map.entries c.args.group c.requires.agree.sound.of_one.map c.in-Some.victim c.in-Some.ensures.some in
+    let same = ap (λ (p : Parts). p.geometry) c.drop_group.ensures.cache in
+    λ list durable lists.
+    given_after c.args.cache.now.geometry c.drop_group.new.cache.geometry (g.M.Media.state c.move_group-in-Some.new.media).contents.flash.page durable list (list_without c.args.cache.now.geometry c.in-Some.victim list) same
+    (victim_gave c.args.cache.now (g.M.Media.state c.args.media.now).contents c.requires.agree c.args.group lacks c.requires.held c.in-Some.victim list durable victim lists)
+    (c.move_group-in-Some.ensures.stands (list_without c.args.cache.now.geometry c.in-Some.victim list) (list_without c.args.cache.now.geometry c.in-Some.victim list) (c.in_ok-drop_group-in-Some.ensures.lists list durable (lists_victims c.args.cache.now c.victim.new.self (g.M.Media.state c.args.media.now).contents.flash.page list durable lists)))
+
+pub returns-in_ok-drop_group-in-Some-clause-drives : goal.returns-in_ok-drop_group-in-Some-clause-drives
+returns-in_ok-drop_group-in-Some-clause-drives g c =
+    drives_then (g.M.Media.state c.args.media.now) (g.M.Media.state c.drop_group.new.media) (g.M.Media.state c.move_group-in-Some.new.media) _ _ c.in_ok-drop_group-in-Some.ensures.drives c.move_group-in-Some.ensures.drives
+
+pub returns-in-None-clause-lists : goal.returns-in-None-clause-lists
+returns-in-None-clause-lists g c =
+    let lacks = lacks_room c.args.cache.now.geometry c.args.cache.now.map.geometry c.args.cache.now.map.entries c.args.group c.requires.agree.sound.of_one.map c.block_of.result c.is_some-own.result c.data_blocks.result c.is_some-own.ensures c.if-own.false c.block_of.ensures.none c.data_blocks.ensures.count c.data_blocks.ensures.most c.if-data_blocks-cache.false in
+    let none = no_candidate c.args.cache.now.geometry c.args.cache.now.map.geometry c.args.cache.now.map.entries c.args.group c.requires.agree.sound.of_one.map c.in-None.ensures.none in
+    on_ok_from c.drop_group-in-None.result (λ v is. λ list durable lists. (
+      list_without c.args.cache.now.geometry c.args.group list,
+      group_way c.args.cache.now (g.M.Media.state c.args.media.now).contents c.requires.agree c.args.group lacks c.requires.held list durable none lists,
+      ok_at c.drop_group-in-None.result v is c.drop_group-in-None.ensures.lists list durable (lists_victims c.args.cache.now c.victim.new.self (g.M.Media.state c.args.media.now).contents.flash.page list durable lists),
+    ))
+
+pub returns-in-None-clause-merged : goal.returns-in-None-clause-merged
+returns-in-None-clause-merged g c =
+    on_ok_from c.drop_group-in-None.result (λ v is. merged_gone c.args.cache.now.geometry c.args.cache.now.map.entries c.drop_group-in-None.new.cache.map.entries c.args.group c.drop_group-in-None.ensures.entries)
+
+pub returns-in-None-clause-others : goal.returns-in-None-clause-others
+returns-in-None-clause-others g c =
+    on_ok_from c.drop_group-in-None.result (λ v is. others_gone c.args.cache.now.geometry c.args.cache.now.map.entries c.drop_group-in-None.new.cache.map.entries c.args.group c.drop_group-in-None.ensures.entries)
+
+pub returns-in-None-clause-page_mapped : goal.returns-in-None-clause-page_mapped
+returns-in-None-clause-page_mapped g c =
+    on_ok_from c.drop_group-in-None.result (λ v is. mapped_gone c.args.cache.now.geometry c.args.cache.now.map.entries c.drop_group-in-None.new.cache.map.entries c.args.group c.drop_group-in-None.ensures.entries)
+
+pub returns-in-None-clause-stands : goal.returns-in-None-clause-stands
+returns-in-None-clause-stands g c =
+    let lacks = lacks_room c.args.cache.now.geometry c.args.cache.now.map.geometry c.args.cache.now.map.entries c.args.group c.requires.agree.sound.of_one.map c.block_of.result c.is_some-own.result c.data_blocks.result c.is_some-own.ensures c.if-own.false c.block_of.ensures.none c.data_blocks.ensures.count c.data_blocks.ensures.most c.if-data_blocks-cache.false in
+    let none = no_candidate c.args.cache.now.geometry c.args.cache.now.map.geometry c.args.cache.now.map.entries c.args.group c.requires.agree.sound.of_one.map c.in-None.ensures.none in
+    λ list durable lists.
+    given_either c.args.cache.now.geometry (g.M.Media.state c.drop_group-in-None.new.media).contents.flash.page durable list (list_without c.args.cache.now.geometry c.args.group list)
+    (group_gave c.args.cache.now (g.M.Media.state c.args.media.now).contents c.requires.agree c.args.group lacks c.requires.held list durable none lists)
+    (c.drop_group-in-None.ensures.stands list durable (lists_victims c.args.cache.now c.victim.new.self (g.M.Media.state c.args.media.now).contents.flash.page list durable lists))

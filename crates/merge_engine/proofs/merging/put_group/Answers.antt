@@ -1,0 +1,31 @@
+use Rattle.merge_engine.proofs.PutLemmas.{putting_fits, putting_spelled, put_entries, as_noted, agree_moved, lists_moved}
+use Rattle.merge_engine.proofs.merging.put_group.Goals as goal
+
+pub note-requires-clause-fits : goal.note-requires-clause-fits
+note-requires-clause-fits c =
+    let r = c.requires in
+    putting_fits c.args.cache.now c.args.group c.args.block c.held_bits.result c.dirty_bits.result r.of_one r.is_map r.roles r.held r.block r.free c.held_bits.ensures c.dirty_bits.ensures
+
+pub note-requires-clause-sound : goal.note-requires-clause-sound
+note-requires-clause-sound c =
+    let r = c.requires in
+    putting_spelled c.args.cache.now c.args.group c.args.block c.held_bits.result c.dirty_bits.result r.of_one r.is_map r.roles r.held r.block r.free c.held_bits.ensures c.dirty_bits.ensures
+
+pub returns-clause-entries : goal.returns-clause-entries
+returns-clause-entries c =
+    let r = c.requires in
+    put_entries c.args.cache.now c.args.group c.args.block c.held_bits.result c.dirty_bits.result r.of_one r.is_map r.roles r.held r.block r.free c.held_bits.ensures c.dirty_bits.ensures c.note.new.cache.map.entries c.note.ensures.entries
+
+pub returns-clause-agree : goal.returns-clause-agree
+returns-clause-agree c =
+    let r = c.requires in
+    let n = c.note.ensures in
+    let s = c.set_role.ensures in
+    agree_moved c.args.cache.now c.note.new.cache c.set_role.new.self c.args.group c.args.block c.held_bits.result c.dirty_bits.result r.of_one r.is_map r.roles r.held r.block r.free c.held_bits.ensures c.dirty_bits.ensures (as_noted c.args.cache.now c.note.new.cache _ n.cache n.log) n.entries n.of_one n.roles s.geometry s.role s.others
+
+pub returns-clause-lists : goal.returns-clause-lists
+returns-clause-lists c =
+    let r = c.requires in
+    let n = c.note.ensures in
+    let s = c.set_role.ensures in
+    lists_moved c.args.cache.now c.note.new.cache c.set_role.new.self c.args.group c.args.block c.held_bits.result c.dirty_bits.result r.of_one r.is_map r.roles r.held r.block r.free c.held_bits.ensures c.dirty_bits.ensures (as_noted c.args.cache.now c.note.new.cache _ n.cache n.log) n.entries n.of_one n.roles s.geometry s.role s.others

@@ -1,0 +1,5 @@
+pub mod Agreement
+pub mod Room
+pub mod Steps
+pub mod Merges
+pub mod Loaded

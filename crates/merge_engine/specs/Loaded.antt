@@ -1,0 +1,38 @@
+-- What the erase blocks of a map that was loaded are used for.
+use Rattle.std.specs.Prelude.{◌≡◌, ◌⊎◌, ◌↔◌, ◌<◌, ℕ, Bool, false, Some, if◌then◌else◌}
+use Rattle.std.specs.List.{slice_get}
+use Rattle.std.specs.FinMap.{get, entries}
+use Rattle.ft_base.specs.declared.geometry.Geometry.{Geometry}
+use Rattle.cache_model.specs.declared.entry.Entry.{Entry}
+use Rattle.cache_model.specs.Records.{Entries}
+use Rattle.block_pool.specs.Pool.{PoolValue, IsInPool, role_of}
+use Rattle.block_pool.specs.declared.pool.Role.{Role}
+use Rattle.block_pool.specs.declared.pool.Role.TheVariants.{Free, Data, Log}
+use Rattle.log_blocks.specs.Logs.{LogBlocksValue, IsInUse}
+use Rattle.merge_engine.specs.Agreement.{IsDataBlockOf}
+
+-- something stands in the erase block as in a log block
+abbrev pub IsLogBlockOf : Entries → ℕ → Type 0
+IsLogBlockOf m block = (a : ℕ) × (e : Entry) × (get m a ≡ Some e) × (e.block_mapped ≡ false) × (e.place.block ≡ block)
+
+-- what an entry uses its erase block for
+abbrev pub role_for : Bool → Role
+role_for block_mapped = if block_mapped then Data else Log
+
+-- the erase block is used as some entry in it says
+abbrev pub IsUsedAs : Entries → ℕ → Role → Type 0
+IsUsedAs m block role = (a : ℕ) × (e : Entry) × (get m a ≡ Some e) × (e.place.block ≡ block) × (role ≡ role_for e.block_mapped)
+
+-- the blocks of the first so many entries are used as they say, and every other one is free or is used as an entry in it says
+pub record RolesSoFar (g : Geometry) (m : Entries) (pool : PoolValue) (i : ℕ) : Type 0 where
+  pub seen : (k a : ℕ) (e : Entry) → k < i → slice_get (entries m) k ≡ Some (a, e) → role_of pool e.place.block ≡ role_for e.block_mapped
+  pub rest : (b : ℕ) → IsInPool g b → (role_of pool b ≡ Free) ⊎ IsUsedAs m b (role_of pool b)
+
+-- each block of the pool is used as the entries in it say
+pub record RolesOf (g : Geometry) (m : Entries) (pool : PoolValue) : Type 0 where
+  pub data_blocks : (b : ℕ) → IsInPool g b → (role_of pool b ≡ Data) ↔ IsDataBlockOf m b
+  pub log_blocks : (b : ℕ) → IsInPool g b → (role_of pool b ≡ Log) ↔ IsLogBlockOf m b
+
+-- the log blocks of the pool are those in use
+abbrev pub AreInUse : Geometry → PoolValue → LogBlocksValue → Type 0
+AreInUse g pool logs = (b : ℕ) → IsInUse logs b ↔ (IsInPool g b × (role_of pool b ≡ Log))

@@ -1,0 +1,43 @@
+-- What a merge makes of the entries and of the list.
+use Rattle.std.specs.Prelude.{◌≡◌, ◌⊎◌, ◌<◌, ◌/◌, ℕ, not}
+use Rattle.std.specs.FinMap.{get, retain_keys}
+use Rattle.ft_base.specs.declared.geometry.Geometry.{Geometry}
+use Rattle.ft_base.specs.declared.block.Place.{Place}
+use Rattle.ft_base.specs.declared.block.Page.{Page}
+use Rattle.ft_base.specs.declared.record.Record.{Record}
+use Rattle.ft_base.specs.declared.record.Record.TheVariants.{SetGroup, RemoveGroup}
+use Rattle.cache_model.specs.Records.{Entries, after, is_in_group}
+use Rattle.cache_model.specs.Cache.{CacheList}
+use Rattle.cache_model.specs.Stands.{StandsFor}
+use Rattle.mapping.specs.declared.bits.Choice.TheVariants.{Held, Dirty}
+use Rattle.mapping.specs.Bits.{chosen_of}
+use Rattle.mapping.specs.Counts.{data_block_count}
+use Rattle.silent_evict.specs.Candidates.{HasDataBlock}
+
+-- the record by which all that is held of the group stands in this erase block
+abbrev pub move_record : Geometry → Entries → ℕ → ℕ → Record
+move_record g m group block = SetGroup group block (chosen_of Held g m group) (chosen_of Dirty g m group)
+
+-- the entries where the group stands in this erase block
+abbrev pub moved : Geometry → Entries → ℕ → ℕ → Entries
+moved g m group block = after g (move_record g m group block) m
+
+-- the entries without the group
+abbrev pub dropped : Geometry → Entries → ℕ → Entries
+dropped g m group = after g (RemoveGroup group) m
+
+-- the list without the group
+abbrev pub list_without : Geometry → ℕ → CacheList → CacheList
+list_without g group s = retain_keys s (λ a. not (is_in_group g group a))
+
+-- the group has a data block, or there is room for one more
+abbrev pub HasBlockOrRoom : Geometry → Entries → ℕ → Type 0
+HasBlockOrRoom g m group = HasDataBlock g m group ⊎ (data_block_count g m < g.c)
+
+-- beside a group, entries stay
+abbrev pub OthersStay : Geometry → ℕ → Entries → Entries → Type 0
+OthersStay g group old new = (a : ℕ) → (a / g.p ≡ group → ⊥) → get new a ≡ get old a
+
+-- the flash stands for one list or for another
+abbrev pub StandsForEither : Geometry → (Place → Page) → CacheList → CacheList → Type 0
+StandsForEither g page s t = StandsFor g page s ⊎ StandsFor g page t

@@ -1,0 +1,51 @@
+-- Which groups give way for room.
+use Rattle.std.specs.Prelude.{◌≡◌, ◌⊎◌, ◌<◌, ◌≤◌, ◌==◌, ◌/◌, ℕ, Bool, true, false, if◌then◌else◌, Option, None, Some, length}
+use Rattle.std.specs.FinMap.{get}
+use Rattle.ft_base.specs.declared.geometry.Geometry.{Geometry}
+use Rattle.ft_base.specs.declared.block.Place.{Place}
+use Rattle.ft_base.specs.declared.block.Page.{Page}
+use Rattle.cache_model.specs.Records.{Entries}
+use Rattle.cache_model.specs.Cache.{CacheList, IsWhollyClean, groups}
+use Rattle.cache_model.specs.Stands.{StandsFor}
+use Rattle.mapping.specs.Counts.{data_block_count}
+use Rattle.silent_evict.specs.Candidates.{HasDataBlock, IsCandidate, IsVictim}
+
+-- v is s without some wholly clean groups; they went for room, since there were more than C groups, and C are left
+pub record GaveRoom (g : Geometry) (s v : CacheList) : Type 0 where
+  pub gone : ℕ → Bool
+  pub stays : (a : ℕ) → get v a ≡ (if gone (a / g.p) then None else get s a)
+  pub clean : (group : ℕ) → gone group ≡ true → IsWhollyClean g s group
+  pub too_many : g.c < length (groups g s)
+  pub left : g.c ≤ length (groups g v)
+
+-- the list stayed, or gave room
+abbrev pub GivesRoom : Geometry → CacheList → CacheList → Type 0
+GivesRoom g s v = (v ≡ s) ⊎ GaveRoom g s v
+
+-- the group has no data block, and C others have one
+pub record LacksRoom (g : Geometry) (m : Entries) (group : ℕ) : Type 0 where
+  pub none : HasDataBlock g m group → ⊥
+  pub full : data_block_count g m ≡ g.c
+
+-- no group has a data block and nothing dirty
+abbrev pub HasNoCandidate : Geometry → Entries → Type 0
+HasNoCandidate g m = (group : ℕ) → IsCandidate g m group → ⊥
+
+-- which group gives way where this one is merged: none where there is room; else a victim, and the group itself where there is no victim
+abbrev pub IsGivenUp : Geometry → Entries → ℕ → Option ℕ → Type 0
+IsGivenUp g m group None = HasDataBlock g m group ⊎ (data_block_count g m < g.c)
+IsGivenUp g m group (Some gone) = LacksRoom g m group × (IsVictim g m gone ⊎ ((gone ≡ group) × HasNoCandidate g m))
+
+abbrev pub is_group : Option ℕ → ℕ → Bool
+is_group None group = false
+is_group (Some one) group = group == one
+
+-- v is s without the group that gives way
+pub record GaveWay (g : Geometry) (m : Entries) (group : ℕ) (s v : CacheList) : Type 0 where
+  pub gone : Option ℕ
+  pub given_up : IsGivenUp g m group gone
+  pub stays : (a : ℕ) → get v a ≡ (if is_group gone (a / g.p) then None else get s a)
+
+-- the flash stands for the list without what was buffered, or for the list, which may have given room
+abbrev pub StandsForGiven : Geometry → (Place → Page) → CacheList → CacheList → Type 0
+StandsForGiven g page durable list = StandsFor g page durable ⊎ ((v : CacheList) × GivesRoom g list v × StandsFor g page v)

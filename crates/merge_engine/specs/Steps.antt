@@ -1,0 +1,78 @@
+-- What the steps leave.
+use Rattle.std.specs.Prelude.{◌≡◌, ◌⊎◌, ◌≤◌, ◌<◌, ◌/◌, ◌%◌, ℕ, true, [], length, Some, None}
+use Rattle.std.specs.FinMap.{get}
+use Rattle.ft_base.specs.declared.block.Block.{Block}
+use Rattle.ft_base.specs.declared.block.Spare.{Spare}
+use Rattle.ft_base.specs.declared.block.Place.{Place}
+use Rattle.ft_base.specs.declared.block.Page.{Page}
+use Rattle.ft_base.specs.declared.block.Page.TheVariants.{Whole}
+use Rattle.ft_base.specs.declared.geometry.Geometry.{Geometry}
+use Rattle.cache_model.specs.declared.entry.Entry.{Entry}
+use Rattle.cache_model.specs.Records.{Entries}
+use Rattle.cache_model.specs.Cache.{CacheList, with_group}
+use Rattle.cache_model.specs.Entries.{groups_with}
+use Rattle.op_log.specs.Log.{LogValue}
+use Rattle.log_blocks.specs.Logs.{IsInUse, data_spare}
+use Rattle.merge_engine.specs.declared.parts.Parts.{Parts}
+use Rattle.block_pool.specs.Pool.{PoolValue, IsInPool, role_of}
+use Rattle.block_pool.specs.declared.pool.Role.TheVariants.{Free}
+use Rattle.merge_engine.specs.Agreement.{Lists, IsGroupBlock}
+use Rattle.merge_engine.specs.Room.{GivesRoom}
+
+-- what was buffered still is, and the list stays; or all is on the flash, and the list may have given room
+abbrev pub GoesOn : LogValue → Parts → (Place → Page) → CacheList → CacheList → Type 0
+GoesOn log parts page list durable =
+    ((parts.log ≡ log) × Lists parts page list durable)
+    ⊎ ((parts.log.buffered ≡ []) × ((v : CacheList) × GivesRoom parts.geometry list v × Lists parts page v v))
+
+-- a page of a log block in use has the block of the address, and no entry stands there yet
+pub record IsNewPage (parts : Parts) (page : Place → Page) (at : Place) (lba : ℕ) (block : Block) : Type 0 where
+  pub whole : page at ≡ Whole block (data_spare lba)
+  pub in_use : IsInUse parts.logs at.block
+  pub in_block : at.page < parts.geometry.p
+  pub unused : (a : ℕ) (e : Entry) → get parts.map.entries a ≡ Some e → e.place ≡ at → ⊥
+
+-- the group's data block of before is free where it no longer is that, and every other role stays
+pub record FollowsGroup (g : Geometry) (group : ℕ) (m m' : Entries) (old new : PoolValue) : Type 0 where
+  pub geometry : new.geometry ≡ old.geometry
+  pub freed : (b : ℕ) → IsInPool g b → IsGroupBlock g m group b → (IsGroupBlock g m' group b → ⊥) → role_of new b ≡ Free
+  pub kept : (b : ℕ) → IsInPool g b → (IsGroupBlock g m group b → IsGroupBlock g m' group b) → role_of new b ≡ role_of old b
+
+-- the page is whole, and has the block that stands at the other, as a data page of the address
+pub record IsCopyOf (page : Place → Page) (from to : Place) (lba : ℕ) : Type 0 where
+  pub block : Block
+  pub spare : Spare
+  pub original : page from ≡ Whole block spare
+  pub copy : page to ≡ Whole block (data_spare lba)
+
+-- each held address of the group has a copy at its own page of the erase block
+abbrev pub IsCopied : Geometry → Entries → ℕ → ℕ → (Place → Page) → Type 0
+IsCopied g m group block page = (a : ℕ) (e : Entry) → get m a ≡ Some e → a / g.p ≡ group → IsCopyOf page e.place (record { block = block; page = a % g.p }) a
+
+-- each address of the group that is held stands in its data block
+abbrev pub IsMerged : Geometry → Entries → ℕ → Type 0
+IsMerged g m group = (a : ℕ) (e : Entry) → get m a ≡ Some e → a / g.p ≡ group → e.block_mapped ≡ true
+
+-- beside a group, entries stay or go
+abbrev pub OthersStayOrGo : Geometry → ℕ → Entries → Entries → Type 0
+OthersStayOrGo g group old new = (a : ℕ) → (a / g.p ≡ group → ⊥) → (get new a ≡ get old a) ⊎ (get new a ≡ None)
+
+-- each page-mapped entry was there before
+abbrev pub PageMappedStay : Entries → Entries → Type 0
+PageMappedStay old new = (a : ℕ) (e : Entry) → get new a ≡ Some e → (get old a ≡ Some e) ⊎ (e.block_mapped ≡ true)
+
+-- the groups with a dirty entry, together with that of an address
+abbrev pub dirty_groups_with : Geometry → Entries → ℕ → ℕ
+dirty_groups_with g m a = length (with_group (a / g.p) (groups_with g (λ e. e.dirty) m))
+
+-- they are few enough that the address may become dirty
+abbrev pub HasRoomFor : Geometry → Entries → ℕ → Type 0
+HasRoomFor g m a = dirty_groups_with g m a ≤ g.c
+
+-- no entry stands in the erase block
+abbrev pub IsUnheld : Entries → ℕ → Type 0
+IsUnheld m block = (a : ℕ) (e : Entry) → get m a ≡ Some e → e.place.block ≡ block → ⊥
+
+-- no entry stands at the place
+abbrev pub IsUnowned : Entries → Place → Type 0
+IsUnowned m at = (a : ℕ) (e : Entry) → get m a ≡ Some e → e.place ≡ at → ⊥

@@ -1,0 +1,226 @@
+ghost use Rattle.std.specs.Prelude.{◌≡◌, ◌≤◌, ◌<◌, ◌+◌, ◌-◌, [], length, ℕ, Some, option_map, OnOk, OnErr, IfOk, IsOk, IsErrOf};
+ghost use Rattle.ft_base.specs.Count.{Rose};
+ghost use Rattle.ft_media.specs.State.{failed, lost};
+ghost use Rattle.ft_media.specs.Drives.{DrivesFlash};
+ghost use Rattle.ft_media.specs.Passes.{Spends};
+ghost use Rattle.ft_media.specs.Media.{program_counted};
+ghost use Rattle.ft_base.specs.Contents.{Contents};
+ghost use Rattle.ft_base.specs.declared.block.Place.{Place as PlaceValue};
+ghost use Rattle.cache_model.specs.Cache.{CacheList};
+ghost use Rattle.mapping.specs.Counts.{address_and_place};
+ghost use Rattle.std.specs.FinMap.{entries};
+ghost use Rattle.std.specs.List.{slice_get};
+ghost use Rattle.std.specs.Bool.{OnTrue, OnFalse};
+ghost use Rattle.block_pool.specs.Pool.{IsFree, IsInPool};
+ghost use Rattle.log_blocks.specs.Logs.{IsInUse, IsSound, begun};
+ghost use Rattle.merge_engine.specs.Merges.{StandsForEither};
+ghost use Rattle.merge_engine.specs.Agreement.{Agree, AreOfOne, Lists, RolesAgree};
+ghost use Rattle.merge_engine.specs.Room.{StandsForGiven};
+ghost use Rattle.merge_engine.specs.Steps.{GoesOn, IsNewPage, IsUnheld};
+
+use crate::Parts;
+use crate::committing::commit;
+use crate::freeing::{free_log_block, give_back};
+use block_pool::Role;
+use ft_base::{Block, Place};
+use ft_media::{Media, MediaError};
+use mapping::Map;
+
+/// Programs a block into the next page of the open log block, and says where. Where none has a page
+/// left, one is opened first. It takes no memory.
+pub fn append<M: Media>(
+    cache: &mut Parts,
+    media: &mut M,
+    lba: u64,
+    block: &Block,
+) -> Result<Place, MediaError>
+    requires agree { Agree cache.old (M.state media.old).contents }
+    requires groups { cache.old.geometry.p ≤ cache.old.map.spare_groups }
+    requires room { length cache.old.log.buffered < 127 }
+    ensures geometry { cache.new.geometry ≡ cache.old.geometry }
+    ensures pages { cache.new.map.spare_pages ≡ cache.old.map.spare_pages }
+    ensures groups { cache.old.map.spare_groups ≤ cache.new.map.spare_groups + cache.old.geometry.p }
+    ensures agree { OnOk result (Agree cache.new (M.state media.new).contents) }
+    ensures room { OnOk result (length cache.new.log.buffered < 127) }
+    ensures place { IfOk result (λ at. IsNewPage cache.new (M.state media.new).contents.flash.page at lba block.now) }
+    ensures lists { OnOk result ((list durable : CacheList) → Lists cache.old (M.state media.old).contents.flash.page list durable → GoesOn cache.old.log cache.new (M.state media.new).contents.flash.page list durable) }
+    // Whatever is answered, and wherever power went off.
+    ensures stands { (list durable : CacheList) → Lists cache.old (M.state media.old).contents.flash.page list durable → StandsForGiven cache.old.geometry (M.state media.new).contents.flash.page durable list }
+    // Where the open log block has a page left: one program, no erase, and nothing gives way.
+    ensures one_program { OnOk result (1 ≤ cache.old.logs.room
+        → (cache.new ≡ record cache.old { logs = record cache.old.logs { room = cache.old.logs.room - 1 } }) × ((M.state media.new).counts ≡ program_counted (M.state media.old).counts)) }
+    ensures rises { OnOk result (Rose (M.state media.old).counts.programs (M.state media.new).counts.programs) }
+    ensures spends { OnOk result (Spends 1 (M.state media.old) (M.state media.new)) }
+    ensures memory { IsErrOf result MediaError.OutOfMemory → ⊥ }
+    ensures drives { DrivesFlash (M.state media.old) (M.state media.new) (failed result) (lost result) }
+{
+    open_if_closed(cache, media)?;
+    program_next(cache, media, lba, block)
+}
+
+/// Programs the next page of the open log block.
+fn program_next<M: Media>(
+    cache: &mut Parts,
+    media: &mut M,
+    lba: u64,
+    block: &Block,
+) -> Result<Place, MediaError>
+    requires agree { Agree cache.old (M.state media.old).contents }
+    requires opened { 1 ≤ cache.old.logs.room }
+    ensures cache { OnOk result (cache.new ≡ record cache.old { logs = record cache.old.logs { room = cache.old.logs.room - 1 } }) }
+    ensures refused { OnErr result (cache.new ≡ cache.old) }
+    ensures agree { OnOk result (Agree cache.new (M.state media.new).contents) }
+    ensures place { IfOk result (λ at. IsNewPage cache.new (M.state media.new).contents.flash.page at lba block.now) }
+    // Whatever is answered, no page that an entry names changed.
+    ensures lists { (list durable : CacheList) → Lists cache.old (M.state media.old).contents.flash.page list durable → Lists cache.old (M.state media.new).contents.flash.page list durable }
+    ensures counts { OnOk result ((M.state media.new).counts ≡ program_counted (M.state media.old).counts) }
+    ensures spends { OnOk result (Spends 1 (M.state media.old) (M.state media.new)) }
+    ensures memory { IsErrOf result MediaError.OutOfMemory → ⊥ }
+    ensures drives { DrivesFlash (M.state media.old) (M.state media.new) (failed result) (lost result) }
+{
+    cache.logs.append(media, lba, block)
+}
+
+/// Opens a log block where none has a page left.
+fn open_if_closed<M: Media>(cache: &mut Parts, media: &mut M) -> Result<(), MediaError>
+    requires agree { Agree cache.old (M.state media.old).contents }
+    requires groups { cache.old.geometry.p ≤ cache.old.map.spare_groups }
+    requires room { length cache.old.log.buffered < 127 }
+    ensures inside { 1 ≤ cache.old.logs.room → IsOk result × (cache.new ≡ cache.old) × (M.state media.new ≡ M.state media.old) }
+    ensures geometry { cache.new.geometry ≡ cache.old.geometry }
+    ensures pages { cache.new.map.spare_pages ≡ cache.old.map.spare_pages }
+    ensures groups { cache.old.map.spare_groups ≤ cache.new.map.spare_groups + cache.old.geometry.p }
+    ensures opened { OnOk result (1 ≤ cache.new.logs.room) }
+    ensures agree { OnOk result (Agree cache.new (M.state media.new).contents) }
+    ensures room { OnOk result (length cache.new.log.buffered < 127) }
+    ensures lists { OnOk result ((list durable : CacheList) → Lists cache.old (M.state media.old).contents.flash.page list durable → GoesOn cache.old.log cache.new (M.state media.new).contents.flash.page list durable) }
+    ensures stands { (list durable : CacheList) → Lists cache.old (M.state media.old).contents.flash.page list durable → StandsForGiven cache.old.geometry (M.state media.new).contents.flash.page durable list }
+    ensures programs { OnOk result ((M.state media.old).counts.programs ≤ (M.state media.new).counts.programs) }
+    ensures memory { IsErrOf result MediaError.OutOfMemory → ⊥ }
+    ensures drives { DrivesFlash (M.state media.old) (M.state media.new) (failed result) (lost result) }
+{
+    if cache.logs.room() > 0 {
+        return Ok(());
+    }
+    make_room(cache, media)?;
+    commit_and_take(cache, media)
+}
+
+/// Commits what is buffered, and takes an erase block as the open log block.
+fn commit_and_take<M: Media>(cache: &mut Parts, media: &mut M) -> Result<(), MediaError>
+    requires agree { Agree cache.old (M.state media.old).contents }
+    requires few { length cache.old.logs.used < cache.old.geometry.l }
+    ensures geometry { cache.new.geometry ≡ cache.old.geometry }
+    ensures map { cache.new.map ≡ cache.old.map }
+    ensures nothing_waits { OnOk result (cache.new.log.buffered ≡ []) }
+    ensures opened { OnOk result (1 ≤ cache.new.logs.room) }
+    ensures agree { OnOk result (Agree cache.new (M.state media.new).contents) }
+    ensures lists { OnOk result ((list durable : CacheList) → Lists cache.old (M.state media.old).contents.flash.page list durable → Lists cache.new (M.state media.new).contents.flash.page list list) }
+    ensures stands { (list durable : CacheList) → Lists cache.old (M.state media.old).contents.flash.page list durable
+        → StandsForEither cache.old.geometry (M.state media.new).contents.flash.page durable list }
+    ensures programs { OnOk result ((M.state media.old).counts.programs ≤ (M.state media.new).counts.programs) }
+    ensures memory { IsErrOf result MediaError.OutOfMemory → ⊥ }
+    ensures drives { DrivesFlash (M.state media.old) (M.state media.new) (failed result) (lost result) }
+{
+    commit(cache, media)?;
+    take_log_block(cache, media)
+}
+
+/// Takes an erase block as the open log block.
+fn take_log_block<M: Media>(cache: &mut Parts, media: &mut M) -> Result<(), MediaError>
+    requires agree { Agree cache.old (M.state media.old).contents }
+    requires nothing { cache.old.log.buffered ≡ [] }
+    requires few { length cache.old.logs.used < cache.old.geometry.l }
+    ensures cache { cache.new ≡ record cache.old { pool = cache.new.pool; logs = cache.new.logs } }
+    ensures opened { OnOk result (cache.new.logs.room ≡ cache.old.geometry.p) }
+    ensures agree { OnOk result (Agree cache.new (M.state media.new).contents) }
+    // Whatever is answered, no page that an entry names changed.
+    ensures lists { (list durable : CacheList) → Lists cache.old (M.state media.old).contents.flash.page list durable → Lists cache.old (M.state media.new).contents.flash.page list durable }
+    ensures programs { (M.state media.new).counts.programs ≡ (M.state media.old).counts.programs }
+    ensures memory { IsErrOf result MediaError.OutOfMemory → ⊥ }
+    ensures drives { DrivesFlash (M.state media.old) (M.state media.new) (failed result) (lost result) }
+{
+    let block = cache.pool.take(media)?;
+    begin_log_block(cache, block);
+    Ok(())
+}
+
+/// Uses an erased block as the open log block.
+fn begin_log_block(cache: &mut Parts, block: u32)
+    requires of_one { AreOfOne cache.old }
+    requires roles { RolesAgree cache.old }
+    requires free { IsFree cache.old.pool block }
+    requires few { length cache.old.logs.used < cache.old.geometry.l }
+    ensures cache { cache.new ≡ record cache.old { pool = cache.new.pool; logs = begun block cache.old.logs } }
+    ensures of_one { AreOfOne cache.new }
+    ensures roles { RolesAgree cache.new }
+    ensures sound { IsSound cache.new.logs }
+{
+    cache.pool.set_role(block, Role::Log);
+    cache.logs.begin(block);
+}
+
+/// Makes room for one more log block: those that nothing stands in are free, and where L are still in
+/// use, the oldest is freed.
+fn make_room<M: Media>(cache: &mut Parts, media: &mut M) -> Result<(), MediaError>
+    requires agree { Agree cache.old (M.state media.old).contents }
+    requires groups { cache.old.geometry.p ≤ cache.old.map.spare_groups }
+    requires room { length cache.old.log.buffered < 127 }
+    ensures geometry { cache.new.geometry ≡ cache.old.geometry }
+    ensures pages { cache.new.map.spare_pages ≡ cache.old.map.spare_pages }
+    ensures groups { cache.old.map.spare_groups ≤ cache.new.map.spare_groups + cache.old.geometry.p }
+    ensures few { OnOk result (length cache.new.logs.used < cache.new.geometry.l) }
+    ensures agree { OnOk result (Agree cache.new (M.state media.new).contents) }
+    ensures room { OnOk result (length cache.new.log.buffered < 127) }
+    ensures lists { OnOk result ((list durable : CacheList) → Lists cache.old (M.state media.old).contents.flash.page list durable → GoesOn cache.old.log cache.new (M.state media.new).contents.flash.page list durable) }
+    ensures stands { (list durable : CacheList) → Lists cache.old (M.state media.old).contents.flash.page list durable → StandsForGiven cache.old.geometry (M.state media.new).contents.flash.page durable list }
+    ensures programs { OnOk result ((M.state media.old).counts.programs ≤ (M.state media.new).counts.programs) }
+    ensures memory { IsErrOf result MediaError.OutOfMemory → ⊥ }
+    ensures drives { DrivesFlash (M.state media.old) (M.state media.new) (failed result) (lost result) }
+{
+    free_unheld(cache);
+    if cache.logs.used() < cache.geometry.l {
+        return Ok(());
+    }
+    free_log_block(cache, media)
+}
+
+/// Takes every log block that nothing stands in out of use.
+fn free_unheld(cache: &mut Parts)
+    requires of_one { AreOfOne cache.old }
+    requires in_pool { (b : ℕ) → IsInUse cache.old.logs b → IsInPool cache.old.geometry b }
+    ensures cache { cache.new ≡ record cache.old { pool = cache.new.pool; logs = cache.new.logs } }
+    ensures agree { (contents : Contents) → Agree cache.old contents → Agree cache.new contents }
+{
+    let mut i = 0;
+    while i < cache.logs.used() {
+        let block = cache.logs.nth(i);
+        if is_unheld(&cache.map, block) {
+            give_back(cache, block);
+        } else {
+            i += 1;
+        }
+    }
+}
+
+/// Whether no entry stands in the block.
+fn is_unheld(map: &Map, block: u32) -> bool
+    ensures { OnTrue result (IsUnheld map.now.entries block) }
+{
+    for i in 0..map.held() {
+        if stands_in(map, i, block) {
+            return false;
+        }
+    }
+    true
+}
+
+/// Whether entry `i` stands in the block.
+fn stands_in(map: &Map, i: u64, block: u32) -> bool
+    ensures { OnFalse result ((a : ℕ) (at : PlaceValue) → Some (a, at) ≡ option_map address_and_place (slice_get (entries map.now.entries) i) → at.block ≡ block → ⊥) }
+{
+    match map.nth(i) {
+        Some((_, at)) => at.block == block,
+        None => false,
+    }
+}

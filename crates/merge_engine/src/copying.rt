@@ -1,0 +1,119 @@
+//! The pages of a group are copied into one erase block.
+ghost use Rattle.std.specs.Prelude.{◌≡◌, ◌≤◌, ◌<◌, ◌+◌, [], true, Some, OnOk, IsErrOf};
+ghost use Rattle.std.specs.FinMap.{get};
+ghost use Rattle.ft_base.specs.declared.block.Place.{Place as PlaceValue};
+ghost use Rattle.ft_media.specs.State.{failed, lost};
+ghost use Rattle.ft_media.specs.Drives.{DrivesFlash};
+ghost use Rattle.ft_media.specs.Media.{after_program};
+ghost use Rattle.cache_model.specs.declared.entry.Entry.{Entry};
+ghost use Rattle.cache_model.specs.Cache.{CacheList};
+ghost use Rattle.cache_model.specs.Loading.{is_whole};
+ghost use Rattle.cache_model.specs.Stands.{block_in};
+ghost use Rattle.block_pool.specs.Pool.{IsFree};
+ghost use Rattle.merge_engine.specs.Agreement.{Agree, Lists};
+ghost use Rattle.merge_engine.specs.Steps.{IsCopied, IsCopyOf};
+
+use crate::Parts;
+use cache_model::SpareKind;
+use ft_base::{Block, Place, Spare, zero_block};
+use ft_media::{Media, MediaError, PageRead};
+use page_oob::write_spare;
+
+/// Copies each held address of a group to its own page of an erased block, up to the last of them. The
+/// pages in between are fillers.
+pub(crate) fn copy_group<M: Media>(
+    cache: &Parts,
+    media: &mut M,
+    group: u64,
+    block: u32,
+) -> Result<(), MediaError>
+    requires agree { Agree cache.now (M.state media.old).contents }
+    requires nothing { cache.now.log.buffered ≡ [] }
+    requires free { IsFree cache.now.pool block }
+    requires erased { (M.state media.old).contents.flash.next block ≡ Some 0 }
+    ensures agree { OnOk result (Agree cache.now (M.state media.new).contents) }
+    // Whatever is answered, and wherever power went off: no page that an entry names changed.
+    ensures lists { (list durable : CacheList) → Lists cache.now (M.state media.old).contents.flash.page list durable → Lists cache.now (M.state media.new).contents.flash.page list durable }
+    ensures copied { OnOk result (IsCopied cache.now.geometry cache.now.map.entries group block (M.state media.new).contents.flash.page) }
+    ensures programs { OnOk result ((M.state media.old).counts.programs ≤ (M.state media.new).counts.programs) }
+    ensures memory { IsErrOf result MediaError.OutOfMemory → ⊥ }
+    ensures drives { DrivesFlash (M.state media.old) (M.state media.new) (failed result) (lost result) }
+{
+    let held = cache.map.held_bits(group);
+    let mut buffer = zero_block();
+    for page in 0..64 - held.leading_zeros() {
+        let lba = group * cache.geometry.p as u64 + page as u64;
+        copy_page(cache, media, lba, Place { block, page }, &mut buffer)?;
+    }
+    Ok(())
+}
+
+/// Programs one page of a data block: the address's block, or a filler where it isn't held.
+fn copy_page<M: Media>(
+    cache: &Parts,
+    media: &mut M,
+    lba: u64,
+    to: Place,
+    buffer: &mut Block,
+) -> Result<(), MediaError>
+    requires agree { Agree cache.now (M.state media.old).contents }
+    requires free { IsFree cache.now.pool to.block }
+    requires ready { (M.state media.old).contents.flash.next to.block ≡ Some to.page }
+    requires page { to.page < cache.now.geometry.p }
+    ensures agree { OnOk result (Agree cache.now (M.state media.new).contents) }
+    ensures lists { (list durable : CacheList) → Lists cache.now (M.state media.old).contents.flash.page list durable → Lists cache.now (M.state media.new).contents.flash.page list durable }
+    ensures copied { OnOk result ((e : Entry) → get cache.now.map.entries lba ≡ Some e → IsCopyOf (M.state media.new).contents.flash.page e.place to lba) }
+    ensures others { OnOk result ((at : PlaceValue) → (at ≡ to → ⊥) → (M.state media.new).contents.flash.page at ≡ (M.state media.old).contents.flash.page at) }
+    ensures next { OnOk result ((M.state media.new).contents.flash.next to.block ≡ Some (to.page + 1)) }
+    ensures programs { OnOk result ((M.state media.old).counts.programs ≤ (M.state media.new).counts.programs) }
+    ensures memory { IsErrOf result MediaError.OutOfMemory → ⊥ }
+    ensures drives { DrivesFlash (M.state media.old) (M.state media.new) (failed result) (lost result) }
+{
+    let Some((from, _)) = cache.map.place(lba) else {
+        let spare = write_spare(SpareKind::Filler, 0, 0);
+        return program_unheld(cache, media, to, &zero_block(), &spare);
+    };
+    read_whole(media, from, buffer)?;
+    let spare = write_spare(SpareKind::Page, 0, lba);
+    program_unheld(cache, media, to, buffer, &spare)
+}
+
+/// Programs the next page of a free erase block. No entry names it, so that nothing else changes.
+fn program_unheld<M: Media>(
+    cache: &Parts,
+    media: &mut M,
+    at: Place,
+    block: &Block,
+    spare: &Spare,
+) -> Result<(), MediaError>
+    requires agree { Agree cache.now (M.state media.old).contents }
+    requires free { IsFree cache.now.pool at.block }
+    requires ready { (M.state media.old).contents.flash.next at.block ≡ Some at.page }
+    requires page { at.page < cache.now.geometry.p }
+    ensures programmed { OnOk result ((M.state media.new).contents.flash ≡ after_program (M.state media.old).contents.flash at block.now spare.now) }
+    ensures agree { OnOk result (Agree cache.now (M.state media.new).contents) }
+    ensures lists { (list durable : CacheList) → Lists cache.now (M.state media.old).contents.flash.page list durable → Lists cache.now (M.state media.new).contents.flash.page list durable }
+    ensures programs { OnOk result ((M.state media.old).counts.programs ≤ (M.state media.new).counts.programs) }
+    ensures memory { IsErrOf result MediaError.OutOfMemory → ⊥ }
+    ensures drives { DrivesFlash (M.state media.old) (M.state media.new) (failed result) (lost result) }
+{
+    media.program(at, block, spare)
+}
+
+/// Reads a page that an entry names, which is whole.
+fn read_whole<M: Media>(media: &mut M, at: Place, buffer: &mut Block) -> Result<(), MediaError>
+    requires block { at.block < (M.state media.old).contents.shape.blocks }
+    requires page { at.page < (M.state media.old).contents.shape.pages }
+    requires whole { is_whole ((M.state media.old).contents.flash.page at) ≡ true }
+    ensures found { OnOk result (block_in ((M.state media.old).contents.flash.page at) ≡ Some buffer.new) }
+    ensures contents { (M.state media.new).contents ≡ (M.state media.old).contents }
+    ensures counts { (M.state media.new).counts ≡ (M.state media.old).counts }
+    ensures memory { IsErrOf result MediaError.OutOfMemory → ⊥ }
+    ensures drives { DrivesFlash (M.state media.old) (M.state media.new) (failed result) (lost result) }
+{
+    let mut spare = Spare([0; 32]);
+    match media.read_page(at, buffer, &mut spare)? {
+        PageRead::Whole => Ok(()),
+        PageRead::Blank | PageRead::Torn => unreachable!(),
+    }
+}

@@ -1,0 +1,108 @@
+ghost use Rattle.std.specs.Prelude.{◌≡◌, ◌≤◌, ◌<◌, ◌+◌, [], length, ℕ, Some, slice_get, OnOk, OnErr, IsErrOf};
+ghost use Rattle.ft_media.specs.State.{failed, lost};
+ghost use Rattle.ft_media.specs.Drives.{DrivesFlash};
+ghost use Rattle.cache_model.specs.Cache.{CacheList};
+ghost use Rattle.ft_base.specs.Contents.{Contents};
+ghost use Rattle.block_pool.specs.Pool.{IsInPool};
+ghost use Rattle.log_blocks.specs.Logs.{IsInUse, released};
+ghost use Rattle.merge_engine.specs.Agreement.{Agree, AreOfOne, Lists};
+ghost use Rattle.merge_engine.specs.Room.{StandsForGiven};
+ghost use Rattle.merge_engine.specs.Steps.{GoesOn, IsUnheld, IsUnowned, PageMappedStay};
+
+use crate::Parts;
+use crate::merging::merge_group;
+use block_pool::Role;
+use ft_base::Place;
+use ft_media::{Media, MediaError};
+
+/// Frees the log block that was taken first: each group with a page in it is merged, in the order of
+/// the pages. It takes no memory.
+pub fn free_log_block<M: Media>(cache: &mut Parts, media: &mut M) -> Result<(), MediaError>
+    requires agree { Agree cache.old (M.state media.old).contents }
+    requires used { 1 ≤ length cache.old.logs.used }
+    requires groups { cache.old.geometry.p ≤ cache.old.map.spare_groups }
+    requires room { length cache.old.log.buffered < 127 }
+    ensures geometry { cache.new.geometry ≡ cache.old.geometry }
+    ensures logs { OnOk result ((oldest : ℕ) → slice_get cache.old.logs.used 0 ≡ Some oldest → cache.new.logs ≡ released oldest cache.old.logs) }
+    ensures pages { cache.new.map.spare_pages ≡ cache.old.map.spare_pages }
+    ensures groups { cache.old.map.spare_groups ≤ cache.new.map.spare_groups + cache.old.geometry.p }
+    ensures agree { OnOk result (Agree cache.new (M.state media.new).contents) }
+    ensures room { OnOk result (length cache.new.log.buffered < 127) }
+    ensures lists { OnOk result ((list durable : CacheList) → Lists cache.old (M.state media.old).contents.flash.page list durable → GoesOn cache.old.log cache.new (M.state media.new).contents.flash.page list durable) }
+    // Whatever is answered, and wherever power went off.
+    ensures stands { (list durable : CacheList) → Lists cache.old (M.state media.old).contents.flash.page list durable → StandsForGiven cache.old.geometry (M.state media.new).contents.flash.page durable list }
+    ensures programs { OnOk result ((M.state media.old).counts.programs ≤ (M.state media.new).counts.programs) }
+    ensures memory { IsErrOf result MediaError.OutOfMemory → ⊥ }
+    ensures drives { DrivesFlash (M.state media.old) (M.state media.new) (failed result) (lost result) }
+{
+    let Some(block) = cache.logs.oldest() else {
+        return Ok(());
+    };
+    merge_owners(cache, media, block)?;
+    give_back(cache, block);
+    Ok(())
+}
+
+/// Merges each group with a page in a log block, in the order of the pages.
+fn merge_owners<M: Media>(cache: &mut Parts, media: &mut M, block: u32) -> Result<(), MediaError>
+    requires agree { Agree cache.old (M.state media.old).contents }
+    requires in_use { IsInUse cache.old.logs block }
+    requires groups { cache.old.geometry.p ≤ cache.old.map.spare_groups }
+    requires room { length cache.old.log.buffered < 127 }
+    ensures geometry { cache.new.geometry ≡ cache.old.geometry }
+    ensures logs { cache.new.logs ≡ cache.old.logs }
+    ensures pages { cache.new.map.spare_pages ≡ cache.old.map.spare_pages }
+    ensures groups { cache.old.map.spare_groups ≤ cache.new.map.spare_groups + cache.old.geometry.p }
+    ensures agree { OnOk result (Agree cache.new (M.state media.new).contents) }
+    ensures room { OnOk result (length cache.new.log.buffered < 127) }
+    ensures unheld { OnOk result (IsUnheld cache.new.map.entries block) }
+    ensures lists { OnOk result ((list durable : CacheList) → Lists cache.old (M.state media.old).contents.flash.page list durable → GoesOn cache.old.log cache.new (M.state media.new).contents.flash.page list durable) }
+    ensures stands { (list durable : CacheList) → Lists cache.old (M.state media.old).contents.flash.page list durable → StandsForGiven cache.old.geometry (M.state media.new).contents.flash.page durable list }
+    ensures programs { OnOk result ((M.state media.old).counts.programs ≤ (M.state media.new).counts.programs) }
+    ensures memory { IsErrOf result MediaError.OutOfMemory → ⊥ }
+    ensures drives { DrivesFlash (M.state media.old) (M.state media.new) (failed result) (lost result) }
+{
+    for page in 0..cache.geometry.p {
+        merge_owner(cache, media, Place { block, page })?;
+    }
+    Ok(())
+}
+
+/// Merges the group whose address stands at a page of a log block, where one does.
+fn merge_owner<M: Media>(cache: &mut Parts, media: &mut M, at: Place) -> Result<(), MediaError>
+    requires agree { Agree cache.old (M.state media.old).contents }
+    requires in_use { IsInUse cache.old.logs at.block }
+    requires groups { 1 ≤ cache.old.map.spare_groups }
+    requires room { length cache.old.log.buffered < 127 }
+    ensures geometry { cache.new.geometry ≡ cache.old.geometry }
+    ensures logs { cache.new.logs ≡ cache.old.logs }
+    ensures pages { cache.new.map.spare_pages ≡ cache.old.map.spare_pages }
+    ensures groups { cache.old.map.spare_groups ≤ cache.new.map.spare_groups + 1 }
+    ensures agree { OnOk result (Agree cache.new (M.state media.new).contents) }
+    ensures room { OnOk result (length cache.new.log.buffered < 127) }
+    ensures unowned { OnOk result (IsUnowned cache.new.map.entries at) }
+    ensures page_mapped { OnOk result (PageMappedStay cache.old.map.entries cache.new.map.entries) }
+    ensures lists { OnOk result ((list durable : CacheList) → Lists cache.old (M.state media.old).contents.flash.page list durable → GoesOn cache.old.log cache.new (M.state media.new).contents.flash.page list durable) }
+    ensures stands { (list durable : CacheList) → Lists cache.old (M.state media.old).contents.flash.page list durable → StandsForGiven cache.old.geometry (M.state media.new).contents.flash.page durable list }
+    ensures programs { OnOk result ((M.state media.old).counts.programs ≤ (M.state media.new).counts.programs) }
+    ensures memory { IsErrOf result MediaError.OutOfMemory → ⊥ }
+    ensures drives { DrivesFlash (M.state media.old) (M.state media.new) (failed result) (lost result) }
+{
+    match cache.map.owner(at) {
+        Some(lba) => merge_group(cache, media, lba / cache.geometry.p as u64),
+        None => Ok(()),
+    }
+}
+
+/// Takes a log block that nothing stands in out of use: it is free.
+pub(crate) fn give_back(cache: &mut Parts, block: u32)
+    requires of_one { AreOfOne cache.old }
+    requires in_pool { IsInPool cache.old.geometry block }
+    requires in_use { IsInUse cache.old.logs block }
+    ensures cache { cache.new ≡ record cache.old { pool = cache.new.pool; logs = released block cache.old.logs } }
+    ensures of_one { AreOfOne cache.new }
+    ensures agree { (contents : Contents) → Agree cache.old contents → IsUnheld cache.old.map.entries block → Agree cache.new contents }
+{
+    cache.logs.release(block);
+    cache.pool.set_role(block, Role::Free);
+}

@@ -1,0 +1,34 @@
+//! Merges: the data blocks and log blocks of a cache, and the steps that move between them.
+//!
+//! `Parts` are the parts that the steps share: the map, the operation log, the pool, the log blocks. A
+//! block is appended to the open log block; where all log blocks are in use the oldest is freed, which
+//! merges each group with a page in it into a data block of its own; where all data blocks are in use a
+//! clean group gives way.
+//!
+//! The layer above relies on this: between two steps the parts agree with the flash. A step that
+//! answers Ok leaves the list of held blocks as it was, or without some wholly clean groups that gave
+//! room. At every moment of a step, whatever it answers, the flash stands for the list without what was
+//! buffered, or for the list, which may have given room: no page that the flash's own map names is
+//! programmed again, and no erase block with such a page is erased.
+#![tactic(auto)]
+
+mod appending;
+mod committing;
+mod copying;
+mod freeing;
+pub mod laws;
+mod loading;
+mod merging;
+mod noting;
+mod parts;
+
+pub use appending::append;
+pub use committing::{commit, make_checkpoint};
+pub use freeing::free_log_block;
+pub use loading::loaded;
+pub use merging::merge_group;
+pub use noting::{put_clean, put_out, put_page};
+pub use parts::Parts;
+
+#[cfg(test)]
+mod tests;

@@ -1,0 +1,155 @@
+ghost use Rattle.std.specs.Prelude.{◌≡◌, ◌≤◌, ◌<◌, ◌+◌, [], length, OnOk, IfOk, IsErrOf};
+ghost use Rattle.ft_base.specs.Contents.{Contents};
+ghost use Rattle.ft_media.specs.State.{failed, lost};
+ghost use Rattle.ft_media.specs.Drives.{DrivesFlash};
+ghost use Rattle.cache_model.specs.Cache.{CacheList};
+ghost use Rattle.cache_model.specs.Entries.{IsMap};
+ghost use Rattle.block_pool.specs.Pool.{IsFree};
+ghost use Rattle.silent_evict.specs.Candidates.{IsHeld};
+ghost use Rattle.merge_engine.specs.Agreement.{Agree, AreOfOne, Lists, RolesAgree};
+ghost use Rattle.merge_engine.specs.Merges.{HasBlockOrRoom, OthersStay, StandsForEither, dropped, list_without, moved};
+ghost use Rattle.merge_engine.specs.Room.{GaveWay, StandsForGiven};
+ghost use Rattle.merge_engine.specs.Steps.{IsCopied, IsMerged, OthersStayOrGo, PageMappedStay};
+
+use crate::Parts;
+use crate::committing::commit;
+use crate::copying::copy_group;
+use crate::noting::note;
+use block_pool::Role;
+use ft_base::Record;
+use ft_media::{Media, MediaError};
+
+/// Moves all that is held of a group into a data block of its own. Where it has none and C groups have
+/// one, a clean group gives way first; where there is none, the group itself, which is clean then, is
+/// dropped. What was buffered is committed with it. It takes no memory.
+pub fn merge_group<M: Media>(cache: &mut Parts, media: &mut M, group: u64) -> Result<(), MediaError>
+    requires agree { Agree cache.old (M.state media.old).contents }
+    requires held { IsHeld cache.old.geometry cache.old.map.entries group }
+    requires groups { 1 ≤ cache.old.map.spare_groups }
+    requires room { length cache.old.log.buffered < 127 }
+    ensures geometry { cache.new.geometry ≡ cache.old.geometry }
+    ensures logs { cache.new.logs ≡ cache.old.logs }
+    ensures pages { cache.new.map.spare_pages ≡ cache.old.map.spare_pages }
+    ensures groups { cache.old.map.spare_groups ≤ cache.new.map.spare_groups + 1 }
+    ensures agree { OnOk result (Agree cache.new (M.state media.new).contents) }
+    ensures nothing_waits { OnOk result (cache.new.log.buffered ≡ []) }
+    ensures lists { OnOk result ((list durable : CacheList) → Lists cache.old (M.state media.old).contents.flash.page list durable
+        → (v : CacheList) × GaveWay cache.old.geometry cache.old.map.entries group list v × Lists cache.new (M.state media.new).contents.flash.page v v) }
+    ensures merged { OnOk result (IsMerged cache.old.geometry cache.new.map.entries group) }
+    ensures others { OnOk result (OthersStayOrGo cache.old.geometry group cache.old.map.entries cache.new.map.entries) }
+    ensures page_mapped { OnOk result (PageMappedStay cache.old.map.entries cache.new.map.entries) }
+    // Whatever is answered, and wherever power went off.
+    ensures stands { (list durable : CacheList) → Lists cache.old (M.state media.old).contents.flash.page list durable → StandsForGiven cache.old.geometry (M.state media.new).contents.flash.page durable list }
+    ensures programs { OnOk result ((M.state media.old).counts.programs ≤ (M.state media.new).counts.programs) }
+    ensures memory { IsErrOf result MediaError.OutOfMemory → ⊥ }
+    ensures drives { DrivesFlash (M.state media.old) (M.state media.new) (failed result) (lost result) }
+{
+    let own = cache.map.block_of(group).is_some();
+    if own || cache.map.data_blocks() < cache.geometry.c {
+        return move_group(cache, media, group);
+    }
+    match cache.victims.victim(&cache.map) {
+        Some(victim) => {
+            drop_group(cache, media, victim)?;
+            move_group(cache, media, group)
+        }
+        None => drop_group(cache, media, group),
+    }
+}
+
+/// Drops a group, and commits that.
+fn drop_group<M: Media>(cache: &mut Parts, media: &mut M, group: u64) -> Result<(), MediaError>
+    requires agree { Agree cache.old (M.state media.old).contents }
+    requires held { IsHeld cache.old.geometry cache.old.map.entries group }
+    requires room { length cache.old.log.buffered < 127 }
+    ensures cache { cache.new ≡ record cache.old { map = cache.new.map; log = cache.new.log; pool = cache.new.pool } }
+    ensures entries { cache.new.map.entries ≡ dropped cache.old.geometry cache.old.map.entries group }
+    ensures pages { cache.new.map.spare_pages ≡ cache.old.map.spare_pages }
+    ensures groups { cache.new.map.spare_groups ≡ cache.old.map.spare_groups }
+    ensures agree { OnOk result (Agree cache.new (M.state media.new).contents) }
+    ensures nothing_waits { OnOk result (cache.new.log.buffered ≡ []) }
+    ensures lists { OnOk result ((list durable : CacheList) → Lists cache.old (M.state media.old).contents.flash.page list durable
+        → Lists cache.new (M.state media.new).contents.flash.page (list_without cache.old.geometry group list) (list_without cache.old.geometry group list)) }
+    // Whatever is answered, and wherever power went off.
+    ensures stands { (list durable : CacheList) → Lists cache.old (M.state media.old).contents.flash.page list durable
+        → StandsForEither cache.old.geometry (M.state media.new).contents.flash.page durable (list_without cache.old.geometry group list) }
+    ensures programs { OnOk result ((M.state media.old).counts.programs ≤ (M.state media.new).counts.programs) }
+    ensures memory { IsErrOf result MediaError.OutOfMemory → ⊥ }
+    ensures drives { DrivesFlash (M.state media.old) (M.state media.new) (failed result) (lost result) }
+{
+    note(cache, &Record::RemoveGroup { group }, group);
+    commit(cache, media)
+}
+
+/// Copies a group into an erase block that is taken, makes that its data block, and commits that.
+fn move_group<M: Media>(cache: &mut Parts, media: &mut M, group: u64) -> Result<(), MediaError>
+    requires agree { Agree cache.old (M.state media.old).contents }
+    requires held { IsHeld cache.old.geometry cache.old.map.entries group }
+    requires block { HasBlockOrRoom cache.old.geometry cache.old.map.entries group }
+    requires groups { 1 ≤ cache.old.map.spare_groups }
+    ensures cache { cache.new ≡ record cache.old { map = cache.new.map; log = cache.new.log; pool = cache.new.pool } }
+    ensures pages { cache.new.map.spare_pages ≡ cache.old.map.spare_pages }
+    ensures groups { cache.old.map.spare_groups ≤ cache.new.map.spare_groups + 1 }
+    ensures agree { OnOk result (Agree cache.new (M.state media.new).contents) }
+    ensures nothing_waits { OnOk result (cache.new.log.buffered ≡ []) }
+    ensures lists { OnOk result ((list durable : CacheList) → Lists cache.old (M.state media.old).contents.flash.page list durable → Lists cache.new (M.state media.new).contents.flash.page list list) }
+    ensures merged { OnOk result (IsMerged cache.old.geometry cache.new.map.entries group) }
+    ensures others { OnOk result (OthersStay cache.old.geometry group cache.old.map.entries cache.new.map.entries) }
+    // Whatever is answered, and wherever power went off.
+    ensures stands { (list durable : CacheList) → Lists cache.old (M.state media.old).contents.flash.page list durable → StandsForEither cache.old.geometry (M.state media.new).contents.flash.page durable list }
+    ensures programs { OnOk result ((M.state media.old).counts.programs ≤ (M.state media.new).counts.programs) }
+    ensures memory { IsErrOf result MediaError.OutOfMemory → ⊥ }
+    ensures drives { DrivesFlash (M.state media.old) (M.state media.new) (failed result) (lost result) }
+{
+    commit(cache, media)?;
+    let block = copy_out(cache, media, group)?;
+    put_group(cache, group, block);
+    commit(cache, media)
+}
+
+/// Copies a group into an erase block that is taken, and says which. Nothing stands in it yet.
+fn copy_out<M: Media>(cache: &mut Parts, media: &mut M, group: u64) -> Result<u32, MediaError>
+    requires agree { Agree cache.old (M.state media.old).contents }
+    requires nothing { cache.old.log.buffered ≡ [] }
+    ensures cache { cache.new ≡ record cache.old { pool = cache.new.pool } }
+    ensures agree { OnOk result (Agree cache.new (M.state media.new).contents) }
+    // Whatever is answered, and wherever power went off: no page that an entry names changed.
+    ensures lists { (list durable : CacheList) → Lists cache.old (M.state media.old).contents.flash.page list durable → Lists cache.new (M.state media.new).contents.flash.page list durable }
+    ensures free { IfOk result (IsFree cache.new.pool) }
+    ensures copied { IfOk result (λ block. IsCopied cache.old.geometry cache.old.map.entries group block (M.state media.new).contents.flash.page) }
+    ensures programs { OnOk result ((M.state media.old).counts.programs ≤ (M.state media.new).counts.programs) }
+    ensures memory { IsErrOf result MediaError.OutOfMemory → ⊥ }
+    ensures drives { DrivesFlash (M.state media.old) (M.state media.new) (failed result) (lost result) }
+{
+    let block = cache.pool.take(media)?;
+    copy_group(cache, media, group, block)?;
+    Ok(block)
+}
+
+/// Puts all that is held of a group into an erase block, which is its data block from then on.
+fn put_group(cache: &mut Parts, group: u64, block: u32)
+    requires of_one { AreOfOne cache.old }
+    requires is_map { IsMap cache.old.geometry cache.old.map.entries }
+    requires roles { RolesAgree cache.old }
+    requires held { IsHeld cache.old.geometry cache.old.map.entries group }
+    requires block { HasBlockOrRoom cache.old.geometry cache.old.map.entries group }
+    requires free { IsFree cache.old.pool block }
+    requires groups { 1 ≤ cache.old.map.spare_groups }
+    requires room { length cache.old.log.buffered < 127 }
+    ensures cache { cache.new ≡ record cache.old { map = cache.new.map; log = cache.new.log; pool = cache.new.pool } }
+    ensures entries { cache.new.map.entries ≡ moved cache.old.geometry cache.old.map.entries group block }
+    ensures pages { cache.new.map.spare_pages ≡ cache.old.map.spare_pages }
+    ensures groups { cache.new.map.spare_groups + 1 ≡ cache.old.map.spare_groups }
+    ensures agree { (contents : Contents) → IsCopied cache.old.geometry cache.old.map.entries group block contents.flash.page → Agree cache.old contents → Agree cache.new contents }
+    ensures lists { (contents : Contents) (list durable : CacheList) → IsCopied cache.old.geometry cache.old.map.entries group block contents.flash.page
+        → Lists cache.old contents.flash.page list durable → Lists cache.new contents.flash.page list durable }
+{
+    let change = Record::SetGroup {
+        group,
+        block,
+        present: cache.map.held_bits(group),
+        dirty: cache.map.dirty_bits(group),
+    };
+    note(cache, &change, group);
+    cache.pool.set_role(block, Role::Data);
+}

@@ -1,0 +1,105 @@
+//! Changes of the map: each is buffered, made in the map, and followed by the roles of the pool.
+ghost use Rattle.std.specs.Prelude.{◌≡◌, ◌≤◌, ◌<◌, ◌/◌, ◌+◌, length, ℕ, true, IsTrue};
+ghost use Rattle.ft_base.specs.declared.record.Record.TheVariants.{SetPage, Remove, Clean};
+ghost use Rattle.ft_base.specs.declared.block.Block.{Block};
+ghost use Rattle.ft_base.specs.Contents.{Contents};
+ghost use Rattle.cache_model.specs.Cache.{CacheList, evicted, held, made_clean};
+ghost use Rattle.cache_model.specs.Entries.{Fits, IsMap};
+ghost use Rattle.cache_model.specs.Records.{after};
+ghost use Rattle.std.specs.FinMap.{insert};
+ghost use Rattle.op_log.specs.Log.{pushed};
+ghost use Rattle.merge_engine.specs.Agreement.{Agree, Lists, RolesAgree, AreOfOne};
+ghost use Rattle.mapping.specs.MapValue.{pages_taken, groups_taken};
+ghost use Rattle.cache_model.specs.Spelling.{may_stand_in};
+ghost use Rattle.cache_model.specs.declared.format.PageKind.TheVariants.{Log as log_page};
+ghost use Rattle.merge_engine.specs.Steps.{FollowsGroup, IsNewPage};
+
+use crate::Parts;
+use block_pool::Role;
+use ft_base::{Place, Record};
+
+/// Puts an address at a page of a log block. A data block that it leaves empty is free.
+pub fn put_page(cache: &mut Parts, lba: u64, place: Place, dirty: bool)
+    requires of_one { AreOfOne cache.old }
+    requires is_map { IsMap cache.old.geometry cache.old.map.entries }
+    requires roles { RolesAgree cache.old }
+    requires fits { Fits cache.old.geometry (SetPage lba place dirty) cache.old.map.entries }
+    requires pages { 1 ≤ cache.old.map.spare_pages }
+    requires room { length cache.old.log.buffered < 127 }
+    ensures cache { cache.new ≡ record cache.old { map = cache.new.map; log = cache.new.log; pool = cache.new.pool } }
+    ensures entries { cache.new.map.entries ≡ after cache.old.geometry (SetPage lba place dirty) cache.old.map.entries }
+    ensures log { cache.new.log ≡ pushed (SetPage lba place dirty) cache.old.log }
+    ensures pages { cache.new.map.spare_pages + 1 ≡ cache.old.map.spare_pages }
+    ensures groups { cache.new.map.spare_groups ≡ cache.old.map.spare_groups }
+    ensures agree { (contents : Contents) (block : Block) → Agree cache.old contents → IsNewPage cache.old contents.flash.page place lba block → Agree cache.new contents }
+    ensures lists { (contents : Contents) (block : Block) (list durable : CacheList) → IsNewPage cache.old contents.flash.page place lba block
+        → Lists cache.old contents.flash.page list durable → Lists cache.new contents.flash.page (insert list lba (held block dirty)) durable }
+{
+    let change = Record::SetPage { lba, place, dirty };
+    note(cache, &change, lba / cache.geometry.p as u64);
+}
+
+/// Takes an address out. A data block that it leaves empty is free.
+pub fn put_out(cache: &mut Parts, lba: u64)
+    requires of_one { AreOfOne cache.old }
+    requires is_map { IsMap cache.old.geometry cache.old.map.entries }
+    requires roles { RolesAgree cache.old }
+    requires fits { Fits cache.old.geometry (Remove lba) cache.old.map.entries }
+    requires room { length cache.old.log.buffered < 127 }
+    ensures cache { cache.new ≡ record cache.old { map = cache.new.map; log = cache.new.log; pool = cache.new.pool } }
+    ensures map { cache.new.map ≡ record cache.old.map { entries = after cache.old.geometry (Remove lba) cache.old.map.entries } }
+    ensures log { cache.new.log ≡ pushed (Remove lba) cache.old.log }
+    ensures agree { (contents : Contents) → Agree cache.old contents → Agree cache.new contents }
+    ensures lists { (contents : Contents) (list durable : CacheList) → Lists cache.old contents.flash.page list durable → Lists cache.new contents.flash.page (evicted lba list) durable }
+{
+    let change = Record::Remove { lba };
+    note(cache, &change, lba / cache.geometry.p as u64);
+}
+
+/// Marks an address clean.
+pub fn put_clean(cache: &mut Parts, lba: u64)
+    requires of_one { AreOfOne cache.old }
+    requires fits { Fits cache.old.geometry (Clean lba) cache.old.map.entries }
+    requires room { length cache.old.log.buffered < 127 }
+    ensures cache { cache.new ≡ record cache.old { map = cache.new.map; log = cache.new.log } }
+    ensures map { cache.new.map ≡ record cache.old.map { entries = after cache.old.geometry (Clean lba) cache.old.map.entries } }
+    ensures log { cache.new.log ≡ pushed (Clean lba) cache.old.log }
+    ensures agree { (contents : Contents) → Agree cache.old contents → Agree cache.new contents }
+    ensures lists { (contents : Contents) (list durable : CacheList) → Lists cache.old contents.flash.page list durable → Lists cache.new contents.flash.page (made_clean lba list) durable }
+{
+    let change = Record::Clean { lba };
+    cache.log.push(change);
+    cache.map.apply(&change);
+}
+
+/// Buffers a change and makes it in the map. Where the group's data block is no longer the one that it
+/// had, that one is free.
+pub(crate) fn note(cache: &mut Parts, change: &Record, group: u64)
+    requires of_one { AreOfOne cache.old }
+    requires is_map { IsMap cache.old.geometry cache.old.map.entries }
+    requires fits { Fits cache.old.geometry change.now cache.old.map.entries }
+    requires sound { IsTrue (may_stand_in log_page change.now) }
+    requires pages { pages_taken change.now ≤ cache.old.map.spare_pages }
+    requires groups { groups_taken change.now ≤ cache.old.map.spare_groups }
+    requires room { length cache.old.log.buffered < 127 }
+    ensures cache { cache.new ≡ record cache.old { map = cache.new.map; log = cache.new.log; pool = cache.new.pool } }
+    ensures of_one { AreOfOne cache.new }
+    ensures entries { cache.new.map.entries ≡ after cache.old.geometry change.now cache.old.map.entries }
+    ensures pages { cache.new.map.spare_pages + pages_taken change.now ≡ cache.old.map.spare_pages }
+    ensures groups { cache.new.map.spare_groups + groups_taken change.now ≡ cache.old.map.spare_groups }
+    ensures log { cache.new.log ≡ pushed change.now cache.old.log }
+    ensures roles { FollowsGroup cache.old.geometry group cache.old.map.entries cache.new.map.entries cache.old.pool cache.new.pool }
+{
+    let before = cache.map.block_of(group);
+    cache.log.push(*change);
+    cache.map.apply(change);
+    if let Some(old) = before {
+        let still = match cache.map.block_of(group) {
+            Some(new) => new.block() == old.block(),
+            None => false,
+        };
+        if !still {
+            cache.pool.set_role(old.block(), Role::Free);
+        }
+    }
+}
