@@ -1,5 +1,5 @@
 -- What a command leaves of the two lists.
-use Rattle.std.proofs.Common.{◌≡◌, ◌⊎◌, ℕ, Bool, true, false, List, [], Option, Some, None, Result, Ok, Err, OnOk, IfOk, refl, sym, ◌∙◌, ap, subst, inl, inr}
+use Rattle.std.proofs.Common.{◌≡◌, ◌⊎◌, ℕ, ◌==◌, Bool, true, false, cond, List, [], ◌∷◌, Option, Some, None, Result, Ok, Err, OnOk, IfOk, refl, sym, ◌∙◌, ap, subst, inl, inr}
 use Rattle.std.specs.FinMap.{get}
 use Rattle.std.proofs.lemmas.Bool.{cases_Bool, false≢true}
 use Rattle.ft_base.specs.declared.block.Block.{Block}
@@ -7,113 +7,176 @@ use Rattle.ft_base.specs.declared.block.Place.{Place}
 use Rattle.ft_base.specs.declared.block.Page.{Page}
 use Rattle.ft_base.specs.declared.geometry.Geometry.{Geometry}
 use Rattle.ft_base.specs.Contents.{Contents, Image, Now}
-use Rattle.cache_model.specs.Cache.{Held, held, CacheList, Buffered, Inserted, Cleaned, undo, written_dirty, written_clean, evicted, made_clean, marked, IsFull}
+use Rattle.cache_model.specs.Cache.{Held, held, CacheList, Buffered, Inserted, Cleaned, Vanish, undo, written_dirty, written_clean, evicted, made_clean, marked, IsFull}
 use Rattle.cache_model.specs.Stands.{StandsFor}
-use Rattle.cache_model.proofs.UndoLemmas.{undo_inserted, undo_cleaned}
+use Rattle.cache_model.proofs.UndoLemmas.{undone_at, get_undo, undo_inserted, undo_cleaned}
 use Rattle.ssc.specs.declared.error.SscError.{SscError}
 use Rattle.ssc.specs.declared.error.SscError.TheVariants as error
 use Rattle.ssc.specs.Errors.{stops}
-use Rattle.ssc.specs.CacheState.{CacheValue, Holds, IsUp, geometry_of, pending}
-use Rattle.ssc.specs.Commands.{StandsForOne, AsUndone, AsBefore, AsAfter, ImagesOf, FullExactly, PendsWith, IsHeldIn}
-use Rattle.ssc.proofs.HoldsLemmas.{not_waiting, undone_away}
-use Rattle.ssc.proofs.CommandLemmas.{evicted_absent, cleaned_clean}
+use Rattle.ssc.specs.declared.cache.Ssc.{Ssc}
+use Rattle.ssc.specs.CacheState.{Holds, IsUp, geometry_of, pending}
+use Rattle.ssc.specs.Commands.{StandsForOne, ImagesOf, StandsForWrite, ImagesOfWrite, HoldsWritten, FullExactly, PendsWith, IsHeldIn}
+use Rattle.ssc.specs.Commands.StandsForOne.{AsUndone, AsBefore, AsAfter}
+use Rattle.ssc.specs.Commands.StandsForWrite.{AsUndone, AsLeft, AsWritten}
+use Rattle.ssc.proofs.CommandLemmas.{evicted_absent}
 use Rattle.cache_history.specs.declared.kind.Kind.{Kind}
 use Rattle.cache_history.specs.declared.kind.Kind.TheVariants as kinds
-use Rattle.cache_history.specs.History.{Given, given, Lists, settled, stepped, IsAtOnce, AfterAnswer, AfterRefusal}
+use Rattle.cache_history.specs.History.{Given, given, Lists, settled, stepped, LeftBy, IsAtOnce, unless_gone, AfterAnswer, AfterRefusal}
 use Rattle.cache_history.specs.Moment.{IsMoment}
+use Rattle.ssc.proofs.HoldsLemmas.{not_waiting, undone_away}
+use Rattle.ssc.proofs.CommandLemmas.{cleaned_clean}
+use Rattle.cache_history.proofs.GoneLemmas.{IsClean, vanished_at, vanished_none, left_whole, unless_same, unless_lost}
 
 -- ---- an answer
 
--- what a command that answered Ok made of whatever list was held
-record Made (c d : CacheValue) (contents contents' : Contents) (x : Given) : Type 0 where
-  pub done : (s : CacheList) → Holds c contents s → Holds d contents' (stepped x s)
-  pub durable : (s : CacheList) → Holds c contents s → (undo (pending d) (stepped x s) ≡ undo (pending c) s) ⊎ (undo (pending d) (stepped x s) ≡ s) ⊎ (undo (pending d) (stepped x s) ≡ stepped x s)
-  pub at_once : (s : CacheList) → Holds c contents s → IsAtOnce x.kind x.address s → undo (pending d) (stepped x s) ≡ stepped x s
+-- a crash would leave what it would have left before, but for what gave way
+abbrev pub LosesOf : List Buffered → CacheList → CacheList → CacheList → Type 0
+LosesOf q s left durable = (a : ℕ) → get durable a ≡ unless_gone (get s a) (get left a) (get (undo q s) a)
 
-abbrev pub IsAnswer : CacheValue → CacheValue → Contents → Contents → Given → Type 0
-IsAnswer c d contents contents' x = (l : Lists) → IsMoment c contents l → (m : Lists) × AfterAnswer x l m × IsMoment d contents' m
+-- what a command that answered Ok made of the list that was held
+pub record MadeOf (c d : Ssc) (contents' : Contents) (x : Given) (s : CacheList) : Type 0 where
+  pub left : CacheList
+  pub left_by : LeftBy (geometry_of c) x s left
+  pub holds : Holds d contents' (stepped x left)
+  pub durable : LosesOf (pending c) s left (undo (pending d) (stepped x left)) ⊎ (undo (pending d) (stepped x left) ≡ left) ⊎ (undo (pending d) (stepped x left) ≡ stepped x left)
+  pub at_once : IsAtOnce x.kind x.address s → undo (pending d) (stepped x left) ≡ stepped x left
 
-made_answer : (c d : CacheValue) (contents contents' : Contents) (x : Given) → Made c d contents contents' x → IsAnswer c d contents contents' x
-made_answer c d contents contents' x made l moment = (
-  record { now = stepped x l.now; durable = undo (pending d) (stepped x l.now) },
+abbrev pub Made : Ssc → Ssc → Contents → Contents → Given → Type 0
+Made c d contents contents' x = (s : CacheList) → Holds c contents s → MadeOf c d contents' x s
+
+abbrev pub IsAnswer : Ssc → Ssc → Contents → Contents → Given → Type 0
+IsAnswer c d contents contents' x = (l : Lists) → IsMoment c contents l → (m : Lists) × AfterAnswer (geometry_of c) x l m × IsMoment d contents' m
+
+made_answer : (c d : Ssc) (contents contents' : Contents) (x : Given) → Made c d contents contents' x → IsAnswer c d contents contents' x
+made_answer c d contents contents' x made l moment = let own = made l.now moment.holds in (
+  record { now = stepped x own.left; durable = undo (pending d) (stepped x own.left) },
   record {
+    left = own.left;
+    left_by = own.left_by;
     now = refl;
-    durable = elim (made.durable l.now moment.holds) [ inl e ↦ inl (e ∙ sym moment.durable) | inr e ↦ inr e ];
-    at_once = made.at_once l.now moment.holds;
+    durable = elim own.durable [
+      | inl loses ↦ inl (λ a. loses a ∙ ap (λ (t : CacheList). unless_gone (get l.now a) (get own.left a) (get t a)) (sym moment.durable))
+      | inr e ↦ inr e
+    ];
+    at_once = own.at_once;
   },
-  record { holds = made.done l.now moment.holds; durable = refl },
+  record { holds = own.holds; durable = refl },
 )
 
-none_undone : (d : CacheValue) → pending d ≡ [] → (s : CacheList) → undo (pending d) s ≡ s
+-- nothing gave way
+loses_none : (q : List Buffered) (s durable : CacheList) → durable ≡ undo q s → LosesOf q s s durable
+loses_none q s durable is a = ap (λ (t : CacheList). get t a) is ∙ sym (unless_same (get s a) (get s a) (get (undo q s) a) refl)
+
+undone_none : (q : List Buffered) (a : ℕ) → undone_at q a None ≡ None
+undone_none [] a = refl
+undone_none (Inserted k ∷ q) a = ap (undone_at q a) (same (a == k)) ∙ undone_none q a
+  where
+    same : (b : Bool) → cond {A = Option Held} b None None ≡ None
+    same true = refl
+    same false = refl
+undone_none (Cleaned k ∷ q) a = ap (undone_at q a) (same (a == k)) ∙ undone_none q a
+  where
+    same : (b : Bool) → cond {A = Option Held} b None None ≡ None
+    same true = refl
+    same false = refl
+
+-- what gave way is gone from the list without what is buffered
+loses_undone : (g : Geometry) (q : List Buffered) (s : CacheList) (lba : ℕ) (v : CacheList) → Vanish g s lba v → LosesOf q s v (undo q v)
+loses_undone g q s lba v van a = elim (vanished_at g s lba v van a) [
+  | inl same ↦ get_undo q v a ∙ ap (undone_at q a) same ∙ sym (get_undo q s a) ∙ sym (unless_same (get s a) (get v a) (get (undo q s) a) same)
+  | inr gave ↦ get_undo q v a ∙ ap (undone_at q a) gave.1 ∙ undone_none q a ∙ sym (unless_lost (get s a) (get v a) (get (undo q s) a) gave.0 gave.1)
+]
+
+none_undone : (d : Ssc) → pending d ≡ [] → (s : CacheList) → undo (pending d) s ≡ s
 none_undone d none s = ap (λ (q : List Buffered). undo q s) none
 
 not_both : (k b : Block) → Some (held k false) ≡ Some (held b true) → ⊥
 not_both k b both = let same : held k false ≡ held b true = cc in false≢true (ap (λ (h : Held). h.dirty) same)
 
-module _ (c d : CacheValue) (contents contents' : Contents) (kind : Kind) (lba : ℕ) (block : Block) where
+none_not_held : (b : Block) → None ≡ Some (held b true) → ⊥
+none_not_held b both = cc
+
+module _ (c d : Ssc) (contents contents' : Contents) (kind : Kind) (lba : ℕ) (block : Block) where
   -- a command of this kind, where it is the kind that was given
   of_kind : (own : Kind) → kind ≡ own → Made c d contents contents' (given own lba block) → IsAnswer c d contents contents' (given kind lba block)
   of_kind own is made = subst (λ k. IsAnswer c d contents contents' (given k lba block)) (sym is) (made_answer c d contents contents' (given own lba block) made)
 
-  pub write_dirty_answer : {T : Type 0} (r : Result T SscError) → kind ≡ kinds.WriteDirty → OnOk r ((s : CacheList) → Holds c contents s → Holds d contents' (written_dirty lba block s)) → OnOk r (pending d ≡ []) → OnOk r (IsAnswer c d contents contents' (given kind lba block))
-  write_dirty_answer (Err e) is done none = tt
-  write_dirty_answer (Ok v) is done none = of_kind kinds.WriteDirty is (record {
-    done = done;
-    durable = λ s h. inr (inr (none_undone d none (written_dirty lba block s)));
-    at_once = λ s h t. none_undone d none (written_dirty lba block s);
+  vanished_of : (s v : CacheList) → geometry_of d ≡ geometry_of c → Vanish (geometry_of d) s lba v → Vanish (geometry_of c) s lba v
+  vanished_of s v same van = subst (λ (g : Geometry). Vanish g s lba v) same van
+
+  pub write_dirty_answer : {T : Type 0} (r : Result T SscError) → kind ≡ kinds.WriteDirty → geometry_of d ≡ geometry_of c → OnOk r ((s : CacheList) → Holds c contents s → HoldsWritten d contents' s lba (written_dirty lba block)) → OnOk r (pending d ≡ []) → OnOk r (IsAnswer c d contents contents' (given kind lba block))
+  write_dirty_answer (Err e) is same done none = tt
+  write_dirty_answer (Ok v) is same done none = of_kind kinds.WriteDirty is (λ s h. record {
+    left = (done s h).left;
+    left_by = vanished_of s (done s h).left same (done s h).vanish;
+    holds = (done s h).holds;
+    durable = inr (inr (none_undone d none (written_dirty lba block (done s h).left)));
+    at_once = λ t. none_undone d none (written_dirty lba block (done s h).left);
   })
 
   pub commit_answer : {T : Type 0} (r : Result T SscError) → kind ≡ kinds.Commit → OnOk r ((s : CacheList) → Holds c contents s → Holds d contents' s) → OnOk r (pending d ≡ []) → OnOk r (IsAnswer c d contents contents' (given kind lba block))
   commit_answer (Err e) is done none = tt
-  commit_answer (Ok v) is done none = of_kind kinds.Commit is (record {
-    done = done;
-    durable = λ s h. inr (inr (none_undone d none s));
-    at_once = λ s h t. none_undone d none s;
+  commit_answer (Ok v) is done none = of_kind kinds.Commit is (λ s h. record {
+    left = s;
+    left_by = refl;
+    holds = done s h;
+    durable = inr (inr (none_undone d none s));
+    at_once = λ t. none_undone d none s;
   })
 
   pub checkpoint_answer : {T : Type 0} (r : Result T SscError) → kind ≡ kinds.Checkpoint → OnOk r ((s : CacheList) → Holds c contents s → Holds d contents' s) → OnOk r (pending d ≡ []) → OnOk r (IsAnswer c d contents contents' (given kind lba block))
   checkpoint_answer (Err e) is done none = tt
-  checkpoint_answer (Ok v) is done none = of_kind kinds.Checkpoint is (record {
-    done = done;
-    durable = λ s h. inr (inr (none_undone d none s));
-    at_once = λ s h t. none_undone d none s;
+  checkpoint_answer (Ok v) is done none = of_kind kinds.Checkpoint is (λ s h. record {
+    left = s;
+    left_by = refl;
+    holds = done s h;
+    durable = inr (inr (none_undone d none s));
+    at_once = λ t. none_undone d none s;
   })
 
   -- a clean write at an absent address, buffered or committed
-  inserted : (s : CacheList) → get s lba ≡ None → PendsWith (pending c) (pending d) (Inserted lba) → (undo (pending d) (written_clean lba block s) ≡ undo (pending c) s) ⊎ (undo (pending d) (written_clean lba block s) ≡ s) ⊎ (undo (pending d) (written_clean lba block s) ≡ written_clean lba block s)
-  inserted s absent (inl e) = inl (ap (λ (q : List Buffered). undo q (written_clean lba block s)) e ∙ undo_inserted (pending c) s lba block absent)
-  inserted s absent (inr (inl e)) = inr (inl (ap (λ (q : List Buffered). undo q (written_clean lba block s)) e ∙ undo_inserted [] s lba block absent))
-  inserted s absent (inr (inr e)) = inr (inr (none_undone d e (written_clean lba block s)))
+  inserted : (s v : CacheList) → Vanish (geometry_of c) s lba v → get s lba ≡ None → PendsWith (pending c) (pending d) (Inserted lba)
+      → LosesOf (pending c) s v (undo (pending d) (written_clean lba block v)) ⊎ (undo (pending d) (written_clean lba block v) ≡ v) ⊎ (undo (pending d) (written_clean lba block v) ≡ written_clean lba block v)
+  inserted s v van absent (inl e) =
+      let undone = ap (λ (q : List Buffered). undo q (written_clean lba block v)) e ∙ undo_inserted (pending c) v lba block (vanished_none (geometry_of c) s lba v van lba absent) in
+      inl (λ a. ap (λ (t : CacheList). get t a) undone ∙ loses_undone (geometry_of c) (pending c) s lba v van a)
+  inserted s v van absent (inr (inl e)) = inr (inl (ap (λ (q : List Buffered). undo q (written_clean lba block v)) e ∙ undo_inserted [] v lba block (vanished_none (geometry_of c) s lba v van lba absent)))
+  inserted s v van absent (inr (inr e)) = inr (inr (none_undone d e (written_clean lba block v)))
 
-  pub write_clean_answer : {T : Type 0} (r : Result T SscError) → kind ≡ kinds.WriteClean → OnOk r ((s : CacheList) → Holds c contents s → Holds d contents' (written_clean lba block s))
+  pub write_clean_answer : {T : Type 0} (r : Result T SscError) → kind ≡ kinds.WriteClean → geometry_of d ≡ geometry_of c → OnOk r ((s : CacheList) → Holds c contents s → HoldsWritten d contents' s lba (written_clean lba block))
       → OnOk r ((s : CacheList) → Holds c contents s → IsHeldIn s lba → pending d ≡ []) → OnOk r ((s : CacheList) → Holds c contents s → get s lba ≡ None → PendsWith (pending c) (pending d) (Inserted lba)) → OnOk r (IsAnswer c d contents contents' (given kind lba block))
-  write_clean_answer (Err e) is done over absent = tt
-  write_clean_answer (Ok v) is done over absent = of_kind kinds.WriteClean is (record {
-    done = done;
-    durable = λ s h. by s h (get s lba) refl;
-    at_once = λ s h t. none_undone d (over s h t) (written_clean lba block s);
+  write_clean_answer (Err e) is same done over absent = tt
+  write_clean_answer (Ok v) is same done over absent = of_kind kinds.WriteClean is (λ s h. record {
+    left = (done s h).left;
+    left_by = vanished_of s (done s h).left same (done s h).vanish;
+    holds = (done s h).holds;
+    durable = by s (done s h).left (vanished_of s (done s h).left same (done s h).vanish) h (get s lba) refl;
+    at_once = λ t. none_undone d (over s h t) (written_clean lba block (done s h).left);
   })
     where
-      by : (s : CacheList) → Holds c contents s → (o : Option Held) → get s lba ≡ o → (undo (pending d) (written_clean lba block s) ≡ undo (pending c) s) ⊎ (undo (pending d) (written_clean lba block s) ≡ s) ⊎ (undo (pending d) (written_clean lba block s) ≡ written_clean lba block s)
-      by s h None at = inserted s at (absent s h at)
-      by s h (Some k) at = inr (inr (none_undone d (over s h (k, at)) (written_clean lba block s)))
+      by : (s v : CacheList) → Vanish (geometry_of c) s lba v → Holds c contents s → (o : Option Held) → get s lba ≡ o
+          → LosesOf (pending c) s v (undo (pending d) (written_clean lba block v)) ⊎ (undo (pending d) (written_clean lba block v) ≡ v) ⊎ (undo (pending d) (written_clean lba block v) ≡ written_clean lba block v)
+      by s v van h None at = inserted s v van at (absent s h at)
+      by s v van h (Some k) at = inr (inr (none_undone d (over s h (k, at)) (written_clean lba block v)))
 
   pub evict_answer : {T : Type 0} (r : Result T SscError) (same : Type 0) → kind ≡ kinds.Evict → OnOk r ((s : CacheList) → Holds c contents s → Holds d contents' (evicted lba s))
       → OnOk r ((s : CacheList) → Holds c contents s → IsHeldIn s lba → pending d ≡ []) → OnOk r ((s : CacheList) → Holds c contents s → get s lba ≡ None → (d ≡ c) × same) → OnOk r (IsAnswer c d contents contents' (given kind lba block))
   evict_answer (Err e) same is done held absent = tt
-  evict_answer (Ok v) same is done held absent = of_kind kinds.Evict is (record {
-    done = done;
-    durable = λ s h. by s h (get s lba) refl;
-    at_once = λ s h t. none_undone d (held s h t) (evicted lba s);
+  evict_answer (Ok v) same is done held absent = of_kind kinds.Evict is (λ s h. record {
+    left = s;
+    left_by = refl;
+    holds = done s h;
+    durable = by s h (get s lba) refl;
+    at_once = λ t. none_undone d (held s h t) (evicted lba s);
   })
     where
-      by : (s : CacheList) → Holds c contents s → (o : Option Held) → get s lba ≡ o → (undo (pending d) (evicted lba s) ≡ undo (pending c) s) ⊎ (undo (pending d) (evicted lba s) ≡ s) ⊎ (undo (pending d) (evicted lba s) ≡ evicted lba s)
-      by s h None at = inl (ap (λ (v : CacheValue). undo (pending v) (evicted lba s)) (absent s h at).0 ∙ ap (undo (pending c)) (evicted_absent s lba at))
+      by : (s : CacheList) → Holds c contents s → (o : Option Held) → get s lba ≡ o → LosesOf (pending c) s s (undo (pending d) (evicted lba s)) ⊎ (undo (pending d) (evicted lba s) ≡ s) ⊎ (undo (pending d) (evicted lba s) ≡ evicted lba s)
+      by s h None at = inl (loses_none (pending c) s (undo (pending d) (evicted lba s)) (ap (λ (v : Ssc). undo (pending v) (evicted lba s)) (absent s h at).0 ∙ ap (undo (pending c)) (evicted_absent s lba at)))
       by s h (Some k) at = inr (inr (none_undone d (held s h (k, at)) (evicted lba s)))
 
   -- a clean of a dirty address, buffered or committed
-  cleaned : (s : CacheList) (b : Block) → Holds c contents s → get s lba ≡ Some (held b true) → PendsWith (pending c) (pending d) (Cleaned lba) → (undo (pending d) (made_clean lba s) ≡ undo (pending c) s) ⊎ (undo (pending d) (made_clean lba s) ≡ s) ⊎ (undo (pending d) (made_clean lba s) ≡ made_clean lba s)
-  cleaned s b h dirty (inl e) = inl (ap (λ (q : List Buffered). undo q (made_clean lba s)) e ∙ undo_cleaned (pending c) s lba b dirty (undone_away (pending c) lba (not_waiting (pending c) s lba never h.waits.clean)))
+  cleaned : (s : CacheList) (b : Block) → Holds c contents s → get s lba ≡ Some (held b true) → PendsWith (pending c) (pending d) (Cleaned lba) → LosesOf (pending c) s s (undo (pending d) (made_clean lba s)) ⊎ (undo (pending d) (made_clean lba s) ≡ s) ⊎ (undo (pending d) (made_clean lba s) ≡ made_clean lba s)
+  cleaned s b h dirty (inl e) = inl (loses_none (pending c) s (undo (pending d) (made_clean lba s)) (ap (λ (q : List Buffered). undo q (made_clean lba s)) e ∙ undo_cleaned (pending c) s lba b dirty (undone_away (pending c) lba (not_waiting (pending c) s lba never h.waits.clean))))
     where
       never : (k : Block) → get s lba ≡ Some (held k false) → ⊥
       never k clean = not_both k b (sym clean ∙ dirty)
@@ -123,17 +186,19 @@ module _ (c d : CacheValue) (contents contents' : Contents) (kind : Kind) (lba :
   pub clean_answer : {T : Type 0} (r : Result T SscError) (same : Type 0) → kind ≡ kinds.Clean → OnOk r ((s : CacheList) → Holds c contents s → Holds d contents' (made_clean lba s))
       → OnOk r ((s : CacheList) (b : Block) → Holds c contents s → get s lba ≡ Some (held b true) → PendsWith (pending c) (pending d) (Cleaned lba)) → OnOk r ((s : CacheList) → Holds c contents s → ((b : Block) → get s lba ≡ Some (held b true) → ⊥) → (d ≡ c) × same) → OnOk r (IsAnswer c d contents contents' (given kind lba block))
   clean_answer (Err e) same is done dirty other = tt
-  clean_answer (Ok v) same is done dirty other = of_kind kinds.Clean is (record {
-    done = done;
-    durable = λ s h. by s h (get s lba) refl;
-    at_once = λ s h t. absurd t;
+  clean_answer (Ok v) same is done dirty other = of_kind kinds.Clean is (λ s h. record {
+    left = s;
+    left_by = refl;
+    holds = done s h;
+    durable = by s h (get s lba) refl;
+    at_once = λ t. absurd t;
   })
     where
-      as_before : (s : CacheList) → Holds c contents s → ((b : Block) → get s lba ≡ Some (held b true) → ⊥) → made_clean lba s ≡ s → undo (pending d) (made_clean lba s) ≡ undo (pending c) s
-      as_before s h never is = ap (λ (v : CacheValue). undo (pending v) (made_clean lba s)) (other s h never).0 ∙ ap (undo (pending c)) is
+      as_before : (s : CacheList) → Holds c contents s → ((b : Block) → get s lba ≡ Some (held b true) → ⊥) → made_clean lba s ≡ s → LosesOf (pending c) s s (undo (pending d) (made_clean lba s))
+      as_before s h never is = loses_none (pending c) s (undo (pending d) (made_clean lba s)) (ap (λ (v : Ssc). undo (pending v) (made_clean lba s)) (other s h never).0 ∙ ap (undo (pending c)) is)
 
       never_none : (s : CacheList) → get s lba ≡ None → (b : Block) → get s lba ≡ Some (held b true) → ⊥
-      never_none s at b dirty = let both : None ≡ Some (held b true) = sym at ∙ dirty in cc
+      never_none s at b dirty = none_not_held b (sym at ∙ dirty)
 
       never_clean : (s : CacheList) (k b : Block) → get s lba ≡ Some (held k false) → get s lba ≡ Some (held b true) → ⊥
       never_clean s k b at dirty = not_both k b (sym at ∙ dirty)
@@ -141,7 +206,7 @@ module _ (c d : CacheValue) (contents contents' : Contents) (kind : Kind) (lba :
       marked_at : (s : CacheList) (k : Held) (b : Bool) → get s lba ≡ Some k → k.dirty ≡ b → get s lba ≡ Some (held k.block b)
       marked_at s k b at is = at ∙ ap (λ m. Some (held k.block m)) is
 
-      by : (s : CacheList) → Holds c contents s → (o : Option Held) → get s lba ≡ o → (undo (pending d) (made_clean lba s) ≡ undo (pending c) s) ⊎ (undo (pending d) (made_clean lba s) ≡ s) ⊎ (undo (pending d) (made_clean lba s) ≡ made_clean lba s)
+      by : (s : CacheList) → Holds c contents s → (o : Option Held) → get s lba ≡ o → LosesOf (pending c) s s (undo (pending d) (made_clean lba s)) ⊎ (undo (pending d) (made_clean lba s) ≡ s) ⊎ (undo (pending d) (made_clean lba s) ≡ made_clean lba s)
       by s h None at = inl (as_before s h (never_none s at) (ap (marked false lba s) at))
       by s h (Some k) at = elim (cases_Bool k.dirty) [
         | inl t ↦ cleaned s k.block h (marked_at s k true at t) (dirty s k.block h (marked_at s k true at t))
@@ -154,20 +219,44 @@ module _ (c d : CacheValue) (contents contents' : Contents) (kind : Kind) (lba :
   up_after (Err e) step done stopped up = tt
   up_after (Ok v) step done stopped up = record { list = step up.list; holds = done up.list up.holds; up = stopped }
 
+  pub up_written : {T : Type 0} (r : Result T SscError) (step : CacheList → CacheList) → OnOk r ((s : CacheList) → Holds c contents s → HoldsWritten d contents' s lba step) → d.stopped ≡ stops r → IsUp c contents → OnOk r (IsUp d contents')
+  up_written (Err e) step done stopped up = tt
+  up_written (Ok v) step done stopped up = let own = done up.list up.holds in record { list = step own.left; holds = own.holds; up = stopped }
+
 -- ---- a refusal
 
 abbrev pub IsRefusedTo : Geometry → (Place → Page) → Given → Lists → Type 0
-IsRefusedTo g page x l = (m : Lists) × AfterRefusal x l m × StandsFor g page m.now
+IsRefusedTo g page x l = (m : Lists) × AfterRefusal g x l m × StandsFor g page m.now
+
+left_undone : (g : Geometry) (x : Given) (l : Lists) (undone : CacheList) → l.durable ≡ undone → AfterRefusal g x l (settled undone)
+left_undone g x l undone is = record { left = l.now; left_by = left_whole g x.kind x.address l.now; now = inl (sym is); durable = refl }
+
+left_before : (g : Geometry) (x : Given) (l : Lists) (v : CacheList) → LeftBy g x l.now v → AfterRefusal g x l (settled v)
+left_before g x l v left = record { left = v; left_by = left; now = inr (inl refl); durable = refl }
+
+left_after : (g : Geometry) (x : Given) (l : Lists) (v : CacheList) → LeftBy g x l.now v → AfterRefusal g x l (settled (stepped x v))
+left_after g x l v left = record { left = v; left_by = left; now = inr (inr refl); durable = refl }
 
 left_one : (g : Geometry) (page : Place → Page) (x : Given) (l : Lists) (undone : CacheList) → l.durable ≡ undone → StandsForOne g page undone l.now (stepped x l.now) → IsRefusedTo g page x l
-left_one g page x l undone is (AsUndone stands) = (settled undone, record { now = inl (sym is); durable = refl }, stands)
-left_one g page x l undone is (AsBefore stands) = (settled l.now, record { now = inr (inl refl); durable = refl }, stands)
-left_one g page x l undone is (AsAfter stands) = (settled (stepped x l.now), record { now = inr (inr refl); durable = refl }, stands)
+left_one g page x l undone is (AsUndone stands) = (settled undone, left_undone g x l undone is, stands)
+left_one g page x l undone is (AsBefore stands) = (settled l.now, left_before g x l l.now (left_whole g x.kind x.address l.now), stands)
+left_one g page x l undone is (AsAfter stands) = (settled (stepped x l.now), left_after g x l l.now (left_whole g x.kind x.address l.now), stands)
 
-pub left : (c : CacheValue) (contents contents' : Contents) (own : Kind) (lba : ℕ) (block : Block) → ((s : CacheList) → Holds c contents s → ImagesOf c contents' s (stepped (given own lba block) s)) → (kind : Kind) → kind ≡ own → (l : Lists) → IsMoment c contents l → (x : Image) → Now contents' x → IsRefusedTo (geometry_of c) x.page (given kind lba block) l
-left c contents contents' own lba block images kind is l moment x now =
-    subst (λ k. IsRefusedTo (geometry_of c) x.page (given k lba block) l) (sym is)
-    (left_one (geometry_of c) x.page (given own lba block) l (undo (pending c) l.now) moment.durable (images l.now moment.holds x now))
+left_write : (g : Geometry) (page : Place → Page) (x : Given) (l : Lists) (undone : CacheList) → ((v : CacheList) → Vanish g l.now x.address v → LeftBy g x l.now v) → l.durable ≡ undone → StandsForWrite g page undone l.now x.address (stepped x) → IsRefusedTo g page x l
+left_write g page x l undone write is (AsUndone stands) = (settled undone, left_undone g x l undone is, stands)
+left_write g page x l undone write is (AsLeft v van stands) = (settled v, left_before g x l v (write v van), stands)
+left_write g page x l undone write is (AsWritten v van stands) = (settled (stepped x v), left_after g x l v (write v van), stands)
+
+module _ (c : Ssc) (contents contents' : Contents) (own : Kind) (lba : ℕ) (block : Block) where
+  pub left_of : ((s : CacheList) → Holds c contents s → ImagesOf c contents' s (stepped (given own lba block) s)) → (kind : Kind) → kind ≡ own → (l : Lists) → IsMoment c contents l → (x : Image) → Now contents' x → IsRefusedTo (geometry_of c) x.page (given kind lba block) l
+  left_of images kind is l moment x now =
+      subst (λ k. IsRefusedTo (geometry_of c) x.page (given k lba block) l) (sym is)
+      (left_one (geometry_of c) x.page (given own lba block) l (undo (pending c) l.now) moment.durable (images l.now moment.holds x now))
+
+  pub left_of_write : ((s v : CacheList) → Vanish (geometry_of c) s lba v → LeftBy (geometry_of c) (given own lba block) s v) → ((s : CacheList) → Holds c contents s → ImagesOfWrite c contents' s lba (stepped (given own lba block))) → (kind : Kind) → kind ≡ own → (l : Lists) → IsMoment c contents l → (x : Image) → Now contents' x → IsRefusedTo (geometry_of c) x.page (given kind lba block) l
+  left_of_write write images kind is l moment x now =
+      subst (λ k. IsRefusedTo (geometry_of c) x.page (given k lba block) l) (sym is)
+      (left_write (geometry_of c) x.page (given own lba block) l (undo (pending c) l.now) (write l.now) moment.durable (images l.now moment.holds x now))
 
 -- the dirty groups would be too many
 pub full_of : {T : Type 0} (r : Result T SscError) (g : Geometry) (s : CacheList) (a n k : ℕ) → FullExactly g s a r → r ≡ Err (error.Full n k) → IsFull g s a
@@ -175,6 +264,6 @@ full_of {T = T} r g s a n k full is = let at = subst (λ (x : Result T SscError)
 
 -- ---- an opening
 
-pub moment_opened : {E : Type 0} (r : Result CacheValue E) (g : Geometry) (page : Place → Page) (contents : Contents) → IfOk r (λ c. (s : CacheList) → StandsFor g page s → Holds c contents s) → IfOk r (λ c. pending c ≡ []) → IfOk r (λ c. (s : CacheList) → StandsFor g page s → IsMoment c contents (settled s))
+pub moment_opened : {E : Type 0} (r : Result Ssc E) (g : Geometry) (page : Place → Page) (contents : Contents) → IfOk r (λ c. (s : CacheList) → StandsFor g page s → Holds c contents s) → IfOk r (λ c. pending c ≡ []) → IfOk r (λ c. (s : CacheList) → StandsFor g page s → IsMoment c contents (settled s))
 moment_opened (Err e) g page contents holds none = tt
 moment_opened (Ok c) g page contents holds none = λ s stands. record { holds = holds s stands; durable = sym (none_undone c none s) }

@@ -1,6 +1,6 @@
 -- What an address holds, by the events since the one that decides it.
-use Rattle.std.proofs.Common.{◌≡◌, ℕ, ◌==◌, ◌&&◌, Bool, true, false, cond, List, [], ◌∷◌, ◌++◌, Option, Some, None, sym, ◌∙◌, ap, subst, inl, inr}
-use Rattle.std.proofs.lemmas.Bool.{cases_Bool, and_parts, or_parts}
+use Rattle.std.proofs.Common.{◌≡◌, ◌⊎◌, ℕ, ◌==◌, ◌&&◌, Bool, true, false, cond, List, [], ◌∷◌, ◌++◌, Option, Some, None, refl, sym, ◌∙◌, ap, subst, inl, inr, append-nil}
+use Rattle.std.proofs.lemmas.Bool.{cases_Bool, and_parts, or_parts, both_ways, false≢true}
 use Rattle.std.specs.List.{list_any}
 use Rattle.ft_base.specs.declared.block.Block.{Block}
 use Rattle.cache_model.specs.Cache.{Held, held}
@@ -9,45 +9,68 @@ use Rattle.cache_history.specs.declared.kind.Kind.{Kind}
 use Rattle.cache_history.specs.declared.kind.Kind.TheVariants.{WriteDirty, WriteClean, Evict, Clean, Commit, Checkpoint}
 use Rattle.cache_history.specs.History.{Given, given, Event, Answered, Refused, Crashed, NoneIs, IsNewest, names, concerns, is_write, is_change, may_undirty}
 use Rattle.cache_history.proofs.StepLemmas.{IsDirty, step_at, step_none, step_same, step_dirty, step_newest, step_older}
-use Rattle.cache_history.proofs.MightLemmas.{Lags, Might}
+use Rattle.cache_history.proofs.GoneLemmas.{IsClean}
+use Rattle.cache_history.proofs.MightLemmas.{Lags, Might, From, Stepped, Kept, GaveWay}
 
--- what holds after an event, and is kept by each later one that isn't such a command, holds
-module _ (kinds : Kind → Bool) (a : ℕ) (P : Option Held → Type 0) (x : Given) (before : List Event)
-    (own : (o : Option Held) → Might a (Answered x ∷ before) o → P o)
+-- what holds after some events, of what isn't held clean, and is kept by each later one that isn't such a command, holds
+module _ (kinds : Kind → Bool) (a : ℕ) (P : Option Held → Type 0) (first : List Event)
+    (own : (o : Option Held) → Might a first o → P o)
+    (never : (o : Option Held) → IsClean o → P o → ⊥)
     (kept : (here : Bool) (kind : Kind) (block : Block) (o : Option Held) → kinds kind && here ≡ false → P o → P (step_at here kind block o)) where
-  pub since : (later : List Event) (o : Option Held) → Might a (later ++ Answered x ∷ before) o → NoneIs kinds a later → P o
+  after : (answered : Bool) (y : Given) (p o : Option Held) → names kinds a y ≡ false → P p → From answered (a == y.address) y.kind y.block p o → P o
+  after answered y p o f before (Stepped is) = subst P (sym is) (kept (a == y.address) y.kind y.block p f before)
+  after answered y p o f before (Kept is lag) = subst P (sym is) before
+  after answered y p o f before (GaveWay away clean is) = absurd (never p clean before)
+
+  pub since : (later : List Event) (o : Option Held) → Might a (later ++ first) o → NoneIs kinds a later → P o
   since [] o m none = own o m
-  since (Answered y ∷ es) o (inl s) none =
-      let f = or_parts (names kinds a y) (list_any (concerns kinds a) es) none in
-      subst P (sym s.2) (kept (a == y.address) y.kind y.block s.0 f.0 (since es s.0 s.1 f.1))
-  since (Answered y ∷ es) o (inr m) none = since es o m.0 (or_parts (names kinds a y) (list_any (concerns kinds a) es) none).1
-  since (Refused y ∷ es) o (inl s) none =
-      let f = or_parts (names kinds a y) (list_any (concerns kinds a) es) none in
-      subst P (sym s.2) (kept (a == y.address) y.kind y.block s.0 f.0 (since es s.0 s.1 f.1))
-  since (Refused y ∷ es) o (inr m) none = since es o m (or_parts (names kinds a y) (list_any (concerns kinds a) es) none).1
+  since (Answered y ∷ es) o m none = let f = or_parts (names kinds a y) (list_any (concerns kinds a) es) none in after true y m.0 o f.0 (since es m.0 m.1 f.1) m.2
+  since (Refused y ∷ es) o m none = let f = or_parts (names kinds a y) (list_any (concerns kinds a) es) none in after false y m.0 o f.0 (since es m.0 m.1 f.1) m.2
   since (Crashed ∷ es) o m none = since es o m none
 
+clean_some : (o : Option Held) → IsClean o → o ≡ None → ⊥
+clean_some o clean is = let both : None ≡ Some clean.0 = sym is ∙ clean.1 in cc
+
+clean_not_dirty : (o : Option Held) → IsClean o → (b : Block) → o ≡ Some (held b true) → ⊥
+clean_not_dirty o clean b is =
+    let both : Some clean.0 ≡ Some (held b true) = sym clean.1 ∙ is in
+    let same : clean.0 ≡ held b true = cc in
+    false≢true (sym clean.2 ∙ ap (λ (h : Held). h.dirty) same)
+
+none_kept : (here : Bool) (kind : Kind) (block : Block) (o : Option Held) → is_write kind && here ≡ false → o ≡ None → step_at here kind block o ≡ None
+none_kept here kind block o f is = ap (step_at here kind block) is ∙ step_none here kind block f
+
 evicted_own : (a : ℕ) (b : Block) (before : List Event) (o : Option Held) → Might a (Answered (given Evict a b) ∷ before) o → o ≡ None
-evicted_own a b before o (inl s) = s.2 ∙ ap (λ t. cond t None s.0) (same_number a)
-evicted_own a b before o (inr m) = m.1 (same_number a)
+evicted_own a b before o m = by m.2
+  where
+    by : From true (a == a) Evict b m.0 o → o ≡ None
+    by (Stepped is) = is ∙ ap (λ t. cond t None m.0) (same_number a)
+    by (Kept is lag) = lag refl (same_number a)
+    by (GaveWay away clean is) = is
 
 pub evicted_none : (a : ℕ) (b : Block) (later before : List Event) (o : Option Held) → Might a (later ++ Answered (given Evict a b) ∷ before) o → NoneIs is_write a later → o ≡ None
-evicted_none a b later before =
-    since is_write a (λ o. o ≡ None) (given Evict a b) before (evicted_own a b before)
-    (λ here kind block o f is. ap (step_at here kind block) is ∙ step_none here kind block f) later
+evicted_none a b later before = since is_write a (λ o. o ≡ None) (Answered (given Evict a b) ∷ before) (evicted_own a b before) clean_some none_kept later
+
+-- from where the address was absent
+pub still_none : (a : ℕ) (later : List Event) (o : Option Held) → Might a later o → NoneIs is_write a later → o ≡ None
+still_none a later o m = since is_write a (λ o. o ≡ None) [] (λ o is. is) clean_some none_kept later o (subst (λ (es : List Event). Might a es o) (sym (append-nil later)) m)
 
 written_own : (a : ℕ) (b : Block) (before : List Event) (o : Option Held) → Might a (Answered (given WriteDirty a b) ∷ before) o → o ≡ Some (held b true)
-written_own a b before o (inl s) = s.2 ∙ ap (λ t. cond t (Some (held b true)) s.0) (same_number a)
-written_own a b before o (inr m) = absurd (m.1 (same_number a))
+written_own a b before o m = by m.2
+  where
+    by : From true (a == a) WriteDirty b m.0 o → o ≡ Some (held b true)
+    by (Stepped is) = is ∙ ap (λ t. cond t (Some (held b true)) m.0) (same_number a)
+    by (Kept is lag) = absurd (lag refl (same_number a))
+    by (GaveWay away clean is) = absurd (both_ways _ (away refl) (same_number a))
 
 pub dirty_some : (a : ℕ) (b : Block) (later before : List Event) (o : Option Held) → Might a (later ++ Answered (given WriteDirty a b) ∷ before) o → NoneIs is_change a later → o ≡ Some (held b true)
 dirty_some a b later before =
-    since is_change a (λ o. o ≡ Some (held b true)) (given WriteDirty a b) before (written_own a b before)
+    since is_change a (λ o. o ≡ Some (held b true)) (Answered (given WriteDirty a b) ∷ before) (written_own a b before) (λ o clean is. clean_not_dirty o clean b is)
     (λ here kind block o f is. step_same here kind block o f ∙ is) later
 
 pub dirty_still : (a : ℕ) (b : Block) (later before : List Event) (o : Option Held) → Might a (later ++ Answered (given WriteDirty a b) ∷ before) o → NoneIs may_undirty a later → IsDirty o
 dirty_still a b later before =
-    since may_undirty a IsDirty (given WriteDirty a b) before (λ o m. (b, written_own a b before o m))
+    since may_undirty a IsDirty (Answered (given WriteDirty a b) ∷ before) (λ o m. (b, written_own a b before o m)) (λ o clean dirty. clean_not_dirty o clean dirty.0 dirty.1)
     step_dirty later
 
 -- where the flash lags behind a write its address isn't held
@@ -64,19 +87,33 @@ older a es rest y p h m f is =
     let k = step_older (a == y.address) y.kind y.block p h f is in
     subst (λ (b : Block). IsNewest a b es) k.2 (rest p k.0 m k.1)
 
+module _ (a : ℕ) (y : Given) (es : List Event) (p o : Option Held) (h : Held) (is : o ≡ Some h) (rest : (o : Option Held) (h : Held) → Might a es o → o ≡ Some h → IsNewest a h.block es) (m : Might a es p) where
+  not_none : o ≡ None → ⊥
+  not_none none = let both : None ≡ Some h = sym none ∙ is in cc
+
+  newest_other : (answered : Bool) → names is_write a y ≡ false → From answered (a == y.address) y.kind y.block p o → IsNewest a h.block es
+  newest_other answered f (Stepped s) = older a es rest y p h m f (sym s ∙ is)
+  newest_other answered f (Kept s lag) = rest p h m (sym s ∙ is)
+  newest_other answered f (GaveWay away clean none) = absurd (not_none none)
+
+  newest_own : names is_write a y ≡ true → From true (a == y.address) y.kind y.block p o → h.block ≡ y.block
+  newest_own t (Stepped s) = step_newest (a == y.address) y.kind y.block p h t (sym s ∙ is)
+  newest_own t (Kept s lag) = let parts = and_parts (is_write y.kind) (a == y.address) t in absurd (lag_none y.kind o h parts.0 (lag refl parts.1) is)
+  newest_own t (GaveWay away clean none) = absurd (not_none none)
+
+  newest_refused : names is_write a y ≡ true → From false (a == y.address) y.kind y.block p o → ((names is_write a y ≡ true) × (h.block ≡ y.block)) ⊎ IsNewest a h.block es
+  newest_refused t (Stepped s) = inl (t, step_newest (a == y.address) y.kind y.block p h t (sym s ∙ is))
+  newest_refused t (Kept s lag) = inr (rest p h m (sym s ∙ is))
+  newest_refused t (GaveWay away clean none) = absurd (not_none none)
+
 pub newest : (a : ℕ) (es : List Event) (o : Option Held) (h : Held) → Might a es o → o ≡ Some h → IsNewest a h.block es
 newest a [] o h m is = absurd (let both : None ≡ Some h = sym m ∙ is in cc)
-newest a (Answered y ∷ es) o h (inl s) is = elim (cases_Bool (names is_write a y)) [
-  | inl t ↦ inl (t, step_newest (a == y.address) y.kind y.block s.0 h t (sym s.2 ∙ is))
-  | inr f ↦ inr (f, older a es (newest a es) y s.0 h s.1 f (sym s.2 ∙ is))
+newest a (Answered y ∷ es) o h m is = elim (cases_Bool (names is_write a y)) [
+  | inl t ↦ inl (t, newest_own a y es m.0 o h is (newest a es) m.1 t m.2)
+  | inr f ↦ inr (f, newest_other a y es m.0 o h is (newest a es) m.1 true f m.2)
 ]
-newest a (Answered y ∷ es) o h (inr m) is = elim (cases_Bool (names is_write a y)) [
-  | inl t ↦ let p = and_parts (is_write y.kind) (a == y.address) t in absurd (lag_none y.kind o h p.0 (m.1 p.1) is)
-  | inr f ↦ inr (f, newest a es o h m.0 is)
+newest a (Refused y ∷ es) o h m is = elim (cases_Bool (names is_write a y)) [
+  | inl t ↦ newest_refused a y es m.0 o h is (newest a es) m.1 t m.2
+  | inr f ↦ inr (newest_other a y es m.0 o h is (newest a es) m.1 false f m.2)
 ]
-newest a (Refused y ∷ es) o h (inl s) is = elim (cases_Bool (names is_write a y)) [
-  | inl t ↦ inl (t, step_newest (a == y.address) y.kind y.block s.0 h t (sym s.2 ∙ is))
-  | inr f ↦ inr (older a es (newest a es) y s.0 h s.1 f (sym s.2 ∙ is))
-]
-newest a (Refused y ∷ es) o h (inr m) is = inr (newest a es o h m is)
 newest a (Crashed ∷ es) o h m is = newest a es o h m is

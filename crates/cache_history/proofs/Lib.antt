@@ -1,4 +1,5 @@
 pub mod StepLemmas
+pub mod GoneLemmas
 pub mod MightLemmas
 pub mod LawLemmas
 pub mod ListedLemmas

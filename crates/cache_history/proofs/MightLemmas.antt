@@ -1,13 +1,16 @@
 -- What an address may hold after some events, in the list that is held and in the one that a crash would leave.
-use Rattle.std.proofs.Common.{◌≡◌, ◌⊎◌, ℕ, ◌==◌, true, false, List, [], ◌∷◌, Option, Some, None, refl, sym, ◌∙◌, ap, subst, inl, inr, eqb-true, nat_cmp}
+use Rattle.std.proofs.Common.{◌≡◌, ◌⊎◌, ℕ, ◌==◌, ◌/◌, Bool, true, false, cond, List, [], ◌∷◌, Option, Some, None, refl, sym, ◌∙◌, ap, subst, inl, inr, eqb-true, nat_cmp}
 use Rattle.std.specs.Option.{option_map}
 use Rattle.std.specs.FinMap.{get, empty, get-empty}
 use Rattle.std.proofs.lemmas.Bool.{cases_Bool, both_ways}
-use Rattle.cache_model.specs.Cache.{Held, CacheList, marked_as}
+use Rattle.ft_base.specs.declared.block.Block.{Block}
+use Rattle.ft_base.specs.declared.geometry.Geometry.{Geometry}
+use Rattle.cache_model.specs.Cache.{Held, CacheList, Vanish, marked_as}
 use Rattle.cache_history.specs.declared.kind.Kind.{Kind}
 use Rattle.cache_history.specs.declared.kind.Kind.TheVariants.{WriteDirty, WriteClean, Evict, Clean, Commit, Checkpoint}
-use Rattle.cache_history.specs.History.{Given, Event, Answered, Refused, Crashed, Lists, IsAtOnce, AfterAnswer, AfterRefusal, AfterCrash, Lived}
+use Rattle.cache_history.specs.History.{Given, Event, Answered, Refused, Crashed, Lists, settled, LeftByKind, IsAtOnce, unless_gone, AfterAnswer, AfterRefusal, AfterCrash, LivedFrom, Lived, is_write}
 use Rattle.cache_history.proofs.StepLemmas.{step_of, step_at, get_stepped}
+use Rattle.cache_history.proofs.GoneLemmas.{IsClean, LostAt, left_at, unless_same, unless_lost}
 
 -- what the address of a command may be where a crash would undo the command
 abbrev pub Lags : Kind → Option Held → Type 0
@@ -18,117 +21,206 @@ Lags Clean o = Unit {0}
 Lags Commit o = Unit {0}
 Lags Checkpoint o = Unit {0}
 
+-- what a command makes of what is held at an address, if it was answered Ok or not: its step; or what was there, where a crash would undo the command; or nothing, where a clean block gave way
+pub data From (answered here : Bool) (kind : Kind) (block : Block) (p o : Option Held) : Type 0 where
+  Stepped : o ≡ step_at here kind block p → From answered here kind block p o
+  Kept : o ≡ p → (answered ≡ true → here ≡ true → Lags kind o) → From answered here kind block p o
+  GaveWay : (answered ≡ true → here ≡ false) → IsClean p → o ≡ None → From answered here kind block p o
+
 abbrev pub Might : ℕ → List Event → Option Held → Type 0
 Might a [] o = o ≡ None
-Might a (Answered x ∷ es) o = ((p : Option Held) × Might a es p × (o ≡ step_at (a == x.address) x.kind x.block p)) ⊎ (Might a es o × ((a == x.address) ≡ true → Lags x.kind o))
-Might a (Refused x ∷ es) o = ((p : Option Held) × Might a es p × (o ≡ step_at (a == x.address) x.kind x.block p)) ⊎ Might a es o
+Might a (Answered x ∷ es) o = (p : Option Held) × Might a es p × From true (a == x.address) x.kind x.block p o
+Might a (Refused x ∷ es) o = (p : Option Held) × Might a es p × From false (a == x.address) x.kind x.block p o
 Might a (Crashed ∷ es) o = Might a es o
 
--- both lists are so, and what isn't held a crash doesn't bring back
-pub record Mights (a : ℕ) (es : List Event) (l : Lists) : Type 0 where
-  pub now : Might a es (get l.now a)
-  pub durable : Might a es (get l.durable a)
-  pub absent : get l.now a ≡ None → get l.durable a ≡ None
+-- both may be so, and what isn't held a crash doesn't bring back
+pub record Both (P : Option Held → Type 0) (n e : Option Held) : Type 0 where
+  pub now : P n
+  pub durable : P e
+  pub absent : n ≡ None → e ≡ None
+
+abbrev pub Mights : ℕ → List Event → Lists → Type 0
+Mights a es l = Both (Might a es) (get l.now a) (get l.durable a)
+
+alike : (P : Option Held → Type 0) (n e : Option Held) → e ≡ n → P n → Both P n e
+alike P n e is now = record { now = now; durable = subst P (sym is) now; absent = λ none. is ∙ none }
 
 cleaned_none : (o : Option Held) → option_map (marked_as false) o ≡ None → o ≡ None
 cleaned_none None is = refl
 cleaned_none (Some h) is = absurd (cc)
 
+-- ---- an answer, at one address
+
+abbrev pub IsSome : Option Held → Type 0
+IsSome o = (h : Held) × (o ≡ Some h)
+
+-- the command is on the flash when it answers Ok
+abbrev pub AtOnce : Kind → Option Held → Type 0
+AtOnce WriteDirty o = Unit {0}
+AtOnce WriteClean o = IsSome o
+AtOnce Evict o = IsSome o
+AtOnce Clean o = ⊥
+AtOnce Commit o = Unit {0}
+AtOnce Checkpoint o = Unit {0}
+
+at_once : (kind : Kind) (a : ℕ) (s : CacheList) → AtOnce kind (get s a) → IsAtOnce kind a s
+at_once WriteDirty a s t = t
+at_once WriteClean a s t = t
+at_once Evict a s t = t
+at_once Clean a s t = t
+at_once Commit a s t = t
+at_once Checkpoint a s t = t
+
+-- a write of what was held
+write_at_once : (kind : Kind) (o : Option Held) → is_write kind ≡ true → IsSome o → AtOnce kind o
+write_at_once WriteDirty o w some = tt
+write_at_once WriteClean o w some = some
+write_at_once Evict o w some = absurd (cc)
+write_at_once Clean o w some = absurd (cc)
+write_at_once Commit o w some = absurd (cc)
+write_at_once Checkpoint o w some = absurd (cc)
+
+-- a write looks at nothing that was held
+write_alike : (kind : Kind) (block : Block) (p o : Option Held) → is_write kind ≡ true → step_of kind block p ≡ step_of kind block o
+write_alike WriteDirty block p o w = refl
+write_alike WriteClean block p o w = refl
+write_alike Evict block p o w = absurd (cc)
+write_alike Clean block p o w = absurd (cc)
+write_alike Commit block p o w = absurd (cc)
+write_alike Checkpoint block p o w = absurd (cc)
+
+lags : (kind : Kind) (s n e : Option Held) → (AtOnce kind s → e ≡ n) → (s ≡ None → e ≡ None) → (e ≡ n) ⊎ Lags kind e
+lags WriteDirty s n e once absent = inl (once tt)
+lags WriteClean None n e once absent = inr (absent refl)
+lags WriteClean (Some h) n e once absent = inl (once (h, refl))
+lags Evict None n e once absent = inr (absent refl)
+lags Evict (Some h) n e once absent = inl (once (h, refl))
+lags Clean s n e once absent = inr tt
+lags Commit s n e once absent = inl (once tt)
+lags Checkpoint s n e once absent = inl (once tt)
+
+-- where the step leaves nothing a crash brings nothing back
+gone : (kind : Kind) (block : Block) (s n e : Option Held) → (AtOnce kind s → e ≡ n) → (s ≡ None → e ≡ None) → n ≡ None → step_of kind block s ≡ None → e ≡ None
+gone WriteDirty block s n e once absent none is = absurd (cc)
+gone WriteClean block s n e once absent none is = absurd (cc)
+gone Evict block None n e once absent none is = absent refl
+gone Evict block (Some h) n e once absent none is = once (h, refl) ∙ none
+gone Clean block s n e once absent none is = absent (cleaned_none s is)
+gone Commit block s n e once absent none is = absent is
+gone Checkpoint block s n e once absent none is = absent is
+
+abbrev pub FromOne : Bool → Bool → Kind → Block → (Option Held → Type 0) → Option Held → Type 0
+FromOne answered here kind block P o = (p : Option Held) × P p × From answered here kind block p o
+
+module _ (kind : Kind) (block : Block) (P : Option Held → Type 0) (s n e : Option Held) (may : P s) where
+  -- a crash would leave what may have been before
+  behind : (here : Bool) → n ≡ step_at here kind block s → (here ≡ true → AtOnce kind s → e ≡ n) → P e → (s ≡ None → e ≡ None) → Both (FromOne true here kind block P) n e
+  behind true is once before absent = elim (lags kind s n e (once refl) absent) [
+    | inl same ↦ alike (FromOne true true kind block P) n e same (s, may, Stepped is)
+    | inr lag ↦ record { now = (s, may, Stepped is); durable = (e, before, Kept refl (λ x y. lag)); absent = λ none. gone kind block s n e (once refl) absent none (sym is ∙ none) }
+  ]
+  behind false is once before absent = record { now = (s, may, Stepped is); durable = (e, before, Kept refl (λ x y. absurd (let both : false ≡ true = y in cc))); absent = λ none. absent (sym is ∙ none) }
+
+  -- what was there gave way
+  lost : (here : Bool) → IsClean s → is_write kind ≡ true → n ≡ step_at here kind block None → (here ≡ true → AtOnce kind s → e ≡ n) → (e ≡ None) ⊎ (e ≡ n) → Both (FromOne true here kind block P) n e
+  lost true clean w is once at = alike (FromOne true true kind block P) n e (once refl (write_at_once kind s w (clean.0, clean.1))) (s, may, Stepped (is ∙ write_alike kind block None s w))
+  lost false clean w is once (inl at) = let own : FromOne true false kind block P n = (s, may, GaveWay (λ x. refl) clean is) in alike (FromOne true false kind block P) n e (at ∙ sym is) own
+  lost false clean w is once (inr at) = alike (FromOne true false kind block P) n e at (s, may, GaveWay (λ x. refl) clean is)
+
+-- ---- the lists after an event
+
 at : (a : ℕ) (s t : CacheList) → s ≡ t → get s a ≡ get t a
 at a s t e = ap (λ (l : CacheList). get l a) e
 
-might_at : (a : ℕ) (es : List Event) (s t : CacheList) → s ≡ t → Might a es (get t a) → Might a es (get s a)
-might_at a es s t e m = subst (λ (l : CacheList). Might a es (get l a)) (sym e) m
+module _ (g : Geometry) (a : ℕ) (es : List Event) (x : Given) (old new : Lists) (after : AfterAnswer g x old new) (m : Mights a es old) where
+  now_is : get new.now a ≡ step_at (a == x.address) x.kind x.block (get after.left a)
+  now_is = at a new.now _ after.now ∙ get_stepped x.kind x.address x.block after.left a
 
-module _ (a : ℕ) (es : List Event) (x : Given) (old new : Lists) (after : AfterAnswer x old new) (m : Mights a es old) where
-  now_is : get new.now a ≡ step_at (a == x.address) x.kind x.block (get old.now a)
-  now_is = at a new.now _ after.now ∙ get_stepped x.kind x.address x.block old.now a
+  once : (a == x.address) ≡ true → AtOnce x.kind (get old.now a) → get new.durable a ≡ get new.now a
+  once here t = at a new.durable new.now (after.at_once (at_once x.kind x.address old.now (subst (λ n. AtOnce x.kind (get old.now n)) (eqb-true a x.address here) t)))
 
-  now_might : Might a (Answered x ∷ es) (get new.now a)
-  now_might = inl (get old.now a, m.now, now_is)
-
-  -- a crash would leave the same
-  both : new.durable ≡ new.now → Mights a (Answered x ∷ es) new
-  both e = record { now = now_might; durable = might_at a (Answered x ∷ es) new.durable new.now e now_might; absent = λ n. at a new.durable new.now e ∙ n }
-
-  -- a crash would leave what may have been before
-  module _ (before : Might a es (get new.durable a)) (absent : get old.now a ≡ None → get new.durable a ≡ None) where
-    where_held : (a == x.address) ≡ true → ((h : Held) × (get old.now x.address ≡ Some h) → new.durable ≡ new.now) → (new.durable ≡ new.now) ⊎ (get new.durable a ≡ None)
-    where_held here f = by (get old.now x.address) refl
-      where
-        by : (o : Option Held) → get old.now x.address ≡ o → (new.durable ≡ new.now) ⊎ (get new.durable a ≡ None)
-        by None is = inr (absent (ap (λ n. get old.now n) (eqb-true a x.address here) ∙ is))
-        by (Some h) is = inl (f (h, is))
-
-    lags : (kind : Kind) → (a == x.address) ≡ true → (IsAtOnce kind x.address old.now → new.durable ≡ new.now) → (new.durable ≡ new.now) ⊎ Lags kind (get new.durable a)
-    lags WriteDirty here f = inl (f tt)
-    lags WriteClean here f = where_held here f
-    lags Evict here f = where_held here f
-    lags Clean here f = inr tt
-    lags Commit here f = inl (f tt)
-    lags Checkpoint here f = inl (f tt)
-
-    gone : (kind : Kind) → (a == x.address) ≡ true → (IsAtOnce kind x.address old.now → new.durable ≡ new.now) → step_of kind x.block (get old.now a) ≡ None → get new.now a ≡ None → get new.durable a ≡ None
-    gone WriteDirty here f e n = absurd (cc)
-    gone WriteClean here f e n = absurd (cc)
-    gone Evict here f e n = elim (where_held here f) [ inl d ↦ at a new.durable new.now d ∙ n | inr none ↦ none ]
-    gone Clean here f e n = absent (cleaned_none (get old.now a) e)
-    gone Commit here f e n = absent e
-    gone Checkpoint here f e n = absent e
-
-    behind_absent : get new.now a ≡ None → get new.durable a ≡ None
-    behind_absent n = elim (cases_Bool (a == x.address)) [
-      | inl here ↦ gone x.kind here after.at_once (sym (ap (λ b. step_at b x.kind x.block (get old.now a)) here) ∙ sym now_is ∙ n) n
-      | inr away ↦ absent (sym (ap (λ b. step_at b x.kind x.block (get old.now a)) away) ∙ sym now_is ∙ n)
+  answered_kept : get after.left a ≡ get old.now a → Mights a (Answered x ∷ es) new
+  answered_kept same = elim after.durable [
+    | inl loses ↦ let e = loses a ∙ unless_same _ _ (get old.durable a) same in from (subst (Might a es) (sym e) m.durable) (λ none. e ∙ m.absent none)
+    | inr d ↦ elim d [
+      | inl is ↦ let e = at a new.durable after.left is ∙ same in from (subst (Might a es) (sym e) m.now) (λ none. e ∙ none)
+      | inr is ↦ alike (Might a (Answered x ∷ es)) (get new.now a) (get new.durable a) (at a new.durable new.now is) (get old.now a, m.now, Stepped stepped_here)
     ]
+  ]
+    where
+      stepped_here : get new.now a ≡ step_at (a == x.address) x.kind x.block (get old.now a)
+      stepped_here = now_is ∙ ap (step_at (a == x.address) x.kind x.block) same
 
-    behind : Mights a (Answered x ∷ es) new
-    behind = elim (cases_Bool (a == x.address)) [
-      | inl here ↦ elim (lags x.kind here after.at_once) [
-        | inl e ↦ both e
-        | inr lag ↦ record { now = now_might; durable = inr (before, λ t. lag); absent = behind_absent }
-      ]
-      | inr away ↦ record { now = now_might; durable = inr (before, λ t. absurd (both_ways _ away t)); absent = behind_absent }
-    ]
+      from : Might a es (get new.durable a) → (get old.now a ≡ None → get new.durable a ≡ None) → Mights a (Answered x ∷ es) new
+      from = behind x.kind x.block (Might a es) (get old.now a) (get new.now a) (get new.durable a) m.now (a == x.address) stepped_here once
+
+  answered_lost : IsClean (get old.now a) → get after.left a ≡ None → is_write x.kind ≡ true → Mights a (Answered x ∷ es) new
+  answered_lost clean none w = lost x.kind x.block (Might a es) (get old.now a) (get new.now a) (get new.durable a) m.now (a == x.address) clean w (now_is ∙ ap (step_at (a == x.address) x.kind x.block) none) once (by after.durable)
+    where
+      by : ((y : ℕ) → get new.durable y ≡ unless_gone (get old.now y) (get after.left y) (get old.durable y)) ⊎ (new.durable ≡ after.left) ⊎ (new.durable ≡ new.now) → (get new.durable a ≡ None) ⊎ (get new.durable a ≡ get new.now a)
+      by (inl loses) = inl (loses a ∙ unless_lost _ _ (get old.durable a) clean none)
+      by (inr (inl is)) = inl (at a new.durable after.left is ∙ none)
+      by (inr (inr is)) = inr (at a new.durable new.now is)
 
   pub mights_answered : Mights a (Answered x ∷ es) new
-  mights_answered = elim after.durable [
-    | inl e ↦ behind (might_at a es new.durable old.durable e m.durable) (λ n. at a new.durable old.durable e ∙ m.absent n)
+  mights_answered = elim (left_at g x.kind x.address old.now after.left after.left_by a) [
+    | inl same ↦ answered_kept same
+    | inr gave ↦ answered_lost gave.0 gave.1 gave.2
+  ]
+
+module _ (g : Geometry) (a : ℕ) (es : List Event) (x : Given) (old new : Lists) (after : AfterRefusal g x old new) (m : Mights a es old) where
+  refused_kept : get after.left a ≡ get old.now a → Might a (Refused x ∷ es) (get new.now a)
+  refused_kept same = elim after.now [
+    | inl is ↦ (get old.durable a, m.durable, Kept (at a new.now old.durable is) (λ answered. absurd (cc)))
     | inr d ↦ elim d [
-      | inl e ↦ behind (might_at a es new.durable old.now e m.now) (λ n. at a new.durable old.now e ∙ n)
-      | inr e ↦ both e
+      | inl is ↦ (get old.now a, m.now, Kept (at a new.now after.left is ∙ same) (λ answered. absurd (cc)))
+      | inr is ↦ (get old.now a, m.now, Stepped (at a new.now _ is ∙ get_stepped x.kind x.address x.block after.left a ∙ ap (step_at (a == x.address) x.kind x.block) same))
     ]
   ]
 
-module _ (a : ℕ) (es : List Event) (x : Given) (old new : Lists) (after : AfterRefusal x old new) (m : Mights a es old) where
-  refused_now : Might a (Refused x ∷ es) (get new.now a)
-  refused_now = elim after.now [
-    | inl e ↦ inr (might_at a es new.now old.durable e m.durable)
+  -- what gave way is gone, or was written
+  lost_step : IsClean (get old.now a) → is_write x.kind ≡ true → (here : Bool) → get new.now a ≡ step_at here x.kind x.block None → From false here x.kind x.block (get old.now a) (get new.now a)
+  lost_step clean w true is = Stepped (is ∙ write_alike x.kind x.block None (get old.now a) w)
+  lost_step clean w false is = GaveWay (λ answered. refl) clean is
+
+  refused_lost : IsClean (get old.now a) → get after.left a ≡ None → is_write x.kind ≡ true → Might a (Refused x ∷ es) (get new.now a)
+  refused_lost clean none w = elim after.now [
+    | inl is ↦ (get old.durable a, m.durable, Kept (at a new.now old.durable is) (λ answered. absurd (cc)))
     | inr d ↦ elim d [
-      | inl e ↦ inr (might_at a es new.now old.now e m.now)
-      | inr e ↦ inl (get old.now a, m.now, at a new.now _ e ∙ get_stepped x.kind x.address x.block old.now a)
+      | inl is ↦ (get old.now a, m.now, GaveWay (λ answered. absurd (cc)) clean (at a new.now after.left is ∙ none))
+      | inr is ↦ (get old.now a, m.now, lost_step clean w (a == x.address) (at a new.now _ is ∙ get_stepped x.kind x.address x.block after.left a ∙ ap (step_at (a == x.address) x.kind x.block) none))
     ]
+  ]
+
+  refused_now : Might a (Refused x ∷ es) (get new.now a)
+  refused_now = elim (left_at g x.kind x.address old.now after.left after.left_by a) [
+    | inl same ↦ refused_kept same
+    | inr gave ↦ refused_lost gave.0 gave.1 gave.2
   ]
 
   pub mights_refused : Mights a (Refused x ∷ es) new
-  mights_refused = record {
-    now = refused_now;
-    durable = might_at a (Refused x ∷ es) new.durable new.now after.durable refused_now;
-    absent = λ n. at a new.durable new.now after.durable ∙ n;
-  }
+  mights_refused = alike (Might a (Refused x ∷ es)) (get new.now a) (get new.durable a) (at a new.durable new.now after.durable) refused_now
 
 pub mights_crashed : (a : ℕ) (es : List Event) (old new : Lists) → AfterCrash old new → Mights a es old → Mights a (Crashed ∷ es) new
 mights_crashed a es old new after m = record {
-  now = might_at a es new.now old.durable after.now m.durable;
-  durable = might_at a es new.durable old.durable after.durable m.durable;
+  now = subst (Might a es) (sym (at a new.now old.durable after.now)) m.durable;
+  durable = subst (Might a es) (sym (at a new.durable old.durable after.durable)) m.durable;
   absent = λ n. at a new.durable old.durable after.durable ∙ sym (at a new.now old.durable after.now) ∙ n;
 }
+
+-- from lists on where the address is absent
+pub mights_from : (g : Geometry) (start : Lists) (es : List Event) (l : Lists) → LivedFrom g start es l → (a : ℕ) → Mights a [] start → Mights a es l
+mights_from g start [] l is a m = subst (λ (k : Lists). Mights a [] k) (sym is) m
+mights_from g start (Answered x ∷ es) l lived a m = mights_answered g a es x lived.0 l lived.2 (mights_from g start es lived.0 lived.1 a m)
+mights_from g start (Refused x ∷ es) l lived a m = mights_refused g a es x lived.0 l lived.2 (mights_from g start es lived.0 lived.1 a m)
+mights_from g start (Crashed ∷ es) l lived a m = mights_crashed a es lived.0 l lived.2 (mights_from g start es lived.0 lived.1 a m)
 
 none_held : (a : ℕ) → get {X = Held} {R = nat_cmp} empty a ≡ None
 none_held a = get-empty nat_cmp a
 
-pub mights : (es : List Event) (l : Lists) → Lived es l → (a : ℕ) → Mights a es l
-mights [] l is a = subst (λ (k : Lists). Mights a [] k) (sym is) (record { now = none_held a; durable = none_held a; absent = λ n. n })
-mights (Answered x ∷ es) l lived a = mights_answered a es x lived.0 l lived.2 (mights es lived.0 lived.1 a)
-mights (Refused x ∷ es) l lived a = mights_refused a es x lived.0 l lived.2 (mights es lived.0 lived.1 a)
-mights (Crashed ∷ es) l lived a = mights_crashed a es lived.0 l lived.2 (mights es lived.0 lived.1 a)
+pub mights : (g : Geometry) (es : List Event) (l : Lists) → Lived g es l → (a : ℕ) → Mights a es l
+mights g es l lived a = mights_from g (settled empty) es l lived a (record { now = none_held a; durable = none_held a; absent = λ n. n })
+
+-- an absent address is absent in both
+pub mights_none : (g : Geometry) (es : List Event) (l : Lists) → Lived g es l → (a : ℕ) → get l.now a ≡ None → Mights a [] l
+mights_none g es l lived a none = record { now = none; durable = (mights g es l lived a).absent none; absent = (mights g es l lived a).absent }

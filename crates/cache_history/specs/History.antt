@@ -1,9 +1,10 @@
 -- What became of a cache, command by command, and the lists of held blocks that it may have then.
-use Rattle.std.specs.Prelude.{◌≡◌, ◌⊎◌, ℕ, ◌&&◌, ◌==◌, Bool, true, false, List, [], ◌∷◌}
+use Rattle.std.specs.Prelude.{◌≡◌, ◌⊎◌, ℕ, ◌&&◌, ◌==◌, Bool, true, false, List, [], ◌∷◌, Option, None, Some}
 use Rattle.std.specs.List.{list_any}
-use Rattle.std.specs.FinMap.{empty}
+use Rattle.std.specs.FinMap.{get, empty}
 use Rattle.ft_base.specs.declared.block.Block.{Block}
-use Rattle.cache_model.specs.Cache.{CacheList, written_dirty, written_clean, evicted, made_clean}
+use Rattle.ft_base.specs.declared.geometry.Geometry.{Geometry}
+use Rattle.cache_model.specs.Cache.{Held, CacheList, Vanish, written_dirty, written_clean, evicted, made_clean}
 use Rattle.ssc.specs.Commands.{IsHeldIn}
 use Rattle.cache_history.specs.declared.kind.Kind.{Kind}
 use Rattle.cache_history.specs.declared.kind.Kind.TheVariants.{WriteDirty, WriteClean, Evict, Clean, Commit, Checkpoint}
@@ -55,15 +56,41 @@ IsAtOnce Clean a s = ⊥
 IsAtOnce Commit a s = Unit {0}
 IsAtOnce Checkpoint a s = Unit {0}
 
--- after Ok the list is that of the step; and a crash would leave what it would have left before, or the list before the step or after it
-pub record AfterAnswer (x : Given) (old new : Lists) : Type 0 where
-  pub now : new.now ≡ stepped x old.now
-  pub durable : (new.durable ≡ old.durable) ⊎ (new.durable ≡ old.now) ⊎ (new.durable ≡ new.now)
+-- what is left for the step of a command: a write may first let wholly clean groups go, and nothing gives way to another command
+abbrev pub LeftByKind : Geometry → Kind → ℕ → CacheList → CacheList → Type 0
+LeftByKind g WriteDirty a s v = Vanish g s a v
+LeftByKind g WriteClean a s v = Vanish g s a v
+LeftByKind g Evict a s v = v ≡ s
+LeftByKind g Clean a s v = v ≡ s
+LeftByKind g Commit a s v = v ≡ s
+LeftByKind g Checkpoint a s v = v ≡ s
+
+abbrev pub LeftBy : Geometry → Given → CacheList → CacheList → Type 0
+LeftBy g x s v = LeftByKind g x.kind x.address s v
+
+-- what a crash would leave at an address: nothing, where what was held there gave way; else as before
+abbrev pub unless_gone : Option Held → Option Held → Option Held → Option Held
+unless_gone (Some h) None before = None
+unless_gone (Some h) (Some kept) before = before
+unless_gone None left before = before
+
+-- a crash would leave what it would have left before, but for what gave way
+abbrev pub LosesAlike : Lists → CacheList → CacheList → Type 0
+LosesAlike old left durable = (a : ℕ) → get durable a ≡ unless_gone (get old.now a) (get left a) (get old.durable a)
+
+-- after Ok the list is that of the step on what was left; and a crash would leave what it would have left before, but for what gave way, or the list before the step or after it
+pub record AfterAnswer (g : Geometry) (x : Given) (old new : Lists) : Type 0 where
+  pub left : CacheList
+  pub left_by : LeftBy g x old.now left
+  pub now : new.now ≡ stepped x left
+  pub durable : LosesAlike old left new.durable ⊎ (new.durable ≡ left) ⊎ (new.durable ≡ new.now)
   pub at_once : IsAtOnce x.kind x.address old.now → new.durable ≡ new.now
 
--- after a refusal and an opening the list is what a crash would have left before, or the list before the step or after it
-pub record AfterRefusal (x : Given) (old new : Lists) : Type 0 where
-  pub now : (new.now ≡ old.durable) ⊎ (new.now ≡ old.now) ⊎ (new.now ≡ stepped x old.now)
+-- after a refusal and an opening the list is what a crash would have left before, or what was left for the step, before it or after it
+pub record AfterRefusal (g : Geometry) (x : Given) (old new : Lists) : Type 0 where
+  pub left : CacheList
+  pub left_by : LeftBy g x old.now left
+  pub now : (new.now ≡ old.durable) ⊎ (new.now ≡ left) ⊎ (new.now ≡ stepped x left)
   pub durable : new.durable ≡ new.now
 
 -- after a crash and an opening it is what the crash left
@@ -71,15 +98,19 @@ pub record AfterCrash (old new : Lists) : Type 0 where
   pub now : new.now ≡ old.durable
   pub durable : new.durable ≡ old.durable
 
-abbrev pub After : Event → Lists → Lists → Type 0
-After (Answered x) old new = AfterAnswer x old new
-After (Refused x) old new = AfterRefusal x old new
-After Crashed old new = AfterCrash old new
+abbrev pub After : Geometry → Event → Lists → Lists → Type 0
+After g (Answered x) old new = AfterAnswer g x old new
+After g (Refused x) old new = AfterRefusal g x old new
+After g Crashed old new = AfterCrash old new
 
--- the lists after these events, the newest first, from an empty cache on
-abbrev pub Lived : List Event → Lists → Type 0
-Lived [] l = l ≡ settled empty
-Lived (event ∷ events) l = (before : Lists) × Lived events before × After event before l
+-- the lists after these events, the newest first, from some lists on
+abbrev pub LivedFrom : Geometry → Lists → List Event → Lists → Type 0
+LivedFrom g start [] l = l ≡ start
+LivedFrom g start (event ∷ events) l = (before : Lists) × LivedFrom g start events before × After g event before l
+
+-- and from an empty cache on
+abbrev pub Lived : Geometry → List Event → Lists → Type 0
+Lived g events l = LivedFrom g (settled empty) events l
 
 -- ---- which events are of an address
 

@@ -1,4 +1,4 @@
-ghost use Rattle.std.specs.Prelude.{◌≡◌, ◌<◌, ◌≤◌, ℕ, true, false, OnOk, OnErr, IfOk, IfErr, IsErrOf};
+ghost use Rattle.std.specs.Prelude.{◌≡◌, ◌<◌, ℕ, true, false, OnOk, OnErr, IfOk, IfErr, IsErrOf};
 ghost use Rattle.ft_base.specs.Contents.{Image, Now};
 ghost use Rattle.ft_media.specs.Drives.{DrivesFlash};
 ghost use Rattle.cache_model.specs.Cache.{CacheList, IsFull};
@@ -6,7 +6,7 @@ ghost use Rattle.cache_model.specs.Loading.{load};
 ghost use Rattle.cache_model.specs.Stands.{StandsFor};
 ghost use Rattle.op_log.specs.Log.{FitsOn};
 ghost use Rattle.op_log.specs.Refusals.{open_failed, open_lost, IsRefusal};
-ghost use Rattle.ssc.specs.CacheState.{Holds, IsUp, geometry_of, pages_left};
+ghost use Rattle.ssc.specs.CacheState.{Holds, IsUp, geometry_of};
 ghost use Rattle.ssc.specs.Errors.{ssc_failed, ssc_lost, stops};
 ghost use Rattle.cache_history.specs.declared.kind.Kind.TheVariants.{WriteDirty};
 ghost use Rattle.cache_history.specs.History.{Lists, given, is_write, settled, AfterAnswer, AfterRefusal};
@@ -28,11 +28,10 @@ pub fn give<M: Media>(
 ) -> Result<(), SscError>
     requires up { IsUp cache.old (M.state media.old).contents }
     requires lba { lba < (geometry_of cache.old).size }
-    requires room { is_write kind ≡ true → 1 ≤ pages_left cache.old }
     ensures geometry { geometry_of cache.new ≡ geometry_of cache.old }
-    ensures answered { OnOk result ((l : Lists) → IsMoment cache.old (M.state media.old).contents l → (m : Lists) × AfterAnswer (given kind lba block.now) l m × IsMoment cache.new (M.state media.new).contents m) }
+    ensures answered { OnOk result ((l : Lists) → IsMoment cache.old (M.state media.old).contents l → (m : Lists) × AfterAnswer (geometry_of cache.old) (given kind lba block.now) l m × IsMoment cache.new (M.state media.new).contents m) }
     // Whatever is answered, and wherever power went off.
-    ensures images { (l : Lists) → IsMoment cache.old (M.state media.old).contents l → (x : Image) → Now (M.state media.new).contents x → (m : Lists) × AfterRefusal (given kind lba block.now) l m × StandsFor (geometry_of cache.old) x.page m.now }
+    ensures images { (l : Lists) → IsMoment cache.old (M.state media.old).contents l → (x : Image) → Now (M.state media.new).contents x → (m : Lists) × AfterRefusal (geometry_of cache.old) (given kind lba block.now) l m × StandsFor (geometry_of cache.old) x.page m.now }
     // Full and want of memory are no event: nothing happened. Each comes for its cause alone.
     ensures unchanged { OnErr result (stops result ≡ false → (cache.new ≡ cache.old) × (M.state media.new ≡ M.state media.old)) }
     ensures full { (n k : ℕ) → IsErrOf result (SscError.Full n k) → (kind ≡ WriteDirty) × ((s : CacheList) → Holds cache.old (M.state media.old).contents s → IsFull (geometry_of cache.old) s lba) }

@@ -4,8 +4,12 @@
 ghost use Rattle.std.specs.Prelude.{◌≡◌, ◌<◌, ◌≤◌, false, IfOk, OnOk};
 ghost use Rattle.std.specs.Bool.{OnTrue};
 ghost use Rattle.op_log.specs.Log.{FitsOn};
-ghost use Rattle.ssc.specs.CacheState.{IsUp, geometry_of, pages_left};
+ghost use Rattle.ssc.specs.CacheState.{IsUp, geometry_of};
 
+use crate::lists::{
+    CHECKPOINT, COMMIT, Command, Held, Lists, NOTHING, Plain, Step, after, after_all, clean, evict,
+    may_be_left, write_clean, write_dirty,
+};
 use cache_model::{Seal, SpareKind};
 use ft_base::{Block, Geometry, Outcome, Place, Record, pattern, tag_of, zero_block};
 use ft_media::{Media, Rig};
@@ -19,7 +23,7 @@ use std::process::Abort;
 use std::test::Fail;
 
 /// The addresses of the disk.
-const SIZE: u64 = 64;
+pub(crate) const SIZE: u64 = 64;
 
 // The tags of three blocks.
 const X: u64 = 1;
@@ -28,145 +32,12 @@ const Y: u64 = 2;
 
 const Z: u64 = 3;
 
-const OUTCOMES: [Outcome; 4] = [
+pub(crate) const OUTCOMES: [Outcome; 4] = [
     Outcome::Blank,
     Outcome::Whole,
     Outcome::Torn,
     Outcome::Mixed,
 ];
-
-/// What a command does.
-#[derive(Clone, Copy, Debug)]
-enum Command {
-    WriteDirty,
-    WriteClean,
-    Evict,
-    Clean,
-    Commit,
-    Checkpoint,
-}
-
-/// A command with its address, and the tag of the block that it writes.
-#[derive(Clone, Copy, Debug)]
-struct Step {
-    command: Command,
-    lba: u64,
-    tag: u64,
-}
-
-fn write_dirty(lba: u64, tag: u64) -> Step {
-    Step {
-        command: Command::WriteDirty,
-        lba,
-        tag,
-    }
-}
-
-fn write_clean(lba: u64, tag: u64) -> Step {
-    Step {
-        command: Command::WriteClean,
-        lba,
-        tag,
-    }
-}
-
-fn evict(lba: u64) -> Step {
-    Step {
-        command: Command::Evict,
-        lba,
-        tag: 0,
-    }
-}
-
-fn clean(lba: u64) -> Step {
-    Step {
-        command: Command::Clean,
-        lba,
-        tag: 0,
-    }
-}
-
-const COMMIT: Step = Step {
-    command: Command::Commit,
-    lba: 0,
-    tag: 0,
-};
-
-const CHECKPOINT: Step = Step {
-    command: Command::Checkpoint,
-    lba: 0,
-    tag: 0,
-};
-
-// ---- the cache as a plain list
-
-/// A block that is held: its tag, and whether it is dirty.
-#[derive(Clone, Copy, Debug, PartialEq, Eq)]
-struct Held {
-    tag: u64,
-    dirty: bool,
-}
-
-/// What each address holds, from 0 on.
-#[derive(Clone, Copy, Debug, PartialEq, Eq)]
-struct Plain([Option<Held>; 16]);
-
-/// A list, and what of it a crash leaves.
-#[derive(Clone, Copy)]
-struct Lists {
-    now: Plain,
-    durable: Plain,
-}
-
-const NOTHING: Lists = Lists {
-    now: Plain([None; 16]),
-    durable: Plain([None; 16]),
-};
-
-/// What an address holds after a command.
-fn held_after(old: Option<Held>, step: &Step) -> Option<Held> {
-    match step.command {
-        Command::WriteDirty => Some(Held {
-            tag: step.tag,
-            dirty: true,
-        }),
-        Command::WriteClean => Some(Held {
-            tag: step.tag,
-            dirty: false,
-        }),
-        Command::Evict => None,
-        Command::Clean => old.map(|held| Held {
-            tag: held.tag,
-            dirty: false,
-        }),
-        Command::Commit | Command::Checkpoint => old,
-    }
-}
-
-/// Whether a command leaves nothing that a crash may undo.
-fn commits(old: Option<Held>, step: &Step) -> bool {
-    match step.command {
-        Command::WriteDirty | Command::Commit | Command::Checkpoint => true,
-        Command::WriteClean | Command::Evict => old.is_some(),
-        Command::Clean => false,
-    }
-}
-
-/// The lists after a command that answers Ok.
-fn after(lists: &Lists, step: &Step) -> Lists {
-    let at = step.lba as usize % 16;
-    let old = lists.now.0[at];
-    let mut now = lists.now;
-    now.0[at] = held_after(old, step);
-    Lists {
-        now,
-        durable: if commits(old, step) {
-            now
-        } else {
-            lists.durable
-        },
-    }
-}
 
 // ---- the cache on its media
 
@@ -199,7 +70,7 @@ fn open_where_it_fits<R: Rig>(alloc: Global, rig: &mut R, geometry: &Geometry) -
 }
 
 /// Opens the flash of a rig that was made anew.
-fn open_anew<R: Rig>(alloc: Global, rig: &mut R) -> Result<Ssc, Fail>
+pub(crate) fn open_anew<R: Rig>(alloc: Global, rig: &mut R) -> Result<Ssc, Fail>
     ensures up { IfOk result (λ c. IsUp c (R.state rig.new).contents) }
     ensures size { IfOk result (λ c. (geometry_of c).size ≡ 64) }
 {
@@ -210,7 +81,7 @@ fn open_anew<R: Rig>(alloc: Global, rig: &mut R) -> Result<Ssc, Fail>
 }
 
 /// Turns power on, and opens the flash.
-fn open_again<R: Rig>(alloc: Global, rig: &mut R) -> Result<Ssc, Fail>
+pub(crate) fn open_again<R: Rig>(alloc: Global, rig: &mut R) -> Result<Ssc, Fail>
     ensures up { IfOk result (λ c. IsUp c (R.state rig.new).contents) }
     ensures size { IfOk result (λ c. (geometry_of c).size ≡ 64) }
 {
@@ -229,7 +100,6 @@ fn give_dirty<M: Media>(media: &mut M, cache: &mut Ssc, step: &Step) -> Result<(
     requires up { IsUp cache.old (M.state media.old).contents }
     requires size { (geometry_of cache.old).size ≡ 64 }
     requires lba { step.now.lba < 64 }
-    requires room { 1 ≤ pages_left cache.old }
     ensures up { cache.new.stopped ≡ false → IsUp cache.new (M.state media.new).contents }
     ensures size { (geometry_of cache.new).size ≡ 64 }
 {
@@ -241,7 +111,6 @@ fn give_clean<M: Media>(media: &mut M, cache: &mut Ssc, step: &Step) -> Result<(
     requires up { IsUp cache.old (M.state media.old).contents }
     requires size { (geometry_of cache.old).size ≡ 64 }
     requires lba { step.now.lba < 64 }
-    requires room { 1 ≤ pages_left cache.old }
     ensures up { cache.new.stopped ≡ false → IsUp cache.new (M.state media.new).contents }
     ensures size { (geometry_of cache.new).size ≡ 64 }
 {
@@ -297,8 +166,8 @@ fn give<M: Media>(media: &mut M, cache: &mut Ssc, step: &Step) -> Result<Result<
     ensures up { OnOk result (cache.new.stopped ≡ false → IsUp cache.new (M.state media.new).contents) }
     ensures size { OnOk result ((geometry_of cache.new).size ≡ 64) }
 {
-    if step.lba >= SIZE || cache.pages_left() == 0 {
-        return Err(Fail::from("there is no such address, or no page is left"));
+    if step.lba >= SIZE {
+        return Err(Fail::from("there is no such address"));
     }
     match step.command {
         Command::WriteDirty => Ok(give_dirty(media, cache, step)),
@@ -311,7 +180,11 @@ fn give<M: Media>(media: &mut M, cache: &mut Ssc, step: &Step) -> Result<Result<
 }
 
 /// Gives the cache these commands until one of them stops it, and says how many did not.
-fn give_all<M: Media>(media: &mut M, cache: &mut Ssc, steps: &[Step]) -> Result<usize, Fail>
+pub(crate) fn give_all<M: Media>(
+    media: &mut M,
+    cache: &mut Ssc,
+    steps: &[Step],
+) -> Result<usize, Fail>
     requires up { IsUp cache.old (M.state media.old).contents }
     requires size { (geometry_of cache.old).size ≡ 64 }
 {
@@ -327,7 +200,7 @@ fn give_all<M: Media>(media: &mut M, cache: &mut Ssc, steps: &[Step]) -> Result<
 }
 
 /// Gives the cache a command that doesn't stop it.
-fn give_going<M: Media>(
+pub(crate) fn give_going<M: Media>(
     media: &mut M,
     cache: &mut Ssc,
     step: &Step,
@@ -345,7 +218,11 @@ fn give_going<M: Media>(
 }
 
 /// Gives the cache commands that don't stop it.
-fn give_each<M: Media>(media: &mut M, cache: &mut Ssc, steps: &[Step]) -> Result<(), Fail>
+pub(crate) fn give_each<M: Media>(
+    media: &mut M,
+    cache: &mut Ssc,
+    steps: &[Step],
+) -> Result<(), Fail>
     requires up { IsUp cache.old (M.state media.old).contents }
     requires size { (geometry_of cache.old).size ≡ 64 }
     ensures up { OnOk result (IsUp cache.new (M.state media.new).contents) }
@@ -358,7 +235,7 @@ fn give_each<M: Media>(media: &mut M, cache: &mut Ssc, steps: &[Step]) -> Result
 }
 
 /// The tag of the block of an address, where it is held.
-fn read<M: Media>(media: &mut M, cache: &mut Ssc, lba: u64) -> Result<Option<u64>, Fail>
+pub(crate) fn read<M: Media>(media: &mut M, cache: &mut Ssc, lba: u64) -> Result<Option<u64>, Fail>
     requires up { IsUp cache.old (M.state media.old).contents }
     requires size { (geometry_of cache.old).size ≡ 64 }
     ensures same { cache.new ≡ cache.old }
@@ -387,7 +264,7 @@ fn dirty(alloc: Global, cache: &Ssc) -> Result<Vec<u64>, Fail>
 }
 
 /// What the cache holds at the addresses of the tests.
-fn shown<M: Media>(alloc: Global, media: &mut M, cache: &mut Ssc) -> Result<Plain, Fail>
+pub(crate) fn shown<M: Media>(alloc: Global, media: &mut M, cache: &mut Ssc) -> Result<Plain, Fail>
     requires up { IsUp cache.old (M.state media.old).contents }
     requires size { (geometry_of cache.old).size ≡ 64 }
     ensures same { cache.new ≡ cache.old }
@@ -498,8 +375,8 @@ fn dirty_groups_past_the_data_blocks_are_refused(rt: HostRuntime) -> Result<(), 
     assert_eq!(rt; cache.dirty_groups(), 2);
     assert_eq!(rt; (cache.dirty_bits(0), cache.dirty_bits(1)), (0b11, 0b1));
     assert_eq!(rt;
-        (cache.held(), cache.pages_left(), cache.buffered()),
-        (3, 5, 0)
+        (cache.held(), cache.open_room(), cache.buffered()),
+        (3, 1, 0)
     );
     assert_eq!(rt; cache.buckets(), 0, "the map is a plain list");
     cache.reserve()?;
@@ -509,7 +386,7 @@ fn dirty_groups_past_the_data_blocks_are_refused(rt: HostRuntime) -> Result<(), 
 // ---- refusals
 
 /// Why the flash can't be opened.
-fn refusal<M: Media>(
+pub(crate) fn refusal<M: Media>(
     alloc: Global,
     media: &mut M,
     geometry: &Geometry,
@@ -595,14 +472,6 @@ fn flash_of_another_cache_is_refused(rt: HostRuntime) -> Result<(), Fail> {
 }
 
 // ---- histories
-
-fn after_all(lists: &Lists, steps: &[Step]) -> Lists {
-    let mut new = *lists;
-    for step in steps {
-        new = after(&new, step);
-    }
-    new
-}
 
 /// What a history leaves.
 fn shown_before_cut<R: Rig>(alloc: Global, rig: &mut R, steps: &[Step]) -> Result<Plain, Fail> {
@@ -758,17 +627,6 @@ fn shown_after_two_stops<R: Rig>(
     }
     let mut cache = open_again(alloc, rig)?;
     shown(alloc, rig, &mut cache)
-}
-
-/// Whether this may be left where the command after so many was cut: the list before it without what
-/// was buffered, that list, or the list after it.
-fn may_be_left(lists: &Lists, steps: &[Step], given: usize, found: &Plain) -> bool {
-    if given >= steps.len() {
-        return false;
-    }
-    let before = after_all(lists, &steps[..given]);
-    let done = after(&before, &steps[given]);
-    *found == before.durable || *found == before.now || *found == done.now
 }
 
 #[test]

@@ -12,6 +12,10 @@ mod device;
 #[cfg(test)]
 mod faults;
 #[cfg(test)]
+mod lists;
+#[cfg(test)]
+mod merges;
+#[cfg(test)]
 mod plain;
 #[cfg(test)]
 mod random;

@@ -1,5 +1,5 @@
 -- What a command answers and leaves, between two states of the cache that holds a list.
-use Rattle.std.proofs.Common.{◌≡◌, ◌↔◌, ℕ, ◌+◌, ◌/◌, ◌<◌, ◌==◌, Bool, true, false, cond, length, Option, Some, None, Result, Ok, Err, OnOk, IsTrue, refl, sym, ◌∙◌, ap, subst, arith, inl, inr, eqb-true}
+use Rattle.std.proofs.Common.{◌≡◌, ◌↔◌, ℕ, ◌<◌, ◌==◌, Bool, true, false, cond, Option, Some, None, Result, Ok, Err, OnOk, IsTrue, refl, sym, ◌∙◌, ap, subst, arith, inl, inr, eqb-true}
 use Rattle.std.specs.Result.{is_err}
 use Rattle.std.specs.Option.{option_map, is_some}
 use Rattle.std.specs.Cmp.{nat_cmp_total}
@@ -20,62 +20,40 @@ use Rattle.ft_media.specs.declared.media.PageRead.TheVariants as read
 use Rattle.ft_media.specs.declared.media.MediaError.{MediaError}
 use Rattle.ft_media.specs.declared.media.MediaError.TheVariants as media
 use Rattle.cache_model.specs.declared.entry.Entry.{Entry}
-use Rattle.cache_model.specs.Cache.{held, CacheList, with_group, dirty_groups, IsFull, evicted, made_clean, marked}
+use Rattle.cache_model.specs.Cache.{held, CacheList, evicted, made_clean, marked}
 use Rattle.cache_model.specs.Loading.{is_whole}
 use Rattle.cache_model.proofs.MapLemmas.{get_insert, get_remove}
 use Rattle.mapping.specs.Counts.{place_and_mark}
+use Rattle.merge_engine.proofs.TakeLemmas.{agree_map}
+use Rattle.ssc.specs.declared.cache.Ssc.{Ssc}
 use Rattle.ssc.specs.declared.error.SscError.{SscError}
-use Rattle.ssc.specs.declared.error.SscError.TheVariants as error
 use Rattle.ssc.specs.Errors.{of_media, ssc_failed, ssc_lost}
-use Rattle.ssc.specs.CacheState.{CacheValue, Keeps, Holds, geometry_of}
-use Rattle.ssc.specs.Commands.{StandsForOne, FullExactly}
-use Rattle.ssc.specs.Steps.{HasRoomFor, dirty_groups_with}
-use Rattle.ssc.proofs.AheadLemmas.{current_map}
-use Rattle.ssc.proofs.DirtyLemmas.{with_same}
+use Rattle.ssc.specs.CacheState.{Holds, entries_of}
+use Rattle.ssc.specs.Commands.{StandsForOne, AsUndone, AsBefore, AsAfter}
+use Rattle.ssc.specs.Steps.{StandsForEither}
 use Rattle.ssc.proofs.HoldsLemmas.{held_none, held_some}
 
+-- ---- images
+
 -- what holds of the pages now holds of each image
-pub image_of : (g : Geometry) (contents : Contents) (undone before after : CacheList) → StandsForOne g contents.flash.page undone before after → (x : Image) → Now contents x → StandsForOne g x.page undone before after
+image_of : (g : Geometry) (contents : Contents) (undone before after : CacheList) → StandsForOne g contents.flash.page undone before after → (x : Image) → Now contents x → StandsForOne g x.page undone before after
 image_of g contents undone before after stands x now = subst (λ (p : Place → Page). StandsForOne g p undone before after) (sym now.pages) stands
 
--- ---- memory that was taken
+-- of a step that is committed with all that was buffered
+pub images_after : (g : Geometry) (contents : Contents) (undone before after : CacheList) → StandsForEither g contents.flash.page undone after → (x : Image) → Now contents x → StandsForOne g x.page undone before after
+images_after g contents undone before after (inl s) = image_of g contents undone before after (AsUndone s)
+images_after g contents undone before after (inr s) = image_of g contents undone before after (AsAfter s)
+
+-- and of a commit
+pub images_before : (g : Geometry) (contents : Contents) (undone before after : CacheList) → StandsForEither g contents.flash.page undone before → (x : Image) → Now contents x → StandsForOne g x.page undone before after
+images_before g contents undone before after (inl s) = image_of g contents undone before after (AsUndone s)
+images_before g contents undone before after (inr s) = image_of g contents undone before after (AsBefore s)
+
+-- ---- an answer that isn't a refusal
 
 pub not_refused : {T E P : Type 0} (r : Result T E) (b : Bool) → b ≡ is_err r → b ≡ false → OnOk r P → P
 not_refused (Ok v) b is f h = h
 not_refused (Err e) b is f h = absurd (both_ways b f is)
-
-pub keeps_reserved : (c r : CacheValue) (contents : Contents) (list durable : CacheList) → r ≡ record c { ready = true } → Keeps c contents list durable → Keeps r contents list durable
-keeps_reserved c r contents list durable is k = subst (λ (v : CacheValue). Keeps v contents list durable) (sym is) (record {
-  shape = k.shape;
-  current = k.current;
-  open_log = k.open_log;
-  whole = k.whole;
-  held = k.held;
-  stands = k.stands;
-  entries_before = k.entries_before;
-  durable_before = k.durable_before;
-  open_block = k.open_block;
-})
-
--- ---- full
-
-module _ (c : CacheValue) (contents : Contents) (s : CacheList) (lba : ℕ) (holds : Holds c contents s) where
-  count_is : length (with_group (lba / (geometry_of c).p) (dirty_groups (geometry_of c) s)) ≡ dirty_groups_with (geometry_of c) c.entries lba
-  count_is = with_same (geometry_of c) contents.flash.page c.entries s holds.keeps.whole.whole holds.keeps.held lba
-
-  pub full_is : (T : Type 0) (n limit : ℕ) → dirty_groups_with (geometry_of c) c.entries lba ≡ (geometry_of c).c + 1 → n ≡ (geometry_of c).c + 1 → limit ≡ (geometry_of c).c → FullExactly (geometry_of c) s lba {T = T} (Err (error.Full n limit))
-  full_is T n limit full n_is limit_is = let same = count_is in (omega arith, n_is ∙ sym full ∙ sym same, limit_is)
-
-  pub not_full : HasRoomFor (geometry_of c) c.entries lba → IsFull (geometry_of c) s lba → ⊥
-  not_full room full = let same = count_is in absurd (omega arith)
-
-  failed_exactly : (T : Type 0) (e : MediaError) → HasRoomFor (geometry_of c) c.entries lba → FullExactly (geometry_of c) s lba {T = T} (Err (of_media e))
-  failed_exactly T media.Failed room = not_full room
-  failed_exactly T media.PowerLost room = not_full room
-  failed_exactly T media.OutOfMemory room = not_full room
-
-  pub not_full_from : (T : Type 0) (r : SscError) (e : MediaError) → r ≡ of_media e → HasRoomFor (geometry_of c) c.entries lba → FullExactly (geometry_of c) s lba {T = T} (Err r)
-  not_full_from T r e is room = subst (λ (r : SscError). FullExactly (geometry_of c) s lba {T = T} (Err r)) (sym is) (failed_exactly T e room)
 
 -- ---- given up
 
@@ -108,25 +86,25 @@ cleaned_clean s a block clean = ap (marked false a s) clean ∙ same_map nat_cmp
       | inr f ↦ ap (λ b. cond b (Some (held block false)) (get s x)) f
     ]
 
-module _ (c : CacheValue) (contents : Contents) (s : CacheList) (lba : ℕ) (holds : Holds c contents s) where
+module _ (c : Ssc) (contents : Contents) (s : CacheList) (lba : ℕ) (holds : Holds c contents s) where
   -- an address without an entry
-  pub no_entry : ((e : Entry) × (get c.entries lba ≡ Some e) → ⊥) → get s lba ≡ None
-  no_entry never = by (get c.entries lba) refl
+  pub no_entry : ((e : Entry) × (get (entries_of c) lba ≡ Some e) → ⊥) → get s lba ≡ None
+  no_entry never = by (get (entries_of c) lba) refl
     where
-      by : (o : Option Entry) → get c.entries lba ≡ o → get s lba ≡ None
+      by : (o : Option Entry) → get (entries_of c) lba ≡ o → get s lba ≡ None
       by None is = held_none c contents s lba holds is
       by (Some e) is = absurd (never (e, is))
 
-  pub an_entry : (e : Entry) → get c.entries lba ≡ Some e → get s lba ≡ None → ⊥
+  pub an_entry : (e : Entry) → get (entries_of c) lba ≡ Some e → get s lba ≡ None → ⊥
   an_entry e is none = let h = held_some c contents s lba e holds is in let both : None ≡ Some (held h.0 e.dirty) = sym none ∙ h.1 in cc
 
-  pub dirty_entry : ((e : Entry) × (get c.entries lba ≡ Some e) × (e.dirty ≡ true)) → (block : Block) × (get s lba ≡ Some (held block true))
+  pub dirty_entry : ((e : Entry) × (get (entries_of c) lba ≡ Some e) × (e.dirty ≡ true)) → (block : Block) × (get s lba ≡ Some (held block true))
   dirty_entry x = let h = held_some c contents s lba x.0 holds x.1 in (h.0, h.1 ∙ ap (λ b. Some (held h.0 b)) x.2)
 
-  pub no_dirty_entry : ((e : Entry) × (get c.entries lba ≡ Some e) × (e.dirty ≡ true) → ⊥) → made_clean lba s ≡ s
-  no_dirty_entry never = by (get c.entries lba) refl
+  pub no_dirty_entry : ((e : Entry) × (get (entries_of c) lba ≡ Some e) × (e.dirty ≡ true) → ⊥) → made_clean lba s ≡ s
+  no_dirty_entry never = by (get (entries_of c) lba) refl
     where
-      by : (o : Option Entry) → get c.entries lba ≡ o → made_clean lba s ≡ s
+      by : (o : Option Entry) → get (entries_of c) lba ≡ o → made_clean lba s ≡ s
       by None is = ap (marked false lba s) (held_none c contents s lba holds is)
       by (Some e) is = elim (cases_Bool e.dirty) [
         | inl t ↦ absurd (never (e, is, t))
@@ -142,7 +120,7 @@ entry_there None r b is there =
 entry_there (Some e) r b is there = (λ t. (e, refl), λ x. there ∙ ap is_some is)
 
 -- the place of an address, of its entry
-pub placed_entry : (o : Option Entry) (at : Place) (dirty : Bool) → Some (at, dirty) ≡ option_map place_and_mark o → (e : Entry) × (o ≡ Some e) × (e.place ≡ at)
+placed_entry : (o : Option Entry) (at : Place) (dirty : Bool) → Some (at, dirty) ≡ option_map place_and_mark o → (e : Entry) × (o ≡ Some e) × (e.place ≡ at)
 placed_entry None at dirty is = absurd (cc)
 placed_entry (Some e) at dirty is =
     let same : (at, dirty) ≡ place_and_mark e = cc in
@@ -156,11 +134,11 @@ pub record IsReadable (contents : Contents) (at : Place) : Type 0 where
   pub page : at.page < contents.shape.pages
   pub whole : is_whole (contents.flash.page at) ≡ true
 
-pub readable : (c : CacheValue) (contents : Contents) (s : CacheList) (lba : ℕ) (at : Place) (dirty : Bool) → Holds c contents s → Some (at, dirty) ≡ option_map place_and_mark (get c.entries lba) → IsReadable contents at
+pub readable : (c : Ssc) (contents : Contents) (s : CacheList) (lba : ℕ) (at : Place) (dirty : Bool) → Holds c contents s → Some (at, dirty) ≡ option_map place_and_mark (get (entries_of c) lba) → IsReadable contents at
 readable c contents s lba at dirty holds is =
-    let k = holds.keeps in
-    let x = placed_entry (get c.entries lba) at dirty is in
-    let pool = (current_map contents.flash.page c.log c.entries k.current).in_pool lba x.0 x.1 in
+    let k = holds.agree.sound in
+    let x = placed_entry (get (entries_of c) lba) at dirty is in
+    let pool = (agree_map c.parts contents holds.agree).in_pool lba x.0 x.1 in
     subst (λ (p : Place). IsReadable contents p) x.2 (record {
       block = let below = pool.below in let most = k.shape.blocks in omega arith;
       page = subst (λ n. x.0.place.page < n) (sym k.shape.pages) pool.page;

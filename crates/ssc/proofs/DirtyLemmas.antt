@@ -20,7 +20,7 @@ use Rattle.mapping.specs.declared.bits.Choice.TheVariants.{Dirty}
 use Rattle.mapping.specs.Bits.{is_chosen, chosen_of}
 use Rattle.mapping.proofs.MarksLemmas.{same_bools}
 use Rattle.mapping.proofs.BitsLemmas.{bit_of_set, set_of_none}
-use Rattle.ssc.specs.Steps.{dirty_groups_with, HasRoomFor}
+use Rattle.merge_engine.specs.Steps.{dirty_groups_with, HasRoomFor}
 
 -- ---- lists of numbers, each once
 
@@ -58,9 +58,6 @@ module _ {X : Type 0} (f : ℕ × X → ℕ) (t : X → Bool) (m : FinMap nat_cm
 
   pub member_to : (n : ℕ) → member n (numbers f t (entries m)) ≡ true → (x : ℕ × X) × (get m x.0 ≡ Some x.1) × (t x.1 ≡ true) × (f x ≡ n)
   member_to n is = member_of f t (λ x. get m x.0 ≡ Some x.1) (entries m) n (all_entries m (λ a e. get m a ≡ Some e) (λ a e is. is)) is
-
-abbrev pub group_in : Geometry → {X : Type 0} → ℕ × X → ℕ
-group_in g x = x.0 / g.p
 
 abbrev pub dirty_numbers : Geometry → Entries → List ℕ
 dirty_numbers g m = numbers (λ (x : ℕ × Entry). x.0 / g.p) (λ (e : Entry). e.dirty) (entries m)
@@ -120,7 +117,7 @@ full_absent g m lba n bits some is most high bits_is none = elim (cases_Bool (me
 
 -- ---- the list of the cache has the groups of its entries
 
-held_of : (page : Place → Page) (o : Option Entry) (h : Held) → option_and_then (held_at page) o ≡ Some h → (e : Entry) × (o ≡ Some e) × (h.dirty ≡ e.dirty)
+pub held_of : (page : Place → Page) (o : Option Entry) (h : Held) → option_and_then (held_at page) o ≡ Some h → (e : Entry) × (o ≡ Some e) × (h.dirty ≡ e.dirty)
 held_of page None h is = absurd (cc)
 held_of page (Some e) h is = (e, refl, by_page (page e.place) is)
   where

@@ -20,10 +20,12 @@ use Rattle.cache_model.proofs.MapLemmas.{get_insert}
 use Rattle.cache_model.proofs.CountLemmas.{member, same_number}
 use Rattle.cache_model.proofs.UndoLemmas.{undone_at, undo_inserted, undo_cleaned, get_marked}
 use Rattle.mapping.proofs.CountsLemmas.{member_push}
-use Rattle.ssc.specs.CacheState.{CacheValue, Keeps, Holds, may_wait, waiting_as, waiting, pending}
+use Rattle.merge_engine.specs.declared.parts.Parts.{Parts}
+use Rattle.merge_engine.specs.Agreement.{Agree, Lists}
+use Rattle.ssc.specs.declared.cache.Ssc.{Ssc}
+use Rattle.ssc.specs.CacheState.{HasMemory, Holds, entries_of, may_wait, waiting_as, waiting, pending}
 use Rattle.ssc.specs.Commands.{PendsWith}
-use Rattle.ssc.specs.Steps.{KeepsSome, KeepsAfter}
-use Rattle.ssc.proofs.PutLemmas.{push_some}
+use Rattle.ssc.specs.Steps.{ListsAfter}
 
 -- ---- what waits, record by record
 
@@ -43,11 +45,8 @@ kinds_push : (changes : List Record) (own : Record) → may_wait own ≡ true �
 kinds_push [] own may all = and_from _ _ may refl
 kinds_push (change ∷ changes) own may all = let p = and_parts (may_wait change) (list_all may_wait changes) all in and_from _ _ p.0 (kinds_push changes own may p.1)
 
-pub few_buffered : (c : CacheValue) (contents : Contents) (s : CacheList) → Holds c contents s → length c.log.buffered < 127
-few_buffered c contents s holds = let few = holds.waits.few in let same = length_waiting c.log.buffered in omega arith
-
-pub keeps_some : (c : CacheValue) (contents : Contents) (s : CacheList) → Holds c contents s → KeepsSome c contents
-keeps_some c contents s holds = record { list = s; durable = undo (pending c) s; keeps = holds.keeps }
+pub few_buffered : (c : Ssc) (contents : Contents) (s : CacheList) → Holds c contents s → length c.parts.log.buffered < 127
+few_buffered c contents s holds = let few = holds.waits.few in let same = length_waiting c.parts.log.buffered in omega arith
 
 -- ---- what may wait beside a list
 
@@ -89,10 +88,10 @@ map_push : (q : List Buffered) (b : Buffered) → map address_of (q ++ b ∷ [])
 map_push [] b = refl
 map_push (x ∷ xs) b = ap (λ l. address_of x ∷ l) (map_push xs b)
 
-pub waits_none : (s : CacheList) → MayWait [] s
+waits_none : (s : CacheList) → MayWait [] s
 waits_none s = record { apart = tt; clean = tt; few = omega arith }
 
-pub waits_push : (q : List Buffered) (own : Buffered) (s s' : CacheList) → ((block : Block) → get s (address_of own) ≡ Some (held block false) → ⊥) → ((a : ℕ) → (a ≡ address_of own → ⊥) → get s' a ≡ get s a) → IsCleanIn s' own → length q + 1 < 127 → MayWait q s → MayWait (q ++ own ∷ []) s'
+waits_push : (q : List Buffered) (own : Buffered) (s s' : CacheList) → ((block : Block) → get s (address_of own) ≡ Some (held block false) → ⊥) → ((a : ℕ) → (a ≡ address_of own → ⊥) → get s' a ≡ get s a) → IsCleanIn s' own → length q + 1 < 127 → MayWait q s → MayWait (q ++ own ∷ []) s'
 waits_push q own s s' never same clean few waits =
     let absent = not_waiting q s (address_of own) never waits.clean in
     record {
@@ -103,46 +102,64 @@ waits_push q own s s' never same clean few waits =
 
 -- ---- the cache between two commands
 
-pub holds_from : (c : CacheValue) (contents : Contents) (s durable : CacheList) (buffered : List Record) → c.log.buffered ≡ buffered → undo (waiting buffered) s ≡ durable → Keeps c contents s durable → list_all may_wait buffered ≡ true → MayWait (waiting buffered) s → Holds c contents s
-holds_from c contents s durable buffered is undone keeps kinds waits = record {
-  keeps = subst (λ (d : CacheList). Keeps c contents s d) (sym undone ∙ ap (λ (l : List Record). undo (waiting l) s) (sym is)) keeps;
+-- its parts agree with the flash, and the memory of a write is there where it is said to be
+pub record IsSettled (c : Ssc) (contents : Contents) : Type 0 where
+  pub agree : Agree c.parts contents
+  pub memory : c.ready ≡ true → HasMemory c.parts
+
+-- a step that changes the log alone leaves the memory
+pub memory_logged : (old new : Parts) → new ≡ record old { log = new.log } → HasMemory old → HasMemory new
+memory_logged old new is memory = subst HasMemory (sym is) (record { pages = memory.pages; groups = memory.groups })
+
+holds_from : (c : Ssc) (contents : Contents) (s durable : CacheList) (buffered : List Record) → IsSettled c contents → c.parts.log.buffered ≡ buffered → undo (waiting buffered) s ≡ durable → Lists c.parts contents.flash.page s durable → list_all may_wait buffered ≡ true → MayWait (waiting buffered) s → Holds c contents s
+holds_from c contents s durable buffered settled is undone lists kinds waits = record {
+  agree = settled.agree;
+  lists = subst (λ (d : CacheList). Lists c.parts contents.flash.page s d) (sym undone ∙ ap (λ (l : List Record). undo (waiting l) s) (sym is)) lists;
   kinds = subst (λ (l : List Record). list_all may_wait l ≡ true) (sym is) kinds;
   waits = subst (λ (l : List Record). MayWait (waiting l) s) (sym is) waits;
+  memory = settled.memory;
 }
 
-pub holds_committed : (c : CacheValue) (contents : Contents) (s : CacheList) → c.log.buffered ≡ [] → Keeps c contents s s → Holds c contents s
-holds_committed c contents s is keeps = holds_from c contents s s [] is refl keeps refl (waits_none s)
+pub holds_committed : (c : Ssc) (contents : Contents) (s : CacheList) → IsSettled c contents → c.parts.log.buffered ≡ [] → Lists c.parts contents.flash.page s s → Holds c contents s
+holds_committed c contents s settled is lists = holds_from c contents s s [] settled is refl lists refl (waits_none s)
 
 -- a step that waits, in a record of its own
-module _ (old new : CacheValue) (contents contents' : Contents) (s s' : CacheList) (own : Record) (holds : Holds old contents s)
+module _ (s s' : CacheList) (own : Record)
     (may : may_wait own ≡ true)
     (never : (block : Block) → get s (address_of (waiting_as own)) ≡ Some (held block false) → ⊥)
     (same : (a : ℕ) → (a ≡ address_of (waiting_as own) → ⊥) → get s' a ≡ get s a)
     (clean : IsCleanIn s' (waiting_as own))
     (undone : (q : List Buffered) → ((o : Option Held) → undone_at q (address_of (waiting_as own)) o ≡ o) → undo (q ++ waiting_as own ∷ []) s' ≡ undo q s) where
-  away : (o : Option Held) → undone_at (pending old) (address_of (waiting_as own)) o ≡ o
-  away = undone_away (pending old) (address_of (waiting_as own)) (not_waiting (pending old) s (address_of (waiting_as own)) never holds.waits.clean)
-
-  pub holds_after : length new.log.buffered < 127 → KeepsAfter old.log.buffered own new contents' (undo (pending old) s) s s' → Holds new contents' s'
-  holds_after few (inl k) =
+  -- behind all that was buffered
+  holds_behind : (old new : Ssc) (contents contents' : Contents) → Holds old contents s → IsSettled new contents' → length new.parts.log.buffered < 127 → new.parts.log.buffered ≡ old.parts.log.buffered ++ own ∷ [] → Lists new.parts contents'.flash.page s' (undo (pending old) s) → Holds new contents' s'
+  holds_behind old new contents contents' holds settled few is lists =
       let q = pending old in
-      let pushed = waiting_push old.log.buffered own in
-      let count : length q + 1 < 127 = omega (arith, length_waiting old.log.buffered, ap length k.0, length-append old.log.buffered (own ∷ [])) in
-      holds_from new contents' s' (undo q s) (old.log.buffered ++ own ∷ []) k.0 (ap (λ (l : List Buffered). undo l s') pushed ∙ undone q away) k.1
-      (kinds_push old.log.buffered own may holds.kinds)
+      let pushed = waiting_push old.parts.log.buffered own in
+      let count : length q + 1 < 127 = omega (arith, length_waiting old.parts.log.buffered, ap length is, length-append old.parts.log.buffered (own ∷ [])) in
+      let away = undone_away q (address_of (waiting_as own)) (not_waiting q s (address_of (waiting_as own)) never holds.waits.clean) in
+      holds_from new contents' s' (undo q s) (old.parts.log.buffered ++ own ∷ []) settled is (ap (λ (l : List Buffered). undo l s') pushed ∙ undone q away) lists
+      (kinds_push old.parts.log.buffered own may holds.kinds)
       (subst (λ (l : List Buffered). MayWait l s') (sym pushed) (waits_push q (waiting_as own) s s' never same clean count holds.waits))
-  holds_after few (inr (inl k)) =
-      holds_from new contents' s' s (own ∷ []) k.0 (undone [] (λ o. refl)) k.1 (and_from _ _ may refl)
-      (waits_push [] (waiting_as own) s s' never same clean (omega arith) (waits_none s))
-  holds_after few (inr (inr k)) = holds_committed new contents' s' k.0 k.1
 
-  pub pends_after : KeepsAfter old.log.buffered own new contents' (undo (pending old) s) s s' → PendsWith (pending old) (pending new) (waiting_as own)
-  pends_after (inl k) = inl (ap waiting k.0 ∙ waiting_push old.log.buffered own)
-  pends_after (inr (inl k)) = inr (inl (ap waiting k.0))
-  pends_after (inr (inr k)) = inr (inr (ap waiting k.0))
+  -- alone
+  holds_alone : (new : Ssc) (contents' : Contents) → IsSettled new contents' → new.parts.log.buffered ≡ own ∷ [] → Lists new.parts contents'.flash.page s' s → Holds new contents' s'
+  holds_alone new contents' settled is lists =
+      holds_from new contents' s' s (own ∷ []) settled is (undone [] (λ o. refl)) lists (and_from _ _ may refl)
+      (waits_push [] (waiting_as own) s s' never same clean (omega arith) (waits_none s))
+
+  holds_after : (old new : Ssc) (contents contents' : Contents) → Holds old contents s → IsSettled new contents' → length new.parts.log.buffered < 127 → ListsAfter old.parts.log.buffered own new.parts contents'.flash.page (undo (pending old) s) s s' → Holds new contents' s'
+  holds_after old new contents contents' holds settled few (inl k) = holds_behind old new contents contents' holds settled few k.0 k.1
+  holds_after old new contents contents' holds settled few (inr (inl k)) = holds_alone new contents' settled k.0 k.1
+  holds_after old new contents contents' holds settled few (inr (inr k)) = holds_committed new contents' s' settled k.0 k.1
+
+-- what is buffered then
+pub pends_after : (own : Record) (old new : Ssc) (contents' : Contents) (durable before list : CacheList) → ListsAfter old.parts.log.buffered own new.parts contents'.flash.page durable before list → PendsWith (pending old) (pending new) (waiting_as own)
+pends_after own old new contents' durable before list (inl k) = inl (ap waiting k.0 ∙ waiting_push old.parts.log.buffered own)
+pends_after own old new contents' durable before list (inr (inl k)) = inr (inl (ap waiting k.0))
+pends_after own old new contents' durable before list (inr (inr k)) = inr (inr (ap waiting k.0))
 
 -- a clean block at an address that was absent
-module _ (old new : CacheValue) (contents contents' : Contents) (s : CacheList) (lba : ℕ) (at : Place) (block : Block) (holds : Holds old contents s) (absent : get s lba ≡ None) where
+module _ (s : CacheList) (lba : ℕ) (at : Place) (block : Block) (absent : get s lba ≡ None) where
   none_clean : (b : Block) → get s lba ≡ Some (held b false) → ⊥
   none_clean b is = let both : None ≡ Some (held b false) = sym absent ∙ is in cc
 
@@ -152,14 +169,14 @@ module _ (old new : CacheValue) (contents contents' : Contents) (s : CacheList) 
   here_inserted : get (written_clean lba block s) lba ≡ Some (held block false)
   here_inserted = get_insert s lba (held block false) lba ∙ ap (λ x. cond x (Some (held block false)) (get s lba)) (same_number lba)
 
-  pub holds_inserted : length new.log.buffered < 127 → KeepsAfter old.log.buffered (SetPage lba at false) new contents' (undo (pending old) s) s (written_clean lba block s) → Holds new contents' (written_clean lba block s)
-  holds_inserted = holds_after old new contents contents' s (written_clean lba block s) (SetPage lba at false) holds refl none_clean other_inserted (block, here_inserted) (λ q away. undo_inserted q s lba block absent)
+  pub inserted_behind : (old new : Ssc) (contents contents' : Contents) → Holds old contents s → IsSettled new contents' → length new.parts.log.buffered < 127 → new.parts.log.buffered ≡ old.parts.log.buffered ++ SetPage lba at false ∷ [] → Lists new.parts contents'.flash.page (written_clean lba block s) (undo (pending old) s) → Holds new contents' (written_clean lba block s)
+  inserted_behind = holds_behind s (written_clean lba block s) (SetPage lba at false) refl none_clean other_inserted (block, here_inserted) (λ q away. undo_inserted q s lba block absent)
 
-  pub pends_inserted : KeepsAfter old.log.buffered (SetPage lba at false) new contents' (undo (pending old) s) s (written_clean lba block s) → PendsWith (pending old) (pending new) (Inserted lba)
-  pends_inserted = pends_after old new contents contents' s (written_clean lba block s) (SetPage lba at false) holds refl none_clean other_inserted (block, here_inserted) (λ q away. undo_inserted q s lba block absent)
+  pub inserted_alone : (new : Ssc) (contents' : Contents) → IsSettled new contents' → new.parts.log.buffered ≡ SetPage lba at false ∷ [] → Lists new.parts contents'.flash.page (written_clean lba block s) s → Holds new contents' (written_clean lba block s)
+  inserted_alone = holds_alone s (written_clean lba block s) (SetPage lba at false) refl none_clean other_inserted (block, here_inserted) (λ q away. undo_inserted q s lba block absent)
 
 -- an address that was dirty, and is clean
-module _ (old new : CacheValue) (contents contents' : Contents) (s : CacheList) (lba : ℕ) (block : Block) (holds : Holds old contents s) (dirty : get s lba ≡ Some (held block true)) where
+module _ (s : CacheList) (lba : ℕ) (block : Block) (dirty : get s lba ≡ Some (held block true)) where
   dirty_not_clean : (b : Block) → get s lba ≡ Some (held b false) → ⊥
   dirty_not_clean b is =
       let both : Some (held block true) ≡ Some (held b false) = sym dirty ∙ is in
@@ -173,26 +190,17 @@ module _ (old new : CacheValue) (contents contents' : Contents) (s : CacheList) 
   here_cleaned : get (made_clean lba s) lba ≡ Some (held block false)
   here_cleaned = get_marked false lba s (get s lba) lba refl ∙ ap (λ x. cond x (option_map (marked_as false) (get s lba)) (get s lba)) (same_number lba) ∙ ap (option_map (marked_as false)) dirty
 
-  pub holds_cleaned : length new.log.buffered < 127 → KeepsAfter old.log.buffered (Clean lba) new contents' (undo (pending old) s) s (made_clean lba s) → Holds new contents' (made_clean lba s)
-  holds_cleaned = holds_after old new contents contents' s (made_clean lba s) (Clean lba) holds refl dirty_not_clean other_cleaned (block, here_cleaned) (λ q away. undo_cleaned q s lba block dirty away)
-
-  pub pends_cleaned : KeepsAfter old.log.buffered (Clean lba) new contents' (undo (pending old) s) s (made_clean lba s) → PendsWith (pending old) (pending new) (Cleaned lba)
-  pends_cleaned = pends_after old new contents contents' s (made_clean lba s) (Clean lba) holds refl dirty_not_clean other_cleaned (block, here_cleaned) (λ q away. undo_cleaned q s lba block dirty away)
-
--- where nothing is buffered, a clean block over a held one is committed
-pub after_none : (buffered : List Record) (own : Record) (c : CacheValue) (contents : Contents) (durable before list : CacheList) → c.log.buffered ≡ [] → KeepsAfter buffered own c contents durable before list → Keeps c contents list list
-after_none buffered own c contents durable before list none (inl k) = absurd (push_some buffered own (sym k.0 ∙ none))
-after_none buffered own c contents durable before list none (inr (inl k)) = absurd (push_some [] own (sym k.0 ∙ none))
-after_none buffered own c contents durable before list none (inr (inr k)) = k.1
+  pub holds_cleaned : (old new : Ssc) (contents contents' : Contents) → Holds old contents s → IsSettled new contents' → length new.parts.log.buffered < 127 → ListsAfter old.parts.log.buffered (Clean lba) new.parts contents'.flash.page (undo (pending old) s) s (made_clean lba s) → Holds new contents' (made_clean lba s)
+  holds_cleaned = holds_after s (made_clean lba s) (Clean lba) refl dirty_not_clean other_cleaned (block, here_cleaned) (λ q away. undo_cleaned q s lba block dirty away)
 
 -- ---- entries and the list
 
 -- an address is held exactly where it has an entry
-pub held_none : (c : CacheValue) (contents : Contents) (s : CacheList) (a : ℕ) → Holds c contents s → get c.entries a ≡ None → get s a ≡ None
-held_none c contents s a holds none = holds.keeps.held a ∙ ap (option_and_then (held_at contents.flash.page)) none
+pub held_none : (c : Ssc) (contents : Contents) (s : CacheList) (a : ℕ) → Holds c contents s → get (entries_of c) a ≡ None → get s a ≡ None
+held_none c contents s a holds none = holds.lists.held a ∙ ap (option_and_then (held_at contents.flash.page)) none
 
-pub held_some : (c : CacheValue) (contents : Contents) (s : CacheList) (a : ℕ) (e : Entry) → Holds c contents s → get c.entries a ≡ Some e → (block : Block) × (get s a ≡ Some (held block e.dirty))
-held_some c contents s a e holds is = let h = held_whole contents.flash.page e (holds.keeps.whole.whole a e is) in (h.0, holds.keeps.held a ∙ ap (option_and_then (held_at contents.flash.page)) is ∙ h.1)
+pub held_some : (c : Ssc) (contents : Contents) (s : CacheList) (a : ℕ) (e : Entry) → Holds c contents s → get (entries_of c) a ≡ Some e → (block : Block) × (get s a ≡ Some (held block e.dirty))
+held_some c contents s a e holds is = let h = held_whole contents.flash.page e (holds.agree.sound.whole.whole a e is) in (h.0, holds.lists.held a ∙ ap (option_and_then (held_at contents.flash.page)) is ∙ h.1)
   where
     held_whole : (page : Place → Page) (e : Entry) → is_whole (page e.place) ≡ true → (block : Block) × (held_at page e ≡ Some (held block e.dirty))
     held_whole page e whole = by_page (page e.place) whole

@@ -1,4 +1,4 @@
--- The list that flash stands for, made of the entries that it is loaded as.
+-- The list of a map on the flash, and the list that flash stands for.
 use Rattle.std.proofs.Common.{◌≡◌, ℕ, ◌==◌, Bool, true, false, cond, List, [], ◌∷◌, Option, Some, None, Ok, refl, sym, ◌∙◌, ap, nat_cmp}
 use Rattle.std.specs.Option.{option_and_then}
 use Rattle.std.specs.List.{AllByRecursion}
@@ -13,6 +13,7 @@ use Rattle.cache_model.specs.Cache.{CacheList, Held}
 use Rattle.cache_model.specs.Stands.{StandsFor, held_at}
 use Rattle.cache_model.proofs.MapLemmas.{all_entries, eq_key, get_insert}
 use Rattle.cache_model.proofs.StandLemmas.{entry_whole}
+use Rattle.merge_engine.specs.Agreement.{IsListOn}
 use Rattle.ssc.proofs.DirtyLemmas.{whole_held}
 
 module _ (page : Place → Page) where
@@ -38,13 +39,10 @@ module _ (page : Place → Page) where
       ∙ choice (a == e.0) e.1 h.0 (find nat_cmp a es) h.1
       ∙ ap (λ b. option_and_then (held_at page) (cond b (Some e.1) (find nat_cmp a es))) (sym (eq_key a e.0))
 
+  -- a map whose places are whole is a list on the flash
+  pub list_some : (m : Entries) → ((a : ℕ) (e : Entry) → get m a ≡ Some e → is_whole (page e.place) ≡ true) → (s : CacheList) × IsListOn page m s
+  list_some m whole = (list_of (entries m), λ a. get-list_of (entries m) (all_entries m (λ a e. is_whole (page e.place) ≡ true) whole) a ∙ ap (option_and_then (held_at page)) (sym (get-entries m a)))
+
   -- flash that is loaded stands for a list
   pub stands_some : (g : Geometry) (m : Entries) → load g page ≡ Ok m → (s : CacheList) × StandsFor g page s
-  stands_some g m loads = (
-    list_of (entries m),
-    record {
-      loaded = m;
-      loads = loads;
-      held = λ a. get-list_of (entries m) (all_entries m (λ a e. is_whole (page e.place) ≡ true) (entry_whole g page m loads)) a ∙ ap (option_and_then (held_at page)) (sym (get-entries m a));
-    },
-  )
+  stands_some g m loads = let list = list_some m (entry_whole g page m loads) in (list.0, record { loaded = m; loads = loads; held = list.1 })

@@ -14,7 +14,8 @@ use Rattle.cache_model.specs.Records.{Entries}
 use Rattle.cache_model.specs.Cache.{Held, CacheList, dirty_between}
 use Rattle.cache_model.proofs.MapLemmas.{all_entries}
 use Rattle.mapping.specs.Counts.{address_and_place}
-use Rattle.ssc.specs.CacheState.{CacheValue, Holds}
+use Rattle.ssc.specs.declared.cache.Ssc.{Ssc}
+use Rattle.ssc.specs.CacheState.{Holds, entries_of}
 use Rattle.ssc.specs.Listed.{is_listed, listed, listed_at, shown}
 use Rattle.ssc.proofs.HoldsLemmas.{held_none, held_some}
 
@@ -26,7 +27,7 @@ at_index P (y ∷ ys) zero x all is = let same : y ≡ x = cc in subst P same al
 at_index P (y ∷ ys) (suc i) x all is = at_index P ys i x all.1 is
 
 -- the entry of a number is that of its address
-pub nth_entry : (m : Entries) (i a : ℕ) (at : Place) → Some (a, at) ≡ option_map address_and_place (slice_get (entries m) i) → (e : Entry) × (slice_get (entries m) i ≡ Some (a, e)) × (get m a ≡ Some e)
+nth_entry : (m : Entries) (i a : ℕ) (at : Place) → Some (a, at) ≡ option_map address_and_place (slice_get (entries m) i) → (e : Entry) × (slice_get (entries m) i ≡ Some (a, e)) × (get m a ≡ Some e)
 nth_entry m i a at is = by (slice_get (entries m) i) refl is
   where
     by : (o : Option (ℕ × Entry)) → slice_get (entries m) i ≡ o → Some (a, at) ≡ option_map address_and_place o → (e : Entry) × (slice_get (entries m) i ≡ Some (a, e)) × (get m a ≡ Some e)
@@ -153,22 +154,22 @@ by_marks dirty from end (e ∷ es) = by (dirty e.1 && nat_le from e.0 && nat_lt 
     by true rest = ap (λ l. e.0 ∷ l) rest
     by false rest = rest
 
-module _ (c : CacheValue) (contents : Contents) (s : CacheList) (holds : Holds c contents s) where
-  dirty_alike : (a : ℕ) → option_map (λ (h : Held). h.dirty) (get s a) ≡ option_map (λ (e : Entry). e.dirty) (get c.entries a)
-  dirty_alike a = by (get c.entries a) refl
+module _ (c : Ssc) (contents : Contents) (s : CacheList) (holds : Holds c contents s) where
+  dirty_alike : (a : ℕ) → option_map (λ (h : Held). h.dirty) (get s a) ≡ option_map (λ (e : Entry). e.dirty) (get (entries_of c) a)
+  dirty_alike a = by (get (entries_of c) a) refl
     where
-      by : (o : Option Entry) → get c.entries a ≡ o → option_map (λ (h : Held). h.dirty) (get s a) ≡ option_map (λ (e : Entry). e.dirty) o
+      by : (o : Option Entry) → get (entries_of c) a ≡ o → option_map (λ (h : Held). h.dirty) (get s a) ≡ option_map (λ (e : Entry). e.dirty) o
       by None is = ap (option_map (λ (h : Held). h.dirty)) (held_none c contents s a holds is)
       by (Some e) is = let h = held_some c contents s a e holds is in ap (option_map (λ (h : Held). h.dirty)) h.1
 
-  listed_is : (from count : ℕ) → listed from (from + count) (entries c.entries) ≡ dirty_between from count s
+  listed_is : (from count : ℕ) → listed from (from + count) (entries (entries_of c)) ≡ dirty_between from count s
   listed_is from count =
-      by_marks (λ (e : Entry). e.dirty) from (from + count) (entries c.entries)
-      ∙ ap (marked_between from (from + count)) (sym (same_marks c.entries s dirty_alike))
+      by_marks (λ (e : Entry). e.dirty) from (from + count) (entries (entries_of c))
+      ∙ ap (marked_between from (from + count)) (sym (same_marks (entries_of c) s dirty_alike))
       ∙ sym (by_marks (λ (h : Held). h.dirty) from (from + count) (entries s))
 
-  pub listed_all : (from count i : ℕ) (old now : List ℕ) → length (entries c.entries) ≤ i → ListedSoFar from (from + count) c.entries old now i → now ≡ old ++ dirty_between from count s
-  listed_all from count i old now past so_far = so_far.items ∙ ap (λ l. old ++ listed from (from + count) l) (whole (entries c.entries) i past) ∙ ap (λ l. old ++ l) (listed_is from count)
+  pub listed_all : (from count i : ℕ) (old now : List ℕ) → length (entries (entries_of c)) ≤ i → ListedSoFar from (from + count) (entries_of c) old now i → now ≡ old ++ dirty_between from count s
+  listed_all from count i old now past so_far = so_far.items ∙ ap (λ l. old ++ listed from (from + count) l) (whole (entries (entries_of c)) i past) ∙ ap (λ l. old ++ l) (listed_is from count)
     where
       whole : {A : Type 0} (xs : List A) (i : ℕ) → length xs ≤ i → take i xs ≡ xs
       whole [] zero past = refl

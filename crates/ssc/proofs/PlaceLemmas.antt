@@ -1,73 +1,77 @@
--- The next page of the pool may take an address.
-use Rattle.std.proofs.Common.{◌≡◌, ℕ, zero, suc, ◌+◌, ◌-◌, ◌*◌, ◌/◌, ◌<◌, ◌≤◌, ◌==◌, Bool, true, false, cond, ◌∷◌, length, Some, refl, sym, ◌∙◌, ap, subst, arith, inl, inr, eq-eqb}
+-- A new page of a log block may take an address.
+use Rattle.std.proofs.Common.{◌≡◌, ℕ, suc, ◌/◌, ◌<◌, ◌≤◌, ◌==◌, Bool, true, false, cond, List, [], ◌∷◌, length, Some, refl, sym, ◌∙◌, ap, subst, arith, inl, inr, eqb-true, eq-eqb}
 use Rattle.std.specs.FinMap.{get, entries}
-use Rattle.std.proofs.lemmas.Bool.{cases_Bool, or_left, or_right, both_ways}
-use Rattle.std.proofs.lemmas.Nat.{div_below, div-mul-add, mod_below}
+use Rattle.std.proofs.lemmas.Bool.{cases_Bool, or_cases, or_left, or_right, both_ways, not-true}
 use Rattle.ft_base.specs.declared.geometry.Geometry.{Geometry}
+use Rattle.ft_base.specs.declared.block.Block.{Block}
 use Rattle.ft_base.specs.declared.block.Place.{Place}
+use Rattle.ft_base.specs.declared.block.Page.{Page}
 use Rattle.ft_base.specs.declared.record.Record.TheVariants.{SetPage}
-use Rattle.ft_base.specs.Layout.{first_pool}
+use Rattle.ft_base.specs.Contents.{Contents}
 use Rattle.cache_model.specs.declared.entry.Entry.{Entry}
 use Rattle.cache_model.specs.Records.{Entries, after}
 use Rattle.cache_model.specs.Entries.{each_once, groups_with, blocks_with, page_mapped, Fits, IsMap, InPool}
-use Rattle.cache_model.proofs.CountLemmas.{member, numbers, each_once-le, count_le}
-use Rattle.mapping.specs.Fitting.{count_range}
-use Rattle.mapping.proofs.MarksLemmas.{range_counts}
+use Rattle.cache_model.proofs.CountLemmas.{member, numbers, each_once-le, count_le, same_number}
 use Rattle.mapping.proofs.FittingLemmas.{page_cases, page_fits}
-use Rattle.ssc.specs.CacheState.{pool_page, IsBefore, AreBefore}
-use Rattle.ssc.specs.Steps.{dirty_groups_with}
-use Rattle.ssc.proofs.AheadLemmas.{number_of}
+use Rattle.log_blocks.specs.Logs.{IsInUse}
+use Rattle.log_blocks.specs.Logs as list
+use Rattle.merge_engine.specs.declared.parts.Parts.{Parts}
+use Rattle.merge_engine.specs.Agreement.{Agree}
+use Rattle.merge_engine.specs.Steps.{IsNewPage, HasRoomFor}
+use Rattle.merge_engine.proofs.TakeLemmas.{agree_map}
+use Rattle.merge_engine.proofs.RoleLemmas.{log_page_mapped}
 use Rattle.ssc.proofs.DirtyLemmas.{member_once, member_from, member_to, dirty_numbers}
 
-count_most : (test : ℕ → Bool) (from n : ℕ) → count_range test from n ≤ n
-count_most test from zero = omega arith
-count_most test from (suc n) = with_one (test from) (count_range test (from + 1) n) (count_most test (from + 1) n)
+-- a list has no fewer numbers than each of them once
+once_most : (ns : List ℕ) → length (each_once ns) ≤ length ns
+once_most [] = omega arith
+once_most (n ∷ ns) = by (member n ns) (once_most ns)
   where
-    with_one : (b : Bool) (k : ℕ) → k ≤ n → cond b 1 0 + k ≤ suc n
-    with_one true k le = omega arith
-    with_one false k le = omega arith
+    by : (b : Bool) → length (each_once ns) ≤ length ns → length (cond b (each_once ns) (n ∷ each_once ns)) ≤ suc (length ns)
+    by true rest = omega arith
+    by false rest = omega arith
 
--- a page before the next one lies in one of the first L erase blocks of the pool
-low_block : (g : Geometry) (next : ℕ) (at : Place) → InPool g at → next < g.l * g.p → IsBefore g next at → at.block < first_pool g + g.l
-low_block g next at pool room low =
-    let offset = at.block - first_pool g in
-    let number : offset * g.p + at.page < g.l * g.p = omega arith in
-    let below = div_below (offset * g.p + at.page) g.p g.l (omega (arith, g.in_range.p_low)) number in
-    let block : (offset * g.p + at.page) / g.p ≡ offset = div-mul-add offset g.p at.page pool.page in
-    omega (arith, pool.above)
+-- a log block in use is a member of the list
+member_used : (n : ℕ) (xs : List ℕ) → list.is_in n xs ≡ true → member n xs ≡ true
+member_used n [] t = absurd (cc)
+member_used n (x ∷ xs) t = elim (or_cases (n == x) (list.is_in n xs) t) [
+  | inl here ↦ let same : n ≡ x = eqb-true n x here in or_left (x == n) (member n xs) (ap (λ k. x == k) same ∙ same_number x)
+  | inr later ↦ or_right (x == n) (member n xs) (member_used n xs later)
+]
 
-module _ (g : Geometry) (m : Entries) (is_map : IsMap g m) (next lba : ℕ) (dirty : Bool) (are : AreBefore g next m) (room : next < g.l * g.p) where
-  abbrev at : Place
-  at = pool_page g next
+module _ (parts : Parts) (contents : Contents) (agree : Agree parts contents) (page : Place → Page) (at : Place) (lba : ℕ) (block : Block) (fresh : IsNewPage parts page at lba block) (dirty : Bool) where
+  abbrev g : Geometry
+  g = parts.geometry
+
+  abbrev m : Entries
+  m = parts.map.entries
 
   abbrev new : Entries
-  new = after g (SetPage lba at dirty) m
+  new = after parts.geometry (SetPage lba at dirty) parts.map.entries
 
-  some_pages : 0 < g.p
-  some_pages = omega (arith, g.in_range.p_low)
+  is_map : IsMap parts.geometry parts.map.entries
+  is_map = agree_map parts contents agree
 
-  in_pool : InPool g at
-  in_pool = let low = div_below next g.p g.l some_pages room in record { above = omega arith; below = omega arith; page = mod_below next g.p some_pages }
+  in_pool : InPool parts.geometry at
+  in_pool = let pool = agree.sound.roles.in_pool at.block fresh.in_use in record { above = pool.0; below = pool.1; page = fresh.in_block }
+
+  -- what is page-mapped stands in log blocks that are in use, and of these there are at most L
+  in_log_blocks : (a : ℕ) (e : Entry) → get new a ≡ Some e → page_mapped e ≡ true → IsInUse parts.logs e.place.block
+  in_log_blocks a e is t = elim (page_cases g m is_map lba at dirty a e is) [
+    | inl p ↦ subst (λ (x : Entry). IsInUse parts.logs x.place.block) (sym p.1) fresh.in_use
+    | inr p ↦ agree.sound.roles.page_mapped a e p.1 (not-true e.block_mapped t)
+  ]
 
   logs : length (blocks_with page_mapped new) ≤ g.l
   logs =
-      let f : ℕ × Entry → ℕ = λ x. x.1.place.block in
-      let xs = numbers f page_mapped (entries new) in
-      let counted = range_counts g.l (first_pool g) xs (λ k mem.
-      let x = member_to f page_mapped new k mem in
-      let p = placed x.0.0 x.0.1 x.1 in
-      let is : x.0.1.place.block ≡ k = x.3 in
-      (subst (λ n. first_pool g ≤ n) is p.0, subst (λ n. n < first_pool g + g.l) is p.1)) in
-      let most = count_most (λ k. member k xs) (first_pool g) g.l in
+      let within = each_once-le (numbers (λ (x : ℕ × Entry). x.1.place.block) page_mapped (entries new)) parts.logs.used (λ n mem.
+      let x = member_to (λ (x : ℕ × Entry). x.1.place.block) page_mapped new n mem in
+      member_used n parts.logs.used (subst (λ k. IsInUse parts.logs k) x.3 (in_log_blocks x.0.0 x.0.1 x.1 x.2))) in
+      let most = once_most parts.logs.used in
+      let few : length parts.logs.used ≤ g.l = subst (λ (h : Geometry). length parts.logs.used ≤ h.l) agree.sound.of_one.logs agree.sound.logs.few in
       omega arith
-    where
-      placed : (a : ℕ) (e : Entry) → get new a ≡ Some e → (first_pool g ≤ e.place.block) × (e.place.block < first_pool g + g.l)
-      placed a e is = elim (page_cases g m is_map lba at dirty a e is) [
-        | inl p ↦ let low = div_below next g.p g.l some_pages room in subst (λ (x : Entry). (first_pool g ≤ x.place.block) × (x.place.block < first_pool g + g.l)) (sym p.1) (omega arith, omega arith)
-        | inr p ↦ let q = is_map.in_pool a e p.1 in (q.above, low_block g next e.place q room (are.before a e p.1))
-      ]
 
-  groups : (dirty ≡ true → dirty_groups_with g m lba ≤ g.c) → length (groups_with g (λ e. e.dirty) new) ≤ g.c
+  groups : (dirty ≡ true → HasRoomFor g m lba) → length (groups_with g (λ e. e.dirty) new) ≤ g.c
   groups may = elim (cases_Bool dirty) [
     | inl t ↦
         let more = each_once-le (dirty_numbers g new) ((lba / g.p) ∷ each_once (dirty_numbers g m)) (λ n mem.
@@ -87,16 +91,13 @@ module _ (g : Geometry) (m : Entries) (is_map : IsMap g m) (next lba : ℕ) (dir
         omega (arith, fewer, most)
   ]
 
-  pub next_fits : lba < g.size → (dirty ≡ true → dirty_groups_with g m lba ≤ g.c) → Fits g (SetPage lba at dirty) m
-  next_fits low may = page_fits g m is_map lba at dirty (record {
+  pub new_page_fits : lba < g.size → (dirty ≡ true → HasRoomFor g m lba) → Fits g (SetPage lba at dirty) m
+  new_page_fits low may = page_fits g m is_map lba at dirty (record {
     low = low;
     pool = in_pool;
     apart = λ b f is other. (
-      λ same.
-          let before = are.before b f is in
-          let number : (f.place.block - first_pool g) * g.p + f.place.page ≡ next = ap (λ (x : Place). (x.block - first_pool g) * g.p + x.page) same ∙ number_of g next in
-          absurd (omega arith),
-      λ mapped same. both_ways f.block_mapped (are.page_mapped b f is same) mapped,
+      λ same. fresh.unused b f is same,
+      λ mapped same. log_page_mapped parts agree.sound.roles b f is (subst (λ n. IsInUse parts.logs n) (sym same) fresh.in_use) mapped,
     );
     log_blocks = logs;
     dirty_groups = groups may;

@@ -1,23 +1,28 @@
--- One step of a command after another.
-use Rattle.std.proofs.Common.{◌≡◌, inl, inr, subst}
-use Rattle.ft_base.specs.declared.geometry.Geometry.{Geometry}
+-- A change is made, and committed or buffered.
+use Rattle.std.proofs.Common.{◌≡◌, ◌⊎◌, ℕ, ◌<◌, [], inl, inr, ◌∙◌, ap}
 use Rattle.ft_base.specs.declared.block.Place.{Place}
 use Rattle.ft_base.specs.declared.block.Page.{Page}
+use Rattle.ft_base.specs.declared.record.Record.{Record}
+use Rattle.ft_base.specs.declared.record.Record.TheVariants.{Remove, Clean}
 use Rattle.ft_base.specs.Contents.{Contents}
+use Rattle.cache_model.specs.Entries.{Fits}
 use Rattle.cache_model.specs.Cache.{CacheList}
-use Rattle.cache_model.specs.Stands.{StandsFor}
-use Rattle.op_log.specs.Log.{LogValue}
-use Rattle.ssc.specs.CacheState.{CacheValue, Keeps, geometry_of}
-use Rattle.ssc.specs.Steps.{KeepsSome, KeepsOn, StandsForEither}
+use Rattle.cache_model.proofs.CountLemmas.{remove_fits, clean_fits}
+use Rattle.op_log.specs.Log.{LogValue, pushed}
+use Rattle.merge_engine.specs.declared.parts.Parts.{Parts}
+use Rattle.merge_engine.specs.Agreement.{Agree, Lists}
+use Rattle.merge_engine.proofs.TakeLemmas.{agree_map}
+use Rattle.ssc.specs.Steps.{ListsAfter}
 
-pub some_kept : (c : CacheValue) (contents : Contents) (list durable : CacheList) → Keeps c contents list durable → KeepsSome c contents
-some_kept c contents list durable keeps = record { list = list; durable = durable; keeps = keeps }
+pub removed_fits : (parts : Parts) (contents : Contents) (lba : ℕ) → Agree parts contents → lba < parts.geometry.size → Fits parts.geometry (Remove lba) parts.map.entries
+removed_fits parts contents lba agree low = remove_fits parts.geometry lba parts.map.entries (agree_map parts contents agree) low
 
-pub some_on : (log : LogValue) (c : CacheValue) (contents : Contents) (list durable : CacheList) → KeepsOn log c contents list durable → KeepsSome c contents
-some_on log c contents list durable (inl k) = some_kept c contents list durable k.1
-some_on log c contents list durable (inr k) = some_kept c contents list list k.1
+pub cleaned_fits : (parts : Parts) (contents : Contents) (lba : ℕ) → Agree parts contents → lba < parts.geometry.size → Fits parts.geometry (Clean lba) parts.map.entries
+cleaned_fits parts contents lba agree low = clean_fits parts.geometry lba parts.map.entries (agree_map parts contents agree) low
 
--- what the flash stands for after a step that puts nothing on it
-pub either_on : (log : LogValue) (c : CacheValue) (contents : Contents) (list durable : CacheList) (g : Geometry) (page : Place → Page) → geometry_of c ≡ g → KeepsOn log c contents list durable → ((list durable : CacheList) → Keeps c contents list durable → StandsFor (geometry_of c) page durable) → StandsForEither g page durable list
-either_on log c contents list durable g page is (inl k) stands = inl (subst (λ (h : Geometry). StandsFor h page durable) is (stands list durable k.1))
-either_on log c contents list durable g page is (inr k) stands = inr (subst (λ (h : Geometry). StandsFor h page list) is (stands list list k.1))
+-- a change that was buffered waits, or is committed with all
+pub after_pushed : (log : LogValue) (mid new : Parts) (change : Record) (page : Place → Page) (durable before list : CacheList) → mid.log ≡ pushed change log
+    → ((new.log ≡ mid.log) × Lists new page list durable) ⊎ ((new.log.buffered ≡ []) × Lists new page list list)
+    → ListsAfter log.buffered change new page durable before list
+after_pushed log mid new change page durable before list is (inl k) = inl (ap (λ (l : LogValue). l.buffered) (k.0 ∙ is), k.1)
+after_pushed log mid new change page durable before list is (inr k) = inr (inr (k.0, k.1))

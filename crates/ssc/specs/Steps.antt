@@ -1,58 +1,57 @@
--- What the steps of the commands leave, whatever list the cache keeps.
-use Rattle.std.specs.Prelude.{◌≡◌, ◌⊎◌, ◌≤◌, ◌/◌, ℕ, Bool, false, List, [], ◌∷◌, ◌++◌, length}
-use Rattle.ft_base.specs.declared.block.Block.{Block}
-use Rattle.ft_base.specs.declared.block.Spare.{Spare}
+-- What the steps of the commands leave.
+use Rattle.std.specs.Prelude.{◌≡◌, ◌⊎◌, ◌≤◌, ℕ, Bool, List, [], ◌∷◌, ◌++◌}
+use Rattle.std.specs.FinMap.{insert}
 use Rattle.ft_base.specs.declared.block.Place.{Place}
 use Rattle.ft_base.specs.declared.block.Page.{Page}
-use Rattle.ft_base.specs.declared.block.Page.TheVariants.{Whole}
 use Rattle.ft_base.specs.declared.geometry.Geometry.{Geometry}
 use Rattle.ft_base.specs.declared.record.Record.{Record}
 use Rattle.ft_base.specs.declared.record.Record.TheVariants.{SetPage}
-use Rattle.ft_base.specs.Contents.{Contents}
-use Rattle.cache_model.specs.Records.{Entries, after}
-use Rattle.cache_model.specs.Entries.{groups_with}
-use Rattle.cache_model.specs.Cache.{CacheList, with_group}
+use Rattle.cache_model.specs.Cache.{CacheList, Held}
 use Rattle.cache_model.specs.Stands.{StandsFor}
-use Rattle.op_log.specs.Log.{LogValue, pushed}
-use Rattle.ssc.specs.CacheState.{CacheValue, Keeps, geometry_of}
-
--- it keeps some list
-pub record KeepsSome (c : CacheValue) (contents : Contents) : Type 0 where
-  pub list : CacheList
-  pub durable : CacheList
-  pub keeps : Keeps c contents list durable
-
--- the page is whole, with this block
-pub record HasBlock (page : Place → Page) (at : Place) (block : Block) : Type 0 where
-  pub spare : Spare
-  pub whole : page at ≡ Whole block spare
-
-abbrev pub StandsForEither : Geometry → (Place → Page) → CacheList → CacheList → Type 0
-StandsForEither g page s t = StandsFor g page s ⊎ StandsFor g page t
-
--- what was buffered still is; or it is on the flash, which stands for the list
-abbrev pub KeepsOn : LogValue → CacheValue → Contents → CacheList → CacheList → Type 0
-KeepsOn log c contents list durable = ((c.log ≡ log) × Keeps c contents list durable) ⊎ ((c.log.buffered ≡ []) × Keeps c contents list list)
+use Rattle.op_log.specs.Log.{pushed}
+use Rattle.log_blocks.specs.Logs as list
+use Rattle.recovery.specs.declared.loading.Loaded.{Loaded}
+use Rattle.merge_engine.specs.declared.parts.Parts.{Parts}
+use Rattle.merge_engine.specs.Agreement.{AreOfOne, Lists, RolesAgree}
+use Rattle.merge_engine.specs.Room.{GivesRoom}
+pub use Rattle.merge_engine.specs.Merges.{StandsForEither}
 
 -- a step that made one list of another is buffered behind all that was; or alone, where the list of before was committed first; or it is committed with all
-abbrev pub KeepsAfter : List Record → Record → CacheValue → Contents → CacheList → CacheList → CacheList → Type 0
-KeepsAfter buffered own c contents durable before list =
-    ((c.log.buffered ≡ buffered ++ own ∷ []) × Keeps c contents list durable)
-    ⊎ ((c.log.buffered ≡ own ∷ []) × Keeps c contents list before)
-    ⊎ ((c.log.buffered ≡ []) × Keeps c contents list list)
+abbrev pub ListsAfter : List Record → Record → Parts → (Place → Page) → CacheList → CacheList → CacheList → Type 0
+ListsAfter buffered own parts page durable before list =
+    ((parts.log.buffered ≡ buffered ++ own ∷ []) × Lists parts page list durable)
+    ⊎ ((parts.log.buffered ≡ own ∷ []) × Lists parts page list before)
+    ⊎ ((parts.log.buffered ≡ []) × Lists parts page list list)
 
--- with a change that is buffered, and made in the map
-abbrev pub noted : Record → CacheValue → CacheValue
-noted change c = record c { entries = after (geometry_of c) change c.entries; log = pushed change c.log }
+-- v is the list; or the list that gave room, where the open log block had no page left
+pub record LeftOf (old : Parts) (list v : CacheList) : Type 0 where
+  pub gives : GivesRoom old.geometry list v
+  pub inside : 1 ≤ old.logs.room → v ≡ list
 
--- with an address at a page, which takes the memory that was there for it
-abbrev pub placed : ℕ → Place → Bool → CacheValue → CacheValue
-placed lba at dirty c = record c { entries = after (geometry_of c) (SetPage lba at dirty) c.entries; log = pushed (SetPage lba at dirty) c.log; ready = false }
+-- a step was buffered or committed: on the list of before, or on what is left of it once all was committed
+abbrev pub ListsWritten : Parts → Record → Parts → (Place → Page) → CacheList → CacheList → (CacheList → CacheList) → Type 0
+ListsWritten old own new page durable list step =
+    ListsAfter old.log.buffered own new page durable list (step list)
+    ⊎ ((v : CacheList) × LeftOf old list v × ListsAfter [] own new page v v (step v))
 
--- the groups with a dirty entry, together with that of an address
-abbrev pub dirty_groups_with : Geometry → Entries → ℕ → ℕ
-dirty_groups_with g m a = length (with_group (a / g.p) (groups_with g (λ e. e.dirty) m))
+-- a block was put at an address, in some page
+abbrev pub PutsBlock : Parts → ℕ → Held → Parts → (Place → Page) → CacheList → CacheList → Type 0
+PutsBlock old lba block new page durable list = (at : Place) × ListsWritten old (SetPage lba at block.dirty) new page durable list (λ s. insert s lba block)
 
--- they are few enough that the address may become dirty
-abbrev pub HasRoomFor : Geometry → Entries → ℕ → Type 0
-HasRoomFor g m a = dirty_groups_with g m a ≤ g.c
+-- the change is buffered behind all that was
+abbrev pub IsPushed : Parts → ℕ → Bool → Parts → Type 0
+IsPushed old lba dirty new = (at : Place) × (new.log ≡ pushed (SetPage lba at dirty) old.log)
+
+-- what a crash may leave of a step: the list without what was buffered; or what is left of the list, before the step or after it
+abbrev pub StandsForStep : Geometry → (Place → Page) → CacheList → CacheList → (CacheList → CacheList) → Type 0
+StandsForStep g page durable list step = StandsFor g page durable ⊎ ((v : CacheList) × GivesRoom g list v × StandsForEither g page v (step v))
+
+-- the parts over what was loaded: their log is that of the checkpoint that counts, with nothing of it read or buffered, and no log block is open
+pub record IsLoadedAs (g : Geometry) (loaded : Loaded) (parts : Parts) : Type 0 where
+  pub of_one : AreOfOne parts
+  pub geometry : parts.geometry ≡ g
+  pub map : parts.map ≡ loaded.map
+  pub log : parts.log ≡ record { geometry = g; region = loaded.region; era = loaded.era; next = 0; buffered = [] }
+  pub roles : RolesAgree parts
+  pub logs : list.IsSound parts.logs
+  pub closed : parts.logs.room ≡ 0

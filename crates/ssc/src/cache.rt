@@ -1,49 +1,22 @@
-ghost use Rattle.std.specs.Prelude.{◌≡◌, ◌≤◌, ◌<◌, ◌-◌, ℕ, true, false, OnOk, OnErr, length};
+ghost use Rattle.std.specs.Prelude.{◌≡◌, true, false, OnOk, OnErr, length};
 ghost use Rattle.ft_base.specs.Contents.{Contents};
-ghost use Rattle.ft_base.specs.Layout.{log_pages};
 ghost use Rattle.cache_model.specs.Cache.{CacheList, dirty_groups};
 ghost use Rattle.mapping.specs.Bits.{chosen_of};
 ghost use Rattle.mapping.specs.Counts.{held_count};
 ghost use Rattle.mapping.specs.declared.bits.Choice.TheVariants.{Dirty};
-ghost use Rattle.ssc.specs.CacheState.{Holds, geometry_of, log_room, open_room, pages_left, pending};
+ghost use Rattle.ssc.specs.CacheState.{Holds, HasMemory, entries_of, geometry_of, log_room, open_room, pending};
 
-use checkpoint::Checkpoints;
-use ft_base::Geometry;
-use mapping::Map;
-use op_log::OpLog;
+use merge_engine::Parts;
 use std::alloc::AllocError;
-use std::marker::Model;
 
 /// A cache over the flash that it left.
 #[derive(Drop)]
 pub struct Ssc {
-    pub(crate) geometry: Geometry,
-    pub(crate) map: Map,
-    pub(crate) log: OpLog,
-    pub(crate) marks: Checkpoints,
-    // The page that takes the next block, counted from the first of the pool.
-    pub(crate) next: u32,
-    // The map has room for one more page.
+    pub(crate) parts: Parts,
+    // The memory of the next write is there.
     pub(crate) ready: bool,
     // A device write failed or was cut: the flash is to be opened again.
     pub(crate) stopped: bool,
-}
-
-impl Model for Ssc {
-    ghost use Rattle.std.specs.Prelude.{◌≡◌, ◌≤◌, ◌+◌, ◌*◌, true};
-    ghost use Rattle.std.specs.Coded.{codes};
-    ghost use Rattle.ft_base.specs.contracts.geometry.Geometry as geometry_row;
-    ghost use Rattle.ft_base.specs.contracts.record.Record as record_row;
-    ghost use Rattle.mapping.specs.MapValue.{entries_code};
-    ghost use Rattle.ssc.specs.CacheState.{CacheValue};
-
-    ghost Value = { CacheValue };
-
-    ghost coded = { Prim.hlevel (codes, entries_code, geometry_row.the_row.coded, record_row.the_row.coded) };
-
-    ghost view = { λ c. record { entries = c.map.entries; log = c.log; next = c.next; ready = c.ready; stopped = c.stopped } };
-
-    ghost invariant = { λ c. (c.log.geometry ≡ c.geometry) × (c.map.geometry ≡ c.geometry) × (c.marks ≡ c.geometry) × (c.ready ≡ true → 1 ≤ c.map.spare_pages) × (c.next ≤ (c.geometry.c + c.geometry.l + 1) * c.geometry.p) };
 }
 
 impl Ssc {
@@ -58,64 +31,64 @@ impl Ssc {
     pub fn dirty_groups(&self) -> u32
         ensures { (contents : Contents) (s : CacheList) → Holds self.now contents s → result ≡ length (dirty_groups (geometry_of self.now) s) }
     {
-        self.map.dirty_groups()
+        self.parts.map.dirty_groups()
     }
 
     /// The dirty pages of a group: the bit of value 2^i for its address i.
     pub fn dirty_bits(&self, group: u64) -> u64
-        ensures { result ≡ chosen_of Dirty (geometry_of self.now) self.now.entries group }
+        ensures { (contents : Contents) (s : CacheList) → Holds self.now contents s → result ≡ chosen_of Dirty (geometry_of self.now) (entries_of self.now) group }
     {
-        self.map.dirty_bits(group)
+        self.parts.map.dirty_bits(group)
     }
 
     /// How many addresses are held.
     pub fn held(&self) -> u64
-        ensures { result ≡ held_count self.now.entries }
+        ensures { result ≡ held_count (entries_of self.now) }
     {
-        self.map.held()
+        self.parts.map.held()
     }
 
     /// The buckets of the map's page-mapped part.
     pub fn buckets(&self) -> u64 {
-        self.map.buckets()
+        self.parts.map.buckets()
     }
 
     /// How many changes are buffered: fewer than 127 between two commands.
     pub fn buffered(&self) -> u32
         ensures { result ≡ length (pending self.now) }
     {
-        self.log.buffered()
+        self.parts.log.buffered()
     }
 
     /// The log pages that are left before a checkpoint.
     pub fn log_room(&self) -> u32
-        ensures { result ≡ log_room self.now }
+        ensures { (contents : Contents) (s : CacheList) → Holds self.now contents s → result ≡ log_room self.now }
     {
-        self.log.room()
+        self.parts.log.room()
     }
 
-    /// The pages left in the block that was begun.
+    /// The pages of the open log block that are left.
     pub fn open_room(&self) -> u32
         ensures { result ≡ open_room self.now }
     {
-        let page = self.next % self.geometry.p;
-        if page == 0 { 0 } else { self.geometry.p - page }
+        self.parts.logs.room()
     }
 
-    /// The pages left for blocks.
-    pub fn pages_left(&self) -> u32
-        ensures { result ≡ pages_left self.now }
-    {
-        (self.geometry.l * self.geometry.p).saturating_sub(self.next)
-    }
-
-    /// Takes the memory of the next write. Refused, all is as before.
+    /// Takes the memory of the next write: for its page, and for the groups that it may merge. Refused,
+    /// all is as before.
     pub fn reserve(&mut self) -> Result<(), AllocError>
-        ensures ready { OnOk result (self.new ≡ record self.old { ready = true }) }
+        ensures holds { (contents : Contents) (s : CacheList) → Holds self.old contents s → Holds self.new contents s }
+        ensures same { geometry_of self.new ≡ geometry_of self.old }
+        ensures parts { self.new.parts ≡ record self.old.parts { map = self.new.parts.map } }
+        ensures entries { entries_of self.new ≡ entries_of self.old }
+        ensures pending { pending self.new ≡ pending self.old }
+        ensures stopped { self.new.stopped ≡ self.old.stopped }
+        ensures ready { OnOk result (self.new.ready ≡ true) }
+        ensures memory { OnOk result (self.old.ready ≡ false → HasMemory self.new.parts) }
         ensures refused { OnErr result ((self.old.ready ≡ false) × (self.new ≡ self.old)) }
     {
         if !self.ready {
-            self.map.reserve(1, 0)?;
+            self.parts.map.reserve(1, self.parts.geometry.p())?;
             self.ready = true;
         }
         Ok(())

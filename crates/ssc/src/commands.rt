@@ -1,18 +1,22 @@
 ghost use Rattle.std.specs.Prelude.{◌≡◌, ◌≢◌, ◌≤◌, ◌<◌, ◌+◌, ◌-◌, ◌/◌, ◌++◌, ◌∷◌, [], ℕ, length, true, false, Some, None, OnOk, OnErr, IfOk, IsOk, IsErrOf, ◌⊎◌};
-ghost use Rattle.std.specs.FinMap.{get};
+ghost use Rattle.std.specs.FinMap.{get, insert};
 ghost use Rattle.ft_base.specs.Contents.{Contents};
 ghost use Rattle.ft_base.specs.Count.{Rose};
+ghost use Rattle.ft_media.specs.State.{failed, lost};
 ghost use Rattle.ft_media.specs.Drives.{DrivesFlash};
 ghost use Rattle.ft_media.specs.Reads.{ReadsFlash};
 ghost use Rattle.ft_media.specs.Passes.{Spends};
 ghost use Rattle.ft_media.specs.Media.{program_counted};
 ghost use Rattle.cache_model.specs.Cache.{CacheList, Inserted, Cleaned, written_dirty, written_clean, evicted, made_clean, dirty_between, held};
-ghost use Rattle.cache_model.specs.Loading.{load};
+ghost use Rattle.cache_model.specs.declared.entry.Entry.{Entry};
+ghost use Rattle.merge_engine.specs.Agreement.{Agree, Lists};
 ghost use Rattle.ssc.specs.Errors.{ssc_failed, ssc_lost, stops};
-ghost use Rattle.ssc.specs.CacheState.{Holds, IsUp, geometry_of, log_room, open_room, pages_left, pending};
-ghost use Rattle.ssc.specs.Commands.{ImagesOf, FullExactly, LoadsMapOf, TakesPage, PendsWith, IsHeldIn, ReadOf};
+ghost use Rattle.ssc.specs.CacheState.{HasMemory, Holds, IsUp, entries_of, geometry_of, log_room, open_room, pending};
+ghost use Rattle.ssc.specs.Steps.{IsPushed, PutsBlock, StandsForStep};
+ghost use Rattle.ssc.specs.Commands.{ImagesOf, ImagesOfWrite, FullExactly, HoldsWritten, PendsWith, IsHeldIn, ReadOf};
 
 use crate::error::of_media;
+use crate::putting::{mark_clean, take_out, write_buffered, write_committed};
 use crate::{Ssc, SscError};
 use ft_base::{Block, Spare};
 use ft_media::{Media, MediaError, PageRead};
@@ -30,19 +34,17 @@ impl Ssc {
     ) -> Result<(), SscError>
         requires up { IsUp self.old (M.state media.old).contents }
         requires lba { lba < (geometry_of self.old).size }
-        requires room { 1 ≤ pages_left self.old }
         ensures geometry { geometry_of self.new ≡ geometry_of self.old }
         ensures full { (s : CacheList) → Holds self.old (M.state media.old).contents s → FullExactly (geometry_of self.old) s lba result }
         ensures full_keeps { (n l : ℕ) → IsErrOf result (SscError.Full n l) → (self.new ≡ self.old) × (M.state media.new ≡ M.state media.old) }
         ensures memory { IsErrOf result SscError.OutOfMemory → (self.old.ready ≡ false) × (self.new ≡ self.old) × (M.state media.new ≡ M.state media.old) }
         ensures stopped { self.new.stopped ≡ stops result }
-        ensures done { OnOk result ((s : CacheList) → Holds self.old (M.state media.old).contents s → Holds self.new (M.state media.new).contents (written_dirty lba block.now s)) }
+        ensures done { OnOk result ((s : CacheList) → Holds self.old (M.state media.old).contents s → HoldsWritten self.new (M.state media.new).contents s lba (written_dirty lba block.now)) }
         ensures nothing_waits { OnOk result (pending self.new ≡ []) }
-        // Whatever is answered.
-        ensures map { TakesPage self.old self.new lba true }
-        ensures loads { LoadsMapOf self.old self.new (M.state media.old).contents.flash.page (M.state media.new).contents.flash.page }
-        ensures images { (s : CacheList) → Holds self.old (M.state media.old).contents s → ImagesOf self.old (M.state media.new).contents s (written_dirty lba block.now s) }
-        ensures pages { OnOk result (pages_left self.new + 1 ≡ pages_left self.old) }
+        // Whatever is answered, and wherever power went off.
+        ensures images { (s : CacheList) → Holds self.old (M.state media.old).contents s → ImagesOfWrite self.old (M.state media.new).contents s lba (written_dirty lba block.now) }
+        // Where the open log block has a page left nothing gives way.
+        ensures inside { OnOk result (1 ≤ open_room self.old → (s : CacheList) → Holds self.old (M.state media.old).contents s → Holds self.new (M.state media.new).contents (written_dirty lba block.now s)) }
         ensures two_programs { OnOk result (1 ≤ open_room self.old → 1 ≤ log_room self.old → (M.state media.new).counts ≡ program_counted (program_counted (M.state media.old).counts)) }
         ensures programs { OnOk result (Rose (M.state media.old).counts.programs (M.state media.new).counts.programs) }
         ensures spends { OnOk result (Spends 2 (M.state media.old) (M.state media.new)) }
@@ -50,14 +52,15 @@ impl Ssc {
     {
         if self.is_full(lba) {
             return Err(SscError::Full {
-                dirty_groups: self.geometry.c + 1,
-                limit: self.geometry.c,
+                dirty_groups: self.parts.geometry.c + 1,
+                limit: self.parts.geometry.c,
             });
         }
         if self.reserve().is_err() {
             return Err(SscError::OutOfMemory);
         }
-        match self.put_dirty(media, lba, block) {
+        self.ready = false;
+        match write_committed(&mut self.parts, media, lba, block, true) {
             Ok(()) => Ok(()),
             Err(error) => Err(self.give_up(error)),
         }
@@ -72,16 +75,17 @@ impl Ssc {
     ) -> Result<(), SscError>
         requires up { IsUp self.old (M.state media.old).contents }
         requires lba { lba < (geometry_of self.old).size }
-        requires room { 1 ≤ pages_left self.old }
         ensures geometry { geometry_of self.new ≡ geometry_of self.old }
         ensures full { (n l : ℕ) → IsErrOf result (SscError.Full n l) → ⊥ }
         ensures memory { IsErrOf result SscError.OutOfMemory → (self.old.ready ≡ false) × (self.new ≡ self.old) × (M.state media.new ≡ M.state media.old) }
         ensures stopped { self.new.stopped ≡ stops result }
-        ensures done { OnOk result ((s : CacheList) → Holds self.old (M.state media.old).contents s → Holds self.new (M.state media.new).contents (written_clean lba block.now s)) }
+        ensures done { OnOk result ((s : CacheList) → Holds self.old (M.state media.old).contents s → HoldsWritten self.new (M.state media.new).contents s lba (written_clean lba block.now)) }
         ensures over_held { OnOk result ((s : CacheList) → Holds self.old (M.state media.old).contents s → IsHeldIn s lba → pending self.new ≡ []) }
         ensures at_absent { OnOk result ((s : CacheList) → Holds self.old (M.state media.old).contents s → get s lba ≡ None → PendsWith (pending self.old) (pending self.new) (Inserted lba)) }
-        ensures images { (s : CacheList) → Holds self.old (M.state media.old).contents s → ImagesOf self.old (M.state media.new).contents s (written_clean lba block.now s) }
-        ensures pages { OnOk result (pages_left self.new + 1 ≡ pages_left self.old) }
+        // Whatever is answered, and wherever power went off.
+        ensures images { (s : CacheList) → Holds self.old (M.state media.old).contents s → ImagesOfWrite self.old (M.state media.new).contents s lba (written_clean lba block.now) }
+        // Where the open log block has a page left nothing gives way.
+        ensures inside { OnOk result (1 ≤ open_room self.old → (s : CacheList) → Holds self.old (M.state media.old).contents s → Holds self.new (M.state media.new).contents (written_clean lba block.now s)) }
         ensures one_program { OnOk result ((s : CacheList) → Holds self.old (M.state media.old).contents s → get s lba ≡ None → 1 ≤ open_room self.old → length (pending self.old) + 2 ≤ 127
             → ((M.state media.new).counts ≡ program_counted (M.state media.old).counts) × (pending self.new ≡ pending self.old ++ Inserted lba ∷ [])) }
         ensures programs { OnOk result (Rose (M.state media.old).counts.programs (M.state media.new).counts.programs) }
@@ -91,11 +95,45 @@ impl Ssc {
         if self.reserve().is_err() {
             return Err(SscError::OutOfMemory);
         }
-        let is_held = self.is_held(lba);
-        match self.put_clean(media, lba, block, is_held) {
+        self.ready = false;
+        match self.put_clean(media, lba, block) {
             Ok(()) => Ok(()),
             Err(error) => Err(self.give_up(error)),
         }
+    }
+
+    /// Puts a block at an address, clean. Over a held address that is committed at once: else a crash
+    /// would bring the old block back.
+    fn put_clean<M: Media>(
+        &mut self,
+        media: &mut M,
+        lba: u64,
+        block: &Block,
+    ) -> Result<(), MediaError>
+        requires agree { Agree self.old.parts (M.state media.old).contents }
+        requires lba { lba < (geometry_of self.old).size }
+        requires memory { HasMemory self.old.parts }
+        requires few { length self.old.parts.log.buffered < 127 }
+        ensures cache { self.new ≡ record self.old { parts = self.new.parts } }
+        ensures geometry { geometry_of self.new ≡ geometry_of self.old }
+        ensures agree { OnOk result (Agree self.new.parts (M.state media.new).contents) }
+        ensures few { OnOk result (length self.new.parts.log.buffered < 127) }
+        ensures lists { OnOk result ((list durable : CacheList) → Lists self.old.parts (M.state media.old).contents.flash.page list durable
+            → PutsBlock self.old.parts lba (held block.now false) self.new.parts (M.state media.new).contents.flash.page durable list) }
+        ensures over_held { OnOk result ((e : Entry) → get (entries_of self.old) lba ≡ Some e → self.new.parts.log.buffered ≡ []) }
+        ensures stands { (list durable : CacheList) → Lists self.old.parts (M.state media.old).contents.flash.page list durable
+            → StandsForStep (geometry_of self.old) (M.state media.new).contents.flash.page durable list (λ s. insert s lba (held block.now false)) }
+        ensures one_program { OnOk result (get (entries_of self.old) lba ≡ None → 1 ≤ open_room self.old → length self.old.parts.log.buffered + 2 ≤ 127
+            → IsPushed self.old.parts lba false self.new.parts × ((M.state media.new).counts ≡ program_counted (M.state media.old).counts)) }
+        ensures programs { OnOk result (Rose (M.state media.old).counts.programs (M.state media.new).counts.programs) }
+        ensures spends { OnOk result (Spends 1 (M.state media.old) (M.state media.new)) }
+        ensures memory { IsErrOf result MediaError.OutOfMemory → ⊥ }
+        ensures drives { DrivesFlash (M.state media.old) (M.state media.new) (failed result) (lost result) }
+    {
+        if self.is_held(lba) {
+            return write_committed(&mut self.parts, media, lba, block, false);
+        }
+        write_buffered(&mut self.parts, media, lba, block)
     }
 
     /// Reads the block of an address: false where it isn't held. It changes nothing.
@@ -113,7 +151,7 @@ impl Ssc {
         ensures memory { IsErrOf result SscError.OutOfMemory → ⊥ }
         ensures reads { ReadsFlash (M.state media.old) (M.state media.new) (ssc_failed result) (ssc_lost result) }
     {
-        let Some((place, _)) = self.map.place(lba) else {
+        let Some((place, _)) = self.parts.map.place(lba) else {
             return Ok(false);
         };
         let mut spare = Spare([0; 32]);
@@ -137,14 +175,13 @@ impl Ssc {
         ensures held { OnOk result ((s : CacheList) → Holds self.old (M.state media.old).contents s → IsHeldIn s lba → pending self.new ≡ []) }
         ensures absent { OnOk result ((s : CacheList) → Holds self.old (M.state media.old).contents s → get s lba ≡ None → (self.new ≡ self.old) × (M.state media.new ≡ M.state media.old)) }
         ensures images { (s : CacheList) → Holds self.old (M.state media.old).contents s → ImagesOf self.old (M.state media.new).contents s (evicted lba s) }
-        ensures pages { self.new.next ≡ self.old.next }
         ensures ready { self.new.ready ≡ self.old.ready }
         ensures drives { DrivesFlash (M.state media.old) (M.state media.new) (ssc_failed result) (ssc_lost result) }
     {
         if !self.is_held(lba) {
             return Ok(());
         }
-        match self.put_out(media, lba) {
+        match take_out(&mut self.parts, media, lba) {
             Ok(()) => Ok(()),
             Err(error) => Err(self.give_up(error)),
         }
@@ -163,14 +200,13 @@ impl Ssc {
         ensures of_other { OnOk result ((s : CacheList) → Holds self.old (M.state media.old).contents s → ((b : Block) → get s lba ≡ Some (held b true) → ⊥) → (self.new ≡ self.old) × (M.state media.new ≡ M.state media.old)) }
         ensures no_write { OnOk result (length (pending self.old) + 2 ≤ 127 → M.state media.new ≡ M.state media.old) }
         ensures images { (s : CacheList) → Holds self.old (M.state media.old).contents s → ImagesOf self.old (M.state media.new).contents s (made_clean lba s) }
-        ensures pages { self.new.next ≡ self.old.next }
         ensures ready { self.new.ready ≡ self.old.ready }
         ensures drives { DrivesFlash (M.state media.old) (M.state media.new) (ssc_failed result) (ssc_lost result) }
     {
         if !self.is_dirty(lba) {
             return Ok(());
         }
-        match self.mark_clean(media, lba) {
+        match mark_clean(&mut self.parts, media, lba) {
             Ok(()) => Ok(()),
             Err(error) => Err(self.give_up(error)),
         }
@@ -184,7 +220,7 @@ impl Ssc {
         ensures refused { OnErr result (out.new.items ≡ out.old.items) }
     {
         let before = out.len();
-        for i in 0..self.map.held() {
+        for i in 0..self.parts.map.held() {
             if self.list_dirty(i, from, from + count, out).is_err() {
                 out.truncate(before);
                 return Err(AllocError);
@@ -204,11 +240,10 @@ impl Ssc {
         ensures done { OnOk result ((s : CacheList) → Holds self.old (M.state media.old).contents s → Holds self.new (M.state media.new).contents s) }
         ensures nothing_waits { OnOk result (pending self.new ≡ []) }
         ensures images { (s : CacheList) → Holds self.old (M.state media.old).contents s → ImagesOf self.old (M.state media.new).contents s s }
-        ensures pages { self.new.next ≡ self.old.next }
         ensures ready { self.new.ready ≡ self.old.ready }
         ensures drives { DrivesFlash (M.state media.old) (M.state media.new) (ssc_failed result) (ssc_lost result) }
     {
-        match self.commit_now(media) {
+        match merge_engine::commit(&mut self.parts, media) {
             Ok(()) => Ok(()),
             Err(error) => Err(self.give_up(error)),
         }
@@ -223,13 +258,12 @@ impl Ssc {
         ensures stopped { self.new.stopped ≡ stops result }
         ensures done { OnOk result ((s : CacheList) → Holds self.old (M.state media.old).contents s → Holds self.new (M.state media.new).contents s) }
         ensures nothing_waits { OnOk result (pending self.new ≡ []) }
-        ensures log { OnOk result (self.new.log.next ≡ 0) }
+        ensures log { OnOk result (self.new.parts.log.next ≡ 0) }
         ensures images { (s : CacheList) → Holds self.old (M.state media.old).contents s → ImagesOf self.old (M.state media.new).contents s s }
-        ensures pages { self.new.next ≡ self.old.next }
         ensures ready { self.new.ready ≡ self.old.ready }
         ensures drives { DrivesFlash (M.state media.old) (M.state media.new) (ssc_failed result) (ssc_lost result) }
     {
-        match self.checkpoint_now(media) {
+        match merge_engine::make_checkpoint(&mut self.parts, media) {
             Ok(()) => Ok(()),
             Err(error) => Err(self.give_up(error)),
         }

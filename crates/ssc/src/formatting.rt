@@ -1,4 +1,4 @@
-ghost use Rattle.std.specs.Prelude.{◌≡◌, OnOk, IsErrOf, ℕ};
+ghost use Rattle.std.specs.Prelude.{OnOk, IsErrOf, ℕ};
 ghost use Rattle.std.specs.FinMap.{empty};
 ghost use Rattle.ft_media.specs.Drives.{DrivesFlash};
 ghost use Rattle.cache_model.specs.Stands.{StandsFor};

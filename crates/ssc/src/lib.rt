@@ -3,13 +3,10 @@
 //! The layers above see a cache and its flash as a list of held blocks, each dirty or clean (`Holds`).
 //! They rely on this: each command that answers Ok is its step on the list; at every moment of a
 //! command a crash leaves flash that stands for the list before, without what was buffered or with it,
-//! or for the list after the step; and `open` holds exactly what the flash stands for. No call of the
-//! disk is made.
-//!
-//! Blocks go into the pages of the first pool blocks in order, and no page is used again.
+//! or for the list after the step; and `open` holds exactly what the flash stands for. A write may let
+//! wholly clean groups go, where more than C groups would be held. No call of the disk is made.
 #![tactic(auto)]
 
-mod append;
 mod cache;
 mod commands;
 mod error;
@@ -17,7 +14,6 @@ mod formatting;
 mod listing;
 mod opening;
 mod putting;
-mod unused;
 
 pub use cache::Ssc;
 pub use error::SscError;

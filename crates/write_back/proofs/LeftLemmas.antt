@@ -1,14 +1,13 @@
 -- What the calls leave of a volume and its media.
-use Rattle.std.proofs.Common.{◌≡◌, ◌⊎◌, ℕ, ◌+◌, ◌*◌, ◌/◌, ◌<◌, ◌≤◌, Bool, true, false, cond, List, [], ◌∷◌, length, Option, Some, None, Ok, Err, inl, inr, refl, sym, ◌∙◌, ap, subst, arith}
-use Rattle.std.specs.Prelude.{IsErrOf}
-use Rattle.std.specs.FinMap.{get}
-use Rattle.std.proofs.lemmas.Bool.{cases_Bool, or_parts, or_right, false≢true}
+use Rattle.std.proofs.Common.{◌≡◌, ◌⊎◌, ℕ, ◌/◌, ◌<◌, ◌≤◌, ◌==◌, Result, Bool, true, false, List, [], ◌∷◌, length, Option, Some, None, Ok, Err, inl, inr, refl, sym, ◌∙◌, ap, subst, arith, cond, nat_cmp}
+use Rattle.std.specs.Prelude.{IsErrOf, OnOk, is_err}
+use Rattle.std.specs.FinMap.{get, same_map, nat_cmp-IsAntisymmetric}
+use Rattle.std.specs.Cmp.{nat_cmp_total}
+use Rattle.std.proofs.lemmas.Bool.{cases_Bool, or_left, or_parts, or_right, false≢true}
 use Rattle.ft_base.specs.declared.block.Block.{Block}
 use Rattle.ft_base.specs.declared.block.Place.{Place}
 use Rattle.ft_base.specs.declared.block.Page.{Page}
 use Rattle.ft_base.specs.declared.geometry.Geometry.{Geometry}
-use Rattle.ft_base.specs.declared.record.Record.{Record}
-use Rattle.ft_base.specs.declared.record.Record.TheVariants.{SetPage}
 use Rattle.ft_base.specs.Contents.{Contents, Image, Now, Shape, Values, set}
 use Rattle.ft_base.specs.PlainDisk.{PlainDisk}
 use Rattle.ft_base.proofs.Images.{with_newest, newest_image}
@@ -16,64 +15,35 @@ use Rattle.ft_media.specs.State.{State}
 use Rattle.ft_media.specs.Volume.{AreAmong, StandFor, StandForEither, StandForOne, WasWritten}
 use Rattle.ft_media.specs.declared.volume.VolumeError.{VolumeError}
 use Rattle.ft_media.specs.declared.volume.VolumeError.TheVariants as volume
-use Rattle.cache_model.specs.Records.{Entries, after}
-use Rattle.cache_model.specs.Loading.{load, after_all}
-use Rattle.cache_model.specs.Cache.{CacheList, Held, held_or, written_dirty, undo, IsFull, with_group}
+use Rattle.cache_model.specs.Cache.{CacheList, Held, Vanish, dirty_groups, held_or, written_dirty, undo, IsFull, with_group}
 use Rattle.cache_model.specs.Stands.{StandsFor, ImageStandsFor}
+use Rattle.cache_model.proofs.CountLemmas.{member, same_number}
 use Rattle.op_log.specs.Log.{FitsOn}
-use Rattle.ssc.specs.CacheState.{AllBefore, CacheValue, Holds, IsUp, geometry_of, pending, waiting, pool_page}
+use Rattle.dirty_table.specs.Groups.{Groups, groups, touched, without}
+use Rattle.ssc.specs.declared.cache.Ssc.{Ssc}
+use Rattle.ssc.specs.CacheState.{Holds, IsUp, geometry_of, pending}
 use Rattle.ssc.specs.declared.error.SscError.{SscError}
 use Rattle.ssc.specs.declared.error.SscError.TheVariants.{Full, FlashFault, PowerLost, OutOfMemory}
 use Rattle.ssc.specs.Errors.{stops}
+use Rattle.ssc.specs.Commands.{FullExactly, HoldsWritten, ImagesOfWrite, StandsForWrite, AsUndone, AsLeft, AsWritten, ReadOf}
 use Rattle.write_back.specs.Errors.{IsOfCache}
-use Rattle.ssc.specs.Commands.{FullExactly, ImagesOf, StandsForOne, AsUndone, AsBefore, AsAfter, TakesPage, LoadsMapOf, ReadOf}
 use Rattle.write_back.specs.declared.volume.WriteBack.{WriteBack}
-use Rattle.write_back.specs.Left.{IsLeft, IsPlain, IsOpened, LoadsSame, Stays, AllDirty, whole_blocks, taken, pages_of, groups_of, dirty_in, is_down}
-use Rattle.write_back.proofs.DiskLemmas.{one_loaded, stands_volume, one_of_either, stays_stand, written_stand, written_dirty-all}
-use Rattle.write_back.proofs.GroupLemmas.{among_same, among_more, placed_keeps, placed_adds, before_more, placed_before, whole_low, whole_high, whole_whole, not_full as room_left}
+use Rattle.write_back.specs.Left.{AllDirty, IsLeft, IsOpened, IsPlain, IsPrepared, IsTable, LoadsSame, Stays, groups_of, is_down}
+use Rattle.write_back.proofs.DiskLemmas.{stands_volume, one_of_either, stays_stand, written_stand, written_dirty-all}
+use Rattle.write_back.proofs.GroupLemmas.{among_same, among_more, among_then, not_full, written_adds}
+use Rattle.write_back.proofs.TableLemmas.{touched_apart, touched_less, touched_more}
 
--- ---- a cache between two calls: nothing is buffered, so the flash is loaded as the map is
-
-none_waits : (changes : List Record) → waiting changes ≡ [] → changes ≡ []
-none_waits [] is = refl
-none_waits (change ∷ changes) is = absurd (cc)
-
-pub loaded_now : (c : CacheValue) (contents : Contents) (s : CacheList) → Holds c contents s → pending c ≡ [] → load (geometry_of c) contents.flash.page ≡ Ok c.entries
-loaded_now c contents s holds nothing =
-    let current = holds.keeps.current in
-    let all : after_all (geometry_of c) [] current.durable ≡ Some c.entries = ap (λ (rs : List Record). after_all (geometry_of c) rs current.durable) (sym (none_waits c.log.buffered nothing)) ∙ current.buffered in
-    let same : current.durable ≡ c.entries = cc in
-    current.loads ∙ ap Ok same
-
-pub stands_now : (c : CacheValue) (contents : Contents) (s : CacheList) → Holds c contents s → pending c ≡ [] → StandsFor (geometry_of c) contents.flash.page s
-stands_now c contents s holds nothing = ap (λ q. undo q s) nothing ▷ holds.keeps.stands
-  where
-    infixr 1 ◌▷◌
-    ◌▷◌ : {s t : CacheList} → s ≡ t → StandsFor (geometry_of c) contents.flash.page s → StandsFor (geometry_of c) contents.flash.page t
-    e ▷ x = subst (λ (l : CacheList). StandsFor (geometry_of c) contents.flash.page l) e x
-
--- ---- down or up
-
-pub pages_down : (v : WriteBack) → is_down v ≡ true → taken v ≡ whole_blocks v.geometry v.cache.next
-pages_down v down = ap (λ b. cond b (whole_blocks v.geometry v.cache.next) v.cache.next) down
-
-pub pages_up : (v : WriteBack) → is_down v ≡ false → taken v ≡ v.cache.next
-pages_up v up = ap (λ b. cond b (whole_blocks v.geometry v.cache.next) v.cache.next) up
-
-pub taken_low : (v : WriteBack) → v.cache.next ≤ taken v
-taken_low v = elim (cases_Bool (is_down v)) [
-  | inl t ↦ let is = pages_down v t in let low = whole_low v.geometry v.cache.next in omega (arith, is, low)
-  | inr f ↦ let is = pages_up v f in omega (arith, is)
-]
-
-pub taken_high : (v : WriteBack) → taken v ≤ whole_blocks v.geometry v.cache.next
-taken_high v = elim (cases_Bool (is_down v)) [
-  | inl t ↦ let is = pages_down v t in omega (arith, is)
-  | inr f ↦ let is = pages_up v f in let low = whole_low v.geometry v.cache.next in omega (arith, is, low)
-]
+-- nothing is buffered between two calls, so the flash stands for the list
+pub stands_now : (c : Ssc) (contents : Contents) (s : CacheList) → Holds c contents s → pending c ≡ [] → StandsFor (geometry_of c) contents.flash.page s
+stands_now c contents s holds nothing = subst (λ (l : CacheList). StandsFor (geometry_of c) contents.flash.page l) (ap (λ q. undo q s) nothing) holds.lists.stands
 
 both : (b : Bool) → b ≡ true → b ≡ false → ⊥
 both b t f = false≢true (sym f ∙ t)
+
+-- what comes with Ok, where it is no error
+pub on_ok_of : {T E P : Type 0} (r : Result T E) → is_err r ≡ false → OnOk r P → P
+on_ok_of (Ok t) f p = p
+on_ok_of (Err e) f p = absurd (both true refl f)
 
 -- ---- opening again
 
@@ -92,18 +62,15 @@ module _ (v : WriteBack) (old new : State) (left : IsLeft v old.contents) (same 
   same_shape : FitsOn v.geometry new.contents.shape
   same_shape = subst (λ (x : Shape). FitsOn v.geometry x) (sym shape) left.shape
 
-  same_loaded : same_plain.flash.loaded ≡ left.plain.flash.loaded
-  same_loaded = one_loaded v.geometry new.contents.flash.page same_plain.flash.loaded left.plain.flash.loaded same_plain.flash.loads (same.loads ∙ left.plain.flash.loads)
-
   -- refused, it is as before
   pub left_refused : is_down v ≡ true → IsLeft v new.contents
   left_refused down = record {
     own = left.own;
     shape = same_shape;
+    table = left.table;
     list = left.list;
     plain = same_plain;
-    groups = subst (λ (m : Entries). AreAmong (dirty_in v.geometry m) (groups_of v)) (sym same_loaded) left.groups;
-    before = subst (λ (m : Entries). AllBefore v.geometry (taken v) m) (sym same_loaded) left.before;
+    groups = left.groups;
     holds = λ up. absurd (both (is_down v) down up);
     nothing_waits = λ up. absurd (both (is_down v) down up);
   }
@@ -111,57 +78,24 @@ module _ (v : WriteBack) (old new : State) (left : IsLeft v old.contents) (same 
   pub stays_refused : new.counts.disk_writes ≡ old.counts.disk_writes → Stays v v old new
   stays_refused writes = record { geometry = refl; lists = same.lists; disk = same_disk; groups = among_same (groups_of v); disk_writes = writes }
 
-  module _ (c : CacheValue) (opened : IsOpened v.geometry old.contents new.contents c) where
+  module _ (c : Ssc) (opened : IsOpened v.geometry old.contents new.contents c) where
     abbrev opened_again : WriteBack
     opened_again = record v { cache = c; cut = false }
-
-    loaded_is : left.plain.flash.loaded ≡ c.entries
-    loaded_is = one_loaded v.geometry old.contents.flash.page left.plain.flash.loaded c.entries left.plain.flash.loads opened.loads
-
-    holds_list : Holds c new.contents left.list
-    holds_list = opened.holds left.list left.plain.flash
-
-    before_next : AllBefore v.geometry (taken opened_again) c.entries
-    before_next =
-        let here : AllBefore v.geometry c.next c.entries = subst (λ (g : Geometry). AllBefore g c.next c.entries) opened.geometry holds_list.keeps.entries_before.before in
-        before_more v.geometry c.next (taken opened_again) c.entries (taken_low opened_again) here
-
-    pub up_again : is_down opened_again ≡ false
-    up_again = opened.up
 
     pub left_again : IsLeft opened_again new.contents
     left_again = record {
       own = opened.geometry;
       shape = same_shape;
+      table = left.table;
       list = left.list;
       plain = same_plain;
-      groups = subst (λ (m : Entries). AreAmong (dirty_in v.geometry m) (groups_of opened_again)) (sym (same_loaded ∙ loaded_is)) (among_same (groups_of opened_again));
-      before = subst (λ (m : Entries). AllBefore v.geometry (taken opened_again) m) (sym (same_loaded ∙ loaded_is)) before_next;
-      holds = λ up. holds_list;
+      groups = left.groups;
+      holds = λ up. opened.holds left.list left.plain.flash;
       nothing_waits = λ up. opened.nothing_waits;
     }
 
     pub stays_again : new.counts.disk_writes ≡ old.counts.disk_writes → Stays v opened_again old new
-    stays_again writes = record {
-      geometry = refl;
-      lists = same.lists;
-      disk = same_disk;
-      groups = subst (λ (m : Entries). AreAmong (dirty_in v.geometry m) (groups_of v)) loaded_is left.groups;
-      disk_writes = writes;
-    }
-
-    pub pages_again : is_down v ≡ true → pages_of v ≤ pages_of opened_again
-    pages_again down =
-        let g = v.geometry in
-        let old_taken = pages_down v down in
-        let new_taken = pages_up opened_again up_again in
-        let before : AllBefore g (taken v) c.entries = subst (λ (m : Entries). AllBefore g (taken v) m) loaded_is left.before in
-        let bound = opened.next (taken v) (subst (λ (k : Geometry). AllBefore k (taken v) c.entries) (sym opened.geometry) before) in
-        let bound' : c.next ≤ whole_blocks g (taken v) = subst (λ (k : Geometry). c.next ≤ whole_blocks k (taken v)) opened.geometry bound in
-        let whole : whole_blocks g (taken v) ≡ whole_blocks g v.cache.next = ap (whole_blocks g) old_taken ∙ whole_whole g v.cache.next in
-        let less : taken opened_again ≤ taken v = omega (arith, old_taken, new_taken, bound', whole) in
-        let room = g.l * g.p in
-        omega (arith, less)
+    stays_again writes = record { geometry = refl; lists = same.lists; disk = same_disk; groups = among_same (groups_of v); disk_writes = writes }
 
 -- no call was made
 pub stays_same : (v : WriteBack) (s : State) → Stays v v s s
@@ -210,6 +144,55 @@ found_held v c left lba found b within t is d stand = read_held (get left.list l
 pub found_absent : (v : WriteBack) (c c' : Contents) (left : IsLeft v c) (lba : ℕ) (found : Bool) (b b' : Block) → lba < v.geometry.size → found ≡ false → ReadOf (get left.list lba) found b → c' ≡ c → b' ≡ (c'.disk lba).newest → (d : PlainDisk) → StandFor (ImageStandsFor v.geometry) c d → b' ≡ d lba
 found_absent v c c' left lba found b b' within f is same newest d stand = newest ∙ ap (λ (x : Contents). (x.disk lba).newest) same ∙ read_absent (get left.list lba) b (c.disk lba).newest (subst (λ (x : Bool). ReadOf (get left.list lba) x b) f is) ∙ stands_volume v.geometry c left.list left.plain d stand lba within
 
+-- ---- before a write
+
+module _ (v w : WriteBack) (group : ℕ) (prepared : IsPrepared v w group) where
+  pub prepared_geometry : w.geometry ≡ v.geometry
+  prepared_geometry = ap (λ (x : WriteBack). x.geometry) prepared.alone
+
+  prepared_cut : w.cut ≡ v.cut
+  prepared_cut = ap (λ (x : WriteBack). x.cut) prepared.alone
+
+  pub prepared_down : is_down w ≡ is_down v
+  prepared_down = let a = prepared_cut in let b = prepared.stopped in cc
+
+  prepared_table : (g : Geometry) → IsTable g v.dirty → IsTable g w.dirty
+  prepared_table g table = elim prepared.table [
+    | inl same ↦ subst (λ (t : Groups). IsTable g t) (sym same) table
+    | inr noted ↦ subst (λ (t : Groups). IsTable g t) (sym noted) (record { limit = table.limit; apart = touched_apart group (groups_of v) table.apart })
+  ]
+
+  pub prepared_keeps : AreAmong (groups_of v) (groups_of w)
+  prepared_keeps = elim prepared.table [
+    | inl same ↦ subst (λ (t : Groups). AreAmong (groups_of v) t.order) (sym same) (among_same (groups_of v))
+    | inr noted ↦ subst (λ (t : Groups). AreAmong (groups_of v) t.order) (sym noted) (among_then (groups_of v) (group ∷ groups_of v) (touched group (groups_of v)) (among_more (groups_of v) (groups_of v) group (among_same (groups_of v))) (touched_more group (groups_of v)))
+  ]
+
+  pub prepared_adds : AreAmong (groups_of w) (group ∷ groups_of v)
+  prepared_adds = elim prepared.table [
+    | inl same ↦ subst (λ (t : Groups). AreAmong t.order (group ∷ groups_of v)) (sym same) (among_more (groups_of v) (groups_of v) group (among_same (groups_of v)))
+    | inr noted ↦ subst (λ (t : Groups). AreAmong t.order (group ∷ groups_of v)) (sym noted) (touched_less group (groups_of v))
+  ]
+
+  -- its group is in the table
+  pub prepared_there : (lba : ℕ) → group ≡ lba / v.geometry.p → groups_of w ≡ touched group (groups_of v) → AreAmong (lba / w.geometry.p ∷ []) (groups_of w)
+  prepared_there lba own noted =
+      let first : AreAmong (group ∷ []) (touched group (groups_of v)) = (or_left (group == group) (member group (without group (groups_of v))) (same_number group), tt) in
+      let here : AreAmong (group ∷ []) (groups_of w) = subst (λ (ns : List ℕ). AreAmong (group ∷ []) ns) (sym noted) first in
+      subst (λ (n : ℕ). AreAmong (n ∷ []) (groups_of w)) (own ∙ ap (λ (g : Geometry). lba / g.p) (sym prepared_geometry)) here
+
+  pub prepared_left : (contents : Contents) → IsLeft v contents → IsLeft w contents
+  prepared_left contents left = record {
+    own = prepared.own ∙ left.own ∙ sym prepared_geometry;
+    shape = subst (λ (g : Geometry). FitsOn g contents.shape) (sym prepared_geometry) left.shape;
+    table = subst (λ (g : Geometry). IsTable g w.dirty) (sym prepared_geometry) (prepared_table v.geometry left.table);
+    list = left.list;
+    plain = subst (λ (g : Geometry). IsPlain g contents left.list) (sym prepared_geometry) left.plain;
+    groups = subst (λ (g : Geometry). AreAmong (dirty_groups g left.list) (groups_of w)) (sym prepared_geometry) (among_then (dirty_groups v.geometry left.list) (groups_of v) (groups_of w) left.groups prepared_keeps);
+    holds = λ up. prepared.holds contents left.list (left.holds (sym prepared_down ∙ up));
+    nothing_waits = λ up. prepared.pending ∙ left.nothing_waits (sym prepared_down ∙ up);
+  }
+
 -- ---- writes
 
 pub was_written : (stands : Image → PlainDisk → Type 0) (c : Contents) (u : Unit {0}) (lba : ℕ) (b : Block) (d : PlainDisk) → StandFor stands c (set d lba b) → WasWritten stands c (Ok u) lba b d
@@ -225,191 +208,125 @@ maybe_written stands c e lba b d one memory = record { images = λ x now. by_one
 pub not_written : (stands : Image → PlainDisk → Type 0) (c : Contents) (e : VolumeError) (lba : ℕ) (b : Block) (d : PlainDisk) → StandFor stands c d → WasWritten stands c (Err e) lba b d
 not_written stands c e lba b d is = maybe_written stands c e lba b d (inl is) (λ m. is)
 
-module _ (v : WriteBack) (c : CacheValue) (old new : State) (lba : ℕ) (block : Block) (left : IsLeft v old.contents) (up : is_down v ≡ false)
-    (geometry : geometry_of c ≡ geometry_of v.cache) (map : TakesPage v.cache c lba true) (loads : LoadsMapOf v.cache c old.contents.flash.page new.contents.flash.page)
-    (shape : new.contents.shape ≡ old.contents.shape) where
-  abbrev after_write : WriteBack
-  after_write = record v { cache = c }
-
-  abbrev was : Entries
-  was = v.cache.entries
-
-  pub holds_before : Holds v.cache old.contents left.list
-  holds_before = left.holds up
-
-  own_map : ((c.entries ≡ was) × (v.cache.next ≤ c.next) × (c.next ≤ v.cache.next + 1)) ⊎ ((c.entries ≡ after v.geometry (SetPage lba (pool_page v.geometry v.cache.next) true) was) × (c.next ≡ v.cache.next + 1))
-  own_map = subst (λ (g : Geometry). ((c.entries ≡ was) × (v.cache.next ≤ c.next) × (c.next ≤ v.cache.next + 1)) ⊎ ((c.entries ≡ after g (SetPage lba (pool_page g v.cache.next) true) was) × (c.next ≡ v.cache.next + 1))) left.own map
-
-  own_loads : (load v.geometry new.contents.flash.page ≡ load v.geometry old.contents.flash.page) ⊎ (load v.geometry new.contents.flash.page ≡ Ok was) ⊎ (load v.geometry new.contents.flash.page ≡ Ok c.entries)
-  own_loads = subst (λ (g : Geometry). (load g new.contents.flash.page ≡ load g old.contents.flash.page) ⊎ (load g new.contents.flash.page ≡ Ok was) ⊎ (load g new.contents.flash.page ≡ Ok c.entries)) left.own loads
-
-  loaded_before : load v.geometry old.contents.flash.page ≡ Ok was
-  loaded_before = subst (λ (g : Geometry). load g old.contents.flash.page ≡ Ok was) left.own (loaded_now v.cache old.contents left.list holds_before (left.nothing_waits up))
-
-  loaded_one : (m : Entries) → load v.geometry new.contents.flash.page ≡ Ok m → (m ≡ was) ⊎ (m ≡ c.entries)
-  loaded_one m is = by_loads own_loads
-    where
-      one : (n : Entries) → load v.geometry new.contents.flash.page ≡ Ok n → m ≡ n
-      one n is' = one_loaded v.geometry new.contents.flash.page m n is is'
-
-      by_loads : (load v.geometry new.contents.flash.page ≡ load v.geometry old.contents.flash.page) ⊎ (load v.geometry new.contents.flash.page ≡ Ok was) ⊎ (load v.geometry new.contents.flash.page ≡ Ok c.entries) → (m ≡ was) ⊎ (m ≡ c.entries)
-      by_loads (inl x) = inl (one was (x ∙ loaded_before))
-      by_loads (inr (inl x)) = inl (one was x)
-      by_loads (inr (inr x)) = inr (one c.entries x)
-
-  groups_kept : AreAmong (dirty_in v.geometry was) (dirty_in v.geometry c.entries)
-  groups_kept = elim own_map [
-    | inl x ↦ subst (λ (m : Entries). AreAmong (dirty_in v.geometry was) (dirty_in v.geometry m)) (sym x.0) (among_same (dirty_in v.geometry was))
-    | inr x ↦ subst (λ (m : Entries). AreAmong (dirty_in v.geometry was) (dirty_in v.geometry m)) (sym x.0) (placed_keeps v.geometry was lba (pool_page v.geometry v.cache.next))
-  ]
-
-  pub groups_added : AreAmong (dirty_in v.geometry c.entries) (lba / v.geometry.p ∷ dirty_in v.geometry was)
-  groups_added = elim own_map [
-    | inl x ↦ subst (λ (m : Entries). AreAmong (dirty_in v.geometry m) (lba / v.geometry.p ∷ dirty_in v.geometry was)) (sym x.0) (among_more (dirty_in v.geometry was) (dirty_in v.geometry was) (lba / v.geometry.p) (among_same (dirty_in v.geometry was)))
-    | inr x ↦ subst (λ (m : Entries). AreAmong (dirty_in v.geometry m) (lba / v.geometry.p ∷ dirty_in v.geometry was)) (sym x.0) (placed_adds v.geometry was lba (pool_page v.geometry v.cache.next))
-  ]
-
-  next_low : v.cache.next ≤ c.next
-  next_low = elim own_map [
-    | inl x ↦ x.1
-    | inr x ↦ omega (arith, x.1)
-  ]
-
-  next_high : c.next ≤ v.cache.next + 1
-  next_high = elim own_map [
-    | inl x ↦ x.2
-    | inr x ↦ omega (arith, x.1)
-  ]
-
-  was_before : AllBefore v.geometry v.cache.next was
-  was_before = subst (λ (g : Geometry). AllBefore g v.cache.next was) left.own holds_before.keeps.entries_before.before
-
-  is_before : AllBefore v.geometry c.next c.entries
-  is_before = elim own_map [
-    | inl x ↦ subst (λ (m : Entries). AllBefore v.geometry c.next m) (sym x.0) (before_more v.geometry v.cache.next c.next was next_low was_before)
-    | inr x ↦
-        let placed = placed_before v.geometry v.cache.next was lba was_before in
-        subst (λ (m : Entries). AllBefore v.geometry c.next m) (sym x.0) (subst (λ (n : ℕ). AllBefore v.geometry n (after v.geometry (SetPage lba (pool_page v.geometry v.cache.next) true) was)) (sym x.1) placed)
-  ]
-
-  -- whatever list the flash stands for now
-  pub left_after : (list : CacheList) → IsPlain v.geometry new.contents list → (is_down after_write ≡ false → Holds c new.contents list) → (is_down after_write ≡ false → pending c ≡ []) → IsLeft after_write new.contents
-  left_after list plain holds nothing = record {
-    own = geometry ∙ left.own;
-    shape = subst (λ (x : Shape). FitsOn v.geometry x) (sym shape) left.shape;
-    list = list;
-    plain = plain;
-    groups = elim (loaded_one plain.flash.loaded plain.flash.loads) [
-      | inl x ↦ subst (λ (m : Entries). AreAmong (dirty_in v.geometry m) (dirty_in v.geometry c.entries)) (sym x) groups_kept
-      | inr x ↦ subst (λ (m : Entries). AreAmong (dirty_in v.geometry m) (dirty_in v.geometry c.entries)) (sym x) (among_same (dirty_in v.geometry c.entries))
-    ];
-    before = elim (loaded_one plain.flash.loaded plain.flash.loads) [
-      | inl x ↦ subst (λ (m : Entries). AllBefore v.geometry (taken after_write) m) (sym x) (before_more v.geometry v.cache.next (taken after_write) was (let low = next_low in let more = taken_low after_write in omega (arith, low, more)) was_before)
-      | inr x ↦ subst (λ (m : Entries). AllBefore v.geometry (taken after_write) m) (sym x) (before_more v.geometry c.next (taken after_write) c.entries (taken_low after_write) is_before)
-    ];
-    holds = holds;
-    nothing_waits = nothing;
-  }
-
-  pub pages_after : pages_of v ≤ pages_of after_write + v.geometry.p
-  pages_after =
-      let some = v.geometry.in_range.p_low in
-      let high = next_high in
-      let most = taken_high after_write in
-      let bound = whole_high v.geometry c.next in
-      let fewer : whole_blocks v.geometry c.next ≤ v.cache.next + v.geometry.p = omega (arith, bound, high, some) in
-      let was_taken = taken_low v in
-      let room = v.geometry.l * v.geometry.p in
-      omega (arith, most, fewer, was_taken)
-
-  module _ (disk : (a : ℕ) → new.contents.disk a ≡ old.contents.disk a) where
-    plain_with : (list : CacheList) → AllDirty list → StandsFor v.geometry new.contents.flash.page list → IsPlain v.geometry new.contents list
-    plain_with list all stands = record { settled = λ a. ap (λ (x : Values). x.earlier) (disk a) ∙ left.plain.settled a; flash = stands; dirty = all }
-
-    abbrev list_after : CacheList
-    list_after = written_dirty lba block left.list
-
-    -- the list is as before, or has the block
-    module _ (images : (s : CacheList) → Holds v.cache old.contents s → ImagesOf v.cache new.contents s (written_dirty lba block s)) where
-      own_stands : {s : CacheList} → StandsFor (geometry_of v.cache) new.contents.flash.page s → StandsFor v.geometry new.contents.flash.page s
-      own_stands {s} x = subst (λ (g : Geometry). StandsFor g new.contents.flash.page s) left.own x
-
-      one_plain : IsPlain v.geometry new.contents left.list ⊎ IsPlain v.geometry new.contents list_after
-      one_plain = by_image (images left.list holds_before (with_newest new.contents) (newest_image new.contents))
-        where
-          by_image : StandsForOne (geometry_of v.cache) new.contents.flash.page (undo (pending v.cache) left.list) left.list list_after → IsPlain v.geometry new.contents left.list ⊎ IsPlain v.geometry new.contents list_after
-          by_image (AsUndone x) = inl (plain_with left.list left.plain.dirty (own_stands (subst (λ (s : CacheList). StandsFor (geometry_of v.cache) new.contents.flash.page s) (ap (λ q. undo q left.list) (left.nothing_waits up)) x)))
-          by_image (AsBefore x) = inl (plain_with left.list left.plain.dirty (own_stands x))
-          by_image (AsAfter x) = inr (plain_with list_after (written_dirty-all left.list lba block left.plain.dirty) (own_stands x))
-
-      pub left_cut : is_down after_write ≡ true → IsLeft after_write new.contents
-      left_cut down = elim one_plain [
-        | inl x ↦ left_after left.list x (λ f. absurd (both (is_down after_write) down f)) (λ f. absurd (both (is_down after_write) down f))
-        | inr x ↦ left_after list_after x (λ f. absurd (both (is_down after_write) down f)) (λ f. absurd (both (is_down after_write) down f))
-      ]
-
-      pub one_cut : (d : PlainDisk) → StandFor (ImageStandsFor v.geometry) old.contents d → StandForOne (ImageStandsFor v.geometry) new.contents d (set d lba block)
-      one_cut d stand = elim one_plain [
-        | inl x ↦ inl (stays_stand v.geometry old.contents new.contents left.list left.plain x disk d stand)
-        | inr x ↦ inr (written_stand v.geometry old.contents new.contents left.list lba block left.plain x disk d stand)
-      ]
-
-      down_now : c.stopped ≡ true → is_down after_write ≡ true
-      down_now stopped = or_right v.cut c.stopped stopped
-
-      -- refused for any reason but that it is full
-      pub left_err : (e : SscError) → ((n limit : ℕ) → e ≡ Full n limit → ⊥) → c.stopped ≡ stops {T = Unit {0}} (Err e) → (IsErrOf {T = Unit {0}} (Err e) OutOfMemory → (v.cache.ready ≡ false) × (c ≡ v.cache) × (new ≡ old)) → IsLeft after_write new.contents
-      left_err (Full n limit) not_full stopped memory = absurd (not_full n limit refl)
-      left_err FlashFault not_full stopped memory = left_cut (down_now stopped)
-      left_err PowerLost not_full stopped memory = left_cut (down_now stopped)
-      left_err OutOfMemory not_full stopped memory =
-          let m = memory refl in
-          subst (λ (k : CacheValue). IsLeft (record v { cache = k }) new.contents) (sym m.1) (subst (λ (s : State). IsLeft v s.contents) (sym m.2) left)
-
-      pub written_err : (e : SscError) (r : VolumeError) → IsOfCache e r → (IsErrOf {T = Unit {0}} (Err e) OutOfMemory → (v.cache.ready ≡ false) × (c ≡ v.cache) × (new ≡ old)) → (d : PlainDisk) → StandFor (ImageStandsFor v.geometry) old.contents d → WasWritten (ImageStandsFor v.geometry) new.contents (Err r) lba block d
-      written_err (Full n limit) r is memory d stand = absurd is
-      written_err FlashFault r is memory d stand = maybe_written (ImageStandsFor v.geometry) new.contents r lba block d (one_cut d stand) (λ m. absurd (let no : volume.FlashFault ≡ volume.OutOfMemory = sym is ∙ m in cc))
-      written_err PowerLost r is memory d stand = maybe_written (ImageStandsFor v.geometry) new.contents r lba block d (one_cut d stand) (λ m. absurd (let no : volume.PowerLost ≡ volume.OutOfMemory = sym is ∙ m in cc))
-      written_err OutOfMemory r is memory d stand = not_written (ImageStandsFor v.geometry) new.contents r lba block d (subst (λ (s : State). StandFor (ImageStandsFor v.geometry) s.contents d) (sym (memory refl).2) stand)
-
-    module _ (holds : Holds c new.contents list_after) (nothing : pending c ≡ []) where
-      plain_done : IsPlain v.geometry new.contents list_after
-      plain_done = plain_with list_after (written_dirty-all left.list lba block left.plain.dirty) (subst (λ (g : Geometry). StandsFor g new.contents.flash.page list_after) (geometry ∙ left.own) (stands_now c new.contents list_after holds nothing))
-
-      pub left_done : IsLeft after_write new.contents
-      left_done = left_after list_after plain_done (λ f. holds) (λ f. nothing)
-
-      pub one_done : (d : PlainDisk) → StandFor (ImageStandsFor v.geometry) old.contents d → StandFor (ImageStandsFor v.geometry) new.contents (set d lba block)
-      one_done d stand = written_stand v.geometry old.contents new.contents left.list lba block left.plain plain_done disk d stand
-
 full_is : (g : Geometry) (s : CacheList) (a : ℕ) (e : SscError) → FullExactly g s a {T = Unit {0}} (Err e) → (n limit : ℕ) → e ≡ Full n limit → IsFull g s a
 full_is g s a e exactly n limit is = (subst (λ (x : SscError). FullExactly g s a {T = Unit {0}} (Err x)) is exactly).0
 
 -- it isn't full where its groups leave room
-pub has_room : (v : WriteBack) (c : Contents) (left : IsLeft v c) (lba : ℕ) → is_down v ≡ false → length (with_group (lba / v.geometry.p) (groups_of v)) ≤ v.geometry.c → (e : SscError) → FullExactly (geometry_of v.cache) left.list lba {T = Unit {0}} (Err e) → (n limit : ℕ) → e ≡ Full n limit → ⊥
-has_room v c left lba up room e exactly n limit is = room_left v.geometry c.flash.page v.cache.entries left.list lba (left.holds up).keeps.held room (subst (λ (g : Geometry). IsFull g left.list lba) left.own (full_is (geometry_of v.cache) left.list lba e exactly n limit is))
+pub has_room : (v : WriteBack) (c : Contents) (left : IsLeft v c) (lba : ℕ) (k : Ssc) → geometry_of k ≡ geometry_of v.cache → length (with_group (lba / v.geometry.p) (groups_of v)) ≤ v.geometry.c → (e : SscError) → FullExactly (geometry_of k) left.list lba {T = Unit {0}} (Err e) → (n limit : ℕ) → e ≡ Full n limit → ⊥
+has_room v c left lba k own room e exactly n limit is = not_full v.geometry left.list (groups_of v) lba left.groups room (subst (λ (g : Geometry). IsFull g left.list lba) (own ∙ left.own) (full_is (geometry_of k) left.list lba e exactly n limit is))
+
+-- a list of dirty blocks alone lets nothing go
+pub vanish_same : (g : Geometry) (s v : CacheList) (a : ℕ) → Vanish g s a v → AllDirty s → v ≡ s
+vanish_same g s v a vanish all = same_map nat_cmp_total nat_cmp-IsAntisymmetric v s (λ x. vanish.stays x ∙ ap (λ (b : Bool). cond b None (get s x)) (none_gone (x / g.p)))
+  where
+    none_gone : (group : ℕ) → vanish.gone group ≡ false
+    none_gone group = elim (cases_Bool (vanish.gone group)) [
+      | inl t ↦ absurd (let k = vanish.clean group t in both k.some.1.dirty (all k.some.0 k.some.1 k.some.2) (k.clean k.some.0 k.some.1 k.some.2 k.some.3))
+      | inr f ↦ f
+    ]
+
+module _ (v : WriteBack) (c : Ssc) (old new : State) (lba : ℕ) (block : Block) (left : IsLeft v old.contents) (up : is_down v ≡ false)
+    (geometry : geometry_of c ≡ geometry_of v.cache) (there : AreAmong (lba / v.geometry.p ∷ []) (groups_of v))
+    (shape : new.contents.shape ≡ old.contents.shape) (disk : (a : ℕ) → new.contents.disk a ≡ old.contents.disk a) where
+  abbrev after_write : WriteBack
+  after_write = record v { cache = c }
+
+  abbrev list_after : CacheList
+  list_after = written_dirty lba block left.list
+
+  groups_after : AreAmong (dirty_groups v.geometry list_after) (groups_of v)
+  groups_after = among_then (dirty_groups v.geometry list_after) (lba / v.geometry.p ∷ dirty_groups v.geometry left.list) (groups_of v) (written_adds v.geometry left.list lba block) (there.0, left.groups)
+
+  -- whatever list the flash stands for now
+  left_after : (list : CacheList) → IsPlain v.geometry new.contents list → AreAmong (dirty_groups v.geometry list) (groups_of v) → (is_down after_write ≡ false → Holds c new.contents list) → (is_down after_write ≡ false → pending c ≡ []) → IsLeft after_write new.contents
+  left_after list plain groups holds nothing = record {
+    own = geometry ∙ left.own;
+    shape = subst (λ (x : Shape). FitsOn v.geometry x) (sym shape) left.shape;
+    table = left.table;
+    list = list;
+    plain = plain;
+    groups = groups;
+    holds = holds;
+    nothing_waits = nothing;
+  }
+
+  plain_with : (list : CacheList) → AllDirty list → StandsFor v.geometry new.contents.flash.page list → IsPlain v.geometry new.contents list
+  plain_with list all stands = record { settled = λ a. ap (λ (x : Values). x.earlier) (disk a) ∙ left.plain.settled a; flash = stands; dirty = all }
+
+  same_left : (w : CacheList) → Vanish v.geometry left.list lba w → w ≡ left.list
+  same_left w vanish = vanish_same v.geometry left.list w lba vanish left.plain.dirty
+
+  own_vanish : (g : Geometry) (w : CacheList) → g ≡ v.geometry → Vanish g left.list lba w → Vanish v.geometry left.list lba w
+  own_vanish g w is vanish = subst (λ (k : Geometry). Vanish k left.list lba w) is vanish
+
+  -- the list is as before, or has the block
+  module _ (images : (s : CacheList) → Holds v.cache old.contents s → ImagesOfWrite v.cache new.contents s lba (written_dirty lba block)) where
+    own_stands : {s : CacheList} → StandsFor (geometry_of v.cache) new.contents.flash.page s → StandsFor v.geometry new.contents.flash.page s
+    own_stands {s} x = subst (λ (g : Geometry). StandsFor g new.contents.flash.page s) left.own x
+
+    one_plain : IsPlain v.geometry new.contents left.list ⊎ IsPlain v.geometry new.contents list_after
+    one_plain = by_image (images left.list (left.holds up) (with_newest new.contents) (newest_image new.contents))
+      where
+        by_image : StandsForWrite (geometry_of v.cache) new.contents.flash.page (undo (pending v.cache) left.list) left.list lba (written_dirty lba block) → IsPlain v.geometry new.contents left.list ⊎ IsPlain v.geometry new.contents list_after
+        by_image (AsUndone x) = inl (plain_with left.list left.plain.dirty (own_stands (subst (λ (s : CacheList). StandsFor (geometry_of v.cache) new.contents.flash.page s) (ap (λ q. undo q left.list) (left.nothing_waits up)) x)))
+        by_image (AsLeft w vanish x) = inl (plain_with left.list left.plain.dirty (own_stands (subst (λ (s : CacheList). StandsFor (geometry_of v.cache) new.contents.flash.page s) (same_left w (own_vanish (geometry_of v.cache) w left.own vanish)) x)))
+        by_image (AsWritten w vanish x) = inr (plain_with list_after (written_dirty-all left.list lba block left.plain.dirty) (own_stands (subst (λ (s : CacheList). StandsFor (geometry_of v.cache) new.contents.flash.page (written_dirty lba block s)) (same_left w (own_vanish (geometry_of v.cache) w left.own vanish)) x)))
+
+    left_cut : is_down after_write ≡ true → IsLeft after_write new.contents
+    left_cut down = elim one_plain [
+      | inl x ↦ left_after left.list x left.groups (λ f. absurd (both (is_down after_write) down f)) (λ f. absurd (both (is_down after_write) down f))
+      | inr x ↦ left_after list_after x groups_after (λ f. absurd (both (is_down after_write) down f)) (λ f. absurd (both (is_down after_write) down f))
+    ]
+
+    one_cut : (d : PlainDisk) → StandFor (ImageStandsFor v.geometry) old.contents d → StandForOne (ImageStandsFor v.geometry) new.contents d (set d lba block)
+    one_cut d stand = elim one_plain [
+      | inl x ↦ inl (stays_stand v.geometry old.contents new.contents left.list left.plain x disk d stand)
+      | inr x ↦ inr (written_stand v.geometry old.contents new.contents left.list lba block left.plain x disk d stand)
+    ]
+
+    down_now : c.stopped ≡ true → is_down after_write ≡ true
+    down_now stopped = or_right v.cut c.stopped stopped
+
+    -- refused for any reason but that it is full
+    pub left_err : (e : SscError) → ((n limit : ℕ) → e ≡ Full n limit → ⊥) → c.stopped ≡ stops {T = Unit {0}} (Err e) → (IsErrOf {T = Unit {0}} (Err e) OutOfMemory → (v.cache.ready ≡ false) × (c ≡ v.cache) × (new ≡ old)) → IsLeft after_write new.contents
+    left_err (Full n limit) not_full stopped memory = absurd (not_full n limit refl)
+    left_err FlashFault not_full stopped memory = left_cut (down_now stopped)
+    left_err PowerLost not_full stopped memory = left_cut (down_now stopped)
+    left_err OutOfMemory not_full stopped memory =
+        let m = memory refl in
+        subst (λ (k : Ssc). IsLeft (record v { cache = k }) new.contents) (sym m.1) (subst (λ (s : State). IsLeft v s.contents) (sym m.2) left)
+
+    pub written_err : (e : SscError) (r : VolumeError) → IsOfCache e r → (IsErrOf {T = Unit {0}} (Err e) OutOfMemory → (v.cache.ready ≡ false) × (c ≡ v.cache) × (new ≡ old)) → (d : PlainDisk) → StandFor (ImageStandsFor v.geometry) old.contents d → WasWritten (ImageStandsFor v.geometry) new.contents (Err r) lba block d
+    written_err (Full n limit) r is memory d stand = absurd is
+    written_err FlashFault r is memory d stand = maybe_written (ImageStandsFor v.geometry) new.contents r lba block d (one_cut d stand) (λ m. absurd (let no : volume.FlashFault ≡ volume.OutOfMemory = sym is ∙ m in cc))
+    written_err PowerLost r is memory d stand = maybe_written (ImageStandsFor v.geometry) new.contents r lba block d (one_cut d stand) (λ m. absurd (let no : volume.PowerLost ≡ volume.OutOfMemory = sym is ∙ m in cc))
+    written_err OutOfMemory r is memory d stand = not_written (ImageStandsFor v.geometry) new.contents r lba block d (subst (λ (s : State). StandFor (ImageStandsFor v.geometry) s.contents d) (sym (memory refl).2) stand)
+
+  module _ (done : (s : CacheList) → Holds v.cache old.contents s → HoldsWritten c new.contents s lba (written_dirty lba block)) (nothing : pending c ≡ []) where
+    holds_after : Holds c new.contents list_after
+    holds_after =
+        let k = done left.list (left.holds up) in
+        subst (λ (s : CacheList). Holds c new.contents (written_dirty lba block s)) (same_left k.left (own_vanish (geometry_of c) k.left (geometry ∙ left.own) k.vanish)) k.holds
+
+    plain_done : IsPlain v.geometry new.contents list_after
+    plain_done = plain_with list_after (written_dirty-all left.list lba block left.plain.dirty) (subst (λ (g : Geometry). StandsFor g new.contents.flash.page list_after) (geometry ∙ left.own) (stands_now c new.contents list_after holds_after nothing))
+
+    pub left_done : IsLeft after_write new.contents
+    left_done = left_after list_after plain_done groups_after (λ f. holds_after) (λ f. nothing)
+
+    pub one_done : (d : PlainDisk) → StandFor (ImageStandsFor v.geometry) old.contents d → StandFor (ImageStandsFor v.geometry) new.contents (set d lba block)
+    one_done d stand = written_stand v.geometry old.contents new.contents left.list lba block left.plain plain_done disk d stand
 
 -- ---- a cut between two calls
 
 pub left_cut_off : (v : WriteBack) (old new : Contents) → IsLeft v old → new.shape ≡ old.shape → new.flash.page ≡ old.flash.page → ((lba : ℕ) → new.disk lba ≡ old.disk lba) → IsLeft (record v { cut = true }) new
-left_cut_off v old new left shape page disk =
-    let off : WriteBack = record v { cut = true } in
-    let flash : StandsFor v.geometry new.flash.page left.list = subst (λ (f : Place → Page). StandsFor v.geometry f left.list) (sym page) left.plain.flash in
-    let same : flash.loaded ≡ left.plain.flash.loaded = one_loaded v.geometry new.flash.page flash.loaded left.plain.flash.loaded flash.loads (ap (λ (f : Place → Page). load v.geometry f) page ∙ left.plain.flash.loads) in
-    record {
-      own = left.own;
-      shape = subst (λ (x : Shape). FitsOn v.geometry x) (sym shape) left.shape;
-      list = left.list;
-      plain = record { settled = λ lba. ap (λ (x : Values). x.earlier) (disk lba) ∙ left.plain.settled lba; flash = flash; dirty = left.plain.dirty };
-      groups = subst (λ (m : Entries). AreAmong (dirty_in v.geometry m) (groups_of v)) (sym same) left.groups;
-      before = subst (λ (m : Entries). AllBefore v.geometry (taken off) m) (sym same) (before_more v.geometry (taken v) (taken off) left.plain.flash.loaded (taken_high v) left.before);
-      holds = λ up. absurd (let no : true ≡ false = up in cc);
-      nothing_waits = λ up. absurd (let no : true ≡ false = up in cc);
-    }
-
-pub pages_cut_off : (v : WriteBack) → pages_of v ≤ pages_of (record v { cut = true }) + v.geometry.p
-pages_cut_off v =
-    let bound = whole_high v.geometry v.cache.next in
-    let low = taken_low v in
-    let room = v.geometry.l * v.geometry.p in
-    omega (arith, bound, low)
+left_cut_off v old new left shape page disk = record {
+  own = left.own;
+  shape = subst (λ (x : Shape). FitsOn v.geometry x) (sym shape) left.shape;
+  table = left.table;
+  list = left.list;
+  plain = record { settled = λ lba. ap (λ (x : Values). x.earlier) (disk lba) ∙ left.plain.settled lba; flash = subst (λ (f : Place → Page). StandsFor v.geometry f left.list) (sym page) left.plain.flash; dirty = left.plain.dirty };
+  groups = left.groups;
+  holds = λ up. absurd (let no : true ≡ false = up in cc);
+  nothing_waits = λ up. absurd (let no : true ≡ false = up in cc);
+}

@@ -1,5 +1,6 @@
 pub mod DiskLemmas
 pub mod GroupLemmas
+pub mod TableLemmas
 pub mod OpenLemmas
 pub mod LeftLemmas
 pub mod CallLemmas

@@ -16,8 +16,9 @@ use Rattle.cache_model.specs.Loading.{load}
 use Rattle.cache_model.specs.Stands.{StandsFor}
 use Rattle.op_log.specs.declared.error.OpenError.{OpenError}
 use Rattle.op_log.specs.Refusals.{open_lost}
-use Rattle.ssc.specs.CacheState.{AllBefore, CacheValue, Holds, geometry_of, pending}
-use Rattle.write_back.specs.Left.{IsOpened, LoadsSame, whole_blocks}
+use Rattle.ssc.specs.declared.cache.Ssc.{Ssc}
+use Rattle.ssc.specs.CacheState.{Holds, IsUp, entries_of, geometry_of, pending}
+use Rattle.write_back.specs.Left.{IsOpened, LoadsSame}
 use Rattle.write_back.proofs.DiskLemmas.{same_values}
 
 flushed_had : (old new : Values) → new ≡ flushed old → (b : Block) → HasValue new b → HasValue old b
@@ -29,25 +30,23 @@ flushed_had old new is b has = by_value (subst (λ (v : Values). HasValue v b) i
 
 -- the disk was flushed, and then only the flash was driven
 module _ (g : Geometry) (a b c : Contents) (page : b.flash.page ≡ a.flash.page) where
-  pub opened : (r : Result CacheValue OpenError) → ((lba : ℕ) → b.disk lba ≡ flushed (a.disk lba))
+  pub opened : (r : Result Ssc OpenError) → ((lba : ℕ) → b.disk lba ≡ flushed (a.disk lba))
       → IfOk r (λ v. geometry_of v ≡ g)
       → IfOk r (λ v. (s : CacheList) → StandsFor g b.flash.page s → Holds v c s)
-      → IfOk r (λ v. load g b.flash.page ≡ Ok v.entries)
+      → IfOk r (λ v. load g b.flash.page ≡ Ok (entries_of v))
       → IfOk r (λ v. pending v ≡ [])
-      → IfOk r (λ v. (n : ℕ) → AllBefore (geometry_of v) n v.entries → v.next ≤ whole_blocks (geometry_of v) n)
-      → IfOk r (λ v. v.stopped ≡ false)
+      → IfOk r (λ v. IsUp v c)
       → OnOk r (c.disk ≡ b.disk)
       → IfOk r (λ v. IsOpened g a c v)
-  opened (Ok v) flush geometry holds loads nothing next up disk = record {
+  opened (Ok v) flush geometry holds loads nothing up disk = record {
     geometry = geometry;
     holds = λ s stands. holds s (subst (λ (f : Place → Page). StandsFor g f s) (sym page) stands);
     loads = ap (λ (f : Place → Page). load g f) (sym page) ∙ loads;
     nothing_waits = nothing;
-    next = next;
     up = up;
     disk = λ lba. ap (λ (f : ℕ → Values). f lba) disk ∙ flush lba;
   }
-  opened (Err e) flush geometry holds loads nothing next up disk = tt
+  opened (Err e) flush geometry holds loads nothing up disk = tt
 
   pub loads_same : load g c.flash.page ≡ load g b.flash.page → ((s : CacheList) → StandsFor g b.flash.page s → (x : Image) → Now c x → StandsFor g x.page s) → LoadsSame g a c
   loads_same same images = record {
@@ -69,6 +68,6 @@ settled_refused a b PowerLost values failed memory crash lba none = same_values 
 settled_refused a b OutOfMemory values failed memory crash lba none = absurd (memory refl)
 
 -- an opening that answers Ok lost nothing
-pub on_lost : {P : Type 0} (r : Result CacheValue OpenError) → (open_lost r ≡ false → P) → OnOk r P
+pub on_lost : {P : Type 0} (r : Result Ssc OpenError) → (open_lost r ≡ false → P) → OnOk r P
 on_lost (Ok v) f = f refl
 on_lost (Err e) f = tt

@@ -1,4 +1,4 @@
-ghost use Rattle.std.specs.Prelude.{◌≡◌, ◌≤◌, ◌<◌, ◌+◌, ◌*◌, ◌/◌, ◌∷◌, [], ℕ, length, true, false, OnOk, OnErr, Ok, IfOk, IfErr, IsOk, IsErrOf};
+ghost use Rattle.std.specs.Prelude.{◌≡◌, ◌≤◌, ◌<◌, ◌*◌, ◌/◌, ◌∷◌, [], ℕ, length, true, false, OnOk, OnErr, Ok, IfOk, IfErr, IsOk, IsErrOf};
 ghost use Rattle.ft_base.specs.PlainDisk.{PlainDisk};
 ghost use Rattle.ft_base.specs.Count.{Rose};
 ghost use Rattle.ft_media.specs.Media.{KeepsReady};
@@ -10,16 +10,19 @@ ghost use Rattle.cache_model.specs.Stands.{StandsFor};
 ghost use Rattle.op_log.specs.Log.{FitsOn};
 ghost use Rattle.op_log.specs.Refusals.{open_failed, open_lost};
 ghost use Rattle.write_back.specs.Errors.{CausedBy, IsFault, IsOpenRefusal, disk_failed};
-ghost use Rattle.write_back.specs.Left.{AllDirty, IsLeft, IsVolume, Stays, groups_of, image_is, pages_of, told_of};
+ghost use Rattle.dirty_table.specs.Groups.{touched};
+ghost use Rattle.ssc.specs.CacheState.{entries_of};
+ghost use Rattle.write_back.specs.Left.{AllDirty, IsLeft, IsPrepared, IsTable, IsVolume, Stays, groups_of, image_is, pages_of, told_of};
 ghost use Rattle.write_back.specs.Left as left;
 
 use crate::errors::{cache_error, disk_error, open_error};
-use crate::opening::open_cache;
+use crate::opening::{open_cache, open_with_table};
+use dirty_table::DirtyTable;
 use ft_base::{Block, Geometry, Outcome};
 use ft_media::{Media, Options, Rig, Volume, VolumeError};
 use op_log::OpenError;
 use ssc::Ssc;
-use std::alloc::Global;
+use std::alloc::{AllocError, Global};
 
 /// A cache over flash before a disk, which takes all writes.
 #[derive(Drop)]
@@ -27,6 +30,8 @@ pub struct WriteBack {
     alloc: Global,
     geometry: Geometry,
     cache: Ssc,
+    // The groups with a block that the disk lacks.
+    dirty: DirtyTable,
     // Power was cut since the cache was used last.
     cut: bool,
 }
@@ -51,6 +56,9 @@ impl WriteBack {
         ensures cause { HasCause (R.state rig.old).faults (R.state rig.new).faults result }
         ensures passes { Passes (R.state rig.old) (R.state rig.new) (volume_lost result) }
     {
+        let Ok(dirty) = DirtyTable::new(alloc, options.geometry.c()) else {
+            return Err(VolumeError::OutOfMemory);
+        };
         if let Err(error) = Ssc::format(rig, &options.geometry) {
             return Err(cache_error(error));
         }
@@ -59,6 +67,7 @@ impl WriteBack {
                 alloc,
                 geometry: options.geometry,
                 cache,
+                dirty,
                 cut: false,
             }),
             Err(error) => Err(open_error(error)),
@@ -82,29 +91,30 @@ impl WriteBack {
         // Whatever is answered, and wherever power went off.
         ensures images { (d : PlainDisk) → StandFor (image_is (record { geometry = options.now.geometry })) (R.state rig.old).contents d → StandFor (image_is (record { geometry = options.now.geometry })) (R.state rig.new).contents d }
         // Ok comes only where the flash stands for a list.
-        ensures loads { IfOk result (λ v. load options.now.geometry (R.state rig.old).contents.flash.page ≡ Ok v.cache.entries) }
+        ensures loads { IfOk result (λ v. load options.now.geometry (R.state rig.old).contents.flash.page ≡ Ok (entries_of v.cache)) }
         ensures refused { IfErr result (λ e. IsOpenRefusal options.now.geometry e (load options.now.geometry (R.state rig.old).contents.flash.page)) }
         ensures disk_reads { (R.state rig.new).counts.disk_reads ≡ (R.state rig.old).counts.disk_reads }
         ensures disk_writes { (R.state rig.new).counts.disk_writes ≡ (R.state rig.old).counts.disk_writes }
         ensures cause { CausedBy (R.state rig.old).faults (R.state rig.new).faults (open_failed result) (disk_failed result) (open_lost result) }
         ensures passes { Passes (R.state rig.old) (R.state rig.new) (open_lost result) }
     {
-        let cache = open_cache(alloc, rig, &options.geometry)?;
+        let (cache, dirty) = open_with_table(alloc, rig, &options.geometry)?;
         Ok(WriteBack {
             alloc,
             geometry: options.geometry,
             cache,
+            dirty,
             cut: false,
         })
     }
 
-    /// Opens the cache again where it was cut off or given up.
+    /// Opens the cache again where it was cut off or given up. The table of dirty groups stays: each
+    /// group that is dirty on the flash is in it, since a write notes its group first.
     fn bring_up<R: Rig>(&mut self, rig: &mut R) -> Result<(), VolumeError>
         requires { IsLeft self.old (R.state rig.old).contents }
         ensures left { IsLeft self.new (R.state rig.new).contents }
         ensures stays { Stays self.old self.new (R.state rig.old) (R.state rig.new) }
         ensures up { OnOk result (left.is_down self.new ≡ false) }
-        ensures pages { OnOk result (pages_of self.old ≤ pages_of self.new) }
         ensures refused { OnErr result ((self.new ≡ self.old) × (left.is_down self.old ≡ true)) }
         ensures within { IsErrOf result VolumeError.OutOfVolume → ⊥ }
         ensures programs { OnOk result ((R.state rig.old).counts.programs ≤ (R.state rig.new).counts.programs) }
@@ -160,12 +170,22 @@ impl WriteBack {
         }
     }
 
+    /// Takes the memory of the next write, and notes its group. Refused, no block is changed.
+    fn prepare(&mut self, lba: u64) -> Result<(), AllocError>
+        requires table { IsTable self.old.geometry self.old.dirty }
+        requires groups { length (with_group (lba / self.old.geometry.p) (groups_of self.old)) ≤ self.old.geometry.c }
+        ensures prepared { IsPrepared self.old self.new (lba / self.old.geometry.p) }
+        ensures noted { OnOk result (groups_of self.new ≡ touched (lba / self.old.geometry.p) (groups_of self.old)) }
+    {
+        self.cache.reserve()?;
+        self.dirty.touch(lba / self.geometry.p() as u64)
+    }
+
     /// Writes a block to the cache.
     fn write_up<R: Rig>(&mut self, rig: &mut R, lba: u64, block: &Block) -> Result<(), VolumeError>
         requires left { IsLeft self.old (R.state rig.old).contents }
         requires up { left.is_down self.old ≡ false }
         requires lba { lba < self.old.geometry.size }
-        requires room { 1 ≤ pages_of self.old }
         requires groups { length (with_group (lba / self.old.geometry.p) (groups_of self.old)) ≤ self.old.geometry.c }
         ensures left { IsLeft self.new (R.state rig.new).contents }
         ensures geometry { self.new.geometry ≡ self.old.geometry }
@@ -173,8 +193,6 @@ impl WriteBack {
         ensures up { OnOk result (left.is_down self.new ≡ false) }
         ensures down { OnErr result ((IsErrOf result VolumeError.OutOfMemory → ⊥) → left.is_down self.new ≡ true) }
         ensures within { IsErrOf result VolumeError.OutOfVolume → ⊥ }
-        ensures pages { OnOk result (pages_of self.old ≤ pages_of self.new + 1) }
-        ensures pages_left { pages_of self.old ≤ pages_of self.new + self.old.geometry.p }
         ensures groups { AreAmong (groups_of self.new) (lba / self.old.geometry.p ∷ groups_of self.old) }
         ensures programs { OnOk result (Rose (R.state rig.old).counts.programs (R.state rig.new).counts.programs) }
         ensures spends { OnOk result (Spends 1 (R.state rig.old) (R.state rig.new)) }
@@ -183,6 +201,9 @@ impl WriteBack {
         ensures cause { HasCause (R.state rig.old).faults (R.state rig.new).faults result }
         ensures passes { Passes (R.state rig.old) (R.state rig.new) (volume_lost result) }
     {
+        if self.prepare(lba).is_err() {
+            return Err(VolumeError::OutOfMemory);
+        }
         match self.cache.write_dirty(rig, lba, block) {
             Ok(()) => Ok(()),
             Err(error) => Err(cache_error(error)),

@@ -3,32 +3,32 @@ use Rattle.cache_model.specs.Cache.{written_dirty, written_clean, evicted, made_
 use Rattle.ssc.specs.CacheState.{geometry_of}
 use Rattle.cache_history.specs.History.{is_write}
 use Rattle.cache_history.specs.declared.kind.Kind.TheVariants as kinds
-use Rattle.cache_history.proofs.CommandLemmas.{write_dirty_answer, write_clean_answer, evict_answer, clean_answer, commit_answer, checkpoint_answer, up_after, left, full_of}
+use Rattle.cache_history.proofs.CommandLemmas.{write_dirty_answer, write_clean_answer, evict_answer, clean_answer, commit_answer, checkpoint_answer, up_after, up_written, left_of, left_of_write, full_of}
 use Rattle.cache_history.proofs.commands.give.Goals as goal
 
 pub returns-in-WriteDirty-clause-answered : goal.returns-in-WriteDirty-clause-answered
-returns-in-WriteDirty-clause-answered g c = write_dirty_answer c.args.cache.now c.write_dirty.new.self (g.M.Media.state c.args.media.now).contents (g.M.Media.state c.write_dirty.new.media).contents c.args.kind c.args.lba c.args.block.now c.write_dirty.result c.in-WriteDirty.is c.write_dirty.ensures.done c.write_dirty.ensures.nothing_waits
+returns-in-WriteDirty-clause-answered g c = write_dirty_answer c.args.cache.now c.write_dirty.new.self (g.M.Media.state c.args.media.now).contents (g.M.Media.state c.write_dirty.new.media).contents c.args.kind c.args.lba c.args.block.now c.write_dirty.result c.in-WriteDirty.is c.write_dirty.ensures.geometry c.write_dirty.ensures.done c.write_dirty.ensures.nothing_waits
 
 pub returns-in-WriteDirty-clause-images : goal.returns-in-WriteDirty-clause-images
-returns-in-WriteDirty-clause-images g c = left c.args.cache.now (g.M.Media.state c.args.media.now).contents (g.M.Media.state c.write_dirty.new.media).contents kinds.WriteDirty c.args.lba c.args.block.now c.write_dirty.ensures.images c.args.kind c.in-WriteDirty.is
+returns-in-WriteDirty-clause-images g c = left_of_write c.args.cache.now (g.M.Media.state c.args.media.now).contents (g.M.Media.state c.write_dirty.new.media).contents kinds.WriteDirty c.args.lba c.args.block.now (λ s v van. van) c.write_dirty.ensures.images c.args.kind c.in-WriteDirty.is
 
 pub returns-in-WriteDirty-clause-is_up : goal.returns-in-WriteDirty-clause-is_up
-returns-in-WriteDirty-clause-is_up g c = up_after c.args.cache.now c.write_dirty.new.self (g.M.Media.state c.args.media.now).contents (g.M.Media.state c.write_dirty.new.media).contents c.args.kind c.args.lba c.args.block.now c.write_dirty.result (written_dirty c.args.lba c.args.block.now) c.write_dirty.ensures.done c.write_dirty.ensures.stopped c.requires.up
+returns-in-WriteDirty-clause-is_up g c = up_written c.args.cache.now c.write_dirty.new.self (g.M.Media.state c.args.media.now).contents (g.M.Media.state c.write_dirty.new.media).contents c.args.kind c.args.lba c.args.block.now c.write_dirty.result (written_dirty c.args.lba c.args.block.now) c.write_dirty.ensures.done c.write_dirty.ensures.stopped c.requires.up
 
 pub returns-in-WriteClean-clause-answered : goal.returns-in-WriteClean-clause-answered
-returns-in-WriteClean-clause-answered g c = write_clean_answer c.args.cache.now c.write_clean.new.self (g.M.Media.state c.args.media.now).contents (g.M.Media.state c.write_clean.new.media).contents c.args.kind c.args.lba c.args.block.now c.write_clean.result c.in-WriteClean.is c.write_clean.ensures.done c.write_clean.ensures.over_held c.write_clean.ensures.at_absent
+returns-in-WriteClean-clause-answered g c = write_clean_answer c.args.cache.now c.write_clean.new.self (g.M.Media.state c.args.media.now).contents (g.M.Media.state c.write_clean.new.media).contents c.args.kind c.args.lba c.args.block.now c.write_clean.result c.in-WriteClean.is c.write_clean.ensures.geometry c.write_clean.ensures.done c.write_clean.ensures.over_held c.write_clean.ensures.at_absent
 
 pub returns-in-WriteClean-clause-images : goal.returns-in-WriteClean-clause-images
-returns-in-WriteClean-clause-images g c = left c.args.cache.now (g.M.Media.state c.args.media.now).contents (g.M.Media.state c.write_clean.new.media).contents kinds.WriteClean c.args.lba c.args.block.now c.write_clean.ensures.images c.args.kind c.in-WriteClean.is
+returns-in-WriteClean-clause-images g c = left_of_write c.args.cache.now (g.M.Media.state c.args.media.now).contents (g.M.Media.state c.write_clean.new.media).contents kinds.WriteClean c.args.lba c.args.block.now (λ s v van. van) c.write_clean.ensures.images c.args.kind c.in-WriteClean.is
 
 pub returns-in-WriteClean-clause-is_up : goal.returns-in-WriteClean-clause-is_up
-returns-in-WriteClean-clause-is_up g c = up_after c.args.cache.now c.write_clean.new.self (g.M.Media.state c.args.media.now).contents (g.M.Media.state c.write_clean.new.media).contents c.args.kind c.args.lba c.args.block.now c.write_clean.result (written_clean c.args.lba c.args.block.now) c.write_clean.ensures.done c.write_clean.ensures.stopped c.requires.up
+returns-in-WriteClean-clause-is_up g c = up_written c.args.cache.now c.write_clean.new.self (g.M.Media.state c.args.media.now).contents (g.M.Media.state c.write_clean.new.media).contents c.args.kind c.args.lba c.args.block.now c.write_clean.result (written_clean c.args.lba c.args.block.now) c.write_clean.ensures.done c.write_clean.ensures.stopped c.requires.up
 
 pub returns-in-Evict-clause-answered : goal.returns-in-Evict-clause-answered
 returns-in-Evict-clause-answered g c = evict_answer c.args.cache.now c.evict.new.self (g.M.Media.state c.args.media.now).contents (g.M.Media.state c.evict.new.media).contents c.args.kind c.args.lba c.args.block.now c.evict.result (g.M.Media.state c.evict.new.media ≡ g.M.Media.state c.args.media.now) c.in-Evict.is c.evict.ensures.done c.evict.ensures.held c.evict.ensures.absent
 
 pub returns-in-Evict-clause-images : goal.returns-in-Evict-clause-images
-returns-in-Evict-clause-images g c = left c.args.cache.now (g.M.Media.state c.args.media.now).contents (g.M.Media.state c.evict.new.media).contents kinds.Evict c.args.lba c.args.block.now c.evict.ensures.images c.args.kind c.in-Evict.is
+returns-in-Evict-clause-images g c = left_of c.args.cache.now (g.M.Media.state c.args.media.now).contents (g.M.Media.state c.evict.new.media).contents kinds.Evict c.args.lba c.args.block.now c.evict.ensures.images c.args.kind c.in-Evict.is
 
 pub returns-in-Evict-clause-is_up : goal.returns-in-Evict-clause-is_up
 returns-in-Evict-clause-is_up g c = up_after c.args.cache.now c.evict.new.self (g.M.Media.state c.args.media.now).contents (g.M.Media.state c.evict.new.media).contents c.args.kind c.args.lba c.args.block.now c.evict.result (evicted c.args.lba) c.evict.ensures.done c.evict.ensures.stopped c.requires.up
@@ -37,7 +37,7 @@ pub returns-in-Clean-clause-answered : goal.returns-in-Clean-clause-answered
 returns-in-Clean-clause-answered g c = clean_answer c.args.cache.now c.clean.new.self (g.M.Media.state c.args.media.now).contents (g.M.Media.state c.clean.new.media).contents c.args.kind c.args.lba c.args.block.now c.clean.result (g.M.Media.state c.clean.new.media ≡ g.M.Media.state c.args.media.now) c.in-Clean.is c.clean.ensures.done c.clean.ensures.of_dirty c.clean.ensures.of_other
 
 pub returns-in-Clean-clause-images : goal.returns-in-Clean-clause-images
-returns-in-Clean-clause-images g c = left c.args.cache.now (g.M.Media.state c.args.media.now).contents (g.M.Media.state c.clean.new.media).contents kinds.Clean c.args.lba c.args.block.now c.clean.ensures.images c.args.kind c.in-Clean.is
+returns-in-Clean-clause-images g c = left_of c.args.cache.now (g.M.Media.state c.args.media.now).contents (g.M.Media.state c.clean.new.media).contents kinds.Clean c.args.lba c.args.block.now c.clean.ensures.images c.args.kind c.in-Clean.is
 
 pub returns-in-Clean-clause-is_up : goal.returns-in-Clean-clause-is_up
 returns-in-Clean-clause-is_up g c = up_after c.args.cache.now c.clean.new.self (g.M.Media.state c.args.media.now).contents (g.M.Media.state c.clean.new.media).contents c.args.kind c.args.lba c.args.block.now c.clean.result (made_clean c.args.lba) c.clean.ensures.done c.clean.ensures.stopped c.requires.up
@@ -46,7 +46,7 @@ pub returns-in-Commit-clause-answered : goal.returns-in-Commit-clause-answered
 returns-in-Commit-clause-answered g c = commit_answer c.args.cache.now c.commit.new.self (g.M.Media.state c.args.media.now).contents (g.M.Media.state c.commit.new.media).contents c.args.kind c.args.lba c.args.block.now c.commit.result c.in-Commit.is c.commit.ensures.done c.commit.ensures.nothing_waits
 
 pub returns-in-Commit-clause-images : goal.returns-in-Commit-clause-images
-returns-in-Commit-clause-images g c = left c.args.cache.now (g.M.Media.state c.args.media.now).contents (g.M.Media.state c.commit.new.media).contents kinds.Commit c.args.lba c.args.block.now c.commit.ensures.images c.args.kind c.in-Commit.is
+returns-in-Commit-clause-images g c = left_of c.args.cache.now (g.M.Media.state c.args.media.now).contents (g.M.Media.state c.commit.new.media).contents kinds.Commit c.args.lba c.args.block.now c.commit.ensures.images c.args.kind c.in-Commit.is
 
 pub returns-in-Commit-clause-is_up : goal.returns-in-Commit-clause-is_up
 returns-in-Commit-clause-is_up g c = up_after c.args.cache.now c.commit.new.self (g.M.Media.state c.args.media.now).contents (g.M.Media.state c.commit.new.media).contents c.args.kind c.args.lba c.args.block.now c.commit.result (λ s. s) c.commit.ensures.done c.commit.ensures.stopped c.requires.up
@@ -55,7 +55,7 @@ pub returns-in-Checkpoint-clause-answered : goal.returns-in-Checkpoint-clause-an
 returns-in-Checkpoint-clause-answered g c = checkpoint_answer c.args.cache.now c.checkpoint.new.self (g.M.Media.state c.args.media.now).contents (g.M.Media.state c.checkpoint.new.media).contents c.args.kind c.args.lba c.args.block.now c.checkpoint.result c.in-Checkpoint.is c.checkpoint.ensures.done c.checkpoint.ensures.nothing_waits
 
 pub returns-in-Checkpoint-clause-images : goal.returns-in-Checkpoint-clause-images
-returns-in-Checkpoint-clause-images g c = left c.args.cache.now (g.M.Media.state c.args.media.now).contents (g.M.Media.state c.checkpoint.new.media).contents kinds.Checkpoint c.args.lba c.args.block.now c.checkpoint.ensures.images c.args.kind c.in-Checkpoint.is
+returns-in-Checkpoint-clause-images g c = left_of c.args.cache.now (g.M.Media.state c.args.media.now).contents (g.M.Media.state c.checkpoint.new.media).contents kinds.Checkpoint c.args.lba c.args.block.now c.checkpoint.ensures.images c.args.kind c.in-Checkpoint.is
 
 pub returns-in-Checkpoint-clause-is_up : goal.returns-in-Checkpoint-clause-is_up
 returns-in-Checkpoint-clause-is_up g c = up_after c.args.cache.now c.checkpoint.new.self (g.M.Media.state c.args.media.now).contents (g.M.Media.state c.checkpoint.new.media).contents c.args.kind c.args.lba c.args.block.now c.checkpoint.result (λ s. s) c.checkpoint.ensures.done c.checkpoint.ensures.stopped c.requires.up

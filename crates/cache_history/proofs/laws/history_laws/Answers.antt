@@ -1,19 +1,23 @@
 use Rattle.std.specs.FinMap.{get}
-use Rattle.cache_history.proofs.MightLemmas.{mights}
-use Rattle.cache_history.proofs.LawLemmas.{evicted_none, dirty_some, dirty_still, newest}
+use Rattle.cache_history.proofs.MightLemmas.{mights, mights_from, mights_none}
+use Rattle.cache_history.proofs.LawLemmas.{evicted_none, still_none, dirty_some, dirty_still, newest}
 use Rattle.cache_history.proofs.ListedLemmas.{dirty_listed}
 use Rattle.cache_history.proofs.laws.history_laws.Goals as goal
 
 pub returns-clause-evicted_stays_absent : goal.returns-clause-evicted_stays_absent
-returns-clause-evicted_stays_absent c = λ later before l a b lived none. evicted_none a b later before (get l.now a) (mights _ l lived a).now none
+returns-clause-evicted_stays_absent c = λ g later before l a b lived none. evicted_none a b later before (get l.now a) (mights g _ l lived a).now none
+
+pub returns-clause-absent_stays : goal.returns-clause-absent_stays
+returns-clause-absent_stays c = λ g before later l m a lived none after quiet.
+    still_none a later (get m.now a) (mights_from g l later m after a (mights_none g before l lived a none)).now quiet
 
 pub returns-clause-dirty_stays : goal.returns-clause-dirty_stays
-returns-clause-dirty_stays c = λ later before l a b lived none. dirty_some a b later before (get l.now a) (mights _ l lived a).now none
+returns-clause-dirty_stays c = λ g later before l a b lived none. dirty_some a b later before (get l.now a) (mights g _ l lived a).now none
 
 pub returns-clause-newest_is_held : goal.returns-clause-newest_is_held
-returns-clause-newest_is_held c = λ events l a h lived is. newest a events (get l.now a) h (mights events l lived a).now is
+returns-clause-newest_is_held c = λ g events l a h lived is. newest a events (get l.now a) h (mights g events l lived a).now is
 
 pub returns-clause-dirty_is_listed : goal.returns-clause-dirty_is_listed
-returns-clause-dirty_is_listed c = λ later before l a b from count lived none low high.
-    let d = dirty_still a b later before (get l.now a) (mights _ l lived a).now none in
+returns-clause-dirty_is_listed c = λ g later before l a b from count lived none low high.
+    let d = dirty_still a b later before (get l.now a) (mights g _ l lived a).now none in
     dirty_listed l.now a d.0 from count d.1 low high

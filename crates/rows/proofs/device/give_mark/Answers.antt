@@ -1,7 +1,7 @@
 use Rattle.cache_model.specs.Cache.{made_clean}
 use Rattle.std.proofs.Common.{ap, ◌∙◌}
 use Rattle.ft_base.specs.declared.geometry.Geometry.{Geometry}
-use Rattle.ssc.proofs.GivenLemmas.{up_after}
+use Rattle.rows.proofs.UpLemmas.{up_after}
 use Rattle.rows.proofs.device.give_mark.Goals as goal
 
 pub returns : goal.returns

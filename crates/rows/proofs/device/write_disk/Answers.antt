@@ -1,29 +1,31 @@
 use Rattle.std.proofs.Common.{◌≡◌, sym, ap₂, refl, subst}
 use Rattle.ft_base.specs.Contents.{Contents, Flash, Shape}
 use Rattle.cache_model.specs.Cache.{CacheList}
-use Rattle.ssc.specs.CacheState.{CacheValue, Keeps, IsUp}
+use Rattle.ssc.specs.declared.cache.Ssc.{Ssc}
+use Rattle.ssc.specs.CacheState.{Holds, IsUp}
 use Rattle.rows.proofs.device.write_disk.Goals as goal
 
-keeps_beside : (c : CacheValue) (a b : Contents) (list durable : CacheList) → Keeps c a list durable → Keeps c (record b { shape = a.shape; flash = a.flash }) list durable
-keeps_beside c a b list durable k = record {
-  shape = k.shape;
-  current = k.current;
-  open_log = k.open_log;
-  whole = k.whole;
-  held = k.held;
-  stands = k.stands;
-  entries_before = k.entries_before;
-  durable_before = k.durable_before;
-  open_block = k.open_block;
-}
+holds_beside : (c : Ssc) (a b : Contents) (s : CacheList) → Holds c a s → Holds c (record b { shape = a.shape; flash = a.flash }) s
+holds_beside c a b s k =
+    let sound = k.agree.sound in
+    record {
+      agree = record {
+        sound = record { of_one = sound.of_one; shape = sound.shape; current = sound.current; whole = sound.whole; roles = sound.roles; logs = sound.logs; open_block = sound.open_block };
+        open_log = k.agree.open_log;
+      };
+      lists = k.lists;
+      kinds = k.kinds;
+      waits = k.waits;
+      memory = k.memory;
+    }
 
 -- the cache looks at the flash alone
-up_beside : (c : CacheValue) (a b : Contents) → b.shape ≡ a.shape → b.flash ≡ a.flash → IsUp c a → IsUp c b
+up_beside : (c : Ssc) (a b : Contents) → b.shape ≡ a.shape → b.flash ≡ a.flash → IsUp c a → IsUp c b
 up_beside c a b shape flash up =
     subst (λ (k : Contents). IsUp c k) (ap₂ (λ (s : Shape) (f : Flash). record b { shape = s; flash = f }) (sym shape) (sym flash))
     (record {
       list = up.list;
-      holds = record { keeps = keeps_beside c a b up.list _ up.holds.keeps; kinds = up.holds.kinds; waits = up.holds.waits };
+      holds = holds_beside c a b up.list up.holds;
       up = up.up;
     })
 

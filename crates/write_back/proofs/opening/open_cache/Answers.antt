@@ -5,7 +5,7 @@ use Rattle.write_back.proofs.opening.open_cache.Goals as goal
 pub returns-in-Ok-clause-opened : goal.returns-in-Ok-clause-opened
 returns-in-Ok-clause-opened g c =
     let e = c.open.ensures in
-    opened c.args.geometry.now (g.R.Media.state c.args.rig.now).contents (g.R.Media.state c.flush_disk.new.self).contents (g.R.Media.state c.open.new.media).contents c.flush_disk.ensures.flash.page c.open.result c.in-Ok.ensures.ok e.geometry e.holds e.loads e.nothing_waits e.next e.up (on_lost c.open.result (e.drives.disk.stays))
+    opened c.args.geometry.now (g.R.Media.state c.args.rig.now).contents (g.R.Media.state c.flush_disk.new.self).contents (g.R.Media.state c.open.new.media).contents c.flush_disk.ensures.flash.page c.open.result c.in-Ok.ensures.ok e.geometry e.holds e.loads e.nothing_waits e.is_up (on_lost c.open.result (e.drives.disk.stays))
 
 pub returns-in-Ok-clause-same : goal.returns-in-Ok-clause-same
 returns-in-Ok-clause-same g c = loads_same c.args.geometry.now (g.R.Media.state c.args.rig.now).contents (g.R.Media.state c.flush_disk.new.self).contents (g.R.Media.state c.open.new.media).contents c.flush_disk.ensures.flash.page c.open.ensures.same c.open.ensures.images

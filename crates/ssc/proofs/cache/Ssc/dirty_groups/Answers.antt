@@ -1,13 +1,12 @@
-use Rattle.std.proofs.Common.{◌≡◌, sym, ◌∙◌, ap, subst}
+use Rattle.std.proofs.Common.{sym, ◌∙◌, ap}
 use Rattle.ft_base.specs.declared.geometry.Geometry.{Geometry}
 use Rattle.mapping.specs.Counts.{dirty_group_count}
-use Rattle.ssc.specs.CacheState.{CacheValue, geometry_of}
+use Rattle.ssc.specs.CacheState.{geometry_of}
 use Rattle.ssc.proofs.DirtyLemmas.{dirty_same}
 use Rattle.ssc.proofs.cache.Ssc.dirty_groups.Goals as goal
 
 pub returns : goal.returns
 returns c = λ contents s holds.
-    let inside = c.self.inside in
-    let count : c.dirty_groups.result ≡ dirty_group_count inside.log.geometry inside.map.entries = c.dirty_groups.ensures.count ∙ ap (λ (g : Geometry). dirty_group_count g inside.map.entries) (c.self.invariant.1 ∙ sym c.self.invariant.0) in
-    subst (λ (v : CacheValue). c.dirty_groups.result ≡ dirty_group_count (geometry_of v) v.entries) c.self.view_is count
-    ∙ sym (dirty_same (geometry_of c.args.self.now) contents.flash.page c.args.self.now.entries s holds.keeps.whole.whole holds.keeps.held)
+    let map = c.args.self.now.parts.map in
+    c.dirty_groups.ensures.count ∙ ap (λ (g : Geometry). dirty_group_count g map.entries) holds.agree.sound.of_one.map
+    ∙ sym (dirty_same (geometry_of c.args.self.now) contents.flash.page map.entries s holds.agree.sound.whole.whole holds.lists.held)

@@ -2,9 +2,8 @@ use Rattle.std.proofs.Common.{refl, sym, subst}
 use Rattle.std.proofs.lemmas.Bool.{false≢true}
 use Rattle.cache_model.specs.Cache.{CacheList, undo, evicted}
 use Rattle.ssc.specs.CacheState.{Holds, pending, geometry_of}
-use Rattle.ssc.proofs.PutLemmas.{one_undone}
 use Rattle.ssc.proofs.HoldsLemmas.{holds_committed, few_buffered}
-use Rattle.ssc.proofs.CommandLemmas.{image_of, evicted_absent, no_entry, an_entry}
+use Rattle.ssc.proofs.CommandLemmas.{images_after, evicted_absent, no_entry, an_entry}
 use Rattle.ssc.proofs.cache.Ssc.evict.Goals as goal
 
 pub returns-then-not-is_held-clause-done : goal.returns-then-not-is_held-clause-done
@@ -13,11 +12,12 @@ returns-then-not-is_held-clause-done g c = λ s holds.
     let absent = no_entry c.args.self.now old s c.args.lba holds (λ e. false≢true (c.if-not-is_held.ensures.1 e)) in
     subst (λ (t : CacheList). Holds c.args.self.now old t) (sym (evicted_absent s c.args.lba absent)) holds
 
-pub put_out-requires-clause-few : goal.put_out-requires-clause-few
-put_out-requires-clause-few g c = few_buffered c.args.self.now (g.M.Media.state c.args.media.now).contents c.requires.up.list c.requires.up.holds
+pub take_out-requires-clause-few : goal.take_out-requires-clause-few
+take_out-requires-clause-few g c = few_buffered c.args.self.now (g.M.Media.state c.args.media.now).contents c.requires.up.list c.requires.up.holds
 
 pub returns-in-Ok-clause-done : goal.returns-in-Ok-clause-done
-returns-in-Ok-clause-done g c = λ s holds. holds_committed c.put_out.new.self (g.M.Media.state c.put_out.new.media).contents (evicted c.args.lba s) c.in-Ok.ensures.nothing_waits (c.in-Ok.ensures.done s (undo (pending c.args.self.now) s) holds.keeps)
+returns-in-Ok-clause-done g c = λ s holds.
+    holds_committed _ (g.M.Media.state c.take_out.new.media).contents (evicted c.args.lba s) (record { agree = c.in-Ok.ensures.agree; memory = λ ready. c.take_out.ensures.reserved (holds.memory ready) }) c.in-Ok.ensures.nothing_waits (c.in-Ok.ensures.lists s (undo (pending c.args.self.now) s) holds.lists)
 
 pub returns-in-Ok-clause-absent : goal.returns-in-Ok-clause-absent
 returns-in-Ok-clause-absent g c = λ s holds none.
@@ -25,7 +25,7 @@ returns-in-Ok-clause-absent g c = λ s holds none.
     absurd (an_entry c.args.self.now (g.M.Media.state c.args.media.now).contents s c.args.lba holds e.0 e.1 none)
 
 pub returns-in-Ok-clause-images : goal.returns-in-Ok-clause-images
-returns-in-Ok-clause-images g c = λ s holds. image_of (geometry_of c.args.self.now) (g.M.Media.state c.put_out.new.media).contents (undo (pending c.args.self.now) s) s (evicted c.args.lba s) (one_undone _ _ (undo (pending c.args.self.now) s) s _ (c.put_out.ensures.stands s (undo (pending c.args.self.now) s) holds.keeps))
+returns-in-Ok-clause-images g c = λ s holds. images_after (geometry_of c.args.self.now) (g.M.Media.state c.take_out.new.media).contents (undo (pending c.args.self.now) s) s (evicted c.args.lba s) (c.take_out.ensures.stands s (undo (pending c.args.self.now) s) holds.lists)
 
 pub returns-in-Err-clause-images : goal.returns-in-Err-clause-images
-returns-in-Err-clause-images g c = λ s holds. image_of (geometry_of c.args.self.now) (g.M.Media.state c.put_out.new.media).contents (undo (pending c.args.self.now) s) s (evicted c.args.lba s) (one_undone _ _ (undo (pending c.args.self.now) s) s _ (c.put_out.ensures.stands s (undo (pending c.args.self.now) s) holds.keeps))
+returns-in-Err-clause-images g c = λ s holds. images_after (geometry_of c.args.self.now) (g.M.Media.state c.take_out.new.media).contents (undo (pending c.args.self.now) s) s (evicted c.args.lba s) (c.take_out.ensures.stands s (undo (pending c.args.self.now) s) holds.lists)

@@ -1,92 +1,10 @@
-use Rattle.std.proofs.Common.{◌≡◌, ◌∙◌, true, false, inr, ap}
-use Rattle.ft_base.specs.declared.record.Record.TheVariants.{SetPage}
-use Rattle.ft_base.specs.declared.block.Place.{Place}
-use Rattle.ft_media.proofs.DrivesLemmas.{drives_then}
-use Rattle.cache_model.specs.Cache.{written_clean}
-use Rattle.ssc.specs.CacheState.{CacheValue, geometry_of}
-use Rattle.ssc.proofs.ResultLemmas.{on_ok_from, ok_at}
-use Rattle.ssc.proofs.SpendLemmas.{spends_on, passes_ok}
-use Rattle.ssc.proofs.PutLemmas.{appended_fits, few_on, put_placed, some_placed, kept_placed, one_placed, one_first, after_placed}
+use Rattle.std.proofs.Common.{false}
+use Rattle.cache_model.specs.Cache.{held}
+use Rattle.merge_engine.proofs.ResultLemmas.{on_ok_from, ok_at}
+use Rattle.ssc.proofs.WrittenLemmas.{committed_puts}
 use Rattle.ssc.proofs.cache.Ssc.put_clean.Goals as goal
 
-no : false ≡ true → ⊥
-no t = cc
-
-pub returns-in_err-place-clause-stands : goal.returns-in_err-place-clause-stands
-returns-in_err-place-clause-stands g c = λ list durable keeps. one_first _ _ durable list _ (c.append.ensures.stands list durable keeps)
-
-pub set_page-requires-clause-fits : goal.set_page-requires-clause-fits
-set_page-requires-clause-fits g c =
-    let fit = appended_fits c.args.self.now c.append.new.self (g.M.Media.state c.args.media.now).contents c.args.lba c.in_ok-place.place false c.requires.keeps c.append.ensures.geometry (ap (λ (v : CacheValue). v.entries) c.append.ensures.cache) c.in_ok-place.ensures.place c.requires.room c.requires.lba (λ t. absurd (no t)) in
-    fit
-
-pub set_page-requires-clause-room : goal.set_page-requires-clause-room
-set_page-requires-clause-room g c =
-    let k = c.requires.keeps in
-    few_on c.args.self.now.log c.append.new.self (g.M.Media.state c.append.new.media).contents k.list k.durable c.requires.few (c.in_ok-place.ensures.done k.list k.durable k.keeps)
-
-pub commit_now-requires : goal.commit_now-requires
-commit_now-requires g c =
-    let k = c.requires.keeps in
-    let fit = appended_fits c.args.self.now c.append.new.self (g.M.Media.state c.args.media.now).contents c.args.lba c.in_ok-place.place false c.requires.keeps c.append.ensures.geometry (ap (λ (v : CacheValue). v.entries) c.append.ensures.cache) c.in_ok-place.ensures.place c.requires.room c.requires.lba (λ t. absurd (no t)) in
-    let mid = (g.M.Media.state c.append.new.media).contents in
-    record { keeps = some_placed _ _ _ mid k.durable k.list _ (put_placed c.args.self.now c.append.new.self c.set_page.new.self mid k.list k.durable c.args.lba c.in_ok-place.place false c.args.block.now fit c.append.ensures.geometry c.in_ok-place.ensures.next c.in_ok-place.ensures.place c.in_ok-place.ensures.written (c.in_ok-place.ensures.done k.list k.durable k.keeps) c.set_page.ensures) }
-
-pub commit_if_full-requires : goal.commit_if_full-requires
-commit_if_full-requires g c =
-    let k = c.requires.keeps in
-    let fit = appended_fits c.args.self.now c.append.new.self (g.M.Media.state c.args.media.now).contents c.args.lba c.in_ok-place.place false c.requires.keeps c.append.ensures.geometry (ap (λ (v : CacheValue). v.entries) c.append.ensures.cache) c.in_ok-place.ensures.place c.requires.room c.requires.lba (λ t. absurd (no t)) in
-    let mid = (g.M.Media.state c.append.new.media).contents in
-    record { keeps = some_placed _ _ _ mid k.durable k.list _ (put_placed c.args.self.now c.append.new.self c.set_page.new.self mid k.list k.durable c.args.lba c.in_ok-place.place false c.args.block.now fit c.append.ensures.geometry c.in_ok-place.ensures.next c.in_ok-place.ensures.place c.in_ok-place.ensures.written (c.in_ok-place.ensures.done k.list k.durable k.keeps) c.set_page.ensures) }
-
-pub returns-then-is_held-clause-done : goal.returns-then-is_held-clause-done
-returns-then-is_held-clause-done g c = on_ok_from c.commit_now.result (λ v is. λ list durable keeps.
-    let fit = appended_fits c.args.self.now c.append.new.self (g.M.Media.state c.args.media.now).contents c.args.lba c.in_ok-place.place false c.requires.keeps c.append.ensures.geometry (ap (λ (v : CacheValue). v.entries) c.append.ensures.cache) c.in_ok-place.ensures.place c.requires.room c.requires.lba (λ t. absurd (no t)) in
-    let mid = (g.M.Media.state c.append.new.media).contents in
-    inr (inr (
-      ok_at c.commit_now.result v is c.commit_now.ensures.nothing_waits,
-      kept_placed _ _ c.set_page.new.self c.commit_now.new.self mid (g.M.Media.state c.commit_now.new.media).contents durable list (written_clean c.args.lba c.args.block.now list)
-          (put_placed c.args.self.now c.append.new.self c.set_page.new.self mid list durable c.args.lba c.in_ok-place.place false c.args.block.now fit c.append.ensures.geometry c.in_ok-place.ensures.next c.in_ok-place.ensures.place c.in_ok-place.ensures.written (c.in_ok-place.ensures.done list durable keeps) c.set_page.ensures)
-          (ok_at c.commit_now.result v is c.commit_now.ensures.done),
-    )))
-
-pub returns-clause-done : goal.returns-clause-done
-returns-clause-done g c = on_ok_from c.commit_if_full.result (λ v is. λ list durable keeps.
-    let fit = appended_fits c.args.self.now c.append.new.self (g.M.Media.state c.args.media.now).contents c.args.lba c.in_ok-place.place false c.requires.keeps c.append.ensures.geometry (ap (λ (v : CacheValue). v.entries) c.append.ensures.cache) c.in_ok-place.ensures.place c.requires.room c.requires.lba (λ t. absurd (no t)) in
-    let mid = (g.M.Media.state c.append.new.media).contents in
-    after_placed _ (SetPage c.args.lba c.in_ok-place.place false) _ c.set_page.new.self c.commit_if_full.new.self mid (g.M.Media.state c.commit_if_full.new.media).contents durable list (written_clean c.args.lba c.args.block.now list)
-    (ap (λ (p : Place). SetPage c.args.lba p false) c.in_ok-place.ensures.place)
-    (put_placed c.args.self.now c.append.new.self c.set_page.new.self mid list durable c.args.lba c.in_ok-place.place false c.args.block.now fit c.append.ensures.geometry c.in_ok-place.ensures.next c.in_ok-place.ensures.place c.in_ok-place.ensures.written (c.in_ok-place.ensures.done list durable keeps) c.set_page.ensures)
-    (ok_at c.commit_if_full.result v is c.commit_if_full.ensures.done))
-
-pub returns-then-is_held-clause-stands : goal.returns-then-is_held-clause-stands
-returns-then-is_held-clause-stands g c = λ list durable keeps.
-    let fit = appended_fits c.args.self.now c.append.new.self (g.M.Media.state c.args.media.now).contents c.args.lba c.in_ok-place.place false c.requires.keeps c.append.ensures.geometry (ap (λ (v : CacheValue). v.entries) c.append.ensures.cache) c.in_ok-place.ensures.place c.requires.room c.requires.lba (λ t. absurd (no t)) in
-    let mid = (g.M.Media.state c.append.new.media).contents in
-    one_placed _ _ c.set_page.new.self mid (geometry_of c.args.self.now) (g.M.Media.state c.commit_now.new.media).contents.flash.page durable list (written_clean c.args.lba c.args.block.now list)
-    (ap geometry_of c.set_page.ensures ∙ c.append.ensures.geometry)
-    (put_placed c.args.self.now c.append.new.self c.set_page.new.self mid list durable c.args.lba c.in_ok-place.place false c.args.block.now fit c.append.ensures.geometry c.in_ok-place.ensures.next c.in_ok-place.ensures.place c.in_ok-place.ensures.written (c.in_ok-place.ensures.done list durable keeps) c.set_page.ensures)
-    c.commit_now.ensures.stands
-
-pub returns-then-is_held-clause-spends : goal.returns-then-is_held-clause-spends
-returns-then-is_held-clause-spends g c = on_ok_from c.commit_now.result (λ v is.
-    spends_on (g.M.Media.state c.args.media.now) (g.M.Media.state c.append.new.media) (g.M.Media.state c.commit_now.new.media) 1 c.in_ok-place.ensures.drives.passes c.in_ok-place.ensures.spends (passes_ok _ _ c.commit_now.result v is c.commit_now.ensures.drives.passes))
-
-pub returns-then-is_held-clause-drives : goal.returns-then-is_held-clause-drives
-returns-then-is_held-clause-drives g c = drives_then _ _ _ _ _ c.in_ok-place.ensures.drives c.commit_now.ensures.drives
-
-pub returns-clause-stands : goal.returns-clause-stands
-returns-clause-stands g c = λ list durable keeps.
-    let fit = appended_fits c.args.self.now c.append.new.self (g.M.Media.state c.args.media.now).contents c.args.lba c.in_ok-place.place false c.requires.keeps c.append.ensures.geometry (ap (λ (v : CacheValue). v.entries) c.append.ensures.cache) c.in_ok-place.ensures.place c.requires.room c.requires.lba (λ t. absurd (no t)) in
-    let mid = (g.M.Media.state c.append.new.media).contents in
-    one_placed _ _ c.set_page.new.self mid (geometry_of c.args.self.now) (g.M.Media.state c.commit_if_full.new.media).contents.flash.page durable list (written_clean c.args.lba c.args.block.now list)
-    (ap geometry_of c.set_page.ensures ∙ c.append.ensures.geometry)
-    (put_placed c.args.self.now c.append.new.self c.set_page.new.self mid list durable c.args.lba c.in_ok-place.place false c.args.block.now fit c.append.ensures.geometry c.in_ok-place.ensures.next c.in_ok-place.ensures.place c.in_ok-place.ensures.written (c.in_ok-place.ensures.done list durable keeps) c.set_page.ensures)
-    c.commit_if_full.ensures.stands
-
-pub returns-clause-spends : goal.returns-clause-spends
-returns-clause-spends g c = on_ok_from c.commit_if_full.result (λ v is.
-    spends_on (g.M.Media.state c.args.media.now) (g.M.Media.state c.append.new.media) (g.M.Media.state c.commit_if_full.new.media) 1 c.in_ok-place.ensures.drives.passes c.in_ok-place.ensures.spends (passes_ok _ _ c.commit_if_full.result v is c.commit_if_full.ensures.drives.passes))
-
-pub returns-clause-drives : goal.returns-clause-drives
-returns-clause-drives g c = drives_then _ _ _ _ _ c.in_ok-place.ensures.drives c.commit_if_full.ensures.drives
+pub returns-then-is_held-clause-lists : goal.returns-then-is_held-clause-lists
+returns-then-is_held-clause-lists g c = on_ok_from c.write_committed.result (λ v is. λ list durable lists.
+    committed_puts c.args.self.now.parts c.write_committed.new.parts (g.M.Media.state c.write_committed.new.media).contents.flash.page c.args.lba (held c.args.block.now false) list durable
+    (ok_at c.write_committed.result v is c.write_committed.ensures.nothing_waits) (ok_at c.write_committed.result v is c.write_committed.ensures.lists list durable lists))

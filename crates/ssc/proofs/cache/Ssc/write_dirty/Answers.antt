@@ -1,30 +1,36 @@
-use Rattle.std.proofs.Common.{true, refl, ◌+◌, ◌<◌, sym, ◌∙◌, ap, subst, length}
+use Rattle.std.proofs.Common.{◌<◌, true, refl, sym, subst}
 use Rattle.ft_base.specs.declared.geometry.Geometry.{Geometry}
-use Rattle.cache_model.specs.Cache.{undo, written_dirty}
-use Rattle.ssc.specs.CacheState.{CacheValue, pending, geometry_of}
-use Rattle.ssc.specs.Commands.{StandsForOne}
-use Rattle.ssc.proofs.StepLemmas.{some_kept}
-use Rattle.ssc.proofs.HoldsLemmas.{few_buffered, holds_committed}
-use Rattle.ssc.proofs.CommandLemmas.{image_of, not_refused, keeps_reserved, full_is, not_full, not_full_from, drives_given_up}
-use Rattle.ssc.proofs.MapLoadLemmas.{takes_within, loads_within}
+use Rattle.cache_model.specs.Cache.{held, undo, written_dirty}
+use Rattle.ssc.specs.CacheState.{pending}
+use Rattle.ssc.proofs.CommandLemmas.{not_refused, drives_given_up}
+use Rattle.ssc.proofs.HoldsLemmas.{few_buffered}
+use Rattle.ssc.proofs.WriteLemmas.{full_is, not_full, not_full_from, images_written, written_from, inside_from, settled_unready, left_committed, log_left, room_left, room_for}
 use Rattle.ssc.proofs.cache.Ssc.write_dirty.Goals as goal
+
+pub is_full-requires : goal.is_full-requires
+is_full-requires g c = record { of_one = c.requires.up.holds.agree.sound.of_one.map }
 
 pub returns-then-is_full-clause-full : goal.returns-then-is_full-clause-full
 returns-then-is_full-clause-full g c = λ s holds.
-    let g_is = sym c.self.invariant.0 ∙ ap geometry_of c.self.view_is in
-    full_is c.args.self.now (g.M.Media.state c.args.media.now).contents s c.args.lba holds (Unit {0}) _ _ (c.is_full.ensures.full c.if-is_full.true) (ap (λ (h : Geometry). h.c + 1) g_is) (ap (λ (h : Geometry). h.c) g_is)
+    full_is c.args.self.now (g.M.Media.state c.args.media.now).contents s c.args.lba holds (Unit {0}) _ _ (c.is_full.ensures.full c.if-is_full.true) refl refl
 
 pub returns-then-is_err-clause-full : goal.returns-then-is_err-clause-full
 returns-then-is_err-clause-full g c = λ s holds. not_full c.args.self.now (g.M.Media.state c.args.media.now).contents s c.args.lba holds (c.is_full.ensures.room c.if-is_full.false)
 
-pub put_dirty-requires-clause-keeps : goal.put_dirty-requires-clause-keeps
-put_dirty-requires-clause-keeps g c =
-    let s = c.requires.up.list in
-    let holds = c.requires.up.holds in
-    some_kept c.reserve.new.self (g.M.Media.state c.args.media.now).contents s (undo (pending c.args.self.now) s) (keeps_reserved c.args.self.now c.reserve.new.self (g.M.Media.state c.args.media.now).contents s (undo (pending c.args.self.now) s) (not_refused c.reserve.result c.is_err.result c.is_err.ensures.value c.if-is_err.false c.reserve.ensures.ready) holds.keeps)
+pub write_committed-requires-clause-agree : goal.write_committed-requires-clause-agree
+write_committed-requires-clause-agree g c = (c.reserve.ensures.holds (g.M.Media.state c.args.media.now).contents c.requires.up.list c.requires.up.holds).agree
 
-pub put_dirty-requires-clause-few : goal.put_dirty-requires-clause-few
-put_dirty-requires-clause-few g c = subst (λ (v : CacheValue). length v.log.buffered < 127) (sym (not_refused c.reserve.result c.is_err.result c.is_err.ensures.value c.if-is_err.false c.reserve.ensures.ready)) (few_buffered c.args.self.now (g.M.Media.state c.args.media.now).contents c.requires.up.list c.requires.up.holds)
+pub write_committed-requires-clause-lba : goal.write_committed-requires-clause-lba
+write_committed-requires-clause-lba g c = subst (λ (h : Geometry). c.args.lba < h.size) (sym c.reserve.ensures.same) c.requires.lba
+
+pub write_committed-requires-clause-memory : goal.write_committed-requires-clause-memory
+write_committed-requires-clause-memory g c = (c.reserve.ensures.holds (g.M.Media.state c.args.media.now).contents c.requires.up.list c.requires.up.holds).memory (not_refused c.reserve.result c.is_err.result c.is_err.ensures.value c.if-is_err.false c.reserve.ensures.ready)
+
+pub write_committed-requires-clause-few : goal.write_committed-requires-clause-few
+write_committed-requires-clause-few g c = few_buffered c.reserve.new.self (g.M.Media.state c.args.media.now).contents c.requires.up.list (c.reserve.ensures.holds (g.M.Media.state c.args.media.now).contents c.requires.up.list c.requires.up.holds)
+
+pub write_committed-requires-clause-dirty : goal.write_committed-requires-clause-dirty
+write_committed-requires-clause-dirty g c = λ t. room_for c.args.self.now c.reserve.new.self c.args.lba c.reserve.ensures.same c.reserve.ensures.entries (c.is_full.ensures.room c.if-is_full.false)
 
 pub returns-in-Ok-clause-full : goal.returns-in-Ok-clause-full
 returns-in-Ok-clause-full g c = λ s holds. not_full c.args.self.now (g.M.Media.state c.args.media.now).contents s c.args.lba holds (c.is_full.ensures.room c.if-is_full.false)
@@ -33,32 +39,27 @@ pub returns-in-Err-clause-full : goal.returns-in-Err-clause-full
 returns-in-Err-clause-full g c = λ s holds. not_full_from c.args.self.now (g.M.Media.state c.args.media.now).contents s c.args.lba holds (Unit {0}) c.give_up.result c.in-Err.error c.give_up.ensures.error (c.is_full.ensures.room c.if-is_full.false)
 
 pub returns-in-Ok-clause-done : goal.returns-in-Ok-clause-done
-returns-in-Ok-clause-done g c = λ s holds.
-    holds_committed c.put_dirty.new.self (g.M.Media.state c.put_dirty.new.media).contents (written_dirty c.args.lba c.args.block.now s) c.in-Ok.ensures.nothing_waits (c.in-Ok.ensures.done s (undo (pending c.args.self.now) s) (keeps_reserved c.args.self.now c.reserve.new.self (g.M.Media.state c.args.media.now).contents s (undo (pending c.args.self.now) s) (not_refused c.reserve.result c.is_err.result c.is_err.ensures.value c.if-is_err.false c.reserve.ensures.ready) holds.keeps))
+returns-in-Ok-clause-done g c = λ s holds. written_from c.reserve.new.self.parts _ (g.M.Media.state c.write_committed.new.media).contents s c.args.lba (written_dirty c.args.lba c.args.block.now) c.write_committed.ensures.geometry
+    (left_committed c.reserve.new.self.parts _ (g.M.Media.state c.write_committed.new.media).contents s c.args.lba (held c.args.block.now true) (settled_unready _ (g.M.Media.state c.write_committed.new.media).contents refl c.in-Ok.ensures.agree) c.in-Ok.ensures.nothing_waits
+    (c.in-Ok.ensures.lists s (undo (pending c.reserve.new.self) s) (c.reserve.ensures.holds (g.M.Media.state c.args.media.now).contents s holds).lists))
+
+pub returns-in-Ok-clause-inside : goal.returns-in-Ok-clause-inside
+returns-in-Ok-clause-inside g c = λ room s holds. inside_from c.reserve.new.self.parts _ (g.M.Media.state c.write_committed.new.media).contents s (written_dirty c.args.lba c.args.block.now) (room_left c.args.self.now c.reserve.new.self c.reserve.ensures.parts room)
+    (left_committed c.reserve.new.self.parts _ (g.M.Media.state c.write_committed.new.media).contents s c.args.lba (held c.args.block.now true) (settled_unready _ (g.M.Media.state c.write_committed.new.media).contents refl c.in-Ok.ensures.agree) c.in-Ok.ensures.nothing_waits
+    (c.in-Ok.ensures.lists s (undo (pending c.reserve.new.self) s) (c.reserve.ensures.holds (g.M.Media.state c.args.media.now).contents s holds).lists))
 
 pub returns-in-Ok-clause-images : goal.returns-in-Ok-clause-images
 returns-in-Ok-clause-images g c = λ s holds.
-    let stands = c.put_dirty.ensures.stands s (undo (pending c.args.self.now) s) (keeps_reserved c.args.self.now c.reserve.new.self (g.M.Media.state c.args.media.now).contents s (undo (pending c.args.self.now) s) (not_refused c.reserve.result c.is_err.result c.is_err.ensures.value c.if-is_err.false c.reserve.ensures.ready) holds.keeps) in
-    image_of (geometry_of c.args.self.now) (g.M.Media.state c.put_dirty.new.media).contents (undo (pending c.args.self.now) s) s (written_dirty c.args.lba c.args.block.now s)
-    (subst (λ (h : Geometry). StandsForOne h (g.M.Media.state c.put_dirty.new.media).contents.flash.page (undo (pending c.args.self.now) s) s (written_dirty c.args.lba c.args.block.now s)) (ap geometry_of (not_refused c.reserve.result c.is_err.result c.is_err.ensures.value c.if-is_err.false c.reserve.ensures.ready)) stands)
+    images_written c.args.self.now c.reserve.new.self (g.M.Media.state c.write_committed.new.media).contents s c.args.lba (written_dirty c.args.lba c.args.block.now) c.reserve.ensures.same c.reserve.ensures.pending
+    (c.write_committed.ensures.stands s (undo (pending c.reserve.new.self) s) (c.reserve.ensures.holds (g.M.Media.state c.args.media.now).contents s holds).lists)
 
 pub returns-in-Err-clause-images : goal.returns-in-Err-clause-images
 returns-in-Err-clause-images g c = λ s holds.
-    let stands = c.put_dirty.ensures.stands s (undo (pending c.args.self.now) s) (keeps_reserved c.args.self.now c.reserve.new.self (g.M.Media.state c.args.media.now).contents s (undo (pending c.args.self.now) s) (not_refused c.reserve.result c.is_err.result c.is_err.ensures.value c.if-is_err.false c.reserve.ensures.ready) holds.keeps) in
-    image_of (geometry_of c.args.self.now) (g.M.Media.state c.put_dirty.new.media).contents (undo (pending c.args.self.now) s) s (written_dirty c.args.lba c.args.block.now s)
-    (subst (λ (h : Geometry). StandsForOne h (g.M.Media.state c.put_dirty.new.media).contents.flash.page (undo (pending c.args.self.now) s) s (written_dirty c.args.lba c.args.block.now s)) (ap geometry_of (not_refused c.reserve.result c.is_err.result c.is_err.ensures.value c.if-is_err.false c.reserve.ensures.ready)) stands)
+    images_written c.args.self.now c.reserve.new.self (g.M.Media.state c.write_committed.new.media).contents s c.args.lba (written_dirty c.args.lba c.args.block.now) c.reserve.ensures.same c.reserve.ensures.pending
+    (c.write_committed.ensures.stands s (undo (pending c.reserve.new.self) s) (c.reserve.ensures.holds (g.M.Media.state c.args.media.now).contents s holds).lists)
 
-pub returns-in-Ok-clause-map : goal.returns-in-Ok-clause-map
-returns-in-Ok-clause-map g c = takes_within c.args.self.now c.reserve.new.self c.put_dirty.new.self c.put_dirty.new.self c.args.lba true (not_refused c.reserve.result c.is_err.result c.is_err.ensures.value c.if-is_err.false c.reserve.ensures.ready) refl refl c.put_dirty.ensures.map
-
-pub returns-in-Err-clause-map : goal.returns-in-Err-clause-map
-returns-in-Err-clause-map g c = takes_within c.args.self.now c.reserve.new.self c.put_dirty.new.self c.give_up.new.self c.args.lba true (not_refused c.reserve.result c.is_err.result c.is_err.ensures.value c.if-is_err.false c.reserve.ensures.ready) (ap (λ (v : CacheValue). v.entries) c.give_up.ensures.cache) (ap (λ (v : CacheValue). v.next) c.give_up.ensures.cache) c.put_dirty.ensures.map
-
-pub returns-in-Ok-clause-loads : goal.returns-in-Ok-clause-loads
-returns-in-Ok-clause-loads g c = loads_within c.args.self.now c.reserve.new.self c.put_dirty.new.self c.put_dirty.new.self (g.M.Media.state c.args.media.now).contents.flash.page (g.M.Media.state c.put_dirty.new.media).contents.flash.page (not_refused c.reserve.result c.is_err.result c.is_err.ensures.value c.if-is_err.false c.reserve.ensures.ready) refl c.put_dirty.ensures.loads
-
-pub returns-in-Err-clause-loads : goal.returns-in-Err-clause-loads
-returns-in-Err-clause-loads g c = loads_within c.args.self.now c.reserve.new.self c.put_dirty.new.self c.give_up.new.self (g.M.Media.state c.args.media.now).contents.flash.page (g.M.Media.state c.put_dirty.new.media).contents.flash.page (not_refused c.reserve.result c.is_err.result c.is_err.ensures.value c.if-is_err.false c.reserve.ensures.ready) (ap (λ (v : CacheValue). v.entries) c.give_up.ensures.cache) c.put_dirty.ensures.loads
+pub returns-in-Ok-clause-two_programs : goal.returns-in-Ok-clause-two_programs
+returns-in-Ok-clause-two_programs g c = λ room left. c.in-Ok.ensures.two_programs (room_left c.args.self.now c.reserve.new.self c.reserve.ensures.parts room) (log_left c.args.self.now c.reserve.new.self c.reserve.ensures.parts left)
 
 pub returns-in-Err-clause-drives : goal.returns-in-Err-clause-drives
-returns-in-Err-clause-drives g c = drives_given_up (Unit {0}) (g.M.Media.state c.args.media.now) (g.M.Media.state c.put_dirty.new.media) c.give_up.result c.in-Err.error c.give_up.ensures.error c.in-Err.ensures.drives
+returns-in-Err-clause-drives g c = drives_given_up (Unit {0}) (g.M.Media.state c.args.media.now) (g.M.Media.state c.write_committed.new.media) c.give_up.result c.in-Err.error c.give_up.ensures.error c.in-Err.ensures.drives

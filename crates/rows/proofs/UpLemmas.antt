@@ -1,0 +1,39 @@
+-- A command that did not stop the cache leaves it up.
+use Rattle.std.proofs.Common.{◌≡◌, ℕ, Bool, true, false, Result, Ok, Err, OnOk, sym, refl, subst, ◌∙◌}
+use Rattle.std.specs.Prelude.{IsErrOf}
+use Rattle.std.proofs.lemmas.Bool.{false≢true}
+use Rattle.ft_base.specs.Contents.{Contents}
+use Rattle.ft_media.specs.State.{State}
+use Rattle.cache_model.specs.Cache.{CacheList}
+use Rattle.ssc.specs.declared.cache.Ssc.{Ssc}
+use Rattle.ssc.specs.declared.error.SscError.{SscError}
+use Rattle.ssc.specs.declared.error.SscError.TheVariants.{Full, FlashFault, PowerLost, OutOfMemory}
+use Rattle.ssc.specs.Errors.{stops}
+use Rattle.ssc.specs.CacheState.{Holds, IsUp}
+use Rattle.ssc.specs.Commands.{HoldsWritten}
+
+up_same : (c d : Ssc) (a b : State) → (d ≡ c) × (b ≡ a) → IsUp c a.contents → IsUp d b.contents
+up_same c d a b is up = subst (λ (v : Ssc). IsUp v b.contents) (sym is.0) (subst (λ (k : State). IsUp c k.contents) (sym is.1) up)
+
+-- after Ok it holds some list
+abbrev HoldsSome : Ssc → Contents → Type 0
+HoldsSome c contents = (list : CacheList) × Holds c contents list
+
+up_some : (r : Result (Unit {0}) SscError) (c d : Ssc) (a b : State) → IsUp c a.contents → d.stopped ≡ stops r → OnOk r (HoldsSome d b.contents) → ((n l : ℕ) → IsErrOf r (Full n l) → (d ≡ c) × (b ≡ a)) → (IsErrOf r OutOfMemory → (d ≡ c) × (b ≡ a)) → d.stopped ≡ false → IsUp d b.contents
+up_some (Ok done) c d a b up stopped holds full memory going = record { list = holds.0; holds = holds.1; up = going }
+up_some (Err (Full n l)) c d a b up stopped holds full memory going = up_same c d a b (full n l refl) up
+up_some (Err FlashFault) c d a b up stopped holds full memory going = absurd (false≢true (sym going ∙ stopped))
+up_some (Err PowerLost) c d a b up stopped holds full memory going = absurd (false≢true (sym going ∙ stopped))
+up_some (Err OutOfMemory) c d a b up stopped holds full memory going = up_same c d a b (memory refl) up
+
+on_ok : {P Q : Type 0} (r : Result (Unit {0}) SscError) → (P → Q) → OnOk r P → OnOk r Q
+on_ok (Ok done) f p = f p
+on_ok (Err e) f p = tt
+
+-- a write, from which clean groups may have given way
+pub up_written : (r : Result (Unit {0}) SscError) (c d : Ssc) (a b : State) (lba : ℕ) (f : CacheList → CacheList) → IsUp c a.contents → d.stopped ≡ stops r → OnOk r ((s : CacheList) → Holds c a.contents s → HoldsWritten d b.contents s lba f) → ((n l : ℕ) → IsErrOf r (Full n l) → (d ≡ c) × (b ≡ a)) → (IsErrOf r OutOfMemory → (d ≡ c) × (b ≡ a)) → d.stopped ≡ false → IsUp d b.contents
+up_written r c d a b lba f up stopped holds = up_some r c d a b up stopped (on_ok r (λ (k : (s : CacheList) → Holds c a.contents s → HoldsWritten d b.contents s lba f). let w = k up.list up.holds in (f w.left, w.holds)) holds)
+
+-- any other command
+pub up_after : (r : Result (Unit {0}) SscError) (c d : Ssc) (a b : State) (f : CacheList → CacheList) → IsUp c a.contents → d.stopped ≡ stops r → OnOk r ((s : CacheList) → Holds c a.contents s → Holds d b.contents (f s)) → ((n l : ℕ) → IsErrOf r (Full n l) → ⊥) → (IsErrOf r OutOfMemory → ⊥) → d.stopped ≡ false → IsUp d b.contents
+up_after r c d a b f up stopped holds full memory = up_some r c d a b up stopped (on_ok r (λ (k : (s : CacheList) → Holds c a.contents s → Holds d b.contents (f s)). (f up.list, k up.list up.holds)) holds) (λ n l is. absurd (full n l is)) (λ is. absurd (memory is))

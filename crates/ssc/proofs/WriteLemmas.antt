@@ -1,0 +1,174 @@
+-- What a write answers and leaves, between two states of the cache that holds a list.
+use Rattle.std.proofs.Common.{◌≡◌, ℕ, ◌+◌, ◌/◌, ◌<◌, ◌≤◌, false, List, [], ◌∷◌, ◌++◌, length, Option, Some, None, Err, refl, sym, ◌∙◌, ap, subst, arith, inl, inr}
+use Rattle.std.specs.FinMap.{get, insert}
+use Rattle.std.proofs.lemmas.Bool.{false≢true}
+use Rattle.ft_base.specs.declared.block.Block.{Block}
+use Rattle.ft_base.specs.declared.geometry.Geometry.{Geometry}
+use Rattle.ft_base.specs.declared.block.Place.{Place}
+use Rattle.ft_base.specs.declared.block.Page.{Page}
+use Rattle.ft_base.specs.declared.record.Record.{Record}
+use Rattle.ft_base.specs.declared.record.Record.TheVariants.{SetPage}
+use Rattle.ft_base.specs.Contents.{Contents}
+use Rattle.ft_base.specs.Layout.{log_pages}
+use Rattle.ft_media.specs.Media.{program_counted}
+use Rattle.ft_media.specs.declared.rig.Counts.{Counts}
+use Rattle.ft_media.specs.declared.media.MediaError.{MediaError}
+use Rattle.ft_media.specs.declared.media.MediaError.TheVariants as media
+use Rattle.cache_model.specs.declared.entry.Entry.{Entry}
+use Rattle.cache_model.specs.Records.{Entries}
+use Rattle.cache_model.specs.Cache.{Inserted, CacheList, Held, held, IsFull, Vanish, dirty_groups, undo, with_group, written_clean}
+use Rattle.op_log.specs.Log.{LogValue}
+use Rattle.merge_engine.specs.declared.parts.Parts.{Parts}
+use Rattle.merge_engine.specs.Agreement.{Agree, Lists}
+use Rattle.merge_engine.specs.Steps.{HasRoomFor, dirty_groups_with}
+use Rattle.merge_engine.proofs.RoomLemmas.{gave_vanish}
+use Rattle.ssc.specs.declared.cache.Ssc.{Ssc}
+use Rattle.ssc.specs.declared.error.SscError.{SscError}
+use Rattle.ssc.specs.declared.error.SscError.TheVariants as error
+use Rattle.ssc.specs.Errors.{of_media}
+use Rattle.ssc.specs.CacheState.{Holds, entries_of, geometry_of, log_room, open_room, pending, waiting}
+use Rattle.ssc.specs.Commands.{FullExactly, HoldsWritten, ImagesOfWrite, IsHeldIn, PendsWith, StandsForWrite, AsUndone, AsLeft, AsWritten}
+use Rattle.ssc.specs.Steps.{IsPushed, LeftOf, ListsAfter, PutsBlock, StandsForStep}
+use Rattle.ssc.proofs.DirtyLemmas.{with_same}
+use Rattle.ssc.proofs.HoldsLemmas.{IsSettled, holds_committed, inserted_behind, inserted_alone, held_none, held_some, length_waiting, pends_after, waiting_push}
+use Rattle.ssc.proofs.WrittenLemmas.{push_some, stays_absent}
+
+-- ---- full
+
+module _ (c : Ssc) (contents : Contents) (s : CacheList) (lba : ℕ) (holds : Holds c contents s) where
+  count_is : length (with_group (lba / (geometry_of c).p) (dirty_groups (geometry_of c) s)) ≡ dirty_groups_with (geometry_of c) (entries_of c) lba
+  count_is = with_same (geometry_of c) contents.flash.page (entries_of c) s holds.agree.sound.whole.whole holds.lists.held lba
+
+  pub full_is : (T : Type 0) (n limit : ℕ) → dirty_groups_with (geometry_of c) (entries_of c) lba ≡ (geometry_of c).c + 1 → n ≡ (geometry_of c).c + 1 → limit ≡ (geometry_of c).c → FullExactly (geometry_of c) s lba {T = T} (Err (error.Full n limit))
+  full_is T n limit full n_is limit_is = let same = count_is in (omega arith, n_is ∙ sym full ∙ sym same, limit_is)
+
+  pub not_full : HasRoomFor (geometry_of c) (entries_of c) lba → IsFull (geometry_of c) s lba → ⊥
+  not_full room full = let same = count_is in absurd (omega arith)
+
+  failed_exactly : (T : Type 0) (e : MediaError) → HasRoomFor (geometry_of c) (entries_of c) lba → FullExactly (geometry_of c) s lba {T = T} (Err (of_media e))
+  failed_exactly T media.Failed room = not_full room
+  failed_exactly T media.PowerLost room = not_full room
+  failed_exactly T media.OutOfMemory room = not_full room
+
+  pub not_full_from : (T : Type 0) (r : SscError) (e : MediaError) → r ≡ of_media e → HasRoomFor (geometry_of c) (entries_of c) lba → FullExactly (geometry_of c) s lba {T = T} (Err r)
+  not_full_from T r e is room = subst (λ (r : SscError). FullExactly (geometry_of c) s lba {T = T} (Err r)) (sym is) (failed_exactly T e room)
+
+-- ---- images
+
+image_written : (g : Geometry) (page : Place → Page) (undone before : CacheList) (a : ℕ) (step : CacheList → CacheList) → StandsForStep g page undone before step → StandsForWrite g page undone before a step
+image_written g page undone before a step (inl s) = AsUndone s
+image_written g page undone before a step (inr (v, gives, inl s)) = AsLeft v (gave_vanish g before v a gives) s
+image_written g page undone before a step (inr (v, gives, inr s)) = AsWritten v (gave_vanish g before v a gives) s
+
+-- what holds of the pages now holds of each image
+pub images_written : (old r : Ssc) (contents : Contents) (s : CacheList) (a : ℕ) (step : CacheList → CacheList) → geometry_of r ≡ geometry_of old → pending r ≡ pending old → StandsForStep (geometry_of r) contents.flash.page (undo (pending r) s) s step → ImagesOfWrite old contents s a step
+images_written old r contents s a step same waits stands x now =
+    subst (λ (p : Place → Page). StandsForWrite (geometry_of old) p (undo (pending old) s) s a step) (sym now.pages)
+    (image_written (geometry_of old) contents.flash.page (undo (pending old) s) s a step
+    (subst (λ (g : Geometry). StandsForStep g contents.flash.page (undo (pending old) s) s step) same
+    (subst (λ q. StandsForStep (geometry_of r) contents.flash.page (undo q s) s step) waits stands)))
+
+-- ---- what the cache holds
+
+-- the cache holds the list after the step, on what is left of it
+abbrev pub HoldsLeft : Parts → Ssc → Contents → CacheList → (CacheList → CacheList) → Type 0
+HoldsLeft parts new contents s step = (v : CacheList) × LeftOf parts s v × Holds new contents (step v)
+
+pub written_from : (parts : Parts) (new : Ssc) (contents : Contents) (s : CacheList) (a : ℕ) (step : CacheList → CacheList) → geometry_of new ≡ parts.geometry → HoldsLeft parts new contents s step → HoldsWritten new contents s a step
+written_from parts new contents s a step same x = record {
+  left = x.0;
+  vanish = subst (λ (g : Geometry). Vanish g s a x.0) (sym same) (gave_vanish parts.geometry s x.0 a x.1.gives);
+  holds = x.2;
+}
+
+pub inside_from : (parts : Parts) (new : Ssc) (contents : Contents) (s : CacheList) (step : CacheList → CacheList) → 1 ≤ parts.logs.room → HoldsLeft parts new contents s step → Holds new contents (step s)
+inside_from parts new contents s step room x = subst (λ (v : CacheList). Holds new contents (step v)) (x.1.inside room) x.2
+
+-- the memory of the next write is yet to be taken
+pub settled_unready : (new : Ssc) (contents : Contents) → new.ready ≡ false → Agree new.parts contents → IsSettled new contents
+settled_unready new contents unready agree = record { agree = agree; memory = λ t. absurd (false≢true (sym unready ∙ t)) }
+
+-- all is committed
+pub left_committed : (parts : Parts) (new : Ssc) (contents : Contents) (s : CacheList) (lba : ℕ) (block : Held) → IsSettled new contents → new.parts.log.buffered ≡ []
+    → (v : CacheList) × LeftOf parts s v × Lists new.parts contents.flash.page (insert v lba block) (insert v lba block)
+    → HoldsLeft parts new contents s (λ v. insert v lba block)
+left_committed parts new contents s lba block settled none x = (x.0, x.1, holds_committed new contents (insert x.0 lba block) settled none x.2)
+
+-- a clean block at an address that was absent may wait
+module _ (r new : Ssc) (contents contents' : Contents) (s : CacheList) (lba : ℕ) (block : Block) (holds : Holds r contents s) (settled : IsSettled new contents') (few : length new.parts.log.buffered < 127) where
+  same_of : LeftOf r.parts s s
+  same_of = record { gives = inl refl; inside = λ room. refl }
+
+  -- with nothing else
+  holds_alone : (v : CacheList) (at : Place) → get v lba ≡ None → ListsAfter [] (SetPage lba at false) new.parts contents'.flash.page v v (written_clean lba block v) → Holds new contents' (written_clean lba block v)
+  holds_alone v at absent (inl k) = inserted_alone v lba at block absent new contents' settled k.0 k.1
+  holds_alone v at absent (inr (inl k)) = inserted_alone v lba at block absent new contents' settled k.0 k.1
+  holds_alone v at absent (inr (inr k)) = holds_committed new contents' (written_clean lba block v) settled k.0 k.1
+
+  pub left_absent : get s lba ≡ None → PutsBlock r.parts lba (held block false) new.parts contents'.flash.page (undo (pending r) s) s → HoldsLeft r.parts new contents' s (written_clean lba block)
+  left_absent absent (at, inl (inl k)) = (s, same_of, inserted_behind s lba at block absent r new contents contents' holds settled few k.0 k.1)
+  left_absent absent (at, inl (inr (inl k))) = (s, same_of, inserted_alone s lba at block absent new contents' settled k.0 k.1)
+  left_absent absent (at, inl (inr (inr k))) = (s, same_of, holds_committed new contents' (written_clean lba block s) settled k.0 k.1)
+  left_absent absent (at, inr (v, left, after)) = (v, left, holds_alone v at (stays_absent (geometry_of r) s v left.gives lba absent) after)
+
+  none_after : (buffered : List Record) (own : Record) (d before l : CacheList) → new.parts.log.buffered ≡ [] → ListsAfter buffered own new.parts contents'.flash.page d before l → Lists new.parts contents'.flash.page l l
+  none_after buffered own d before l none (inl k) = absurd (push_some buffered own (sym k.0 ∙ none))
+  none_after buffered own d before l none (inr (inl k)) = absurd (push_some [] own (sym k.0 ∙ none))
+  none_after buffered own d before l none (inr (inr k)) = k.1
+
+  -- over a held one it was committed
+  pub left_held : new.parts.log.buffered ≡ [] → PutsBlock r.parts lba (held block false) new.parts contents'.flash.page (undo (pending r) s) s → HoldsLeft r.parts new contents' s (written_clean lba block)
+  left_held none (at, inl after) = (s, same_of, holds_committed new contents' (written_clean lba block s) settled none (none_after r.parts.log.buffered (SetPage lba at false) (undo (pending r) s) s (written_clean lba block s) none after))
+  left_held none (at, inr (v, left, after)) = (v, left, holds_committed new contents' (written_clean lba block v) settled none (none_after [] (SetPage lba at false) v v (written_clean lba block v) none after))
+
+  pub left_clean : ((e : Entry) → get (entries_of r) lba ≡ Some e → new.parts.log.buffered ≡ []) → (get (entries_of r) lba ≡ None → get s lba ≡ None) → PutsBlock r.parts lba (held block false) new.parts contents'.flash.page (undo (pending r) s) s → HoldsLeft r.parts new contents' s (written_clean lba block)
+  left_clean over absent puts = by (get (entries_of r) lba) refl
+    where
+      by : (o : Option Entry) → get (entries_of r) lba ≡ o → HoldsLeft r.parts new contents' s (written_clean lba block)
+      by None is = left_absent (absent is) puts
+      by (Some e) is = left_held (over e is) puts
+
+-- ---- what is buffered then
+
+pub pends_written : (r new : Ssc) (contents' : Contents) (s durable : CacheList) (lba : ℕ) (block : Block) → PutsBlock r.parts lba (held block false) new.parts contents'.flash.page durable s → PendsWith (pending r) (pending new) (Inserted lba)
+pends_written r new contents' s durable lba block (at, inl after) = pends_after (SetPage lba at false) r new contents' durable s (written_clean lba block s) after
+pends_written r new contents' s durable lba block (at, inr (v, left, inl k)) = inr (inl (ap waiting k.0))
+pends_written r new contents' s durable lba block (at, inr (v, left, inr (inl k))) = inr (inl (ap waiting k.0))
+pends_written r new contents' s durable lba block (at, inr (v, left, inr (inr k))) = inr (inr (ap waiting k.0))
+
+pub one_pends : (old r new : Ssc) (lba : ℕ) (a b : Counts) → r.parts.log ≡ old.parts.log → IsPushed r.parts lba false new.parts × (b ≡ program_counted a) → (b ≡ program_counted a) × (pending new ≡ pending old ++ Inserted lba ∷ [])
+one_pends old r new lba a b same pushed = (pushed.1, ap (λ (l : LogValue). waiting l.buffered) pushed.0.1 ∙ waiting_push r.parts.log.buffered (SetPage lba pushed.0.0 false) ∙ ap (λ (l : LogValue). waiting l.buffered ++ Inserted lba ∷ []) same)
+
+-- ---- an address and its entry
+
+pub none_of_absent : (r : Ssc) (contents : Contents) (s : CacheList) (lba : ℕ) → Holds r contents s → get s lba ≡ None → get (entries_of r) lba ≡ None
+none_of_absent r contents s lba holds none = by (get (entries_of r) lba) refl
+  where
+    by : (o : Option Entry) → get (entries_of r) lba ≡ o → get (entries_of r) lba ≡ None
+    by None is = is
+    by (Some e) is = let h = held_some r contents s lba e holds is in absurd (let both : None ≡ Some (held h.0 e.dirty) = sym none ∙ h.1 in cc)
+
+-- what is held has an entry
+pub over_held : (r new : Ssc) (contents : Contents) (s : CacheList) (lba : ℕ) → Holds r contents s → IsHeldIn s lba → ((e : Entry) → get (entries_of r) lba ≡ Some e → new.parts.log.buffered ≡ []) → pending new ≡ []
+over_held r new contents s lba holds there over = by (get (entries_of r) lba) refl
+  where
+    by : (o : Option Entry) → get (entries_of r) lba ≡ o → pending new ≡ []
+    by None is = absurd (let both : None ≡ Some there.0 = sym (held_none r contents s lba holds is) ∙ there.1 in cc)
+    by (Some e) is = ap waiting (over e is)
+
+-- ---- the memory was taken, and all else is as before
+
+pub log_left : (old r : Ssc) → r.parts ≡ record old.parts { map = r.parts.map } → 1 ≤ log_room old → r.parts.log.next < log_pages r.parts.geometry
+log_left old r is left =
+    let next : r.parts.log.next ≡ old.parts.log.next = ap (λ (p : Parts). p.log.next) is in
+    let pages : log_pages r.parts.geometry ≡ log_pages old.parts.geometry = ap (λ (p : Parts). log_pages p.geometry) is in
+    omega arith
+
+pub room_left : (old r : Ssc) → r.parts ≡ record old.parts { map = r.parts.map } → 1 ≤ open_room old → 1 ≤ r.parts.logs.room
+room_left old r is room = let same : r.parts.logs.room ≡ old.parts.logs.room = ap (λ (p : Parts). p.logs.room) is in omega arith
+
+pub few_left : (old r : Ssc) → r.parts ≡ record old.parts { map = r.parts.map } → length (pending old) + 2 ≤ 127 → length r.parts.log.buffered + 2 ≤ 127
+few_left old r is few = let same : length r.parts.log.buffered ≡ length old.parts.log.buffered = ap (λ (p : Parts). length p.log.buffered) is in omega (arith, length_waiting old.parts.log.buffered)
+
+pub room_for : (old r : Ssc) (lba : ℕ) → geometry_of r ≡ geometry_of old → entries_of r ≡ entries_of old → HasRoomFor (geometry_of old) (entries_of old) lba → HasRoomFor (geometry_of r) (entries_of r) lba
+room_for old r lba same entries room = subst (λ (g : Geometry). HasRoomFor g (entries_of r) lba) (sym same) (subst (λ (m : Entries). HasRoomFor (geometry_of old) m lba) (sym entries) room)

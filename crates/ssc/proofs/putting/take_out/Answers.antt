@@ -1,0 +1,24 @@
+use Rattle.std.proofs.Common.{ap, subst}
+use Rattle.ft_base.specs.declared.geometry.Geometry.{Geometry}
+use Rattle.cache_model.specs.Cache.{evicted}
+use Rattle.merge_engine.specs.declared.parts.Parts.{Parts}
+use Rattle.merge_engine.proofs.ResultLemmas.{on_ok_from, ok_at}
+use Rattle.merge_engine.proofs.TakeLemmas.{agree_map}
+use Rattle.ssc.specs.Steps.{StandsForEither}
+use Rattle.ssc.proofs.StepLemmas.{removed_fits}
+use Rattle.ssc.proofs.putting.take_out.Goals as goal
+
+pub put_out-requires-clause-is_map : goal.put_out-requires-clause-is_map
+put_out-requires-clause-is_map g c = agree_map c.args.parts.now (g.M.Media.state c.args.media.now).contents c.requires.agree
+
+pub put_out-requires-clause-fits : goal.put_out-requires-clause-fits
+put_out-requires-clause-fits g c = removed_fits c.args.parts.now (g.M.Media.state c.args.media.now).contents c.args.lba c.requires.agree c.requires.lba
+
+pub returns-clause-lists : goal.returns-clause-lists
+returns-clause-lists g c = on_ok_from c.commit.result (λ v is. λ list durable lists.
+    ok_at c.commit.result v is c.commit.ensures.lists (evicted c.args.lba list) durable (c.put_out.ensures.lists (g.M.Media.state c.args.media.now).contents list durable lists))
+
+pub returns-clause-stands : goal.returns-clause-stands
+returns-clause-stands g c = λ list durable lists.
+    subst (λ (h : Geometry). StandsForEither h (g.M.Media.state c.commit.new.media).contents.flash.page durable (evicted c.args.lba list)) (ap (λ (p : Parts). p.geometry) c.put_out.ensures.cache)
+    (c.commit.ensures.stands (evicted c.args.lba list) durable (c.put_out.ensures.lists (g.M.Media.state c.args.media.now).contents list durable lists))

@@ -1,0 +1,30 @@
+use Rattle.cache_model.specs.Cache.{held}
+use Rattle.ft_media.proofs.DrivesLemmas.{drives_then}
+use Rattle.merge_engine.proofs.ResultLemmas.{on_ok_from, ok_at}
+use Rattle.ssc.proofs.SpendLemmas.{spends_both}
+use Rattle.ssc.proofs.WrittenLemmas.{given_step, step_then, put_committed, counted_twice}
+use Rattle.ssc.proofs.putting.write_committed.Goals as goal
+
+pub returns-in_err-write_page-clause-stands : goal.returns-in_err-write_page-clause-stands
+returns-in_err-write_page-clause-stands g c = λ list durable lists. given_step _ _ list durable _ (c.write_page.ensures.stands list durable lists)
+
+pub returns-clause-lists : goal.returns-clause-lists
+returns-clause-lists g c = on_ok_from c.commit.result (λ v is. λ list durable lists.
+    put_committed c.args.parts.now c.write_page.new.parts c.commit.new.cache (g.M.Media.state c.write_page.new.media).contents.flash.page (g.M.Media.state c.commit.new.media).contents.flash.page c.args.lba (held c.args.block.now c.args.dirty) list durable
+    (ok_at c.commit.result v is c.commit.ensures.lists) (c.in_ok-write_page.ensures.lists list durable lists))
+
+pub returns-clause-stands : goal.returns-clause-stands
+returns-clause-stands g c = λ list durable lists.
+    step_then c.args.parts.now c.write_page.new.parts (g.M.Media.state c.write_page.new.media).contents.flash.page (g.M.Media.state c.commit.new.media).contents.flash.page c.args.lba (held c.args.block.now c.args.dirty) c.write_page.ensures.geometry list durable
+    c.commit.ensures.stands (c.in_ok-write_page.ensures.lists list durable lists)
+
+pub returns-clause-two_programs : goal.returns-clause-two_programs
+returns-clause-two_programs g c = on_ok_from c.commit.result (λ v is. λ room left.
+    counted_twice c.args.parts.now c.write_page.new.parts c.args.lba c.args.dirty c.write_page.ensures.geometry _ _ _ (c.in_ok-write_page.ensures.one_program room) c.in_ok-write_page.ensures.waits left (ok_at c.commit.result v is c.commit.ensures.one_page))
+
+pub returns-clause-spends : goal.returns-clause-spends
+returns-clause-spends g c = on_ok_from c.commit.result (λ v is.
+    spends_both (g.M.Media.state c.args.media.now) (g.M.Media.state c.write_page.new.media) (g.M.Media.state c.commit.new.media) 1 1 c.in_ok-write_page.ensures.drives.passes c.in_ok-write_page.ensures.spends (ok_at c.commit.result v is c.commit.ensures.spends c.in_ok-write_page.ensures.waits))
+
+pub returns-clause-drives : goal.returns-clause-drives
+returns-clause-drives g c = drives_then _ _ _ _ _ c.in_ok-write_page.ensures.drives c.commit.ensures.drives
