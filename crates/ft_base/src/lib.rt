@@ -10,6 +10,7 @@
 mod block;
 mod count;
 mod geometry;
+mod layout;
 mod patterns;
 pub mod plain;
 mod power;
@@ -18,10 +19,12 @@ mod sending;
 mod sink;
 mod source;
 mod standard;
+mod told;
 
 pub use block::{Block, Page, Place, Spare, is_same, zero_block};
 pub use count::bump;
 pub use geometry::{Geometry, GeometryError};
+pub use layout::layout_laws;
 pub use patterns::{pattern, pattern_laws, tag, tag_of};
 pub use power::{Outcome, Stop};
 pub use record::Record;
@@ -29,6 +32,7 @@ pub use sending::send;
 pub use sink::{MemSink, Sink};
 pub use source::{MemSource, Source};
 pub use standard::{StdSink, StdSource};
+pub use told::{Ack, Mode};
 
 /// A source or a sink gave up at this call.
 #[derive(Clone, Copy, Debug, PartialEq, Eq)]
