@@ -26,11 +26,10 @@ next_number calls = bumped calls.made
 abbrev pub is_listed : Calls → Bool
 is_listed calls = list_any (λ n. n == next_number calls) (failing_numbers calls)
 
--- a call with power on, or with power going off in it, is counted; one with power off isn't
-abbrev pub made_after : Current → ℕ → ℕ
-made_after current.Off made = made
-made_after (current.Stops outcome) made = bumped made
-made_after current.On made = bumped made
+-- a device write is counted, but for one that finds power off
+abbrev pub made_after : Ending → ℕ → ℕ
+made_after ending.Off made = made
+made_after other made = bumped made
 
 -- how a device write ends, where its number is listed and where it isn't
 abbrev pub ending_of : Current → Bool → Ending
@@ -50,8 +49,8 @@ bumped_if_done ending.Done count = bumped count
 bumped_if_done ending count = count
 
 -- what a device write that ended so leaves of the count of calls
-pub record CountsWrite (current : Current) (ending : Ending) (old new : Calls) : Type 0 where
-  pub made : calls_made new ≡ made_after current (calls_made old)
+pub record CountsWrite (ending : Ending) (old new : Calls) : Type 0 where
+  pub made : calls_made new ≡ made_after ending (calls_made old)
   pub faults : fault_count new ≡ faults_after ending (fault_count old)
   pub failing : failing_numbers new ≡ failing_numbers old
 

@@ -60,12 +60,10 @@ impl Calls {
         }
     }
 
-    /// Makes a device write under this power, and says how it ends.
-    pub fn write_ends(&mut self, current: Current) -> Ending
-        ensures ending { result ≡ ending_of current (is_listed self.old) }
-        ensures counts { CountsWrite current result self.old self.new }
+    /// Counts a device write that ended so.
+    pub fn count_write(&mut self, ending: Ending)
+        ensures { CountsWrite ending self.old self.new }
     {
-        let ending = self.next_ending(current);
         match ending {
             Ending::Done => self.made = bump(self.made),
             Ending::Cut(_) => self.made = bump(self.made),
@@ -75,6 +73,15 @@ impl Calls {
             }
             Ending::Off => {}
         }
+    }
+
+    /// Makes a device write under this power, and says how it ends.
+    pub fn write_ends(&mut self, current: Current) -> Ending
+        ensures ending { result ≡ ending_of current (is_listed self.old) }
+        ensures counts { CountsWrite result self.old self.new }
+    {
+        let ending = self.next_ending(current);
+        self.count_write(ending);
         ending
     }
 

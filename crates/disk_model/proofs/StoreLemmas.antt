@@ -13,9 +13,9 @@ use Rattle.ft_base.specs.declared.power.Outcome.TheVariants as outcome
 use Rattle.ft_base.specs.Contents.{Values, written}
 use Rattle.ft_base.proofs.Images.{set_here, set_other}
 use Rattle.ft_media.specs.Media.{after_write}
+use Rattle.ft_media.specs.Rig.{cut_value, flushed_value}
 use Rattle.disk_model.specs.declared.replaced.Replaced.{Replaced}
 use Rattle.disk_model.specs.Store.{block_in, replaced_at, values_in}
-use Rattle.disk_model.specs.Steps.{cut_value, flushed_value}
 
 abbrev Blocks : Type 0
 Blocks = BTreeMap ℕ (Box Block Global)

@@ -1,11 +1,11 @@
 ghost use Rattle.std.specs.Prelude.{◌≡◌};
-ghost use Rattle.disk_model.specs.Steps as steps;
+ghost use Rattle.ft_media.specs.Rig as cuts;
 
 use ft_base::{Block, Outcome};
 
 /// What a cut leaves of a disk block that had these values since the last flush, newest first.
 pub fn block_of_cut(outcome: Outcome, lba: u64, newest: &Block, earlier: &[Block]) -> Block
-    ensures { result ≡ steps.cut_value outcome lba (record { newest = newest.now; earlier = earlier.now }) }
+    ensures { result ≡ cuts.cut_value outcome lba (record { newest = newest.now; earlier = earlier.now }) }
 {
     match outcome {
         Outcome::Blank => oldest(newest, earlier),
@@ -16,7 +16,7 @@ pub fn block_of_cut(outcome: Outcome, lba: u64, newest: &Block, earlier: &[Block
 }
 
 fn torn(lba: u64, newest: &Block, earlier: &[Block]) -> Block
-    ensures { result ≡ steps.torn_value lba (record { newest = newest.now; earlier = earlier.now }) }
+    ensures { result ≡ cuts.torn_value lba (record { newest = newest.now; earlier = earlier.now }) }
 {
     if lba % 2 == 1 {
         *newest
@@ -27,7 +27,7 @@ fn torn(lba: u64, newest: &Block, earlier: &[Block]) -> Block
 
 /// The oldest of these values.
 fn oldest(newest: &Block, earlier: &[Block]) -> Block
-    ensures { result ≡ steps.oldest newest.now earlier.now }
+    ensures { result ≡ cuts.oldest newest.now earlier.now }
 {
     let mut last = *newest;
     for block in earlier {

@@ -24,12 +24,12 @@ pub struct MemDisk {
 }
 
 impl MemDisk {
-    ghost use Rattle.std.specs.Prelude.{◌↔◌, ◌≢◌, true, OnOk, OnErr, IfOk, IfErr, IsErr, if◌then◌else◌};
+    ghost use Rattle.std.specs.Prelude.{◌↔◌, true, OnOk, OnErr, IfOk, IfErr, IsErr, if◌then◌else◌};
     ghost use Rattle.ft_base.specs.Count.{bumped};
-    ghost use Rattle.ft_media.specs.Rig.{new_contents};
+    ghost use Rattle.ft_media.specs.Rig.{new_contents, after_cut};
     ghost use Rattle.device_calls.specs.Calls.{calls_made, fault_count, failing_numbers, is_listed, ending_of, bumped_if_done, CountsRead, CountsWrite};
     ghost use Rattle.disk_model.specs.Disk.{size_of, disk_of, calls_of, reads_of, writes_of, flushes_of, SameNumbers};
-    ghost use Rattle.disk_model.specs.Steps.{write_left, flush_left, settled};
+    ghost use Rattle.disk_model.specs.Steps.{write_left, flush_left, TakesMemory};
 
     /// A disk without a block. The calls with these numbers will fail, from 1.
     pub fn new(alloc: Global, failing: Vec<u64>) -> MemDisk
@@ -74,6 +74,7 @@ impl MemDisk {
         ensures failed { IsErr result ↔ (is_listed (calls_of self.old) ≡ true) }
         ensures error { IfErr result (λ error. error ≡ MediaError.Failed) }
         ensures found { OnOk result (block.new ≡ (disk_of self.old lba).newest) }
+        ensures buffer { OnErr result (block.new ≡ block.old) }
         ensures disk { disk_of self.new ≡ disk_of self.old }
         ensures size { size_of self.new ≡ size_of self.old }
         ensures calls { CountsRead (is_listed (calls_of self.old)) (calls_of self.old) (calls_of self.new) }
@@ -89,17 +90,17 @@ impl MemDisk {
         Ok(())
     }
 
-    /// Writes a block. Refused for want of memory, which comes before all else, nothing is changed and the
-    /// call isn't counted.
+    /// Writes a block. Only one that is done or cut takes memory. Refused for want of it, nothing is changed
+    /// and the call isn't counted.
     pub fn write(&mut self, lba: u64, block: &Block, current: Current) -> Result<Ending, AllocError>
         ensures ending { IfOk result (λ ending. ending ≡ ending_of current (is_listed (calls_of self.old))) }
         ensures disk { IfOk result (λ ending. disk_of self.new ≡ write_left ending (disk_of self.old) lba block.now) }
         ensures size { size_of self.new ≡ size_of self.old }
-        ensures calls { IfOk result (λ ending. CountsWrite current ending (calls_of self.old) (calls_of self.new)) }
+        ensures calls { IfOk result (λ ending. CountsWrite ending (calls_of self.old) (calls_of self.new)) }
         ensures writes { IfOk result (λ ending. writes_of self.new ≡ bumped_if_done ending (writes_of self.old)) }
         ensures reads { reads_of self.new ≡ reads_of self.old }
         ensures flushes { flushes_of self.new ≡ flushes_of self.old }
-        ensures powered { OnErr result (current ≢ Current.Off) }
+        ensures memory { OnErr result (TakesMemory (ending_of current (is_listed (calls_of self.old)))) }
         ensures refused { OnErr result (disk_of self.new ≡ disk_of self.old) }
         ensures uncounted { OnErr result (SameNumbers self.old self.new) }
     {
@@ -116,7 +117,7 @@ impl MemDisk {
             Ending::Failed => {}
             Ending::Off => {}
         }
-        self.calls.write_ends(current);
+        self.calls.count_write(ending);
         Ok(ending)
     }
 
@@ -125,7 +126,7 @@ impl MemDisk {
         ensures ending { result ≡ ending_of current (is_listed (calls_of self.old)) }
         ensures disk { disk_of self.new ≡ flush_left result (disk_of self.old) }
         ensures size { size_of self.new ≡ size_of self.old }
-        ensures calls { CountsWrite current result (calls_of self.old) (calls_of self.new) }
+        ensures calls { CountsWrite result (calls_of self.old) (calls_of self.new) }
         ensures flushes { flushes_of self.new ≡ bumped_if_done result (flushes_of self.old) }
         ensures reads { reads_of self.new ≡ reads_of self.old }
         ensures writes { writes_of self.new ≡ writes_of self.old }
@@ -145,7 +146,7 @@ impl MemDisk {
 
     /// Power went off while the disk was not written.
     pub fn settle(&mut self, outcome: Outcome)
-        ensures disk { disk_of self.new ≡ settled outcome (disk_of self.old) }
+        ensures disk { disk_of self.new ≡ after_cut outcome (disk_of self.old) }
         ensures size { size_of self.new ≡ size_of self.old }
         ensures numbers { SameNumbers self.old self.new }
     {

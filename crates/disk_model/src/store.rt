@@ -3,7 +3,7 @@ ghost use Rattle.std.specs.Ordering.{nat_cmp};
 ghost use Rattle.std.specs.BTreeMap.{get};
 ghost use Rattle.ft_base.specs.Contents.{Values};
 ghost use Rattle.disk_model.specs.Store.{block_in, replaced_at};
-ghost use Rattle.disk_model.specs.Steps.{cut_value, flushed_value};
+ghost use Rattle.ft_media.specs.Rig.{cut_value, flushed_value};
 
 use crate::replaced::Replaced;
 use ft_base::{Block, Outcome, zero_block};
@@ -25,7 +25,7 @@ impl Store {
     ghost use Rattle.ft_base.specs.Contents.{flushed, zero_block};
     ghost use Rattle.ft_media.specs.Media.{after_write};
     ghost use Rattle.disk_model.specs.StoreValues.{store_values};
-    ghost use Rattle.disk_model.specs.Steps.{settled};
+    ghost use Rattle.ft_media.specs.Rig.{after_cut};
 
     /// No block was written.
     pub(crate) fn new(alloc: Global) -> Store
@@ -77,7 +77,7 @@ impl Store {
     /// Makes of the values of each block what a cut leaves.
     #[tactic(auto, using(crate::proofs::StoreLemmas::cut_flushed))]
     pub(crate) fn settle(&mut self, outcome: Outcome)
-        ensures { (a : ℕ) → store_values self.new a ≡ settled outcome (store_values self.old) a }
+        ensures { (a : ℕ) → store_values self.new a ≡ after_cut outcome (store_values self.old) a }
     {
         while let Some(last) = self.replaced.pop() {
             if !keeps_newest(outcome, last.lba) {

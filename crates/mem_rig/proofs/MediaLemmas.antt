@@ -18,7 +18,8 @@ use Rattle.ft_media.specs.Rig.{Cut}
 use Rattle.device_calls.specs.declared.ending.Ending.{Ending}
 use Rattle.device_calls.specs.declared.ending.Ending.TheVariants as ending
 use Rattle.nand_model.specs.Steps.{torn, in_thirds, cut_erase, program_left, erase_left}
-use Rattle.disk_model.specs.Steps.{oldest, flushed_value, cut_value, settled, write_left, flush_left}
+use Rattle.ft_media.specs.Rig.{after_cut, cut_value, flushed_value, oldest}
+use Rattle.disk_model.specs.Steps.{write_left, flush_left}
 use Rattle.mem_rig.specs.Power.{PowerLeft, WasCounted}
 use Rattle.mem_rig.specs.Steps.{cut_contents, cut_bumped}
 
@@ -37,7 +38,7 @@ cut_is_one outcome.Whole lba values = inl refl
 cut_is_one outcome.Torn lba values = either_is (lba % 2 == 1) values
 cut_is_one outcome.Mixed lba values = either_is (lba % 2 == 1) values
 
-settled_values : (left : Outcome) (disk : ℕ → Values) (lba : ℕ) (block : Block) → HasValue (settled left disk lba) block → HasValue (disk lba) block
+settled_values : (left : Outcome) (disk : ℕ → Values) (lba : ℕ) (block : Block) → HasValue (after_cut left disk lba) block → HasValue (disk lba) block
 settled_values left disk lba block (inl is) = subst (λ b. HasValue (disk lba) b) (sym is) (cut_is_one left lba (disk lba))
 settled_values left disk lba block (inr none) = absurd none
 
@@ -45,7 +46,7 @@ settled_values left disk lba block (inr none) = absurd none
 pub disk_same : (old new : Contents) (was_lost : Bool) → new.disk ≡ old.disk → DiskStays old new was_lost
 disk_same old new was_lost same = record { stays = λ kept. same; values = λ lba block has. subst (λ (d : ℕ → Values). HasValue (d lba) block) same has }
 
-pub disk_cut : (old new : Contents) (left : Outcome) → new.disk ≡ settled left old.disk → DiskStays old new true
+pub disk_cut : (old new : Contents) (left : Outcome) → new.disk ≡ after_cut left old.disk → DiskStays old new true
 disk_cut old new left cut = record { stays = λ kept. cc; values = λ lba block has. settled_values left old.disk lba block (subst (λ (d : ℕ → Values). HasValue (d lba) block) cut has) }
 
 on_off : (on : Bool) → on ≡ true → on ≡ false → ⊥
@@ -181,6 +182,7 @@ cut_between old new left is = subst (λ s. Cut old s left) (sym is) (record {
   cuts = omega arith;
   page = refl;
   values = λ lba block has. settled_values left old.contents.disk lba block has;
+  disk = λ lba. refl;
   crashed = record { next = refl; alone = λ lba. refl };
 })
 

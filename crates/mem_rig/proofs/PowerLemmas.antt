@@ -1,10 +1,10 @@
 -- The front stop goes, and what becomes of power in each device write.
-use Rattle.std.proofs.Common.{◌≡◌, ◌≢◌, ℕ, zero, suc, ◌-◌, ◌<◌, ◌≤◌, List, [], ◌∷◌, ◌++◌, length, take, drop, refl, sym, ◌∙◌, ap, arith, append_assoc, Bool, true, false}
+use Rattle.std.proofs.Common.{◌≡◌, ℕ, zero, suc, ◌-◌, ◌<◌, ◌≤◌, List, [], ◌∷◌, ◌++◌, length, take, drop, refl, sym, ◌∙◌, ap, arith, append_assoc, Bool, true, false}
 use Rattle.std.proofs.lemmas.List.{take_at, length-take}
 use Rattle.ft_base.specs.declared.power.Stop.{Stop}
 use Rattle.ft_media.specs.State.{Power}
-use Rattle.device_calls.specs.declared.ending.Current.TheVariants as current
 use Rattle.device_calls.specs.Calls.{ending_of}
+use Rattle.disk_model.specs.Steps.{TakesMemory}
 use Rattle.mem_rig.specs.Power.{current_of, power_after_write, PowerLeft}
 
 pub front_goes : (room rotated : List Stop) (armed : ℕ) → 0 < armed → armed ≤ length room → rotated ≡ drop 1 (take armed room) ++ take 1 (take armed room) → (front : Stop) × (take armed room ≡ front ∷ take (armed - 1) (rotated ++ drop armed room))
@@ -28,10 +28,10 @@ left true (front ∷ later) (suc rest) false = record { was_on = refl; on = refl
 pub power_left : (power : Power) (listed : Bool) → PowerLeft (ending_of (current_of power) listed) power (power_after_write power)
 power_left power listed = left power.on power.stops power.rest listed
 
--- the current is off only where power is
-on_where : (on : Bool) (stops : List Stop) (rest : ℕ) → current_of (record { on = on; stops = stops; rest = rest }) ≢ current.Off → on ≡ true
-on_where true stops rest powered = refl
-on_where false stops rest powered = absurd (powered refl)
+-- a block write takes memory only where power is on
+on_where : (on : Bool) (stops : List Stop) (rest : ℕ) (listed : Bool) → TakesMemory (ending_of (current_of (record { on = on; stops = stops; rest = rest })) listed) → on ≡ true
+on_where true stops rest listed takes = refl
+on_where false stops rest listed takes = absurd takes
 
-pub on_where_powered : (power : Power) → current_of power ≢ current.Off → power.on ≡ true
-on_where_powered power powered = on_where power.on power.stops power.rest powered
+pub on_where_it_takes : (power : Power) (listed : Bool) → TakesMemory (ending_of (current_of power) listed) → power.on ≡ true
+on_where_it_takes power listed takes = on_where power.on power.stops power.rest listed takes

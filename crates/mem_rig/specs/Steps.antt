@@ -11,7 +11,7 @@ use Rattle.device_calls.specs.declared.ending.Ending.{Ending}
 use Rattle.device_calls.specs.declared.ending.Ending.TheVariants as ending
 use Rattle.device_calls.specs.Calls.{faults_after, bumped_if_done}
 use Rattle.nand_model.specs.Steps.{unready}
-use Rattle.disk_model.specs.Steps.{settled}
+use Rattle.ft_media.specs.Rig.{after_cut}
 use Rattle.mem_rig.specs.Power.{power_after_write}
 
 abbrev pub cut_bumped : Faults → Faults
@@ -39,7 +39,7 @@ disk_faults_left how faults = record { flash = faults.flash; disk = faults_after
 
 -- a device write that was cut settles the disk, and leaves no block ready
 abbrev pub disk_beside : Ending → (ℕ → Values) → ℕ → Values
-disk_beside (ending.Cut outcome) disk = settled outcome disk
+disk_beside (ending.Cut outcome) disk = after_cut outcome disk
 disk_beside other disk = disk
 
 abbrev pub flash_beside : Ending → Flash → Flash
@@ -102,4 +102,4 @@ disk_read_faults other faults = faults
 
 -- the contents after power was cut between two device writes
 abbrev pub cut_contents : Outcome → Contents → Contents
-cut_contents outcome contents = record { shape = contents.shape; flash = unready contents.flash; disk = settled outcome contents.disk }
+cut_contents outcome contents = record { shape = contents.shape; flash = unready contents.flash; disk = after_cut outcome contents.disk }

@@ -33,14 +33,15 @@ pub struct MemRig {
 impl MemRig {
     ghost use Rattle.std.specs.Prelude.{◌<◌, ◌^◌, true, length, Some, OnOk, OnErr, IfOk};
     ghost use Rattle.std.specs.Result.{result_err};
-    ghost use Rattle.ft_media.specs.Media.{Found};
+    ghost use Rattle.ft_media.specs.Media.{Found, UnlessWhole};
     ghost use Rattle.ft_media.specs.Rig.{new_contents, fitted, powered};
-    ghost use Rattle.device_calls.specs.Calls.{failing_numbers, calls_made, ending_of, CountsRead, CountsWrite};
+    ghost use Rattle.device_calls.specs.Calls.{failing_numbers, calls_made};
     ghost use Rattle.nand_model.specs.Steps.{program_left, erase_left};
-    ghost use Rattle.disk_model.specs.Steps.{write_left, flush_left};
-    ghost use Rattle.mem_rig.specs.Power.{current_of, power_after_arm, PowerLeft};
-    ghost use Rattle.mem_rig.specs.Rig.{state_of, flash_calls, disk_calls, flash_listed, disk_listed};
-    ghost use Rattle.mem_rig.specs.Steps.{FlashWritten, DiskWritten, program_counts, erase_counts, write_counts, flush_counts, read_counts, read_refusal, flash_read_faults, disk_read_faults, cut_contents, cut_bumped};
+    ghost use Rattle.disk_model.specs.Steps.{write_left, flush_left, TakesMemory};
+    ghost use Rattle.mem_rig.specs.Power.{power_after_arm, PowerLeft};
+    ghost use Rattle.mem_rig.specs.Rig.{state_of, flash_calls, disk_calls, flash_listed, disk_listed, flash_ending, disk_ending};
+    ghost use Rattle.mem_rig.specs.Steps.{FlashWritten, DiskWritten, program_counts, erase_counts, write_counts, flush_counts, read_refusal, cut_contents, cut_bumped};
+    ghost use Rattle.mem_rig.specs.Called.{FlashCalled, DiskCalled, FlashRead, DiskRead, Uncounted};
 
     /// Media without a block, with power on and nothing armed. No call will fail.
     pub fn new(alloc: Global) -> MemRig
@@ -114,10 +115,8 @@ impl MemRig {
         requires page { at.page < (state_of self.old).contents.shape.pages }
         ensures refused { result_err result ≡ read_refusal (state_of self.old).power.on (flash_listed self.old) }
         ensures found { IfOk result (λ found. Found ((state_of self.old).contents.flash.page at) found block.new spare.new) }
-        ensures state { state_of self.new ≡ record (state_of self.old) { faults = flash_read_faults (result_err result) (state_of self.old).faults } }
-        ensures counted { (state_of self.old).power.on ≡ true → CountsRead (flash_listed self.old) (flash_calls self.old) (flash_calls self.new) }
-        ensures uncounted { (state_of self.old).power.on ≡ false → flash_calls self.new ≡ flash_calls self.old }
-        ensures disk_calls { disk_calls self.new ≡ disk_calls self.old }
+        ensures buffers { UnlessWhole result ((block.new ≡ block.old) × (spare.new ≡ spare.old)) }
+        ensures read { FlashRead (result_err result) self.old self.new }
     {
         if !self.supply.is_on() {
             self.cuts = bump(self.cuts);
@@ -131,13 +130,14 @@ impl MemRig {
     pub fn program_page(&mut self, at: Place, block: &Block, spare: &Spare) -> Ending
         requires ready { (state_of self.old).contents.flash.next at.block ≡ Some at.page }
         requires page { at.page < (state_of self.old).contents.shape.pages }
-        ensures ending { result ≡ ending_of (current_of (state_of self.old).power) (flash_listed self.old) }
+        ensures ending { result ≡ flash_ending self.old }
         ensures written { FlashWritten result (state_of self.old) (state_of self.new)
             (program_left result (state_of self.old).contents.flash at block.now spare.now)
             (program_counts result (state_of self.old).counts) }
         ensures power { PowerLeft result (state_of self.old).power (state_of self.new).power }
-        ensures calls { CountsWrite (current_of (state_of self.old).power) result (flash_calls self.old) (flash_calls self.new) }
-        ensures disk_calls { disk_calls self.new ≡ disk_calls self.old }
+        ensures called { FlashCalled (flash_ending self.old) self.old self.new
+            (program_left (flash_ending self.old) (state_of self.old).contents.flash at block.now spare.now)
+            (program_counts (flash_ending self.old) (state_of self.old).counts) }
     {
         let current = self.supply.current();
         let ending = self.nand.program(at, block, spare, current);
@@ -151,12 +151,13 @@ impl MemRig {
     #[tactic(auto, using(crate::proofs::PowerLemmas::power_left))]
     pub fn erase_block(&mut self, block: u32) -> Ending
         requires { block < (state_of self.old).contents.shape.blocks }
-        ensures ending { result ≡ ending_of (current_of (state_of self.old).power) (flash_listed self.old) }
+        ensures ending { result ≡ flash_ending self.old }
         ensures written { FlashWritten result (state_of self.old) (state_of self.new)
             (erase_left result (state_of self.old).contents.flash block) (erase_counts result (state_of self.old).counts) }
         ensures power { PowerLeft result (state_of self.old).power (state_of self.new).power }
-        ensures calls { CountsWrite (current_of (state_of self.old).power) result (flash_calls self.old) (flash_calls self.new) }
-        ensures disk_calls { disk_calls self.new ≡ disk_calls self.old }
+        ensures called { FlashCalled (flash_ending self.old) self.old self.new
+            (erase_left (flash_ending self.old) (state_of self.old).contents.flash block)
+            (erase_counts (flash_ending self.old) (state_of self.old).counts) }
     {
         let current = self.supply.current();
         let ending = self.nand.erase(block, current);
@@ -170,13 +171,8 @@ impl MemRig {
     pub fn read_disk(&mut self, lba: u64, block: &mut Block) -> Result<(), MediaError>
         ensures refused { result_err result ≡ read_refusal (state_of self.old).power.on (disk_listed self.old) }
         ensures found { OnOk result (block.new ≡ ((state_of self.old).contents.disk lba).newest) }
-        ensures state { state_of self.new ≡ record (state_of self.old) {
-          counts = read_counts (result_err result) (state_of self.old).counts;
-          faults = disk_read_faults (result_err result) (state_of self.old).faults;
-        } }
-        ensures counted { (state_of self.old).power.on ≡ true → CountsRead (disk_listed self.old) (disk_calls self.old) (disk_calls self.new) }
-        ensures uncounted { (state_of self.old).power.on ≡ false → disk_calls self.new ≡ disk_calls self.old }
-        ensures flash_calls { flash_calls self.new ≡ flash_calls self.old }
+        ensures buffer { OnErr result (block.new ≡ block.old) }
+        ensures read { DiskRead (result_err result) self.old self.new }
     {
         if !self.supply.is_on() {
             self.cuts = bump(self.cuts);
@@ -185,20 +181,21 @@ impl MemRig {
         self.disk.read(lba, block)
     }
 
-    /// Writes a block of the disk, and says how that ends. Refused for want of memory, nothing is changed,
-    /// and neither the call nor a device write is counted.
-    #[tactic(auto, using(crate::proofs::PowerLemmas::power_left, crate::proofs::PowerLemmas::on_where_powered))]
+    /// Writes a block of the disk, and says how that ends. Only one that is done or cut takes memory. Refused
+    /// for want of it, nothing is changed, and neither the call nor a device write is counted.
+    #[tactic(auto, using(crate::proofs::PowerLemmas::power_left))]
     pub fn write_disk(&mut self, lba: u64, block: &Block) -> Result<Ending, AllocError>
-        ensures ending { IfOk result (λ ending. ending ≡ ending_of (current_of (state_of self.old).power) (disk_listed self.old)) }
+        ensures ending { IfOk result (λ ending. ending ≡ disk_ending self.old) }
         ensures written { IfOk result (λ ending. DiskWritten ending (state_of self.old) (state_of self.new)
             (write_left ending (state_of self.old).contents.disk lba block.now)
             (write_counts ending (state_of self.old).counts)) }
         ensures power { IfOk result (λ ending. PowerLeft ending (state_of self.old).power (state_of self.new).power) }
-        ensures calls { IfOk result (λ ending. CountsWrite (current_of (state_of self.old).power) ending (disk_calls self.old) (disk_calls self.new)) }
-        ensures flash_calls { flash_calls self.new ≡ flash_calls self.old }
-        ensures powered { OnErr result ((state_of self.old).power.on ≡ true) }
+        ensures called { OnOk result (DiskCalled (disk_ending self.old) self.old self.new
+            (write_left (disk_ending self.old) (state_of self.old).contents.disk lba block.now)
+            (write_counts (disk_ending self.old) (state_of self.old).counts)) }
+        ensures memory { OnErr result (TakesMemory (disk_ending self.old)) }
         ensures refused { OnErr result (state_of self.new ≡ state_of self.old) }
-        ensures uncounted { OnErr result (disk_calls self.new ≡ disk_calls self.old) }
+        ensures uncounted { OnErr result (Uncounted self.old self.new) }
     {
         let current = self.supply.current();
         let ending = self.disk.write(lba, block, current)?;
@@ -211,12 +208,13 @@ impl MemRig {
     /// Flushes the disk, and says how that ends.
     #[tactic(auto, using(crate::proofs::PowerLemmas::power_left))]
     pub fn flush_blocks(&mut self) -> Ending
-        ensures ending { result ≡ ending_of (current_of (state_of self.old).power) (disk_listed self.old) }
+        ensures ending { result ≡ disk_ending self.old }
         ensures written { DiskWritten result (state_of self.old) (state_of self.new)
             (flush_left result (state_of self.old).contents.disk) (flush_counts result (state_of self.old).counts) }
         ensures power { PowerLeft result (state_of self.old).power (state_of self.new).power }
-        ensures calls { CountsWrite (current_of (state_of self.old).power) result (disk_calls self.old) (disk_calls self.new) }
-        ensures flash_calls { flash_calls self.new ≡ flash_calls self.old }
+        ensures called { DiskCalled (disk_ending self.old) self.old self.new
+            (flush_left (disk_ending self.old) (state_of self.old).contents.disk)
+            (flush_counts (disk_ending self.old) (state_of self.old).counts) }
     {
         let current = self.supply.current();
         let ending = self.disk.flush(current);
@@ -236,8 +234,7 @@ impl MemRig {
     ) -> Result<(), AllocError>
         ensures ok { OnOk result (state_of self.new ≡ fitted (state_of self.old) blocks pages size) }
         ensures err { OnErr result (state_of self.new ≡ state_of self.old) }
-        ensures flash_calls { flash_calls self.new ≡ flash_calls self.old }
-        ensures disk_calls { disk_calls self.new ≡ disk_calls self.old }
+        ensures uncounted { Uncounted self.old self.new }
     {
         self.nand.fit(alloc, blocks, pages)?;
         self.disk.fit(alloc, size);
@@ -250,8 +247,7 @@ impl MemRig {
         requires room { length (state_of self.old).power.stops < 16 }
         requires after { 1 ≤ after }
         ensures state { state_of self.new ≡ record (state_of self.old) { power = power_after_arm (state_of self.old).power after outcome } }
-        ensures flash_calls { flash_calls self.new ≡ flash_calls self.old }
-        ensures disk_calls { disk_calls self.new ≡ disk_calls self.old }
+        ensures uncounted { Uncounted self.old self.new }
     {
         self.supply.arm(after, outcome);
     }
@@ -271,8 +267,7 @@ impl MemRig {
           faults = cut_bumped (state_of self.old).faults;
           power = record (state_of self.old).power { on = false };
         } }
-        ensures flash_calls { flash_calls self.new ≡ flash_calls self.old }
-        ensures disk_calls { disk_calls self.new ≡ disk_calls self.old }
+        ensures uncounted { Uncounted self.old self.new }
     {
         self.nand.stop();
         self.disk.settle(outcome);
@@ -283,8 +278,7 @@ impl MemRig {
     /// Turns power on.
     pub fn turn_on(&mut self)
         ensures state { state_of self.new ≡ powered (state_of self.old) }
-        ensures flash_calls { flash_calls self.new ≡ flash_calls self.old }
-        ensures disk_calls { disk_calls self.new ≡ disk_calls self.old }
+        ensures uncounted { Uncounted self.old self.new }
     {
         self.supply.turn(true);
     }

@@ -1,4 +1,4 @@
-ghost use Rattle.std.specs.Prelude.{◌<◌};
+ghost use Rattle.std.specs.Prelude.{◌≡◌, ◌<◌};
 
 use crate::MemRig;
 use crate::plain::{Kept, Plain};
@@ -27,13 +27,13 @@ fn tagged(number: u64) -> Block {
 }
 
 /// What a read of a page finds, with the tag of its block where it is whole.
-fn read_page(rig: &mut MemRig, block: u32, page: u32) -> Result<Kept, MediaError> {
-    if block >= rig.flash_blocks() || page >= rig.flash_pages() {
+fn read_page<R: Rig>(rig: &mut R, block: u32, page: u32) -> Result<Kept, MediaError> {
+    if block >= rig.blocks() || page >= rig.pages() {
         return Ok(Kept::Blank);
     }
     let mut bytes = zero_block();
     let mut spare = Spare([0; 32]);
-    match rig.read_flash(Place { block, page }, &mut bytes, &mut spare)? {
+    match rig.read_page(Place { block, page }, &mut bytes, &mut spare)? {
         PageRead::Blank => Ok(Kept::Blank),
         PageRead::Torn => Ok(Kept::Torn),
         PageRead::Whole => {
@@ -44,9 +44,12 @@ fn read_page(rig: &mut MemRig, block: u32, page: u32) -> Result<Kept, MediaError
 }
 
 /// The tag of the newest value of an address.
-fn read_block(rig: &mut MemRig, lba: u64) -> Result<u64, MediaError> {
+fn read_block<R: Rig>(rig: &mut R, lba: u64) -> Result<u64, MediaError> {
+    if lba >= rig.disk_size() {
+        return Ok(0);
+    }
     let mut bytes = tagged(9);
-    rig.read_disk(lba, &mut bytes)?;
+    rig.read_block(lba, &mut bytes)?;
     let whole = is_same(&bytes, &tagged(tag(&bytes)));
     Ok(if whole { tag(&bytes) } else { u64::MAX })
 }
@@ -79,9 +82,9 @@ fn erase(rig: &mut MemRig, block: u32) -> Option<Ending> {
     Some(rig.erase_block(block))
 }
 
-fn arm(rig: &mut MemRig, after: u64, outcome: Outcome) {
-    if rig.stops() < 16 && after > 0 {
-        rig.arm_stop(after, outcome);
+fn arm<R: Rig>(rig: &mut R, after: u64, outcome: Outcome) {
+    if rig.armed() < 16 && after > 0 {
+        rig.arm(after, outcome);
     }
 }
 
@@ -379,40 +382,77 @@ impl Draw {
     }
 }
 
-/// One call, drawn at random, of both. Whether they answer alike.
-fn same_step(
-    rig: &mut MemRig,
+/// What the media answer to a device write that ended so.
+fn answer(ending: Ending) -> Result<(), MediaError> {
+    match ending {
+        Ending::Done => Ok(()),
+        Ending::Failed => Err(MediaError::Failed),
+        Ending::Cut(_) | Ending::Off => Err(MediaError::PowerLost),
+    }
+}
+
+/// Programs the next page of a block that is ready, with this number.
+fn program_at<R: Rig>(rig: &mut R, at: Place, number: u64) -> Result<(), MediaError>
+    requires ready { (R.state rig.old).contents.flash.next at.block ≡ Some at.page }
+    requires page { at.page < (R.state rig.old).contents.shape.pages }
+{
+    rig.program(at, &tagged(number), &SPARE)
+}
+
+/// Programs the next page of a block of both, where it is ready and has one. Whether they answer alike.
+fn same_program(rig: &mut MemRig, plain: &mut Plain, block: u32, number: u64) -> bool {
+    if block >= rig.flash_blocks() {
+        return false;
+    }
+    let Some(page) = rig.next_page(block) else {
+        return true;
+    };
+    if page >= rig.flash_pages() {
+        return true;
+    }
+    let answered = program_at(rig, Place { block, page }, number);
+    answered == answer(plain.program(block, page, number))
+}
+
+/// One call, drawn at random, of both, but no program. Whether they answer alike.
+fn same_step<R: Rig>(
+    rig: &mut R,
     plain: &mut Plain,
     draw: &mut Draw,
     number: u64,
 ) -> Result<bool, AllocError> {
     let block = draw.below(4);
     let lba = u64::from(draw.below(8));
-    let same = match draw.below(48) {
-        0..20 => {
-            let wanted = next_page(rig, block).map(|page| plain.program(block, page, number));
-            program(rig, block, number) == wanted
+    if block >= rig.blocks() || lba >= rig.disk_size() {
+        return Ok(false);
+    }
+    let same = match draw.below(28) {
+        0..6 => rig.erase(block) == answer(plain.erase(block)),
+        6..18 => {
+            let written = rig.write_block(lba, &tagged(number));
+            if written == Err(MediaError::OutOfMemory) {
+                return Err(AllocError);
+            }
+            written == answer(plain.write(lba, number)?)
         }
-        20..26 => erase(rig, block) == Some(plain.erase(block)),
-        26..38 => rig.write_disk(lba, &tagged(number))? == plain.write(lba, number)?,
-        38..42 => rig.flush_blocks() == plain.flush(),
-        42..45 => {
+        18..22 => rig.flush_disk() == answer(plain.flush()),
+        22..25 => {
             let after = u64::from(draw.below(32)) + 1;
             let outcome = draw.outcome();
-            if rig.stops() < 16 {
-                rig.arm_stop(after, outcome);
+            if rig.armed() < 16 {
+                rig.arm(after, outcome);
                 plain.stops.push(Stop { after, outcome })?;
             }
             true
         }
-        45 => {
+        25 => {
             let outcome = draw.outcome();
-            rig.cut_power(outcome);
+            rig.cut(outcome);
             plain.cut(outcome);
             true
         }
         _ => {
-            rig.turn_on();
+            rig.power_on();
             plain.on = true;
             true
         }
@@ -421,16 +461,20 @@ fn same_step(
 }
 
 /// Whether both read the same at a page and an address, and tell the same of themselves.
-fn same_state(rig: &mut MemRig, plain: &mut Plain, draw: &mut Draw) -> bool {
+fn same_state<R: Rig>(rig: &mut R, plain: &mut Plain, draw: &mut Draw) -> bool {
     let block = draw.below(4);
     let page = draw.below(7);
     let lba = u64::from(draw.below(8));
     read_page(rig, block, page) == plain.read_page(block, page)
         && read_block(rig, lba) == plain.read_block(lba)
-        && same_next(rig, plain, block)
-        && rig.has_power() == plain.on
-        && rig.stops() as usize == plain.stops.len()
-        && rig.done() == plain.counts
+        && rig.is_on() == plain.on
+        && rig.armed() as usize == plain.stops.len()
+        && rig.counts() == plain.counts
+}
+
+/// Whether the same page of a block is next, and the same faults were counted.
+fn same_within(rig: &MemRig, plain: &Plain, block: u32) -> bool {
+    same_next(rig, plain, block)
         && rig.flash_faults() == plain.flash.faults
         && rig.disk_faults() == plain.disk.faults
         && rig.cuts() == plain.cuts
@@ -464,12 +508,14 @@ fn it_does_what_plain_lists_do(rt: HostRuntime) -> Result<(), Fail> {
     let mut plain = Plain::new(alloc, 4, 7, 8, every(alloc, 37)?, every(alloc, 29)?)?;
     let mut draw = Draw(1);
     for number in 1..5000 {
+        let block = draw.below(4);
+        let same = match draw.below(48) {
+            0..20 => same_program(&mut rig, &mut plain, block, number),
+            _ => same_step(&mut rig, &mut plain, &mut draw, number)?,
+        };
+        assert!(rt; same, "step {number}");
         assert!(rt;
-            same_step(&mut rig, &mut plain, &mut draw, number)?,
-            "step {number}"
-        );
-        assert!(rt;
-            same_state(&mut rig, &mut plain, &mut draw),
+            same_state(&mut rig, &mut plain, &mut draw) && same_within(&rig, &plain, block),
             "after step {number}"
         );
         if draw.below(8) == 0 {

@@ -1,12 +1,14 @@
 -- What a flash in memory contains.
-use Rattle.std.specs.Prelude.{◌≡◌, ◌<◌, ◌≤◌, ◌^◌, ℕ, Some, length}
+use Rattle.std.specs.Prelude.{◌≡◌, ◌<◌, ◌≤◌, ◌^◌, ℕ, None, Some, length}
+use Rattle.std.proofs.Common.{ap}
+use Rattle.std.proofs.lemmas.Option.{slice_get_past}
 use Rattle.ft_base.specs.Count.{last_count}
 use Rattle.ft_base.specs.declared.block.Place.{Place}
 use Rattle.ft_base.specs.declared.block.Page.TheVariants as page
 use Rattle.ft_base.specs.Contents.{Flash}
 use Rattle.device_calls.specs.declared.calls.Calls.{Calls}
 use Rattle.nand_model.specs.declared.nand.MemNand.{MemNand}
-use Rattle.nand_model.specs.Blocks.{page_at, next_at, ahead_at}
+use Rattle.nand_model.specs.Blocks.{page_at, next_of_block, next_at, ahead_at}
 
 -- the erase blocks, and the pages of each
 abbrev pub block_count : MemNand → ℕ
@@ -39,6 +41,10 @@ pub record SameNumbers (old new : MemNand) : Type 0 where
 -- in a block that is ready, each page from the next one on is blank
 pub blank_ahead : (nand : MemNand) (at : Place) (next : ℕ) → (flash_of nand).next at.block ≡ Some next → next ≤ at.page → (flash_of nand).page at ≡ page.Blank
 blank_ahead nand at next = ahead_at nand.blocks.items at next
+
+-- what is ready is an erase block of the flash
+pub ready_inside : (nand : MemNand) (b : ℕ) → block_count nand ≤ b → (flash_of nand).next b ≡ None
+ready_inside nand b outside = ap next_of_block (slice_get_past nand.blocks.items b outside)
 
 -- the numbers fit their types
 pub block_count_small : (nand : MemNand) → block_count nand < 2 ^ 32

@@ -2,7 +2,7 @@ ghost use Rattle.std.specs.Prelude.{◌≡◌, ◌<◌, ◌+◌, ◌==◌, ℕ, 
 ghost use Rattle.ft_base.specs.declared.block.Place.{Place};
 ghost use Rattle.ft_base.specs.declared.block.Page.TheVariants as content;
 ghost use Rattle.ft_base.specs.Contents.{set, set_page};
-ghost use Rattle.ft_media.specs.Media.{Found};
+ghost use Rattle.ft_media.specs.Media.{Found, UnlessWhole};
 ghost use Rattle.nand_model.specs.Blocks.{page_at, next_at, pages_at};
 ghost use Rattle.nand_model.specs.Steps.{cut_program, cut_erase};
 
@@ -35,7 +35,8 @@ pub(crate) fn read(
     spare: &mut Spare,
 ) -> PageRead
     requires { at.page < pages_at blocks.now.items at.block }
-    ensures { Found (page_at blocks.now.items at) result block.new spare.new }
+    ensures found { Found (page_at blocks.now.items at) result block.new spare.new }
+    ensures buffers { UnlessWhole (Ok result) ((block.new ≡ block.old) × (spare.new ≡ spare.old)) }
 {
     blocks[at.block as usize].read(at.page, block, spare)
 }

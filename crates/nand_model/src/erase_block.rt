@@ -31,7 +31,7 @@ impl EraseBlock {
     ghost use Rattle.ft_base.specs.declared.block.Page.{Page};
     ghost use Rattle.ft_base.specs.declared.block.Page.TheVariants as content;
     ghost use Rattle.ft_base.specs.Contents.{set};
-    ghost use Rattle.ft_media.specs.Media.{Found};
+    ghost use Rattle.ft_media.specs.Media.{Found, UnlessWhole};
     ghost use Rattle.nand_model.specs.Pages.{page_in};
     ghost use Rattle.nand_model.specs.Steps.{cut_program, cut_erase};
 
@@ -57,7 +57,8 @@ impl EraseBlock {
     /// Says what a page is, and fills the buffers where it is whole.
     pub(crate) fn read(&self, page: u32, block: &mut Block, spare: &mut Spare) -> PageRead
         requires { page < self.now.pages }
-        ensures { Found (page_in self.now page) result block.new spare.new }
+        ensures found { Found (page_in self.now page) result block.new spare.new }
+        ensures buffers { UnlessWhole (Ok result) ((block.new ≡ block.old) × (spare.new ≡ spare.old)) }
     {
         let at = page as usize;
         let found = self.found[at];

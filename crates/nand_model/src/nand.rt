@@ -27,7 +27,7 @@ pub struct MemNand {
 
 impl MemNand {
     ghost use Rattle.std.specs.Prelude.{Some, IfOk, OnOk, OnErr, IsErr, IfErr, ◌↔◌, true};
-    ghost use Rattle.ft_media.specs.Media.{Found};
+    ghost use Rattle.ft_media.specs.Media.{Found, UnlessWhole};
     ghost use Rattle.ft_media.specs.Rig.{new_contents};
     ghost use Rattle.device_calls.specs.Calls.{calls_made, fault_count, failing_numbers, is_listed, ending_of, bumped_if_done, CountsRead, CountsWrite};
     ghost use Rattle.nand_model.specs.Nand.{block_count, page_count, flash_of, calls_of, programs_of, erases_of, SameNumbers};
@@ -103,6 +103,7 @@ impl MemNand {
         ensures failed { IsErr result ↔ (is_listed (calls_of self.old) ≡ true) }
         ensures error { IfErr result (λ error. error ≡ MediaError.Failed) }
         ensures found { IfOk result (λ found. Found ((flash_of self.old).page at) found block.new spare.new) }
+        ensures buffers { UnlessWhole result ((block.new ≡ block.old) × (spare.new ≡ spare.old)) }
         ensures flash { flash_of self.new ≡ flash_of self.old }
         ensures blocks { block_count self.new ≡ block_count self.old }
         ensures pages { page_count self.new ≡ page_count self.old }
@@ -124,7 +125,7 @@ impl MemNand {
         ensures flash { flash_of self.new ≡ program_left result (flash_of self.old) at block.now spare.now }
         ensures blocks { block_count self.new ≡ block_count self.old }
         ensures pages { page_count self.new ≡ page_count self.old }
-        ensures calls { CountsWrite current result (calls_of self.old) (calls_of self.new) }
+        ensures calls { CountsWrite result (calls_of self.old) (calls_of self.new) }
         ensures programs { programs_of self.new ≡ bumped_if_done result (programs_of self.old) }
         ensures erases { erases_of self.new ≡ erases_of self.old }
     {
@@ -148,7 +149,7 @@ impl MemNand {
         ensures flash { flash_of self.new ≡ erase_left result (flash_of self.old) block }
         ensures blocks { block_count self.new ≡ block_count self.old }
         ensures pages { page_count self.new ≡ page_count self.old }
-        ensures calls { CountsWrite current result (calls_of self.old) (calls_of self.new) }
+        ensures calls { CountsWrite result (calls_of self.old) (calls_of self.new) }
         ensures programs { programs_of self.new ≡ programs_of self.old }
         ensures erases { erases_of self.new ≡ bumped_if_done result (erases_of self.old) }
     {

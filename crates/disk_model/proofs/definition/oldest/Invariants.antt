@@ -1,5 +1,5 @@
 use Rattle.std.proofs.Common.{◌≡◌, drop}
-use Rattle.disk_model.specs.Steps.{oldest}
+use Rattle.ft_media.specs.Rig.{oldest}
 use Rattle.disk_model.proofs.definition.oldest.Given as goal
 
 abbrev pub invariant-loop-block : goal.invariant-loop-block

@@ -1,6 +1,6 @@
 use Rattle.std.proofs.Common.{◌≡◌, ℕ, vec_len}
 use Rattle.disk_model.specs.StoreValues.{store_values}
-use Rattle.disk_model.specs.Steps.{cut_value}
+use Rattle.ft_media.specs.Rig.{cut_value}
 use Rattle.disk_model.proofs.store.Store.settle.Given as goal
 
 abbrev pub invariant-loop-last : goal.invariant-loop-last

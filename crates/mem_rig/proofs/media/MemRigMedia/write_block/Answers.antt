@@ -1,8 +1,9 @@
 use Rattle.std.proofs.Common.{◌∙◌, ap, ℕ}
 use Rattle.ft_base.specs.Contents.{Values}
 use Rattle.disk_model.specs.Steps.{write_left}
-use Rattle.mem_rig.specs.Rig.{state_of}
+use Rattle.mem_rig.specs.Rig.{state_of, disk_listed}
 use Rattle.mem_rig.specs.Steps.{flash_beside}
+use Rattle.mem_rig.proofs.PowerLemmas.{on_where_it_takes}
 use Rattle.mem_rig.proofs.MediaLemmas.{device_done, device_refused, done_power, ready_same, values_refused, write_values}
 use Rattle.mem_rig.proofs.media.MemRigMedia.write_block.Goals as goal
 
@@ -10,7 +11,7 @@ pub returns-in_default-clause-values : goal.returns-in_default-clause-values
 returns-in_default-clause-values c = values_refused (state_of c.args.self.now) (state_of c.write_disk.new.self) c.args.lba c.args.block.now c.in_default.ensures.refused
 
 pub returns-in_default-clause-device : goal.returns-in_default-clause-device
-returns-in_default-clause-device c = device_refused (state_of c.args.self.now) (state_of c.write_disk.new.self) c.in_default.ensures.powered c.in_default.ensures.refused
+returns-in_default-clause-device c = device_refused (state_of c.args.self.now) (state_of c.write_disk.new.self) (on_where_it_takes (state_of c.args.self.now).power (disk_listed c.args.self.now) c.in_default.ensures.memory) c.in_default.ensures.refused
 
 pub returns-in-Done-clause-ok : goal.returns-in-Done-clause-ok
 returns-in-Done-clause-ok c = λ at. ap (λ (d : ℕ → Values). d at) c.in-Ok.ensures.written.disk ∙ ap (λ how. write_left how (state_of c.args.self.now).contents.disk c.args.lba c.args.block.now at) c.in-Done.is

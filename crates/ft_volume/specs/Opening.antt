@@ -1,0 +1,60 @@
+-- What an image is to a volume over a cache, and what an opening makes of the media.
+use Rattle.std.specs.Prelude.{◌≡◌, ◌<◌, ℕ, Bool, true, false, List, [], map, Some, ⊤}
+use Rattle.std.specs.FinMap.{empty, get}
+use Rattle.ft_base.specs.Contents.{Contents, HasValue, Image, flushed}
+use Rattle.ft_base.specs.PlainDisk.{PlainDisk}
+use Rattle.ft_base.specs.Table.{table_of}
+use Rattle.ft_base.specs.Told.{Told}
+use Rattle.ft_base.specs.declared.block.Block.{Block}
+use Rattle.ft_base.specs.declared.geometry.Geometry.{Geometry}
+use Rattle.ft_base.specs.declared.told.Mode.{Mode}
+use Rattle.ft_base.specs.declared.told.Mode.TheVariants.{Back, Through}
+use Rattle.cache_model.specs.Cache.{Agrees, CacheList, Held, dirty_between, vol}
+use Rattle.cache_model.specs.Loading.{load}
+use Rattle.cache_model.specs.Stands.{StandsFor, settled}
+use Rattle.ft_volume.specs.Volume.{VolumeState}
+
+-- a cache that writes through has no block that the disk lacks
+abbrev pub Suits : Mode → CacheList → Type 0
+Suits Back s = ⊤
+Suits Through s = (a : ℕ) (h : Held) → get s a ≡ Some h → h.dirty ≡ false
+
+-- an image is this plain disk, below the size: what its flash stands for, over its disk, with which it agrees
+pub record ImageIs (told : Told) (image : Image) (d : PlainDisk) : Type 0 where
+  pub list : CacheList
+  pub flash : StandsFor told.geometry image.page list
+  pub agrees : Agrees list (settled image.block)
+  pub suits : Suits told.mode list
+  pub volume : (a : ℕ) → a < told.geometry.size → vol list image.block a ≡ d a
+
+-- where flash stands for a list, a volume of this mode may be opened over it and this disk
+abbrev pub MayOpen : Told → Contents → Type 0
+MayOpen told contents = (s : CacheList) → StandsFor told.geometry contents.flash.page s → Agrees s contents.disk × Suits told.mode s
+
+-- the groups of these addresses, ascending, as if each block was written in this order: that of the last one first
+abbrev pub groups_of : ℕ → List ℕ → List ℕ
+groups_of p lbas = map (λ w. w.group) (table_of p [] lbas)
+
+-- a volume that was made so, and opened over flash which stood for this list
+pub record IsOpened (made : Told) (s : CacheList) (v : VolumeState) : Type 0 where
+  pub told : v.told ≡ made
+  pub up : v.down ≡ false
+  pub owed : v.owed ≡ []
+  pub groups : v.groups ≡ groups_of made.geometry.p (dirty_between 0 made.geometry.size s)
+
+-- the plain disk is what the disk has, below the size
+abbrev pub IsNewest : Geometry → Contents → PlainDisk → Type 0
+IsNewest g contents d = (a : ℕ) → a < g.size → (contents.disk a).newest ≡ d a
+
+-- what a new volume holds
+abbrev pub nothing_held : CacheList
+nothing_held = empty
+
+-- what an opening makes of the media, whatever it answers: the flash stands for what it stood for, and the disk is flushed
+pub record Opens (g : Geometry) (old new : Contents) (disk_failed was_lost : Bool) : Type 0 where
+  pub loads : load g new.flash.page ≡ load g old.flash.page
+  pub lists : (s : CacheList) → StandsFor g old.flash.page s → StandsFor g new.flash.page s
+  pub values : (lba : ℕ) (b : Block) → HasValue (new.disk lba) b → HasValue (old.disk lba) b
+  pub flushed : disk_failed ≡ false → was_lost ≡ false → (lba : ℕ) → new.disk lba ≡ flushed (old.disk lba)
+  pub unflushed : disk_failed ≡ true → new.disk ≡ old.disk
+  pub alone : was_lost ≡ true → (lba : ℕ) → (new.disk lba).earlier ≡ []

@@ -1,0 +1,211 @@
+-- What a volume is, and what each of its calls does.
+use Rattle.std.specs.Prelude.{◌≡◌, ◌⊎◌, ◌≤◌, ◌/◌, ℕ, Bool, true, false, List, [], ◌∷◌, ◌++◌, take, drop, ◌==◌, Result, Ok, Err, OnOk, OnErr, IsErrOf, ⊤}
+use Rattle.std.specs.List.{list_any, AllByRecursion}
+use Rattle.ft_base.specs.Contents.{Contents, Image, Now}
+use Rattle.ft_base.specs.Count.{Rose}
+use Rattle.ft_base.specs.PlainDisk.{PlainDisk, BlockWrite, after_writes}
+use Rattle.ft_base.specs.Told.{Told}
+use Rattle.ft_base.specs.declared.block.Block.{Block}
+use Rattle.ft_base.specs.declared.told.Mode.{Mode}
+use Rattle.ft_base.specs.declared.told.Ack.TheVariants.{Write as AtWrite}
+use Rattle.ft_volume.specs.declared.options.Options.{Options}
+use Rattle.ft_volume.specs.declared.volume.VolumeError.{VolumeError}
+use Rattle.ft_volume.specs.declared.volume.VolumeError.TheVariants.{FlashFault, DiskFault, PowerLost, OutOfMemory, OutOfVolume}
+use Rattle.ft_media.specs.Media.{KeepsReady}
+use Rattle.ft_media.specs.Passes.{Passes, Spends}
+use Rattle.ft_media.specs.State.{State, Faults}
+
+-- what a volume of this mode tells that is made with these options; each write is on the media when it answers
+abbrev pub told_for : Mode → Options → Told
+told_for mode options = record { geometry = options.geometry; dirty = options.dirty; mode = mode; ack = AtWrite }
+
+-- a volume at one moment
+pub record VolumeState : Type 0 where
+  pub told : Told
+  -- it is to be opened again
+  pub down : Bool
+  -- the writes that were acknowledged and are not on the media, the oldest first
+  pub owed : List BlockWrite
+  -- the groups that may have a block that the disk lacks
+  pub groups : List ℕ
+
+-- a call, with the block that it read or writes
+pub data Call : Type 0 where
+  Reads : ℕ → Block → Call
+  Writes : ℕ → Block → Call
+  Flushes : Call
+
+abbrev pub writes_of : Call → List BlockWrite
+writes_of (Reads lba block) = []
+writes_of (Writes lba block) = record { lba = lba; block = block } ∷ []
+writes_of Flushes = []
+
+-- ---- what images stand for
+
+-- one of these it is
+abbrev pub IsAny : {A : Type 0} → (A → Type 0) → List A → Type 0
+IsAny is [] = ⊥
+IsAny is (x ∷ xs) = is x ⊎ IsAny is xs
+
+-- whatever a crash leaves now stands for this plain disk
+abbrev pub StandFor : (Image → PlainDisk → Type 0) → Contents → PlainDisk → Type 0
+StandFor stands contents d = (x : Image) → Now contents x → stands x d
+
+-- whatever a crash leaves now stands for one of these
+abbrev pub StandForAny : (Image → PlainDisk → Type 0) → Contents → List PlainDisk → Type 0
+StandForAny stands contents ds = (x : Image) → Now contents x → IsAny (stands x) ds
+
+-- one of these it is, whatever a crash leaves
+abbrev pub StandForOneOf : (Image → PlainDisk → Type 0) → Contents → List PlainDisk → Type 0
+StandForOneOf stands contents ds = IsAny (StandFor stands contents) ds
+
+-- of two
+abbrev pub StandForEither : (Image → PlainDisk → Type 0) → Contents → PlainDisk → PlainDisk → Type 0
+StandForEither stands contents d e = (x : Image) → Now contents x → stands x d ⊎ stands x e
+
+abbrev pub StandForOne : (Image → PlainDisk → Type 0) → Contents → PlainDisk → PlainDisk → Type 0
+StandForOne stands contents d e = StandFor stands contents d ⊎ StandFor stands contents e
+
+-- reads answer this plain disk: the media, and what is owed on top
+pub record IsDisk (stands : Told → Image → PlainDisk → Type 0) (v : VolumeState) (contents : Contents) (d : PlainDisk) : Type 0 where
+  pub base : PlainDisk
+  pub media : StandFor (stands v.told) contents base
+  pub over : after_writes v.owed base ≡ d
+
+-- ---- what a call does to the plain disk
+
+-- what it answers of the plain disk
+abbrev pub Finds : Call → PlainDisk → Type 0
+Finds (Reads lba block) d = block ≡ d lba
+Finds (Writes lba block) d = ⊤
+Finds Flushes d = ⊤
+
+-- what the media may come to be in it: as they were, with what was owed, with what it writes
+abbrev pub stages : List BlockWrite → List BlockWrite → PlainDisk → List PlainDisk
+stages owed writes base = base ∷ after_writes owed base ∷ after_writes writes (after_writes owed base) ∷ []
+
+-- the first of these writes are on the media, and the others are owed
+pub record Leaves (stands : Image → PlainDisk → Type 0) (contents : Contents) (owed all : List BlockWrite) (base : PlainDisk) : Type 0 where
+  pub kept : ℕ
+  pub owes : owed ≡ drop kept all
+  pub media : StandFor stands contents (after_writes (take kept all) base)
+
+-- after this answer no two plain disks are possible
+abbrev pub fixes : {T : Type 0} → Result T VolumeError → Bool
+fixes (Ok value) = true
+fixes (Err PowerLost) = true
+fixes (Err e) = false
+
+-- a call that found this plain disk on the media
+pub record WasDone {T : Type 0} (stands : Told → Image → PlainDisk → Type 0) (call : Call) (old new : VolumeState) (after : Contents) (result : Result T VolumeError) (base : PlainDisk) : Type 0 where
+  pub images : StandForAny (stands new.told) after (stages old.owed (writes_of call) base)
+  pub lost : IsErrOf result PowerLost → StandForOneOf (stands new.told) after (stages old.owed (writes_of call) base)
+  pub done : OnOk result (Leaves (stands new.told) after new.owed (old.owed ++ writes_of call) base)
+  pub found : OnOk result (Finds call (after_writes old.owed base))
+  -- refused, it wrote nothing where it stays up, and for want of memory
+  pub up : OnErr result (new.down ≡ false → Leaves (stands new.told) after new.owed old.owed base)
+  pub memory : IsErrOf result OutOfMemory → Leaves (stands new.told) after new.owed old.owed base
+
+-- the opening was refused, so each of these plain disks is still possible, and the volume is down
+pub record IsUnopened {T : Type 0} (stands : Told → Image → PlainDisk → Type 0) (old new : VolumeState) (after : Contents) (result : Result T VolumeError) (bases : List PlainDisk) : Type 0 where
+  pub fixes : fixes result ≡ false
+  pub inside : (IsErrOf result OutOfVolume → ⊥) → (old.down ≡ true) × (new.down ≡ true)
+  pub images : StandForAny (stands new.told) after bases
+
+-- of the plain disks that were possible a call fixes one, unless its opening is refused
+abbrev pub Done : {T : Type 0} → (Told → Image → PlainDisk → Type 0) → Call → VolumeState → VolumeState → Contents → Contents → Result T VolumeError → Type 0
+Done stands call old new before after result = (bases : List PlainDisk) → StandForAny (stands old.told) before bases
+    → IsAny (WasDone stands call old new after result) bases ⊎ IsUnopened stands old new after result bases
+
+-- and so does a cut
+abbrev pub Fixes : (Told → Image → PlainDisk → Type 0) → VolumeState → VolumeState → Contents → Contents → Type 0
+Fixes stands old new before after = (bases : List PlainDisk) → StandForAny (stands old.told) before bases → StandForOneOf (stands new.told) after bases
+
+-- a call that found one plain disk, with nothing owed before or after it
+pub record WasOne {T : Type 0} (stands : Image → PlainDisk → Type 0) (call : Call) (after : Contents) (result : Result T VolumeError) (d : PlainDisk) : Type 0 where
+  pub kept : writes_of call ≡ [] → StandFor stands after d
+  pub found : OnOk result (Finds call d)
+  pub done : OnOk result (StandFor stands after (after_writes (writes_of call) d))
+  pub images : StandForEither stands after d (after_writes (writes_of call) d)
+  pub one : IsErrOf result PowerLost → StandForOne stands after d (after_writes (writes_of call) d)
+  pub memory : IsErrOf result OutOfMemory → StandFor stands after d
+
+-- ---- how a call goes on
+
+-- the call answered PowerLost
+abbrev pub volume_lost : {T : Type 0} → Result T VolumeError → Bool
+volume_lost (Err PowerLost) = true
+volume_lost (Err e) = false
+volume_lost (Ok value) = false
+
+-- each fault has its cause
+pub record HasCause {T : Type 0} (old new : Faults) (result : Result T VolumeError) : Type 0 where
+  pub flash : old.flash ≤ new.flash
+  pub disk : old.disk ≤ new.disk
+  pub cuts : old.cuts ≤ new.cuts
+  pub flash_fault : IsErrOf result FlashFault → Rose old.flash new.flash
+  pub disk_fault : IsErrOf result DiskFault → Rose old.disk new.disk
+  pub power_lost : IsErrOf result PowerLost → Rose old.cuts new.cuts
+
+-- what every call does, whatever it is for
+pub record Goes {T : Type 0} (old new : VolumeState) (before after : State) (result : Result T VolumeError) : Type 0 where
+  pub told : new.told ≡ old.told
+  pub up : OnOk result (new.down ≡ false)
+  pub lost : before.power.on ≡ true → IsErrOf result PowerLost → new.down ≡ true
+  pub memory : IsErrOf result OutOfMemory → old.down ≡ false → new.down ≡ false
+  -- where it is up, each block of the flash that was ready is ready, and after a fault of the disk that is as it was
+  pub ready : new.down ≡ false → KeepsReady before after
+  pub disk : IsErrOf result DiskFault → old.down ≡ false → new.down ≡ false → after.contents.disk ≡ before.contents.disk
+  pub cause : HasCause before.faults after.faults result
+  pub passes : Passes before after (volume_lost result)
+
+-- a device write that was refused leaves it down
+pub record FaultDowns {T : Type 0} (result : Result T VolumeError) (down : Bool) : Type 0 where
+  pub flash : IsErrOf result FlashFault → down ≡ true
+  pub disk : IsErrOf result DiskFault → down ≡ true
+
+-- ---- what a call costs
+
+-- each of these is one of those
+abbrev pub AreAmong : List ℕ → List ℕ → Type 0
+AreAmong ns others = AllByRecursion (λ n. list_any (λ k. k == n) others ≡ true) ns
+
+-- these groups, with that of the block that is written
+abbrev pub with_written : Call → ℕ → List ℕ → List ℕ
+with_written (Reads lba block) p groups = groups
+with_written (Writes lba block) p groups = lba / p ∷ groups
+with_written Flushes p groups = groups
+
+-- no other group comes to lack a block, and nothing is written to the disk
+pub record Costs (call : Call) (old new : VolumeState) (before after : State) : Type 0 where
+  pub groups : AreAmong new.groups (with_written call old.told.geometry.p old.groups)
+  pub disk_writes : after.counts.disk_writes ≡ before.counts.disk_writes
+
+-- a page was programmed: the count tells it, and it is one device write less before the front stop
+pub record Programs (before after : State) : Type 0 where
+  pub count : Rose before.counts.programs after.counts.programs
+  pub spends : Spends 1 before after
+
+-- ---- an opening within a call
+
+-- whether one of these plain disks was fixed
+abbrev pub IsFixed : (Image → PlainDisk → Type 0) → Contents → Bool → List PlainDisk → Type 0
+IsFixed stands contents true ds = StandForOneOf stands contents ds
+IsFixed stands contents false ds = StandForAny stands contents ds
+
+-- a volume is opened where it is down, before a call does its work
+pub record ComesUp {T : Type 0} (stands : Told → Image → PlainDisk → Type 0) (old new : VolumeState) (before after : State) (result : Result T VolumeError) : Type 0 where
+  pub told : new.told ≡ old.told
+  pub owed : new.owed ≡ old.owed
+  pub same : old.down ≡ false → (new ≡ old) × (after ≡ before)
+  pub up : OnOk result (new.down ≡ false)
+  pub refused : OnErr result ((old.down ≡ true) × (new.down ≡ true))
+  pub groups : AreAmong new.groups old.groups
+  -- whatever it answers, it neither reads nor writes a block of the disk
+  pub disk_reads : after.counts.disk_reads ≡ before.counts.disk_reads
+  pub disk_writes : after.counts.disk_writes ≡ before.counts.disk_writes
+  pub fixed : (bases : List PlainDisk) → StandForAny (stands old.told) before.contents bases → IsFixed (stands new.told) after.contents (fixes result) bases
+  pub ready : OnOk result (KeepsReady before after)
+  pub within : IsErrOf result OutOfVolume → ⊥
+  pub cause : HasCause before.faults after.faults result
+  pub passes : Passes before after (volume_lost result)

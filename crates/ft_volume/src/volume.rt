@@ -1,0 +1,115 @@
+ghost use Rattle.std.specs.Prelude.{◌≡◌, ◌↔◌, ◌≤◌, ◌/◌, [], length, true, false, OnOk, OnErr, IsErrOf};
+ghost use Rattle.ft_base.specs.Contents.{Contents, Image};
+ghost use Rattle.ft_base.specs.PlainDisk.{PlainDisk};
+ghost use Rattle.ft_base.specs.Told.{Told};
+ghost use Rattle.ft_base.specs.declared.told.Ack.TheVariants as ack;
+ghost use Rattle.cache_model.specs.Cache.{with_group};
+ghost use Rattle.ft_media.specs.Rig.{CutThrough};
+ghost use Rattle.ft_volume.specs.Volume.{Costs, Done, FaultDowns, Fixes, Flushes, Goes, Programs, Reads, VolumeState, Writes};
+
+use ft_base::{Block, Geometry, Outcome};
+use ft_media::{Media, Rig};
+use thiserror::Error;
+
+/// Why a call of a volume was refused.
+#[derive(Clone, Copy, Debug, PartialEq, Eq, Error)]
+pub enum VolumeError {
+    /// The flash failed, and its count of faults rose.
+    #[error("the flash failed")]
+    FlashFault,
+    /// The disk failed, and its count of faults rose.
+    #[error("the disk failed")]
+    DiskFault,
+    /// Power was lost, and the count of cuts rose. The volume is down.
+    #[error("power was lost")]
+    PowerLost,
+    /// Memory was refused. The plain disk is as before, and the volume can be used.
+    #[error("out of memory")]
+    OutOfMemory,
+    /// The address is not below the size of the volume. Nothing was changed.
+    #[error("the address is outside of the volume")]
+    OutOfVolume,
+}
+
+/// A cache and a disk joined to one disk. The rig of each call is the one with which the volume was
+/// made, and nobody else changes its contents; turning power on is allowed.
+///
+/// After a device write that failed or was cut the volume is down: the next call opens it again first,
+/// from the media alone, and then does its work. If that opening is refused it stays down.
+pub trait Volume<R: Rig> {
+    /// What it is at this moment.
+    ghost state: { Self → VolumeState };
+
+    /// The contents are those that this volume left.
+    ghost owns: { Self → Contents → Type 0 };
+
+    /// An image is this plain disk.
+    ghost stands: { Told → Image → PlainDisk → Type 0 };
+
+    /// Blocks of the volume.
+    fn size(&self) -> u64
+        ensures { result ≡ (state self.now).told.geometry.size };
+
+    /// Whether the next call opens it again first.
+    fn is_down(&self) -> bool
+        ensures { result ≡ (state self.now).down };
+
+    /// The numbers with which it was made.
+    fn geometry(&self) -> Geometry
+        ensures { result ≡ (state self.now).told.geometry };
+
+    /// Reads the block at an address. It changes no block.
+    fn read(&mut self, rig: &mut R, lba: u64, block: &mut Block) -> Result<(), VolumeError>
+        requires { owns self.old (R.state rig.old).contents }
+        ensures owns { owns self.new (R.state rig.new).contents }
+        ensures disk { Done stands (Reads lba block.new) (state self.old) (state self.new)
+            (R.state rig.old).contents (R.state rig.new).contents result }
+        ensures goes { Goes (state self.old) (state self.new) (R.state rig.old) (R.state rig.new) result }
+        ensures costs { Costs (Reads lba block.new) (state self.old) (state self.new) (R.state rig.old) (R.state rig.new) }
+        ensures outside { IsErrOf result VolumeError.OutOfVolume ↔ ((state self.old).told.geometry.size ≤ lba) }
+        ensures buffer { OnErr result (block.new ≡ block.old) }
+        ensures unchanged { IsErrOf result VolumeError.OutOfVolume → (self.new ≡ self.old) × (R.state rig.new ≡ R.state rig.old) };
+
+    /// Writes the block at an address. When it answers, the block is on the media or owed to them.
+    fn write(&mut self, rig: &mut R, lba: u64, block: &Block) -> Result<(), VolumeError>
+        requires owns { owns self.old (R.state rig.old).contents }
+        requires groups { length (with_group (lba / (state self.old).told.geometry.p) (state self.old).groups) ≤ (state self.old).told.geometry.c }
+        ensures owns { owns self.new (R.state rig.new).contents }
+        ensures disk { Done stands (Writes lba block.now) (state self.old) (state self.new)
+            (R.state rig.old).contents (R.state rig.new).contents result }
+        ensures goes { Goes (state self.old) (state self.new) (R.state rig.old) (R.state rig.new) result }
+        ensures faulted { FaultDowns result (state self.new).down }
+        ensures costs { Costs (Writes lba block.now) (state self.old) (state self.new) (R.state rig.old) (R.state rig.new) }
+        ensures programs { OnOk result (Programs (R.state rig.old) (R.state rig.new)) }
+        ensures outside { IsErrOf result VolumeError.OutOfVolume ↔ ((state self.old).told.geometry.size ≤ lba) }
+        ensures unchanged { IsErrOf result VolumeError.OutOfVolume → (self.new ≡ self.old) × (R.state rig.new ≡ R.state rig.old) };
+
+    /// Puts all that is buffered or owed on the media. It changes no block.
+    fn flush(&mut self, rig: &mut R) -> Result<(), VolumeError>
+        requires { owns self.old (R.state rig.old).contents }
+        ensures owns { owns self.new (R.state rig.new).contents }
+        ensures disk { Done stands Flushes (state self.old) (state self.new)
+            (R.state rig.old).contents (R.state rig.new).contents result }
+        ensures nothing_owed { OnOk result ((state self.new).owed ≡ []) }
+        ensures goes { Goes (state self.old) (state self.new) (R.state rig.old) (R.state rig.new) result }
+        ensures refused { OnErr result ((state self.new).down ≡ true) }
+        ensures costs { Costs Flushes (state self.old) (state self.new) (R.state rig.old) (R.state rig.new) }
+        ensures memory { (state self.old).down ≡ false → IsErrOf result VolumeError.OutOfMemory → ⊥ }
+        ensures within { IsErrOf result VolumeError.OutOfVolume → ⊥ };
+
+    /// Turns power off between two device writes, and on again. What is owed is lost.
+    fn cut(&mut self, rig: &mut R, outcome: Outcome)
+        requires { owns self.old (R.state rig.old).contents }
+        ensures owns { owns self.new (R.state rig.new).contents }
+        ensures disk { Fixes stands (state self.old) (state self.new) (R.state rig.old).contents (R.state rig.new).contents }
+        ensures told { (state self.new).told ≡ (state self.old).told }
+        ensures down { (state self.new).down ≡ true }
+        ensures groups { (state self.new).groups ≡ (state self.old).groups }
+        ensures through { CutThrough (R.state rig.old) (R.state rig.new) outcome };
+
+    /// While it is down nothing is owed.
+    ghost down_owes_nothing: { (v : Self) (contents : Contents) → owns v contents → (state v).down ≡ true → (state v).owed ≡ [] };
+
+    /// Where a write is on the media when it answers, nothing is owed.
+    ghost write_owes_nothing: { (v : Self) (contents : Contents) → owns v contents → (state v).told.ack ≡ ack.Write → (state v).owed ≡ [] };
+}
