@@ -9,7 +9,7 @@ use Rattle.ft_base.specs.declared.block.Page.{Page}
 use Rattle.ft_base.specs.declared.block.Page.TheVariants.{Blank, Whole, Torn}
 use Rattle.ft_base.specs.declared.record.Record.{Record}
 use Rattle.ft_base.specs.Contents.{Flash}
-use Rattle.ft_base.specs.Count.{Rose, last_count}
+use Rattle.ft_base.specs.Count.{Rose}
 use Rattle.ft_media.specs.State.{State, failed, lost}
 use Rattle.ft_media.specs.declared.media.MediaError.{MediaError}
 use Rattle.ft_media.specs.Drives.{DrivesFlash}
@@ -89,7 +89,3 @@ rose_after a b c le rose = omega arith
 -- calls that drive the flash, the last of which was refused
 pub drives_err : (a b c : State) (e : MediaError) (r : Result (Unit {0}) MediaError) → DrivesFlash a b false false → DrivesFlash b c (failed {T = Unit {0}} (Err e)) (lost {T = Unit {0}} (Err e)) → r ≡ Err e → DrivesFlash a c (failed r) (lost r)
 drives_err a b c e r first then is = drives_then a b c (failed r) (lost r) first (subst (λ (q : Result (Unit {0}) MediaError). DrivesFlash b c (failed q) (lost q)) (sym is) then)
-
--- a count that rose is no smaller
-pub rose_later : (a b c : ℕ) → a ≤ b → b ≤ last_count → Rose b c → a ≤ c
-rose_later a b c le most rose = omega arith

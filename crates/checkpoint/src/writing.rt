@@ -75,7 +75,6 @@ fn program_maps<M: Media>(
     requires blank { AreBlank (target.now.region * k geometry.now) (k geometry.now) (M.state media.old).contents.flash }
     ensures done { OnOk result (MapsWritten geometry.now target.now.region target.now.era (checkpoint_records geometry.now map.now.entries) pages (M.state media.old).contents.flash (M.state media.new).contents.flash) }
     ensures pages { LeavesMaps geometry.now target.now.region (M.state media.old).contents.flash.page (M.state media.new).contents.flash.page }
-    ensures programs { OnOk result ((M.state media.old).counts.programs ≤ (M.state media.new).counts.programs) }
     ensures memory { IsErrOf result MediaError.OutOfMemory → ⊥ }
     ensures drives { DrivesFlash (M.state media.old) (M.state media.new) (failed result) (lost result) }
 {

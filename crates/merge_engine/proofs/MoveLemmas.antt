@@ -102,10 +102,6 @@ module _ (g : Geometry) (m n : Entries) (group block : ℕ) (is : n ≡ moved g 
 
 -- ---- calls of the flash
 
--- three calls, of which none takes a count back
-pub risen : (a b c d : ℕ) → a ≤ b → b ≤ c → c ≤ d → a ≤ d
-risen a b c d one two three = omega arith
-
 -- a call failed after another, which did not
 pub drives_failed : {T : Type 0} (U : Type 0) (a b c : State) (e : MediaError) (r : Result T MediaError) → DrivesFlash a b false false → DrivesFlash b c (failed {T = U} (Err e)) (lost {T = U} (Err e)) → r ≡ Err e → DrivesFlash a c (failed r) (lost r)
 drives_failed {T} U a b c Failed r first then is = drives_then a b c (failed r) (lost r) first (subst (λ (q : Result T MediaError). DrivesFlash b c (failed q) (lost q)) (sym is) then)

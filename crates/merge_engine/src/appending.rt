@@ -95,7 +95,6 @@ fn open_if_closed<M: Media>(cache: &mut Parts, media: &mut M) -> Result<(), Medi
     ensures room { OnOk result (length cache.new.log.buffered < 127) }
     ensures lists { OnOk result ((list durable : CacheList) → Lists cache.old (M.state media.old).contents.flash.page list durable → GoesOn cache.old.log cache.new (M.state media.new).contents.flash.page list durable) }
     ensures stands { (list durable : CacheList) → Lists cache.old (M.state media.old).contents.flash.page list durable → StandsForGiven cache.old.geometry (M.state media.new).contents.flash.page durable list }
-    ensures programs { OnOk result ((M.state media.old).counts.programs ≤ (M.state media.new).counts.programs) }
     ensures memory { IsErrOf result MediaError.OutOfMemory → ⊥ }
     ensures drives { DrivesFlash (M.state media.old) (M.state media.new) (failed result) (lost result) }
 {
@@ -118,7 +117,6 @@ fn commit_and_take<M: Media>(cache: &mut Parts, media: &mut M) -> Result<(), Med
     ensures lists { OnOk result ((list durable : CacheList) → Lists cache.old (M.state media.old).contents.flash.page list durable → Lists cache.new (M.state media.new).contents.flash.page list list) }
     ensures stands { (list durable : CacheList) → Lists cache.old (M.state media.old).contents.flash.page list durable
         → StandsForEither cache.old.geometry (M.state media.new).contents.flash.page durable list }
-    ensures programs { OnOk result ((M.state media.old).counts.programs ≤ (M.state media.new).counts.programs) }
     ensures memory { IsErrOf result MediaError.OutOfMemory → ⊥ }
     ensures drives { DrivesFlash (M.state media.old) (M.state media.new) (failed result) (lost result) }
 {
@@ -174,7 +172,6 @@ fn make_room<M: Media>(cache: &mut Parts, media: &mut M) -> Result<(), MediaErro
     ensures room { OnOk result (length cache.new.log.buffered < 127) }
     ensures lists { OnOk result ((list durable : CacheList) → Lists cache.old (M.state media.old).contents.flash.page list durable → GoesOn cache.old.log cache.new (M.state media.new).contents.flash.page list durable) }
     ensures stands { (list durable : CacheList) → Lists cache.old (M.state media.old).contents.flash.page list durable → StandsForGiven cache.old.geometry (M.state media.new).contents.flash.page durable list }
-    ensures programs { OnOk result ((M.state media.old).counts.programs ≤ (M.state media.new).counts.programs) }
     ensures memory { IsErrOf result MediaError.OutOfMemory → ⊥ }
     ensures drives { DrivesFlash (M.state media.old) (M.state media.new) (failed result) (lost result) }
 {

@@ -29,7 +29,6 @@ pub fn commit<M: Media>(cache: &mut Parts, media: &mut M) -> Result<(), MediaErr
     ensures pool { PoolStays cache.old.geometry (M.state media.old).contents.flash.page (M.state media.new).contents.flash.page }
     ensures pool_ready { OnOk result (PoolReadyStays cache.old.geometry (M.state media.old).contents.flash (M.state media.new).contents.flash) }
     ensures one_page { OnOk result (cache.old.log.buffered ≢ [] → cache.old.log.next < log_pages cache.old.geometry → (M.state media.new).counts ≡ program_counted (M.state media.old).counts) }
-    ensures programs { OnOk result ((M.state media.old).counts.programs ≤ (M.state media.new).counts.programs) }
     ensures rises { OnOk result (cache.old.log.buffered ≢ [] → Rose (M.state media.old).counts.programs (M.state media.new).counts.programs) }
     ensures spends { OnOk result (cache.old.log.buffered ≢ [] → Spends 1 (M.state media.old) (M.state media.new)) }
     ensures memory { IsErrOf result MediaError.OutOfMemory → ⊥ }

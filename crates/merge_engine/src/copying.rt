@@ -35,7 +35,6 @@ pub(crate) fn copy_group<M: Media>(
     // Whatever is answered, and wherever power went off: no page that an entry names changed.
     ensures lists { (list durable : CacheList) → Lists cache.now (M.state media.old).contents.flash.page list durable → Lists cache.now (M.state media.new).contents.flash.page list durable }
     ensures copied { OnOk result (IsCopied cache.now.geometry cache.now.map.entries group block (M.state media.new).contents.flash.page) }
-    ensures programs { OnOk result ((M.state media.old).counts.programs ≤ (M.state media.new).counts.programs) }
     ensures memory { IsErrOf result MediaError.OutOfMemory → ⊥ }
     ensures drives { DrivesFlash (M.state media.old) (M.state media.new) (failed result) (lost result) }
 {
@@ -65,7 +64,6 @@ fn copy_page<M: Media>(
     ensures copied { OnOk result ((e : Entry) → get cache.now.map.entries lba ≡ Some e → IsCopyOf (M.state media.new).contents.flash.page e.place to lba) }
     ensures others { OnOk result ((at : PlaceValue) → (at ≡ to → ⊥) → (M.state media.new).contents.flash.page at ≡ (M.state media.old).contents.flash.page at) }
     ensures next { OnOk result ((M.state media.new).contents.flash.next to.block ≡ Some (to.page + 1)) }
-    ensures programs { OnOk result ((M.state media.old).counts.programs ≤ (M.state media.new).counts.programs) }
     ensures memory { IsErrOf result MediaError.OutOfMemory → ⊥ }
     ensures drives { DrivesFlash (M.state media.old) (M.state media.new) (failed result) (lost result) }
 {
@@ -93,7 +91,6 @@ fn program_unheld<M: Media>(
     ensures programmed { OnOk result ((M.state media.new).contents.flash ≡ after_program (M.state media.old).contents.flash at block.now spare.now) }
     ensures agree { OnOk result (Agree cache.now (M.state media.new).contents) }
     ensures lists { (list durable : CacheList) → Lists cache.now (M.state media.old).contents.flash.page list durable → Lists cache.now (M.state media.new).contents.flash.page list durable }
-    ensures programs { OnOk result ((M.state media.old).counts.programs ≤ (M.state media.new).counts.programs) }
     ensures memory { IsErrOf result MediaError.OutOfMemory → ⊥ }
     ensures drives { DrivesFlash (M.state media.old) (M.state media.new) (failed result) (lost result) }
 {

@@ -31,7 +31,6 @@ pub fn free_log_block<M: Media>(cache: &mut Parts, media: &mut M) -> Result<(), 
     ensures lists { OnOk result ((list durable : CacheList) → Lists cache.old (M.state media.old).contents.flash.page list durable → GoesOn cache.old.log cache.new (M.state media.new).contents.flash.page list durable) }
     // Whatever is answered, and wherever power went off.
     ensures stands { (list durable : CacheList) → Lists cache.old (M.state media.old).contents.flash.page list durable → StandsForGiven cache.old.geometry (M.state media.new).contents.flash.page durable list }
-    ensures programs { OnOk result ((M.state media.old).counts.programs ≤ (M.state media.new).counts.programs) }
     ensures memory { IsErrOf result MediaError.OutOfMemory → ⊥ }
     ensures drives { DrivesFlash (M.state media.old) (M.state media.new) (failed result) (lost result) }
 {
@@ -58,7 +57,6 @@ fn merge_owners<M: Media>(cache: &mut Parts, media: &mut M, block: u32) -> Resul
     ensures unheld { OnOk result (IsUnheld cache.new.map.entries block) }
     ensures lists { OnOk result ((list durable : CacheList) → Lists cache.old (M.state media.old).contents.flash.page list durable → GoesOn cache.old.log cache.new (M.state media.new).contents.flash.page list durable) }
     ensures stands { (list durable : CacheList) → Lists cache.old (M.state media.old).contents.flash.page list durable → StandsForGiven cache.old.geometry (M.state media.new).contents.flash.page durable list }
-    ensures programs { OnOk result ((M.state media.old).counts.programs ≤ (M.state media.new).counts.programs) }
     ensures memory { IsErrOf result MediaError.OutOfMemory → ⊥ }
     ensures drives { DrivesFlash (M.state media.old) (M.state media.new) (failed result) (lost result) }
 {
@@ -84,7 +82,6 @@ fn merge_owner<M: Media>(cache: &mut Parts, media: &mut M, at: Place) -> Result<
     ensures page_mapped { OnOk result (PageMappedStay cache.old.map.entries cache.new.map.entries) }
     ensures lists { OnOk result ((list durable : CacheList) → Lists cache.old (M.state media.old).contents.flash.page list durable → GoesOn cache.old.log cache.new (M.state media.new).contents.flash.page list durable) }
     ensures stands { (list durable : CacheList) → Lists cache.old (M.state media.old).contents.flash.page list durable → StandsForGiven cache.old.geometry (M.state media.new).contents.flash.page durable list }
-    ensures programs { OnOk result ((M.state media.old).counts.programs ≤ (M.state media.new).counts.programs) }
     ensures memory { IsErrOf result MediaError.OutOfMemory → ⊥ }
     ensures drives { DrivesFlash (M.state media.old) (M.state media.new) (failed result) (lost result) }
 {

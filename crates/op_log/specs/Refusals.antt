@@ -40,6 +40,16 @@ refusal_of device.Failed = FlashFault
 refusal_of device.PowerLost = PowerLost
 refusal_of device.OutOfMemory = OutOfMemory
 
+-- reading pages of records is refused so: they may be damaged, but they are no seal, and the disk isn't asked
+abbrev pub IsOfPages : OpenError → Type 0
+IsOfPages (Damaged block page) = ⊤
+IsOfPages FlashFault = ⊤
+IsOfPages PowerLost = ⊤
+IsOfPages OutOfMemory = ⊤
+IsOfPages NotFormatted = ⊥
+IsOfPages (OtherGeometry found wanted) = ⊥
+IsOfPages DiskFault = ⊥
+
 -- the flash failed, or power was lost
 abbrev pub IsOfFlash : OpenError → Type 0
 IsOfFlash FlashFault = ⊤

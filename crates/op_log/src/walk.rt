@@ -7,7 +7,7 @@ ghost use Rattle.cache_model.specs.Reading.{read_header as header_read};
 ghost use Rattle.mapping.specs.MapValue.{pages_taken, groups_taken};
 ghost use Rattle.op_log.specs.Log.{FitsOn};
 ghost use Rattle.op_log.specs.Walk.{page_step, pages_of, Stepped, IsReadAs, found_whole, pages_needed, groups_needed, after_records};
-ghost use Rattle.op_log.specs.Refusals.{open_failed, open_lost, IsRefusal, IsOfFlash};
+ghost use Rattle.op_log.specs.Refusals.{open_failed, open_lost, IsRefusal, IsOfFlash, IsOfPages};
 
 use crate::OpenError;
 use crate::error::of_media;
@@ -34,6 +34,7 @@ pub fn apply_page<M: Media>(
     requires page { at.page < geometry.now.p }
     requires map { map.old.geometry ≡ geometry.now }
     ensures geometry { map.new.geometry ≡ map.old.geometry }
+    ensures kinds { IfErr result IsOfPages }
     ensures answers { Stepped result map.old.entries map.new.entries (page_step geometry.now kind era sequence at ((M.state media.old).contents.flash.page at) map.old.entries) }
     ensures reads { ReadsFlash (M.state media.old) (M.state media.new) (open_failed result) (open_lost result) }
 {
@@ -59,6 +60,7 @@ fn read_whole<M: Media>(media: &mut M, at: Place, block: &mut Block) -> Result<b
     requires page { at.page < (M.state media.old).contents.shape.pages }
     ensures whole { IfOk result (λ whole. IsReadAs whole ((M.state media.old).contents.flash.page at) block.new) }
     ensures refused { IfErr result IsOfFlash }
+    ensures kinds { IfErr result IsOfPages }
     ensures reads { ReadsFlash (M.state media.old) (M.state media.new) (open_failed result) (open_lost result) }
 {
     let mut spare = Spare([0; 32]);
@@ -174,6 +176,7 @@ pub fn roll<M: Media>(
     ensures applied { IfOk result (λ n. after_pages geometry.now log_page era (log_at geometry.now region) 0 (log_region geometry.now (M.state media.old).contents.flash.page region) map.old.entries ≡ Ok map.new.entries) }
     ensures count { IfOk result (λ n. n ≡ pages_of log_page era 0 (log_region geometry.now (M.state media.old).contents.flash.page region)) }
     ensures refused { IfErr result (λ e. IsRefusal geometry.now e (after_pages geometry.now log_page era (log_at geometry.now region) 0 (log_region geometry.now (M.state media.old).contents.flash.page region) map.old.entries)) }
+    ensures kinds { IfErr result IsOfPages }
     ensures reads { ReadsFlash (M.state media.old) (M.state media.new) (open_failed result) (open_lost result) }
 {
     let pages = geometry.j * geometry.p;

@@ -1,5 +1,5 @@
 -- What the commands answer, and what they leave.
-use Rattle.std.specs.Prelude.{◌≡◌, ◌⊎◌, ◌/◌, ℕ, Bool, true, false, List, [], ◌∷◌, ◌++◌, length, Option, None, Some, Result, Ok, Err}
+use Rattle.std.specs.Prelude.{◌≡◌, ◌⊎◌, ◌/◌, ℕ, Bool, true, false, List, [], ◌∷◌, ◌++◌, length, Option, None, Some, Result, Ok, Err, ⊤}
 use Rattle.std.specs.FinMap.{get}
 use Rattle.ft_base.specs.declared.block.Block.{Block}
 use Rattle.ft_base.specs.declared.block.Place.{Place}
@@ -59,3 +59,9 @@ IsHeldIn s a = (h : Held) × (get s a ≡ Some h)
 abbrev pub ReadOf : Option Held → Bool → Block → Type 0
 ReadOf None found block = found ≡ false
 ReadOf (Some h) found block = (found ≡ true) × (block ≡ h.block)
+
+-- a read found the block; else that holds
+abbrev pub UnlessFound : Result Bool SscError → Type 0 → Type 0
+UnlessFound (Ok true) holds = ⊤
+UnlessFound (Ok false) holds = holds
+UnlessFound (Err e) holds = holds

@@ -48,8 +48,10 @@ impl Ssc {
         self.parts.map.held()
     }
 
-    /// The buckets of the map's page-mapped part.
-    pub fn buckets(&self) -> u64 {
+    /// The buckets of the map's page-mapped part, which is a plain list yet.
+    pub fn buckets(&self) -> u64
+        ensures { result ≡ 0 }
+    {
         self.parts.map.buckets()
     }
 

@@ -13,7 +13,7 @@ ghost use Rattle.merge_engine.specs.Agreement.{Agree, Lists};
 ghost use Rattle.ssc.specs.Errors.{ssc_failed, ssc_lost, stops};
 ghost use Rattle.ssc.specs.CacheState.{HasMemory, Holds, IsUp, entries_of, geometry_of, log_room, open_room, pending};
 ghost use Rattle.ssc.specs.Steps.{IsPushed, PutsBlock, StandsForStep};
-ghost use Rattle.ssc.specs.Commands.{ImagesOf, ImagesOfWrite, FullExactly, HoldsWritten, PendsWith, IsHeldIn, ReadOf};
+ghost use Rattle.ssc.specs.Commands.{ImagesOf, ImagesOfWrite, FullExactly, HoldsWritten, PendsWith, IsHeldIn, ReadOf, UnlessFound};
 
 use crate::error::of_media;
 use crate::putting::{mark_clean, take_out, write_buffered, write_committed};
@@ -136,7 +136,8 @@ impl Ssc {
         write_buffered(&mut self.parts, media, lba, block)
     }
 
-    /// Reads the block of an address: false where it isn't held. It changes nothing.
+    /// Reads the block of an address: false where it isn't held. It changes nothing, and only a block that
+    /// was found comes into `block`.
     pub fn read<M: Media>(
         &mut self,
         media: &mut M,
@@ -147,6 +148,7 @@ impl Ssc {
         requires lba { lba < (geometry_of self.old).size }
         ensures same { self.new ≡ self.old }
         ensures found { IfOk result (λ found. (s : CacheList) → Holds self.old (M.state media.old).contents s → ReadOf (get s lba) found block.new) }
+        ensures buffer { UnlessFound result (block.new ≡ block.old) }
         ensures full { (n l : ℕ) → IsErrOf result (SscError.Full n l) → ⊥ }
         ensures memory { IsErrOf result SscError.OutOfMemory → ⊥ }
         ensures reads { ReadsFlash (M.state media.old) (M.state media.new) (ssc_failed result) (ssc_lost result) }

@@ -213,7 +213,6 @@ fn commit_if_full<M: Media>(parts: &mut Parts, media: &mut M) -> Result<(), Medi
         ⊎ ((parts.new.log.buffered ≡ []) × Lists parts.new (M.state media.new).contents.flash.page list list)) }
     ensures stands { (list durable : CacheList) → Lists parts.old (M.state media.old).contents.flash.page list durable → StandsForEither parts.old.geometry (M.state media.new).contents.flash.page durable list }
     ensures no_write { length parts.old.log.buffered < 127 → IsOk result × (parts.new ≡ parts.old) × (M.state media.new ≡ M.state media.old) }
-    ensures programs { OnOk result ((M.state media.old).counts.programs ≤ (M.state media.new).counts.programs) }
     ensures memory { IsErrOf result MediaError.OutOfMemory → ⊥ }
     ensures drives { DrivesFlash (M.state media.old) (M.state media.new) (failed result) (lost result) }
 {

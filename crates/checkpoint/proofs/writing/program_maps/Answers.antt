@@ -1,7 +1,7 @@
 use Rattle.std.proofs.Common.{arith, rules}
 use Rattle.mapping.specs.Checkpoint.{checkpoint_records}
 use Rattle.ft_media.proofs.DrivesLemmas.{drives_then}
-use Rattle.checkpoint.proofs.ProgramLemmas.{drives_err, rose_later}
+use Rattle.checkpoint.proofs.ProgramLemmas.{drives_err}
 use Rattle.checkpoint.proofs.MapsLemmas.{maps_left, maps_more}
 use Rattle.checkpoint.proofs.writing.program_maps.Goals as goal
 
@@ -16,6 +16,5 @@ returns-in_err-program_map-clause-drives g c =
 pub loop-sequence-preserved : goal.loop-sequence-preserved
 loop-sequence-preserved g c = record {
   maps = maps_more c.args.geometry.now c.args.target.now.region c.args.target.now.era (checkpoint_records c.args.geometry.now c.args.map.now.entries) c.loop-sequence.sequence (g.M.Media.state c.args.media.now).contents.flash (g.M.Media.state c.loop-sequence.media).contents.flash c.loop-sequence.invariant.maps (g.M.Media.state c.program_map.new.media).contents.flash (omega arith) c.in_ok-program_map.ensures.done;
-  programs = rose_later _ (g.M.Media.state c.loop-sequence.media).counts.programs (g.M.Media.state c.program_map.new.media).counts.programs c.loop-sequence.invariant.programs (g.met.M.Media.is_small c.loop-sequence.media).counts.programs c.in_ok-program_map.ensures.programs;
   drives = drives_then (g.M.Media.state c.args.media.now) (g.M.Media.state c.loop-sequence.media) (g.M.Media.state c.program_map.new.media) _ _ c.loop-sequence.invariant.drives c.in_ok-program_map.ensures.drives;
 }

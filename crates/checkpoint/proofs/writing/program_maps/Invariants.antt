@@ -1,4 +1,4 @@
-use Rattle.std.proofs.Common.{◌≤◌, false}
+use Rattle.std.proofs.Common.{false}
 use Rattle.ft_media.specs.Drives.{DrivesFlash}
 use Rattle.mapping.specs.Checkpoint.{checkpoint_records}
 use Rattle.checkpoint.specs.Regions.{MapsWritten}
@@ -10,6 +10,5 @@ invariant-loop-sequence g l =
     let now = g.M.Media.state l.media in
     record {
       maps : MapsWritten l.geometry l.target.region l.target.era (checkpoint_records l.geometry l.map.entries) l.sequence old.contents.flash now.contents.flash;
-      programs : old.counts.programs ≤ now.counts.programs;
       drives : DrivesFlash old now false false;
     }

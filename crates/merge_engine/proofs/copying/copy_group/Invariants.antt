@@ -1,4 +1,4 @@
-use Rattle.std.proofs.Common.{◌≡◌, ◌≤◌, Some, false}
+use Rattle.std.proofs.Common.{◌≡◌, Some, false}
 use Rattle.ft_media.specs.Drives.{DrivesFlash}
 use Rattle.cache_model.specs.Cache.{CacheList}
 use Rattle.merge_engine.specs.Agreement.{Agree, Lists}
@@ -14,6 +14,5 @@ invariant-loop-page g l =
       lists : (list durable : CacheList) → Lists l.cache old.contents.flash.page list durable → Lists l.cache now.contents.flash.page list durable;
       next : now.contents.flash.next l.block ≡ Some l.page;
       copied : IsCopiedBelow l.cache.geometry l.cache.map.entries l.group l.block l.page now.contents.flash.page;
-      programs : old.counts.programs ≤ now.counts.programs;
       drives : DrivesFlash old now false false;
     }

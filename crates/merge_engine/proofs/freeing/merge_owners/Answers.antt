@@ -36,7 +36,6 @@ loop-page-preserved g c =
           e.unowned;
       lists = λ list durable lists. goes_then c.args.cache.now.log l.cache (g.M.Media.state l.media).contents.flash.page c.args.cache.now.geometry k.geometry list durable c.merge_owner.new.cache (g.M.Media.state c.merge_owner.new.media).contents.flash.page
           (c.merge_owner.ensures.geometry ∙ k.geometry) (k.lists list durable lists) e.lists;
-      programs = let first = k.programs in let then = e.programs in omega arith;
       drives = drives_then _ _ _ _ _ k.drives e.drives;
     }
 

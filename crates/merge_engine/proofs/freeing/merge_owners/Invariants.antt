@@ -19,6 +19,5 @@ invariant-loop-page g l =
       room : length l.cache.log.buffered < 127;
       unowned : NoneBefore l.cache.map.entries l.block l.page;
       lists : (list durable : CacheList) → Lists l.fn.cache old.contents.flash.page list durable → GoesOn l.fn.cache.log l.cache now.contents.flash.page list durable;
-      programs : old.counts.programs ≤ now.counts.programs;
       drives : DrivesFlash old now false false;
     }

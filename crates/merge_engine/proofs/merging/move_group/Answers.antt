@@ -3,7 +3,7 @@ use Rattle.ft_media.proofs.DrivesLemmas.{drives_then}
 use Rattle.merge_engine.specs.declared.parts.Parts.{Parts}
 use Rattle.merge_engine.proofs.ResultLemmas.{on_ok_from, ok_at}
 use Rattle.merge_engine.proofs.TakeLemmas.{agree_map}
-use Rattle.merge_engine.proofs.MoveLemmas.{room_still, held_still, stands_listed, risen, copied_still, moved_still, stands_still, either_same, merged_moved, others_moved, drives_failed}
+use Rattle.merge_engine.proofs.MoveLemmas.{room_still, held_still, stands_listed, copied_still, moved_still, stands_still, either_same, merged_moved, others_moved, drives_failed}
 use Rattle.merge_engine.proofs.merging.move_group.Goals as goal
 
 pub returns-in_err-block-clause-drives : goal.returns-in_err-block-clause-drives
@@ -90,8 +90,3 @@ returns-clause-drives g c =
     drives_then (g.M.Media.state c.args.media.now) (g.M.Media.state c.copy_out.new.media) (g.M.Media.state c.commit-2.new.media) _ _
     (drives_then (g.M.Media.state c.args.media.now) (g.M.Media.state c.commit.new.media) (g.M.Media.state c.copy_out.new.media) _ _ c.in_ok-commit.ensures.drives c.in_ok-block.ensures.drives)
     c.commit-2.ensures.drives
-
-pub returns-clause-programs : goal.returns-clause-programs
-returns-clause-programs g c = on_ok_from c.commit-2.result (λ v is.
-    risen (g.M.Media.state c.args.media.now).counts.programs (g.M.Media.state c.commit.new.media).counts.programs (g.M.Media.state c.copy_out.new.media).counts.programs (g.M.Media.state c.commit-2.new.media).counts.programs c.in_ok-commit.ensures.programs c.in_ok-block.ensures.programs
-    (ok_at c.commit-2.result v is c.commit-2.ensures.programs))

@@ -8,3 +8,6 @@ pub returns-then-is_held-clause-lists : goal.returns-then-is_held-clause-lists
 returns-then-is_held-clause-lists g c = on_ok_from c.write_committed.result (λ v is. λ list durable lists.
     committed_puts c.args.self.now.parts c.write_committed.new.parts (g.M.Media.state c.write_committed.new.media).contents.flash.page c.args.lba (held c.args.block.now false) list durable
     (ok_at c.write_committed.result v is c.write_committed.ensures.nothing_waits) (ok_at c.write_committed.result v is c.write_committed.ensures.lists list durable lists))
+
+pub returns-clause-one_program : goal.returns-clause-one_program
+returns-clause-one_program g c = on_ok_from c.write_buffered.result (λ v is. λ absent room few. ok_at c.write_buffered.result v is c.write_buffered.ensures.one_program room few)
