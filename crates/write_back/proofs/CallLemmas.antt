@@ -1,135 +1,129 @@
--- A call that opens again where it has to, and then does its work.
-use Rattle.std.proofs.Common.{◌≡◌, ◌⊎◌, ℕ, ◌/◌, ◌≤◌, true, false, ◌∷◌, length, Result, Ok, Err, inl, inr, refl, sym, ◌∙◌, ap, subst, arith}
-use Rattle.std.specs.Prelude.{OnOk, IsErrOf}
+-- What a call on a volume that is up did, and how it goes on.
+use Rattle.std.proofs.Common.{◌≡◌, ℕ, ◌≤◌, Bool, true, false, [], ◌∷◌, Ok, Err, OnOk, inl, inr, refl, sym, ◌∙◌, ap, subst, arith}
+use Rattle.std.specs.Prelude.{IsErrOf}
+use Rattle.std.proofs.lemmas.Bool.{false≢true}
 use Rattle.ft_base.specs.declared.block.Block.{Block}
-use Rattle.ft_base.specs.declared.block.Place.{Place}
-use Rattle.ft_base.specs.declared.block.Page.{Page}
-use Rattle.ft_base.specs.declared.geometry.Geometry.{Geometry}
-use Rattle.ft_base.specs.declared.power.Outcome.{Outcome}
-use Rattle.ft_base.specs.Contents.{Contents, Image, set}
+use Rattle.ft_base.specs.Contents.{Contents, set}
 use Rattle.ft_base.specs.PlainDisk.{PlainDisk}
-use Rattle.ft_media.specs.State.{State}
-use Rattle.ft_media.specs.Passes.{Passes, Spends}
-use Rattle.ft_media.specs.Rig.{Cut, powered}
-use Rattle.ft_media.specs.Volume.{AreAmong, StandFor, StandForEither, StandForOne, WasRead, WasWritten, fixes}
-use Rattle.ft_media.specs.declared.volume.VolumeError.{VolumeError}
-use Rattle.ft_media.specs.declared.volume.VolumeError.TheVariants.{PowerLost, OutOfMemory}
-use Rattle.cache_model.specs.Cache.{with_group}
-use Rattle.cache_model.specs.Stands.{StandsFor, ImageStandsFor}
-use Rattle.write_back.specs.declared.volume.WriteBack.{WriteBack}
-use Rattle.write_back.specs.Left.{IsLeft, Stays, groups_of}
-use Rattle.write_back.proofs.DiskLemmas.{same_values}
-use Rattle.write_back.proofs.GroupLemmas.{among_same, among_under, fewer_with}
-use Rattle.write_back.proofs.LeftLemmas.{stays_kept, left_one, left_cut_off, not_written}
+use Rattle.ft_media.specs.State.{Faults, State}
+use Rattle.ft_media.specs.Drives.{DrivesFlash}
+use Rattle.ft_media.specs.Media.{FlashCause}
+use Rattle.ft_media.specs.Passes.{Passes}
+use Rattle.ft_volume.specs.Opening.{ImageIs}
+use Rattle.ft_volume.specs.Volume.{Call, FaultDowns, Finds, Goes, HasCause, StandFor, VolumeState, WasDone, WasOne, Writes, volume_lost, writes_of}
+use Rattle.ft_volume.specs.declared.volume.VolumeError.{VolumeError}
+use Rattle.ft_volume.specs.declared.volume.VolumeError.TheVariants as volume
+use Rattle.ft_volume.proofs.DoneLemmas.{answered_one, done_of_one, refused_one}
+use Rattle.ssc.specs.declared.error.SscError.{SscError}
+use Rattle.ssc.specs.declared.error.SscError.TheVariants.{Full, FlashFault, PowerLost, OutOfMemory}
+use Rattle.ssc.specs.Errors.{ssc_failed, ssc_lost, stops}
+use Rattle.write_back.specs.Errors.{IsOfCache}
 
--- v came up as w, and the call left w' with these contents
-module _ (v w w' : WriteBack) (old mid : State) (new : Contents) (left : IsLeft v old.contents) (left' : IsLeft w mid.contents) (stays : Stays v w old mid) (geometry : w'.geometry ≡ w.geometry) where
-  abbrev before : PlainDisk → Type 0
-  before d = StandFor (ImageStandsFor v.geometry) old.contents d
+-- ---- a call that changes no block
 
-  abbrev now : Image → PlainDisk → Type 0
-  now x d = ImageStandsFor w'.geometry x d
+module _ (call : Call) (old new : VolumeState) (after : Contents) (d : PlainDisk) (none : old.owed ≡ []) (none_new : new.owed ≡ []) (stand : StandFor (ImageIs new.told) after d) where
+  pub answered_same : writes_of call ≡ [] → Finds call d → WasDone {T = Unit {0}} ImageIs call old new after (Ok tt) d
+  answered_same nothing found = done_of_one ImageIs call old new after (Ok tt) d none none_new (answered_one (ImageIs new.told) call after tt d nothing found stand) tt
 
-  to_mid : (d : PlainDisk) → before d → StandFor (ImageStandsFor w.geometry) mid.contents d
-  to_mid d stand = subst (λ (g : Geometry). StandFor (ImageStandsFor g) mid.contents d) (sym stays.geometry) (stays_kept v w old mid left left' stays d stand)
+  pub refused_same : (e : VolumeError) → WasDone {T = Unit {0}} ImageIs call old new after (Err e) d
+  refused_same e = done_of_one ImageIs call old new after (Err e) d none none_new (refused_one (ImageIs new.told) call after e d stand) (λ up. stand)
 
-  -- no content changed since
-  pub kept_same : new ≡ mid.contents → (d : PlainDisk) → before d → StandFor now new d
-  kept_same same d stand =
-      subst (λ (g : Geometry). StandFor (ImageStandsFor g) new d) (sym geometry)
-      (subst (λ (x : Contents). StandFor (ImageStandsFor w.geometry) x d) (sym same) (to_mid d stand))
+-- ---- a write
 
-  pub found_same : (r : Result (Unit {0}) VolumeError) (lba : ℕ) (b : Block) → OnOk r ((d : PlainDisk) → StandFor (ImageStandsFor w.geometry) mid.contents d → b ≡ d lba) → OnOk r ((d : PlainDisk) → before d → b ≡ d lba)
-  found_same (Ok u) lba b found = λ d stand. found d (to_mid d stand)
-  found_same (Err e) lba b found = tt
-
-  was_read : (r : Result (Unit {0}) VolumeError) (lba : ℕ) (b : Block) → new ≡ mid.contents → OnOk r ((d : PlainDisk) → before d → b ≡ d lba) → (d : PlainDisk) → before d → WasRead now new r lba b d
-  was_read (Ok u) lba b same found d stand = record { kept = kept_same same d stand; found = found d stand }
-  was_read (Err e) lba b same found d stand = record { kept = kept_same same d stand; found = tt }
-
-  pub fixed_read : (r : Result (Unit {0}) VolumeError) (lba : ℕ) (b : Block) → new ≡ mid.contents → OnOk r ((d : PlainDisk) → before d → b ≡ d lba) → (d e : PlainDisk) → StandForEither (ImageStandsFor v.geometry) old.contents d e
-      → WasRead now new r lba b d ⊎ WasRead now new r lba b e ⊎ ((fixes r ≡ false) × StandForEither now new d e)
-  fixed_read r lba b same found d e either = elim (left_one v old.contents left d e either) [
-    | inl x ↦ inl (was_read r lba b same found d x)
-    | inr x ↦ inr (inl (was_read r lba b same found e x))
-  ]
-
-  pub fixed_same : new ≡ mid.contents → (d e : PlainDisk) → StandForEither (ImageStandsFor v.geometry) old.contents d e → StandForOne now new d e
-  fixed_same same d e either = elim (left_one v old.contents left d e either) [
-    | inl x ↦ inl (kept_same same d x)
-    | inr x ↦ inr (kept_same same e x)
-  ]
-
-  -- what the write did to the plain disk of w
-  module _ (r : Result (Unit {0}) VolumeError) (lba : ℕ) (b : Block) (written : (d : PlainDisk) → StandFor (ImageStandsFor w.geometry) mid.contents d → WasWritten (ImageStandsFor w.geometry) new r lba b d) where
-    through : (d : PlainDisk) → before d → WasWritten now new r lba b d
-    through d stand = subst (λ (g : Geometry). WasWritten (ImageStandsFor g) new r lba b d) (sym geometry) (written d (to_mid d stand))
-
-    pub through_done : OnOk r ((d : PlainDisk) → before d → StandFor now new (set d lba b))
-    through_done = by_result r (λ d stand. (through d stand).done)
-      where
-        by_result : (r : Result (Unit {0}) VolumeError) → ((d : PlainDisk) → before d → OnOk r (StandFor now new (set d lba b))) → OnOk r ((d : PlainDisk) → before d → StandFor now new (set d lba b))
-        by_result (Ok u) done = done
-        by_result (Err e) done = tt
-
-    pub through_images : (d : PlainDisk) → before d → StandForEither now new d (set d lba b)
-    through_images d stand = (through d stand).images
-
-    pub through_one : IsErrOf r PowerLost → (d : PlainDisk) → before d → StandForOne now new d (set d lba b)
-    through_one is d stand = (through d stand).one is
-
-    pub through_memory : IsErrOf r OutOfMemory → (d : PlainDisk) → before d → StandFor now new d
-    through_memory is d stand = (through d stand).memory is
-
-    pub fixed_write : (d e : PlainDisk) → StandForEither (ImageStandsFor v.geometry) old.contents d e
-        → WasWritten now new r lba b d ⊎ WasWritten now new r lba b e ⊎ ((fixes r ≡ false) × StandForEither now new d e)
-    fixed_write d e either = elim (left_one v old.contents left d e either) [
-      | inl x ↦ inl (through d x)
-      | inr x ↦ inr (inl (through e x))
-    ]
-
-  -- nothing was written
-  pub none_written : (e : VolumeError) (lba : ℕ) (b : Block) → new ≡ mid.contents → (d : PlainDisk) → StandFor (ImageStandsFor w.geometry) mid.contents d → WasWritten (ImageStandsFor w.geometry) new (Err e) lba b d
-  none_written e lba b same d stand = not_written (ImageStandsFor w.geometry) new e lba b d (subst (λ (x : Contents). StandFor (ImageStandsFor w.geometry) x d) (sym same) stand)
-
-  pub groups_through : (lba : ℕ) → AreAmong (groups_of w') (lba / w.geometry.p ∷ groups_of w) → AreAmong (groups_of w') (lba / v.geometry.p ∷ groups_of v)
-  groups_through lba among = among_under (groups_of w') (groups_of w) (groups_of v) (lba / v.geometry.p) (subst (λ (g : Geometry). AreAmong (groups_of w') (lba / g.p ∷ groups_of w)) stays.geometry among) stays.groups
-
-  pub room_through : (lba : ℕ) → length (with_group (lba / v.geometry.p) (groups_of v)) ≤ v.geometry.c → length (with_group (lba / w.geometry.p) (groups_of w)) ≤ w.geometry.c
-  room_through lba room = subst (λ (g : Geometry). length (with_group (lba / g.p) (groups_of w)) ≤ g.c) (sym stays.geometry) (let fewer = fewer_with (groups_of w) (groups_of v) (lba / v.geometry.p) stays.groups in omega (arith, fewer, room))
-
--- what a call spends of the stop, also after an opening
-pub spends_through : (old mid new : State) → Passes old mid false → (r : Result (Unit {0}) VolumeError) → OnOk r (Spends 1 mid new) → OnOk r (Spends 1 old new)
-spends_through old mid new passes (Ok u) spends = λ on some.
-    let s = passes.stayed on refl in
-    let falls = s.falls some in
-    let spent = spends s.on (λ none. some (sym s.stops ∙ none)) in
-    omega (arith, falls, spent)
-spends_through old mid new passes (Err e) spends = tt
-
--- ---- a cut
-
-module _ (v : WriteBack) (old off on : State) (outcome : Outcome) (left : IsLeft v old.contents) (cut : Cut old off outcome) (power : on ≡ powered off) where
-  same_contents : on.contents ≡ off.contents
-  same_contents = ap (λ (s : State). s.contents) power
-
-  abbrev cut_off : WriteBack
-  cut_off = record v { cut = true }
-
-  cut_disk : (lba : ℕ) → on.contents.disk lba ≡ old.contents.disk lba
-  cut_disk lba = ap (λ (x : Contents). x.disk lba) same_contents ∙ same_values (old.contents.disk lba) (off.contents.disk lba) (left.plain.settled lba) (cut.crashed.alone lba) (cut.values lba)
-
-  cut_page : on.contents.flash.page ≡ old.contents.flash.page
-  cut_page = ap (λ (x : Contents). x.flash.page) same_contents ∙ cut.page
-
-  pub left_off : IsLeft cut_off on.contents
-  left_off = left_cut_off v old.contents on.contents left (ap (λ (x : Contents). x.shape) same_contents ∙ cut.shape) cut_page cut_disk
-
-  pub stays_off : Stays v cut_off old on
-  stays_off = record {
-    geometry = refl;
-    lists = λ s stands. subst (λ (f : Place → Page). StandsFor v.geometry f s) (sym cut_page) stands;
-    disk = cut_disk;
-    groups = among_same (groups_of v);
-    disk_writes = ap (λ (s : State). s.counts.disk_writes) power ∙ ap (λ k. k.disk_writes) cut.counts;
+module _ (lba : ℕ) (block : Block) (old new : VolumeState) (after : Contents) (d : PlainDisk) (none : old.owed ≡ []) (none_new : new.owed ≡ []) (stand : StandFor (ImageIs new.told) after (set d lba block)) where
+  one_done : WasOne {T = Unit {0}} (ImageIs new.told) (Writes lba block) after (Ok tt) d
+  one_done = record {
+    kept = λ nothing. absurd (cc);
+    found = tt;
+    done = stand;
+    images = λ x now. inr (stand x now);
+    one = λ is. absurd (cc);
+    memory = λ is. absurd (cc);
   }
+
+  pub answered_write : WasDone {T = Unit {0}} ImageIs (Writes lba block) old new after (Ok tt) d
+  answered_write = done_of_one ImageIs (Writes lba block) old new after (Ok tt) d none none_new one_done tt
+
+  -- refused, and the block is there all the same
+  one_refused : (e : VolumeError) → (e ≡ volume.OutOfMemory → ⊥) → WasOne {T = Unit {0}} (ImageIs new.told) (Writes lba block) after (Err e) d
+  one_refused e other = record {
+    kept = λ nothing. absurd (cc);
+    found = tt;
+    done = tt;
+    images = λ x now. inr (stand x now);
+    one = λ is. inr stand;
+    memory = λ is. absurd (other (let same : e ≡ volume.OutOfMemory = cc in same));
+  }
+
+  pub refused_write : (e : VolumeError) → (e ≡ volume.OutOfMemory → ⊥) → new.down ≡ true → WasDone {T = Unit {0}} ImageIs (Writes lba block) old new after (Err e) d
+  refused_write e other down = done_of_one ImageIs (Writes lba block) old new after (Err e) d none none_new (one_refused e other) (λ up. absurd (false≢true (sym up ∙ down)))
+
+-- ---- the cache was refused
+
+-- it is given up, unless memory was wanting
+pub gives_up : (e : SscError) → ((n limit : ℕ) → e ≡ Full n limit → ⊥) → (e ≡ OutOfMemory → ⊥) → stops {T = Unit {0}} (Err e) ≡ true
+gives_up (Full n limit) full memory = absurd (full n limit refl)
+gives_up FlashFault full memory = refl
+gives_up PowerLost full memory = refl
+gives_up OutOfMemory full memory = absurd (memory refl)
+
+pub not_memory : (e : SscError) (r : VolumeError) → IsOfCache e r → (e ≡ OutOfMemory → ⊥) → r ≡ volume.OutOfMemory → ⊥
+not_memory (Full n limit) r is memory same = is
+not_memory FlashFault r is memory same = let no : volume.FlashFault ≡ volume.OutOfMemory = sym is ∙ same in cc
+not_memory PowerLost r is memory same = let no : volume.PowerLost ≡ volume.OutOfMemory = sym is ∙ same in cc
+not_memory OutOfMemory r is memory same = memory refl
+
+module _ (before after : State) where
+  abbrev Goes_on : VolumeError → Type 0
+  Goes_on r = HasCause {T = Unit {0}} before.faults after.faults (Err r) × Passes before after (volume_lost {T = Unit {0}} (Err r))
+
+  pub refused_goes_on : (e : SscError) (r : VolumeError) → IsOfCache e r → DrivesFlash before after (ssc_failed {T = Unit {0}} (Err e)) (ssc_lost {T = Unit {0}} (Err e)) → Goes_on r
+  refused_goes_on (Full n limit) r is drives = absurd is
+  refused_goes_on FlashFault r is drives = subst Goes_on (sym is) (
+    record {
+      flash = drives.cause.flash;
+      disk = let x = drives.cause.disk in omega (arith, x);
+      cuts = drives.cause.cuts;
+      flash_fault = λ f. drives.cause.failed refl;
+      disk_fault = λ f. absurd (cc);
+      power_lost = λ f. absurd (cc);
+    },
+    drives.passes,
+  )
+  refused_goes_on PowerLost r is drives = subst Goes_on (sym is) (
+    record {
+      flash = drives.cause.flash;
+      disk = let x = drives.cause.disk in omega (arith, x);
+      cuts = drives.cause.cuts;
+      flash_fault = λ f. absurd (cc);
+      disk_fault = λ f. absurd (cc);
+      power_lost = λ f. drives.cause.power_lost refl;
+    },
+    drives.passes,
+  )
+  refused_goes_on OutOfMemory r is drives = subst Goes_on (sym is) (
+    record {
+      flash = drives.cause.flash;
+      disk = let x = drives.cause.disk in omega (arith, x);
+      cuts = drives.cause.cuts;
+      flash_fault = λ f. absurd (cc);
+      disk_fault = λ f. absurd (cc);
+      power_lost = λ f. absurd (cc);
+    },
+    drives.passes,
+  )
+
+  -- the volume is down then
+  pub goes_down : (old new : VolumeState) (e : SscError) (r : VolumeError) → new.told ≡ old.told → new.down ≡ true → IsOfCache e r → (e ≡ OutOfMemory → ⊥) → DrivesFlash before after (ssc_failed {T = Unit {0}} (Err e)) (ssc_lost {T = Unit {0}} (Err e)) → Goes {T = Unit {0}} old new before after (Err r)
+  goes_down old new e r told down is memory drives =
+      let on = refused_goes_on e r is drives in
+      record {
+        told = told;
+        up = tt;
+        lost = λ was_on lost. down;
+        memory = λ wants was. absurd (not_memory e r is memory (let same : r ≡ volume.OutOfMemory = cc in same));
+        ready = λ up. absurd (false≢true (sym up ∙ down));
+        disk = λ fault was up. absurd (false≢true (sym up ∙ down));
+        cause = on.0;
+        passes = on.1;
+      }

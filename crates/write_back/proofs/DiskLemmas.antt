@@ -1,104 +1,113 @@
--- Plain disks over media on which nothing of the disk waits for a flush.
-use Rattle.std.proofs.Common.{◌≡◌, ℕ, ◌==◌, Bool, true, false, cond, List, [], Option, Some, Ok, inl, inr, refl, sym, ◌∙◌, ap, ap₂, subst, arith}
+-- A list of held blocks over a disk, as a plain disk.
+use Rattle.std.proofs.Common.{◌≡◌, ◌⊎◌, ℕ, ◌<◌, List, [], Option, Some, None, Ok, inl, inr, refl, sym, ◌∙◌, ap, ap₂, subst}
 use Rattle.std.specs.Option.{option_and_then}
-use Rattle.std.specs.FinMap.{get}
-use Rattle.std.proofs.lemmas.Bool.Decides.{nat_tests}
+use Rattle.std.specs.Cmp.{nat_cmp_total}
+use Rattle.std.specs.FinMap.{get, same_map, nat_cmp-IsAntisymmetric}
 use Rattle.ft_base.specs.declared.block.Block.{Block}
 use Rattle.ft_base.specs.declared.block.Place.{Place}
 use Rattle.ft_base.specs.declared.block.Page.{Page}
 use Rattle.ft_base.specs.declared.geometry.Geometry.{Geometry}
-use Rattle.ft_base.specs.Contents.{Contents, Values, HasValue, IsOneOf, set}
+use Rattle.ft_base.specs.declared.told.Mode.TheVariants.{Back}
+use Rattle.ft_base.specs.Contents.{Contents, Image, Now, Values, HasValue, IsOneOf}
 use Rattle.ft_base.specs.PlainDisk.{PlainDisk}
-use Rattle.ft_base.proofs.Images.{with_newest, newest_image}
-use Rattle.ft_media.specs.Media.{Crashed, DiskStays}
-use Rattle.ft_media.specs.Volume.{StandFor, StandForEither, StandForOne}
+use Rattle.ft_base.specs.Told.{Told}
+use Rattle.ft_base.proofs.Images.{newest_image, set_here, value_image, with_newest, with_value}
+use Rattle.ft_volume.specs.declared.options.Options.{Options}
+use Rattle.ft_volume.specs.Opening.{ImageIs}
+use Rattle.ft_volume.specs.Volume.{IsAny, StandFor, StandForAny, StandForOneOf, told_for}
+use Rattle.ft_volume.proofs.UpLemmas.{any_map}
 use Rattle.cache_model.specs.Records.{Entries}
 use Rattle.cache_model.specs.Loading.{load}
-use Rattle.cache_model.specs.Cache.{CacheList, Held, held, held_or, written_dirty}
-use Rattle.cache_model.specs.Stands.{StandsFor, ImageStandsFor, held_at}
-use Rattle.cache_model.proofs.MapLemmas.{get_insert}
-use Rattle.write_back.specs.Left.{IsPlain, IsVolume, AllDirty}
+use Rattle.cache_model.specs.Cache.{Agrees, CacheList, Held, held_or}
+use Rattle.cache_model.specs.Stands.{StandsFor, held_at}
+use Rattle.write_back.specs.Left.{IsBeneath}
 
--- flash is loaded as one map
-pub one_loaded : (g : Geometry) (page : Place → Page) (m n : Entries) → load g page ≡ Ok m → load g page ≡ Ok n → m ≡ n
-one_loaded g page m n is is' = let both : Ok m ≡ Ok n = sym is ∙ is' in cc
-
--- and stands for one list
-pub same_list : (g : Geometry) (page : Place → Page) (s t : CacheList) → StandsFor g page s → StandsFor g page t → (a : ℕ) → get s a ≡ get t a
-same_list g page s t x y a = x.held a ∙ ap (λ (m : Entries). option_and_then (held_at page) (get m a)) (one_loaded g page x.loaded y.loaded x.loads y.loads) ∙ sym (y.held a)
+-- flash stands for one list
+pub same_list : (g : Geometry) (page : Place → Page) (s t : CacheList) → StandsFor g page s → StandsFor g page t → s ≡ t
+same_list g page s t x y = same_map nat_cmp_total nat_cmp-IsAntisymmetric s t (λ a.
+    let both : Ok x.loaded ≡ Ok y.loaded = sym x.loads ∙ y.loads in
+    let loaded : x.loaded ≡ y.loaded = cc in
+    x.held a ∙ ap (λ (m : Entries). option_and_then (held_at page) (get m a)) loaded ∙ sym (y.held a))
 
 -- a block of the disk that waits for nothing has one value
 pub one_value : (values : Values) (b : Block) → values.earlier ≡ [] → HasValue values b → b ≡ values.newest
 one_value values b none (inl same) = same
 one_value values b none (inr earlier) = absurd (subst (λ (bs : List Block). IsOneOf bs b) none earlier)
 
-abbrev values_of : Block → List Block → Values
-values_of b bs = record { newest = b; earlier = bs }
+-- the list over whatever the disk may show is the plain disk, below the size
+abbrev pub IsOver : Geometry → CacheList → (ℕ → Values) → PlainDisk → Type 0
+IsOver g s disk d = (a : ℕ) → a < g.size → (b : Block) → HasValue (disk a) b → held_or (get s a) b ≡ d a
 
--- a disk of which nothing waits, and that has no value but those of before, is as before
-pub same_values : (old new : Values) → old.earlier ≡ [] → new.earlier ≡ [] → ((b : Block) → HasValue new b → HasValue old b) → new ≡ old
-same_values old new none none' had =
-    let newest : new.newest ≡ old.newest = one_value old new.newest none (had new.newest (inl refl)) in
-    let earlier : new.earlier ≡ old.earlier = none' ∙ sym none in
-    joined newest earlier
-  where
-    joined : new.newest ≡ old.newest → new.earlier ≡ old.earlier → new ≡ old
-    joined newest earlier = ap₂ (λ (b : Block) (bs : List Block). values_of b bs) newest earlier
+-- each value had before
+abbrev pub Had : (ℕ → Values) → (ℕ → Values) → Type 0
+Had old new = (a : ℕ) (b : Block) → HasValue (new a) b → HasValue (old a) b
 
--- a call of the flash leaves a disk of which nothing waits as it was, also where power was lost
-pub disk_stays : (old new : Contents) (l : Bool) → DiskStays old new l → (l ≡ true → Crashed new) → ((lba : ℕ) → (old.disk lba).earlier ≡ []) → (lba : ℕ) → new.disk lba ≡ old.disk lba
-disk_stays old new true stays crash none lba = same_values (old.disk lba) (new.disk lba) (none lba) ((crash refl).alone lba) (stays.values lba)
-disk_stays old new false stays crash none lba = ap (λ (f : ℕ → Values). f lba) (stays.stays refl)
+pub over_fewer : (g : Geometry) (s : CacheList) (old new : ℕ → Values) (d : PlainDisk) → Had old new → IsOver g s old d → IsOver g s new d
+over_fewer g s old new d had over a within b has = over a within b (had a b has)
 
-module _ (g : Geometry) (c : Contents) (s : CacheList) (plain : IsPlain g c s) where
-  -- the list over the disk is the plain disk
-  pub plain_stands : (d : PlainDisk) → IsVolume g s c d → StandFor (ImageStandsFor g) c d
-  plain_stands d is x now = record {
+pub agrees_fewer : (s : CacheList) (old new : ℕ → Values) → Had old new → Agrees s old → Agrees s new
+agrees_fewer s old new had agrees a h b at clean has = agrees a h b at clean (had a b has)
+
+-- ---- and what the media stand for
+
+module _ (o : Options) (c : Contents) (s : CacheList) where
+  pub over_stands : IsBeneath o.geometry c s → (d : PlainDisk) → IsOver o.geometry s c.disk d → StandFor (ImageIs (told_for Back o)) c d
+  over_stands beneath d over x now = record {
     list = s;
-    flash = subst (λ (f : Place → Page). StandsFor g f s) (sym now.pages) plain.flash;
-    agrees = λ a h b at clean value. absurd (let both : true ≡ false = sym (plain.dirty a h at) ∙ clean in cc);
-    volume = λ a within. ap (λ b. held_or (get s a) b) (one_value (c.disk a) (x.block a) (plain.settled a) (now.blocks a)) ∙ is a within;
+    flash = subst (λ (f : Place → Page). StandsFor o.geometry f s) (sym now.pages) beneath.flash;
+    agrees = λ a h b at clean value. elim value [ inl same ↦ same ∙ beneath.agrees a h (x.block a) at clean (now.blocks a) | inr none ↦ absurd none ];
+    suits = tt;
+    volume = λ a within. over a within (x.block a) (now.blocks a);
   }
 
-  newest_volume : (d : PlainDisk) → ImageStandsFor g (with_newest c) d → IsVolume g s c d
-  newest_volume d i a within = ap (λ o. held_or o (c.disk a).newest) (same_list g c.flash.page s i.list plain.flash i.flash a) ∙ i.volume a within
+  pub stands_over : StandsFor o.geometry c.flash.page s → (d : PlainDisk) → StandFor (ImageIs (told_for Back o)) c d → IsOver o.geometry s c.disk d
+  stands_over flash d stand a within b has =
+      let i = stand (with_value c a b) (value_image c a b has) in
+      ap (λ (t : CacheList). held_or (get t a) b) (same_list o.geometry c.flash.page s i.list flash i.flash)
+      ∙ ap (λ (x : Block). held_or (get i.list a) x) (sym (set_here (λ k. (c.disk k).newest) a b))
+      ∙ i.volume a within
 
-  -- and it is no other
-  pub stands_volume : (d : PlainDisk) → StandFor (ImageStandsFor g) c d → IsVolume g s c d
-  stands_volume d stand = newest_volume d (stand (with_newest c) (newest_image c))
+  module _ (beneath : IsBeneath o.geometry c s) (waits : (a : ℕ) → ((c.disk a).earlier ≡ []) ⊎ ((h : Held) × (get s a ≡ Some h))) where
+    shown : (a : ℕ) (b : Block) → HasValue (c.disk a) b → held_or (get s a) b ≡ held_or (get s a) (c.disk a).newest
+    shown a b has = elim (waits a) [
+      | inl none ↦ ap (λ (x : Block). held_or (get s a) x) (one_value (c.disk a) b none has)
+      | inr h ↦ ap (λ (x : Option Held). held_or x b) h.1 ∙ sym (ap (λ (x : Option Held). held_or x (c.disk a).newest) h.1)
+    ]
 
-  -- of two plain disks it is one
-  pub one_of_either : (d e : PlainDisk) → StandForEither (ImageStandsFor g) c d e → StandForOne (ImageStandsFor g) c d e
-  one_of_either d e either = elim (either (with_newest c) (newest_image c)) [
-    | inl i ↦ inl (plain_stands d (newest_volume d i))
-    | inr i ↦ inr (plain_stands e (newest_volume e i))
-  ]
+    -- what the newest values show is shown by all
+    newest_over : (d : PlainDisk) → ImageIs (told_for Back o) (with_newest c) d → IsOver o.geometry s c.disk d
+    newest_over d i a within b has =
+        shown a b has
+        ∙ ap (λ (t : CacheList). held_or (get t a) (c.disk a).newest) (same_list o.geometry c.flash.page s i.list beneath.flash i.flash)
+        ∙ i.volume a within
 
--- the same list over the same disk is the same plain disk
-pub stays_stand : (g : Geometry) (c c' : Contents) (s : CacheList) → IsPlain g c s → IsPlain g c' s → ((lba : ℕ) → c'.disk lba ≡ c.disk lba) → (d : PlainDisk) → StandFor (ImageStandsFor g) c d → StandFor (ImageStandsFor g) c' d
-stays_stand g c c' s plain plain' same d stand =
-    plain_stands g c' s plain' d (λ a within. ap (λ (v : Values). held_or (get s a) v.newest) (same a) ∙ stands_volume g c s plain d stand a within)
+    -- of the plain disks that were possible it is one
+    pub one_of_any : (bases : List PlainDisk) → StandForAny (ImageIs (told_for Back o)) c bases → StandForOneOf (ImageIs (told_for Back o)) c bases
+    one_of_any bases any = any_map (ImageIs (told_for Back o) (with_newest c)) (StandFor (ImageIs (told_for Back o)) c) (λ d i. over_stands beneath d (newest_over d i)) bases (any (with_newest c) (newest_image c))
 
-turned : (q a : ℕ) → (q == a) ≡ (a == q)
-turned q a = grind (arith, nat_tests)
+-- ---- where the flash stands for what it stood for, and the disk shows nothing new
 
-read_choice : (b : Bool) (block beneath : Block) (o : Option Held) → held_or (cond b (Some (held block true)) o) beneath ≡ cond b block (held_or o beneath)
-read_choice true block beneath o = refl
-read_choice false block beneath o = refl
+module _ (told : Told) (old new : Contents) (lists : (s : CacheList) → StandsFor told.geometry old.flash.page s → StandsFor told.geometry new.flash.page s) (had : Had old.disk new.disk) where
+  abbrev before : (ℕ → Block) → Image
+  before block = record { page = old.flash.page; block = block }
 
--- and with one block more, the plain disk with that block
-pub written_stand : (g : Geometry) (c c' : Contents) (s : CacheList) (lba : ℕ) (block : Block) → IsPlain g c s → IsPlain g c' (written_dirty lba block s) → ((a : ℕ) → c'.disk a ≡ c.disk a) → (d : PlainDisk) → StandFor (ImageStandsFor g) c d → StandFor (ImageStandsFor g) c' (set d lba block)
-written_stand g c c' s lba block plain plain' same d stand =
-    plain_stands g c' (written_dirty lba block s) plain' (set d lba block) (λ a within.
-    ap (λ o. held_or o (c'.disk a).newest) (get_insert s lba (held block true) a)
-    ∙ read_choice (a == lba) block (c'.disk a).newest (get s a)
-    ∙ ap (λ b. cond b block (held_or (get s a) (c'.disk a).newest)) (turned a lba)
-    ∙ ap (λ v. cond (lba == a) block v) (ap (λ (v : Values). held_or (get s a) v.newest) (same a) ∙ stands_volume g c s plain d stand a within))
+  shown_before : (block : ℕ → Block) → ((a : ℕ) → HasValue (new.disk a) (block a)) → Now old (before block)
+  shown_before block has = record { pages = refl; blocks = λ a. had a (block a) (has a) }
 
--- a list of dirty blocks with one more
-pub written_dirty-all : (s : CacheList) (lba : ℕ) (block : Block) → AllDirty s → AllDirty (written_dirty lba block s)
-written_dirty-all s lba block all a h at = by_choice (a == lba) (sym (get_insert s lba (held block true) a) ∙ at)
-  where
-    by_choice : (b : Bool) → cond b (Some (held block true)) (get s a) ≡ Some h → h.dirty ≡ true
-    by_choice true is = let same : held block true ≡ h = cc in ap (λ (x : Held). x.dirty) (sym same)
-    by_choice false is = all a h is
+  moved : (block : ℕ → Block) (x : Image) (d : PlainDisk) → Now new x → ((a : ℕ) → x.block a ≡ block a) → ImageIs told (before block) d → ImageIs told x d
+  moved block x d now same i = record {
+    list = i.list;
+    flash = subst (λ (f : Place → Page). StandsFor told.geometry f i.list) (sym now.pages) (lists i.list i.flash);
+    agrees = λ a h b at clean value. elim value [ inl is ↦ is ∙ same a ∙ i.agrees a h (block a) at clean (inl refl) | inr none ↦ absurd none ];
+    suits = i.suits;
+    volume = λ a within. ap (λ (b : Block). held_or (get i.list a) b) (same a) ∙ i.volume a within;
+  }
+
+  pub any_left : (bases : List PlainDisk) → StandForAny (ImageIs told) old bases → StandForAny (ImageIs told) new bases
+  any_left bases any x now = any_map (ImageIs told (before x.block)) (ImageIs told x) (λ d i. moved x.block x d now (λ a. refl) i) bases (any (before x.block) (shown_before x.block now.blocks))
+
+  -- with one value for each block, one of them is left
+  pub one_left : ((a : ℕ) → (new.disk a).earlier ≡ []) → (bases : List PlainDisk) → StandForAny (ImageIs told) old bases → StandForOneOf (ImageIs told) new bases
+  one_left alone bases any =
+      let newest : ℕ → Block = λ a. (new.disk a).newest in
+      any_map (ImageIs told (before newest)) (StandFor (ImageIs told) new) (λ d i x now. moved newest x d now (λ a. one_value (new.disk a) (x.block a) (alone a) (now.blocks a)) i) bases (any (before newest) (shown_before newest (λ a. inl refl)))

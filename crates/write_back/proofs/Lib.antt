@@ -1,7 +1,10 @@
 pub mod DiskLemmas
+pub mod StepLemmas
 pub mod GroupLemmas
 pub mod TableLemmas
 pub mod OpenLemmas
 pub mod LeftLemmas
 pub mod CallLemmas
-pub mod CreateLemmas
+pub mod WriteLemmas
+pub mod OpenedLemmas
+pub mod TestLemmas

@@ -1,16 +1,16 @@
 -- The table of the dirty groups.
-use Rattle.std.proofs.Common.{◌≡◌, ◌⊎◌, ℕ, zero, suc, ◌+◌, ◌/◌, ◌≤◌, ◌<◌, ◌==◌, nat_le, nat_lt, ◌&&◌, ◌||◌, Bool, true, false, cond, List, [], ◌∷◌, length, get_or, map, filter, ◌++◌, Option, Some, None, option_map, Result, Ok, Err, IfOk, inl, inr, refl, sym, ◌∙◌, ap, subst, arith, eqb-true}
+use Rattle.std.proofs.Common.{◌≡◌, ◌⊎◌, ℕ, zero, suc, ◌+◌, ◌/◌, ◌≤◌, ◌<◌, ◌==◌, nat_le, nat_lt, not, ◌&&◌, ◌||◌, Bool, true, false, cond, List, [], ◌∷◌, length, get_or, drop, map, filter, ◌++◌, Option, Some, None, option_map, Result, Ok, Err, IfOk, inl, inr, refl, sym, ◌∙◌, ap, subst, arith, eqb-true, add-one, drop-cons}
 use Rattle.std.specs.List.{AllByRecursion}
 use Rattle.std.specs.Option.{option_and_then}
 use Rattle.std.specs.FinMap.{get, entries}
-use Rattle.std.proofs.lemmas.Bool.{cases_Bool, cases_lt, or_left, or_right, or_cases}
+use Rattle.std.proofs.lemmas.Bool.{cases_Bool, cases_lt, or_left, or_parts, or_right, or_cases}
 use Rattle.std.proofs.lemmas.Bool.Decides.{nat_tests}
 use Rattle.ft_base.specs.declared.geometry.Geometry.{Geometry}
 use Rattle.ft_base.specs.declared.block.Place.{Place}
 use Rattle.ft_base.specs.declared.block.Page.{Page}
 use Rattle.ft_base.specs.declared.block.Page.TheVariants.{Blank, Whole, Torn}
 use Rattle.ft_base.specs.Contents.{Contents}
-use Rattle.ft_media.specs.Volume.{AreAmong}
+use Rattle.ft_volume.specs.Volume.{AreAmong}
 use Rattle.cache_model.specs.declared.entry.Entry.{Entry}
 use Rattle.cache_model.specs.Cache.{AreApart, CacheList, Held, held, dirty_between, dirty_groups, with_group}
 use Rattle.cache_model.specs.Entries.{each_once, IsMap}
@@ -21,8 +21,11 @@ use Rattle.merge_engine.proofs.TakeLemmas.{agree_map}
 use Rattle.dirty_table.specs.Groups.{Groups, groups, has, touched, without}
 use Rattle.ssc.specs.declared.cache.Ssc.{Ssc}
 use Rattle.ssc.specs.CacheState.{Holds, entries_of, geometry_of}
+use Rattle.ft_base.specs.Table.{Table, Waiting, is_of, put_first, table_of}
+use Rattle.ft_volume.specs.Opening.{groups_of}
+use Rattle.ft_volume.proofs.GroupLemmas.{among_from, among_member, among_then, among_head}
 use Rattle.write_back.specs.Left.{IsTable, IsTableFor, IsTableOf, groups_at}
-use Rattle.write_back.proofs.GroupLemmas.{among_from, among_member, among_same, among_then, among_head, member_once}
+use Rattle.write_back.proofs.GroupLemmas.{member_once}
 
 -- ---- a list of distinct groups, and one that is touched
 
@@ -109,19 +112,53 @@ touched_more n xs = among_from (n ∷ xs) (touched n xs) (more xs)
 pub touched_less : (n : ℕ) (xs : List ℕ) → AreAmong (touched n xs) (n ∷ xs)
 touched_less n xs = among_head (without n xs) xs n (among_from (without n xs) xs (λ q. member_less n q xs))
 
+-- ---- the groups of a table of waiting blocks
+
+abbrev pub order_of : Table → List ℕ
+order_of t = map (λ w. w.group) t
+
+none_filtered : (n : ℕ) (t : Table) → member n (order_of t) ≡ false → order_of (filter (λ w. not (is_of n w)) t) ≡ order_of t
+none_filtered n [] none = refl
+none_filtered n (w ∷ t) none =
+    let parts = or_parts (w.group == n) (member n (order_of t)) none in
+    ap (λ b. order_of (cond (not b) (w ∷ filter (λ w. not (is_of n w)) t) (filter (λ w. not (is_of n w)) t))) parts.0 ∙ ap (λ l. w.group ∷ l) (none_filtered n t parts.1)
+
+without_filtered : (n : ℕ) (t : Table) → AreApart (order_of t) → order_of (filter (λ w. not (is_of n w)) t) ≡ without n (order_of t)
+without_filtered n [] apart = refl
+without_filtered n (w ∷ t) apart = elim (cases_Bool (w.group == n)) [
+  | inl here ↦
+      ap (λ b. order_of (cond (not b) (w ∷ filter (λ w. not (is_of n w)) t) (filter (λ w. not (is_of n w)) t))) here
+      ∙ none_filtered n t (ap (λ k. member k (order_of t)) (sym (eqb-true w.group n here)) ∙ apart.0)
+      ∙ sym (ap (λ b. cond b (order_of t) (w.group ∷ without n (order_of t))) (turned n w.group ∙ here))
+  | inr other ↦
+      ap (λ b. order_of (cond (not b) (w ∷ filter (λ w. not (is_of n w)) t) (filter (λ w. not (is_of n w)) t))) other
+      ∙ ap (λ l. w.group ∷ l) (without_filtered n t apart.1)
+      ∙ sym (ap (λ b. cond b (order_of t) (w.group ∷ without n (order_of t))) (turned n w.group ∙ other))
+]
+
+-- one that gets an address is touched
+put_touched : (n a : ℕ) (t : Table) → AreApart (order_of t) → order_of (put_first n a t) ≡ touched n (order_of t)
+put_touched n a t apart = ap (λ l. n ∷ l) (without_filtered n t apart)
+
 -- ---- the table of the groups of a list of addresses
 
--- the groups of the first so many addresses are in the table, and no other group than of one of all
+-- the groups of the first so many addresses are in the table, in order, and no other group than of one of all
 pub record IsTableSoFar (g : Geometry) (lbas : List ℕ) (i : ℕ) (table : Groups) : Type 0 where
   pub is_table : IsTable g table
   pub all : (k : ℕ) → k < i → member (get_or lbas k 0 / g.p) table.order ≡ true
   pub only : AreAmong table.order (groups_at g lbas)
+  pub made : Table
+  pub order : order_of made ≡ table.order
+  pub rest : table_of g.p made (drop i lbas) ≡ table_of g.p [] lbas
 
 pub so_far_none : (g : Geometry) (lbas : List ℕ) (table : Groups) → table ≡ groups [] g.c → IsTableSoFar g lbas 0 table
 so_far_none g lbas table is = subst (λ (t : Groups). IsTableSoFar g lbas 0 t) (sym is) (record {
   is_table = record { limit = refl; apart = tt };
   all = λ k below. absurd (omega (arith, below));
   only = tt;
+  made = [];
+  order = refl;
+  rest = refl;
 })
 
 group_in : (g : Geometry) (lbas : List ℕ) (i : ℕ) → i < length lbas → member (get_or lbas i 0 / g.p) (map (λ a. a / g.p) lbas) ≡ true
@@ -147,8 +184,14 @@ module _ (g : Geometry) (lbas : List ℕ) (i : ℕ) (table : Groups) (k : IsTabl
     is_table = record { limit = k.is_table.limit; apart = touched_apart (get_or lbas i 0 / g.p) table.order k.is_table.apart };
     all = λ j below. among_member (get_or lbas i 0 / g.p ∷ table.order) (touched (get_or lbas i 0 / g.p) table.order) (touched_more (get_or lbas i 0 / g.p) table.order) (get_or lbas j 0 / g.p) (there j below);
     only = among_then (touched (get_or lbas i 0 / g.p) table.order) (get_or lbas i 0 / g.p ∷ table.order) (groups_at g lbas) (touched_less (get_or lbas i 0 / g.p) table.order) with_own;
+    made = put_first (get_or lbas i 0 / g.p) (get_or lbas i 0) k.made;
+    order = put_touched (get_or lbas i 0 / g.p) (get_or lbas i 0) k.made (subst AreApart (sym k.order) k.is_table.apart) ∙ ap (touched (get_or lbas i 0 / g.p)) k.order;
+    rest = ap (table_of g.p k.made) (sym more) ∙ k.rest;
   })
     where
+      more : drop i lbas ≡ get_or lbas i 0 ∷ drop (i + 1) lbas
+      more = rw (add-one, drop-cons lbas i 0)
+
       there : (j : ℕ) → j < i + 1 → member (get_or lbas j 0 / g.p) (get_or lbas i 0 / g.p ∷ table.order) ≡ true
       there j below = elim (cases_lt j i) [
         | inl less ↦ or_right (get_or lbas i 0 / g.p == get_or lbas j 0 / g.p) (member (get_or lbas j 0 / g.p) table.order) (k.all j less)
@@ -160,8 +203,13 @@ table_all g lbas table k = record {
   is_table = k.is_table;
   all = among_from (groups_at g lbas) table.order (λ n t. every lbas k.all n (sym (member_once n (map (λ a. a / g.p) lbas)) ∙ t));
   only = k.only;
+  order = sym k.order ∙ ap order_of (ap (table_of g.p k.made) (sym (drop_whole lbas)) ∙ k.rest);
 }
   where
+    drop_whole : (l : List ℕ) → drop (length l) l ≡ []
+    drop_whole [] = refl
+    drop_whole (x ∷ l) = drop_whole l
+
     every : (lbas : List ℕ) → ((k : ℕ) → k < length lbas → member (get_or lbas k 0 / g.p) table.order ≡ true) → (n : ℕ) → member n (map (λ a. a / g.p) lbas) ≡ true → member n table.order ≡ true
     every [] all n there = absurd (cc)
     every (lba ∷ lbas) all n there = elim (or_cases (lba / g.p == n) (member n (map (λ a. a / g.p) lbas)) there) [
@@ -206,7 +254,7 @@ module _ (g : Geometry) (c : Ssc) (contents : Contents) (s : CacheList) (own : g
   entry_at : (a : ℕ) (h : Held) → get s a ≡ Some h → (e : Entry) × (get (entries_of c) a ≡ Some e) × (h.dirty ≡ e.dirty)
   entry_at a h is = held_of contents.flash.page (get (entries_of c) a) h (sym (holds.lists.held a) ∙ is)
 
-  groups_listed : groups_at g (dirty_between 0 g.size s) ≡ dirty_groups g s
+  pub groups_listed : groups_at g (dirty_between 0 g.size s) ≡ dirty_groups g s
   groups_listed = groups_of_all g s (λ a h is. let e = entry_at a h is in is_map.within a e.0 e.1)
 
   -- they are no more than there may be
@@ -217,15 +265,17 @@ module _ (g : Geometry) (c : Ssc) (contents : Contents) (s : CacheList) (own : g
       let few = is_map.dirty_groups in
       omega (arith, all, fewer, few)
 
-  pub among_listed : (lbas : List ℕ) (order : List ℕ) → lbas ≡ dirty_between 0 g.size s → AreAmong (groups_at g lbas) order → AreAmong (dirty_groups g s) order
-  among_listed lbas order is among = subst (λ (l : List ℕ). AreAmong l order) (ap (λ (l : List ℕ). groups_at g l) is ∙ groups_listed) among
-
 -- the table of the addresses that a cache lists is for the cache
 pub table_for : (g : Geometry) (c : Ssc) (lbas : List ℕ) (table : Groups) → geometry_of c ≡ g → ((contents : Contents) (s : CacheList) → Holds c contents s → lbas ≡ dirty_between 0 g.size s) → IsTableOf g lbas table → IsTableFor g c table
 table_for g c lbas table own listed k = record {
   is_table = k.is_table;
-  groups = λ contents s holds. among_listed g c contents s own holds lbas table.order (listed contents s holds) k.all;
+  all = λ contents s holds. subst (λ (l : List ℕ). AreAmong l table.order) (as_listed contents s holds) k.all;
+  only = λ contents s holds. subst (λ (l : List ℕ). AreAmong table.order l) (as_listed contents s holds) k.only;
+  order = λ contents s holds. k.order ∙ ap (λ (l : List ℕ). groups_of g.p l) (listed contents s holds);
 }
+  where
+    as_listed : (contents : Contents) (s : CacheList) → Holds c contents s → groups_at g lbas ≡ dirty_groups g s
+    as_listed contents s holds = ap (λ (l : List ℕ). groups_at g l) (listed contents s holds) ∙ groups_listed g c contents s own holds
 
 -- what is listed behind nothing is all that is listed
 pub listed_alone : (lbas before : List ℕ) (n size : ℕ) (s : CacheList) → before ≡ [] → n ≡ size → lbas ≡ before ++ dirty_between 0 n s → lbas ≡ dirty_between 0 size s

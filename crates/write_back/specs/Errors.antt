@@ -4,8 +4,8 @@ use Rattle.ft_base.specs.declared.geometry.Geometry.{Geometry}
 use Rattle.ft_base.specs.Count.{Rose}
 use Rattle.ft_media.specs.declared.media.MediaError.{MediaError}
 use Rattle.ft_media.specs.declared.media.MediaError.TheVariants as media
-use Rattle.ft_media.specs.declared.volume.VolumeError.{VolumeError}
-use Rattle.ft_media.specs.declared.volume.VolumeError.TheVariants as volume
+use Rattle.ft_volume.specs.declared.volume.VolumeError.{VolumeError}
+use Rattle.ft_volume.specs.declared.volume.VolumeError.TheVariants as volume
 use Rattle.ft_media.specs.State.{Faults}
 use Rattle.cache_model.specs.Loading.{Refusal}
 use Rattle.op_log.specs.declared.error.OpenError.{OpenError}

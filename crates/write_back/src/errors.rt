@@ -1,7 +1,8 @@
 ghost use Rattle.std.specs.Prelude.{◌≡◌, ℕ};
 ghost use Rattle.write_back.specs.Errors as errors;
 
-use ft_media::{MediaError, VolumeError};
+use ft_media::MediaError;
+use ft_volume::VolumeError;
 use op_log::OpenError;
 use ssc::SscError;
 

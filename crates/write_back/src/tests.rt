@@ -1,19 +1,28 @@
-ghost use Rattle.std.specs.Prelude.{◌≡◌, ◌≤◌, [], OnOk, IfOk};
-ghost use Rattle.ft_media.specs.Volume.{AreAmong};
+ghost use Rattle.std.specs.Prelude.{◌≡◌, ◌<◌, ℕ, [], false, OnOk, IfOk, Some};
+ghost use Rattle.std.specs.FinMap.{get};
+ghost use Rattle.ft_base.specs.declared.told.Mode.TheVariants.{Back};
+ghost use Rattle.ft_volume.specs.Volume.{AreAmong, told_for};
+ghost use Rattle.cache_model.specs.Cache.{CacheList, Held, held};
+ghost use Rattle.cache_model.specs.Stands.{StandsFor};
 ghost use Rattle.mem_rig.specs.Rig.{state_of};
 ghost use Rattle.op_log.specs.Log.{FitsOn};
-ghost use Rattle.write_back.specs.Left.{IsLeft, groups_of, pages_of};
+ghost use Rattle.write_back.specs.Left.{IsLeft};
+ghost use Rattle.write_back.specs.Left as left;
 
 use crate::WriteBack;
 use ft_base::{Block, Geometry, Outcome, pattern, tag_of, zero_block};
-use ft_media::{Options, Rig, Volume, VolumeError};
+use ft_media::{Media, Rig};
+use ft_volume::{Options, Volume, VolumeError};
 use mem_rig::MemRig;
 use op_log::OpenError;
+use ssc::Ssc;
 use std::alloc::Global;
 use std::test::Fail;
 
 /// A volume of 64 blocks on erase blocks of 4 pages, with at most two dirty groups.
-fn options() -> Result<Options, Fail> {
+fn options() -> Result<Options, Fail>
+    ensures { IfOk result (λ options. 5 < options.geometry.size) }
+{
     Ok(Options {
         geometry: Geometry::new(4, 2, 2, 1, 64)?,
         dirty: 1,
@@ -33,10 +42,9 @@ fn fitted(alloc: Global, options: &Options) -> Result<MemRig, Fail>
 /// A volume on that rig, to which nothing was written.
 fn created(alloc: Global, rig: &mut MemRig, options: &Options) -> Result<WriteBack, VolumeError>
     requires { FitsOn options.now.geometry (state_of rig.old).contents.shape }
-    ensures left { IfOk result (λ v. IsLeft v (state_of rig.new).contents) }
-    ensures geometry { IfOk result (λ v. v.geometry ≡ options.now.geometry) }
-    ensures room { IfOk result (λ v. 1 ≤ pages_of v) }
-    ensures groups { IfOk result (λ v. AreAmong (groups_of v) []) }
+    ensures owns { IfOk result (λ v. IsLeft v (state_of rig.new).contents) }
+    ensures told { IfOk result (λ v. (left.state_of v).told ≡ told_for Back options.now) }
+    ensures groups { IfOk result (λ v. AreAmong (left.state_of v).groups []) }
 {
     WriteBack::create(alloc, rig, options)
 }
@@ -52,9 +60,9 @@ fn block_of(lba: u64, tag: u64) -> Block {
 /// The tag that an address reads.
 fn read(volume: &mut WriteBack, rig: &mut MemRig, lba: u64) -> Result<Option<u64>, VolumeError>
     requires { IsLeft volume.old (state_of rig.old).contents }
-    ensures left { IsLeft volume.new (state_of rig.new).contents }
-    ensures room { OnOk result (pages_of volume.old ≤ pages_of volume.new) }
-    ensures groups { AreAmong (groups_of volume.new) (groups_of volume.old) }
+    ensures owns { IsLeft volume.new (state_of rig.new).contents }
+    ensures told { (left.state_of volume.new).told ≡ (left.state_of volume.old).told }
+    ensures groups { AreAmong (left.state_of volume.new).groups (left.state_of volume.old).groups }
 {
     let mut block = zero_block();
     match volume.read(rig, lba, &mut block) {
@@ -65,11 +73,10 @@ fn read(volume: &mut WriteBack, rig: &mut MemRig, lba: u64) -> Result<Option<u64
 
 /// The first write to a volume.
 fn write(volume: &mut WriteBack, rig: &mut MemRig, lba: u64, tag: u64) -> Result<(), VolumeError>
-    requires left { IsLeft volume.old (state_of rig.old).contents }
-    requires room { 1 ≤ pages_of volume.old }
-    requires groups { AreAmong (groups_of volume.old) [] }
-    ensures left { IsLeft volume.new (state_of rig.new).contents }
-    ensures geometry { volume.new.geometry ≡ volume.old.geometry }
+    requires owns { IsLeft volume.old (state_of rig.old).contents }
+    requires groups { AreAmong (left.state_of volume.old).groups [] }
+    ensures owns { IsLeft volume.new (state_of rig.new).contents }
+    ensures told { (left.state_of volume.new).told ≡ (left.state_of volume.old).told }
 {
     volume.write(rig, lba, &block_of(lba, tag))
 }
@@ -81,13 +88,65 @@ fn reopened(
     rig: &mut MemRig,
     options: &Options,
 ) -> Result<WriteBack, OpenError>
-    requires left { IsLeft volume.now (state_of rig.old).contents }
-    requires geometry { volume.now.geometry ≡ options.now.geometry }
+    requires owns { IsLeft volume.now (state_of rig.old).contents }
+    requires told { (left.state_of volume.now).told ≡ told_for Back options.now }
     ensures { IfOk result (λ v. IsLeft v (state_of rig.new).contents) }
 {
     rig.cut(Outcome::Torn);
     rig.power_on();
     WriteBack::open(alloc, rig, options)
+}
+
+/// Puts a block on the disk, where no other value of it may be left.
+fn put_on_disk(rig: &mut MemRig, lba: u64, block: &Block) -> Result<(), Fail>
+    requires { lba < (state_of rig.old).contents.shape.size }
+    ensures shape { (state_of rig.new).contents.shape ≡ (state_of rig.old).contents.shape }
+    ensures disk { OnOk result ((state_of rig.new).contents.disk lba ≡ record { newest = block.now; earlier = [] }) }
+{
+    rig.write_block(lba, block)?;
+    rig.flush_disk()?;
+    Ok(())
+}
+
+/// Makes flash that holds one block, clean.
+fn hold_clean(
+    alloc: Global,
+    rig: &mut MemRig,
+    geometry: &Geometry,
+    lba: u64,
+    block: &Block,
+) -> Result<(), Fail>
+    requires shape { FitsOn geometry.now (state_of rig.old).contents.shape }
+    requires lba { lba < geometry.now.size }
+    ensures shape { (state_of rig.new).contents.shape ≡ (state_of rig.old).contents.shape }
+    ensures disk { OnOk result ((state_of rig.new).contents.disk ≡ (state_of rig.old).contents.disk) }
+    ensures alone { OnOk result ((s : CacheList) → StandsFor geometry.now (state_of rig.new).contents.flash.page s
+        → (a : ℕ) (h : Held) → get s a ≡ Some h → (a ≡ lba) × (h ≡ held block.now false)) }
+{
+    Ssc::format(rig, geometry)?;
+    let mut cache = Ssc::open(alloc, rig, geometry)?;
+    cache.write_clean(rig, lba, block)?;
+    cache.commit(rig)?;
+    Ok(())
+}
+
+/// A volume that is opened over such flash, and the same block on the disk.
+fn over_clean(
+    alloc: Global,
+    rig: &mut MemRig,
+    options: &Options,
+    lba: u64,
+    tag: u64,
+) -> Result<WriteBack, Fail>
+    requires shape { FitsOn options.now.geometry (state_of rig.old).contents.shape }
+    requires lba { lba < options.now.geometry.size }
+    ensures owns { IfOk result (λ v. IsLeft v (state_of rig.new).contents) }
+    ensures groups { IfOk result (λ v. AreAmong (left.state_of v).groups []) }
+{
+    let block = block_of(lba, tag);
+    put_on_disk(rig, lba, &block)?;
+    hold_clean(alloc, rig, &options.geometry, lba, &block)?;
+    Ok(WriteBack::open(alloc, rig, options)?)
 }
 
 fn size_of(volume: &WriteBack) -> (u64, Geometry) {
@@ -150,5 +209,19 @@ fn a_volume_is_opened_from_the_media_alone(rt: HostRuntime) -> Result<(), Fail> 
     let mut again = reopened(alloc, &volume, &mut rig, &options)?;
     assert_eq!(rt; read(&mut again, &mut rig, 5), Ok(Some(7)));
     assert_eq!(rt; read(&mut again, &mut rig, 6), Ok(Some(0)));
+    Ok(())
+}
+
+#[test]
+fn a_clean_block_is_read_from_the_flash_and_written_over(rt: HostRuntime) -> Result<(), Fail> {
+    let alloc = rt.alloc();
+    let options = options()?;
+    let mut rig = fitted(alloc, &options)?;
+    let mut volume = over_clean(alloc, &mut rig, &options, 5, 7)?;
+    assert_eq!(rt; read(&mut volume, &mut rig, 5), Ok(Some(7)));
+    assert_eq!(rt; read(&mut volume, &mut rig, 6), Ok(Some(0)));
+    assert_eq!(rt; rig.counts().disk_reads, 1);
+    assert_eq!(rt; write(&mut volume, &mut rig, 5, 9), Ok(()));
+    assert_eq!(rt; read(&mut volume, &mut rig, 5), Ok(Some(9)));
     Ok(())
 }

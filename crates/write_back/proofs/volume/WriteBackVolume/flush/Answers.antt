@@ -1,17 +1,24 @@
-use Rattle.std.proofs.Common.{refl, ap, inl}
-use Rattle.ft_media.specs.State.{State}
-use Rattle.write_back.specs.declared.volume.WriteBack.{WriteBack}
-use Rattle.write_back.proofs.CallLemmas.{kept_same, fixed_same}
+use Rattle.std.proofs.Common.{refl}
+use Rattle.ft_volume.specs.Opening.{ImageIs}
+use Rattle.ft_volume.specs.Volume.{Flushes}
+use Rattle.ft_volume.proofs.UpLemmas.{costs_refused, costs_through, done_refused, done_through, goes_refused, goes_through}
+use Rattle.write_back.specs.Left.{state_of}
 use Rattle.write_back.proofs.volume.WriteBackVolume.flush.Goals as goal
 
-pub returns-in-Ok-clause-kept : goal.returns-in-Ok-clause-kept
-returns-in-Ok-clause-kept g c = kept_same c.args.self.now c.bring_up.new.self c.commit.new.self (g.R.Media.state c.args.rig.now) (g.R.Media.state c.bring_up.new.rig) (g.R.Media.state c.commit.new.rig).contents c.requires c.bring_up.ensures.left c.bring_up.ensures.stays (ap (λ (x : WriteBack). x.geometry) c.commit.ensures.nothing.1) (ap (λ (s : State). s.contents) c.commit.ensures.nothing.2)
+pub returns-in-Ok-clause-disk : goal.returns-in-Ok-clause-disk
+returns-in-Ok-clause-disk g c = done_through ImageIs (state_of c.args.self.now) (state_of c.bring_up.new.self) (state_of c.flush_up.new.self) (g.R.Media.state c.args.rig.now) (g.R.Media.state c.bring_up.new.media) (g.R.Media.state c.flush_up.new.media) tt c.in-Ok.ensures.comes c.flush_up.result Flushes c.flush_up.ensures.was
 
-pub returns-in-Ok-clause-fixed : goal.returns-in-Ok-clause-fixed
-returns-in-Ok-clause-fixed g c = λ d e either. inl (fixed_same c.args.self.now c.bring_up.new.self c.commit.new.self (g.R.Media.state c.args.rig.now) (g.R.Media.state c.bring_up.new.rig) (g.R.Media.state c.commit.new.rig).contents c.requires c.bring_up.ensures.left c.bring_up.ensures.stays (ap (λ (x : WriteBack). x.geometry) c.commit.ensures.nothing.1) (ap (λ (s : State). s.contents) c.commit.ensures.nothing.2) d e either)
+pub returns-in-Ok-clause-goes : goal.returns-in-Ok-clause-goes
+returns-in-Ok-clause-goes g c = goes_through ImageIs (state_of c.args.self.now) (state_of c.bring_up.new.self) (state_of c.flush_up.new.self) (g.R.Media.state c.args.rig.now) (g.R.Media.state c.bring_up.new.media) (g.R.Media.state c.flush_up.new.media) tt c.in-Ok.ensures.comes c.flush_up.result c.flush_up.ensures.goes
 
-pub returns-in-Err-clause-kept : goal.returns-in-Err-clause-kept
-returns-in-Err-clause-kept g c = kept_same c.args.self.now c.bring_up.new.self c.bring_up.new.self (g.R.Media.state c.args.rig.now) (g.R.Media.state c.bring_up.new.rig) (g.R.Media.state c.bring_up.new.rig).contents c.requires c.bring_up.ensures.left c.bring_up.ensures.stays refl refl
+pub returns-in-Ok-clause-costs : goal.returns-in-Ok-clause-costs
+returns-in-Ok-clause-costs g c = costs_through ImageIs (state_of c.args.self.now) (state_of c.bring_up.new.self) (state_of c.flush_up.new.self) (g.R.Media.state c.args.rig.now) (g.R.Media.state c.bring_up.new.media) (g.R.Media.state c.flush_up.new.media) tt c.in-Ok.ensures.comes c.flush_up.result Flushes c.flush_up.ensures.costs
 
-pub returns-in-Err-clause-fixed : goal.returns-in-Err-clause-fixed
-returns-in-Err-clause-fixed g c = λ d e either. inl (fixed_same c.args.self.now c.bring_up.new.self c.bring_up.new.self (g.R.Media.state c.args.rig.now) (g.R.Media.state c.bring_up.new.rig) (g.R.Media.state c.bring_up.new.rig).contents c.requires c.bring_up.ensures.left c.bring_up.ensures.stays refl refl d e either)
+pub returns-in-Err-clause-disk : goal.returns-in-Err-clause-disk
+returns-in-Err-clause-disk g c = done_refused ImageIs Flushes (state_of c.args.self.now) (state_of c.bring_up.new.self) (g.R.Media.state c.args.rig.now) (g.R.Media.state c.bring_up.new.media) c.in-Err.error c.in-Err.ensures.comes
+
+pub returns-in-Err-clause-goes : goal.returns-in-Err-clause-goes
+returns-in-Err-clause-goes g c = goes_refused ImageIs (state_of c.args.self.now) (state_of c.bring_up.new.self) (g.R.Media.state c.args.rig.now) (g.R.Media.state c.bring_up.new.media) c.in-Err.error c.in-Err.ensures.comes
+
+pub returns-in-Err-clause-costs : goal.returns-in-Err-clause-costs
+returns-in-Err-clause-costs g c = costs_refused ImageIs Flushes (state_of c.args.self.now) (state_of c.bring_up.new.self) (g.R.Media.state c.args.rig.now) (g.R.Media.state c.bring_up.new.media) c.in-Err.error c.in-Err.ensures.comes

@@ -1,24 +1,30 @@
-use Rattle.std.proofs.Common.{refl, ap, Err}
-use Rattle.write_back.specs.Left.{groups_of}
-use Rattle.write_back.specs.declared.volume.WriteBack.{WriteBack}
-use Rattle.write_back.proofs.GroupLemmas.{among_same}
-use Rattle.write_back.proofs.CallLemmas.{kept_same, found_same, fixed_read}
+use Rattle.std.proofs.Common.{refl}
+use Rattle.ft_volume.specs.Opening.{ImageIs}
+use Rattle.ft_volume.specs.Volume.{Reads}
+use Rattle.ft_volume.proofs.UpLemmas.{costs_nothing, costs_refused, costs_through, done_outside, done_refused, done_through, goes_refused, goes_through}
+use Rattle.write_back.specs.Left.{state_of}
 use Rattle.write_back.proofs.volume.WriteBackVolume.read.Goals as goal
 
-pub returns-then-lba-size-clause-groups : goal.returns-then-lba-size-clause-groups
-returns-then-lba-size-clause-groups g c = among_same (groups_of c.args.self.now)
+pub returns-then-lba-size-clause-disk : goal.returns-then-lba-size-clause-disk
+returns-then-lba-size-clause-disk g c = done_outside ImageIs (Reads c.args.lba c.args.block.now) (state_of c.args.self.now) (g.R.Media.state c.args.rig.now).contents
 
-pub returns-in-Ok-clause-found : goal.returns-in-Ok-clause-found
-returns-in-Ok-clause-found g c = found_same c.args.self.now c.bring_up.new.self c.read_up.new.self (g.R.Media.state c.args.rig.now) (g.R.Media.state c.bring_up.new.rig) (g.R.Media.state c.read_up.new.rig).contents c.requires c.bring_up.ensures.left c.bring_up.ensures.stays (ap (λ (x : WriteBack). x.geometry) c.read_up.ensures.same) c.read_up.result c.args.lba c.read_up.new.block c.read_up.ensures.found
+pub returns-then-lba-size-clause-costs : goal.returns-then-lba-size-clause-costs
+returns-then-lba-size-clause-costs g c = costs_nothing (Reads c.args.lba c.args.block.now) (state_of c.args.self.now) (g.R.Media.state c.args.rig.now)
 
-pub returns-in-Ok-clause-kept : goal.returns-in-Ok-clause-kept
-returns-in-Ok-clause-kept g c = kept_same c.args.self.now c.bring_up.new.self c.read_up.new.self (g.R.Media.state c.args.rig.now) (g.R.Media.state c.bring_up.new.rig) (g.R.Media.state c.read_up.new.rig).contents c.requires c.bring_up.ensures.left c.bring_up.ensures.stays (ap (λ (x : WriteBack). x.geometry) c.read_up.ensures.same) c.read_up.ensures.contents
+pub returns-in-Ok-clause-disk : goal.returns-in-Ok-clause-disk
+returns-in-Ok-clause-disk g c = done_through ImageIs (state_of c.args.self.now) (state_of c.bring_up.new.self) (state_of c.read_up.new.self) (g.R.Media.state c.args.rig.now) (g.R.Media.state c.bring_up.new.media) (g.R.Media.state c.read_up.new.media) tt c.in-Ok.ensures.comes c.read_up.result (Reads c.args.lba c.read_up.new.block) c.read_up.ensures.was
 
-pub returns-in-Ok-clause-fixed : goal.returns-in-Ok-clause-fixed
-returns-in-Ok-clause-fixed g c = fixed_read c.args.self.now c.bring_up.new.self c.read_up.new.self (g.R.Media.state c.args.rig.now) (g.R.Media.state c.bring_up.new.rig) (g.R.Media.state c.read_up.new.rig).contents c.requires c.bring_up.ensures.left c.bring_up.ensures.stays (ap (λ (x : WriteBack). x.geometry) c.read_up.ensures.same) c.read_up.result c.args.lba c.read_up.new.block c.read_up.ensures.contents (found_same c.args.self.now c.bring_up.new.self c.read_up.new.self (g.R.Media.state c.args.rig.now) (g.R.Media.state c.bring_up.new.rig) (g.R.Media.state c.read_up.new.rig).contents c.requires c.bring_up.ensures.left c.bring_up.ensures.stays (ap (λ (x : WriteBack). x.geometry) c.read_up.ensures.same) c.read_up.result c.args.lba c.read_up.new.block c.read_up.ensures.found)
+pub returns-in-Ok-clause-goes : goal.returns-in-Ok-clause-goes
+returns-in-Ok-clause-goes g c = goes_through ImageIs (state_of c.args.self.now) (state_of c.bring_up.new.self) (state_of c.read_up.new.self) (g.R.Media.state c.args.rig.now) (g.R.Media.state c.bring_up.new.media) (g.R.Media.state c.read_up.new.media) tt c.in-Ok.ensures.comes c.read_up.result c.read_up.ensures.goes
 
-pub returns-in-Err-clause-kept : goal.returns-in-Err-clause-kept
-returns-in-Err-clause-kept g c = kept_same c.args.self.now c.bring_up.new.self c.bring_up.new.self (g.R.Media.state c.args.rig.now) (g.R.Media.state c.bring_up.new.rig) (g.R.Media.state c.bring_up.new.rig).contents c.requires c.bring_up.ensures.left c.bring_up.ensures.stays refl refl
+pub returns-in-Ok-clause-costs : goal.returns-in-Ok-clause-costs
+returns-in-Ok-clause-costs g c = costs_through ImageIs (state_of c.args.self.now) (state_of c.bring_up.new.self) (state_of c.read_up.new.self) (g.R.Media.state c.args.rig.now) (g.R.Media.state c.bring_up.new.media) (g.R.Media.state c.read_up.new.media) tt c.in-Ok.ensures.comes c.read_up.result (Reads c.args.lba c.read_up.new.block) c.read_up.ensures.costs
 
-pub returns-in-Err-clause-fixed : goal.returns-in-Err-clause-fixed
-returns-in-Err-clause-fixed g c = fixed_read c.args.self.now c.bring_up.new.self c.bring_up.new.self (g.R.Media.state c.args.rig.now) (g.R.Media.state c.bring_up.new.rig) (g.R.Media.state c.bring_up.new.rig).contents c.requires c.bring_up.ensures.left c.bring_up.ensures.stays refl (Err c.in-Err.error) c.args.lba c.args.block.now refl tt
+pub returns-in-Err-clause-disk : goal.returns-in-Err-clause-disk
+returns-in-Err-clause-disk g c = done_refused ImageIs (Reads c.args.lba c.args.block.now) (state_of c.args.self.now) (state_of c.bring_up.new.self) (g.R.Media.state c.args.rig.now) (g.R.Media.state c.bring_up.new.media) c.in-Err.error c.in-Err.ensures.comes
+
+pub returns-in-Err-clause-goes : goal.returns-in-Err-clause-goes
+returns-in-Err-clause-goes g c = goes_refused ImageIs (state_of c.args.self.now) (state_of c.bring_up.new.self) (g.R.Media.state c.args.rig.now) (g.R.Media.state c.bring_up.new.media) c.in-Err.error c.in-Err.ensures.comes
+
+pub returns-in-Err-clause-costs : goal.returns-in-Err-clause-costs
+returns-in-Err-clause-costs g c = costs_refused ImageIs (Reads c.args.lba c.args.block.now) (state_of c.args.self.now) (state_of c.bring_up.new.self) (g.R.Media.state c.args.rig.now) (g.R.Media.state c.bring_up.new.media) c.in-Err.error c.in-Err.ensures.comes
