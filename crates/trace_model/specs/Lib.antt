@@ -1,5 +1,7 @@
+pub mod Fits
 pub mod Lines
 pub mod Plain
+pub mod Readings
 pub mod Run
+pub mod SoFar
 pub mod Text
-pub mod Told

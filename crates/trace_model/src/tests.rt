@@ -1,13 +1,18 @@
 ghost use Rattle.std.specs.Prelude.{◌≡◌};
 
 use crate::{Answer, Line, Ran, plain_end, plain_fits, plain_told};
-use ft_base::Outcome;
+use ft_base::{Ack, Outcome};
 use std::test::Fail;
 
 fn ran(line: Line, cuts: u64, kept: u64) -> Ran
-    ensures { result ≡ record { line = line; cuts = cuts; kept = kept } }
+    ensures { result ≡ record { line = line; cuts = cuts; kept = kept; lost = 0 } }
 {
-    Ran { line, cuts, kept }
+    Ran {
+        line,
+        cuts,
+        kept,
+        lost: 0,
+    }
 }
 
 fn write(lba: u64, count: u64, tag: u64) -> Line
@@ -17,7 +22,7 @@ fn write(lba: u64, count: u64, tag: u64) -> Line
 }
 
 fn stop(after: u64) -> Ran
-    ensures { result ≡ record { line = Line.Stop after Outcome.Torn; cuts = 0; kept = 0 } }
+    ensures { result ≡ record { line = Line.Stop after Outcome.Torn; cuts = 0; kept = 0; lost = 0 } }
 {
     let outcome = Outcome::Torn;
     ran(Line::Stop { after, outcome }, 0, 0)
@@ -28,11 +33,26 @@ fn reads_tell_what_was_written(rt: HostRuntime) -> Result<(), Fail> {
     let (lba, count, tag) = (5, 1, 7);
     let (cuts, kept) = (0, 1);
     let line = Line::Write { lba, count, tag };
-    let write = Ran { line, cuts, kept };
+    let write = Ran {
+        line,
+        cuts,
+        kept,
+        lost: 0,
+    };
     let line = Line::Read { lba, count };
-    let here = Ran { line, cuts, kept };
+    let here = Ran {
+        line,
+        cuts,
+        kept,
+        lost: 0,
+    };
     let line = Line::Read { lba: 6, count };
-    let there = Ran { line, cuts, kept };
+    let there = Ran {
+        line,
+        cuts,
+        kept,
+        lost: 0,
+    };
     let told = plain_told(rt.alloc(), &[there, here, write])?;
     let wanted = [
         Answer::Wrote { lba, count },
@@ -51,19 +71,40 @@ fn a_cut_write_keeps_its_first_blocks(rt: HostRuntime) -> Result<(), Fail> {
     let (lba, count, tag) = (2, 3, 9);
     let (cuts, kept) = (0, 2);
     let line = Line::Stop { after: 3, outcome };
-    let stop = Ran { line, cuts, kept };
+    let stop = Ran {
+        line,
+        cuts,
+        kept,
+        lost: 0,
+    };
     let line = Line::Write { lba, count, tag };
     let write = Ran {
         line,
         cuts: 1,
         kept,
+        lost: 0,
     };
     let line = Line::Read { lba: 3, count: 2 };
-    let read = Ran { line, cuts, kept };
+    let read = Ran {
+        line,
+        cuts,
+        kept,
+        lost: 0,
+    };
     let line = Line::Flush;
-    let flush = Ran { line, cuts, kept };
+    let flush = Ran {
+        line,
+        cuts,
+        kept,
+        lost: 0,
+    };
     let line = Line::Cut { outcome };
-    let cut = Ran { line, cuts, kept };
+    let cut = Ran {
+        line,
+        cuts,
+        kept,
+        lost: 0,
+    };
     let told = plain_told(rt.alloc(), &[cut, flush, read, write, stop])?;
     let wanted = [
         Answer::Stopped,
@@ -106,14 +147,14 @@ fn a_cut_write_fits_with_the_blocks_that_read_as_new(rt: HostRuntime) -> Result<
     let alloc = rt.alloc();
     let line = write(0, 3, 9);
     let new = ran(write(1, 1, 9), 0, 1);
-    assert!(rt; plain_fits(alloc, &[ran(line, 1, 1), stop(5)])?);
-    assert!(rt; plain_fits(alloc, &[ran(line, 1, 3), stop(5)])?);
-    assert!(rt; !plain_fits(alloc, &[ran(line, 1, 4), stop(5)])?);
-    assert!(rt; plain_fits(alloc, &[ran(line, 1, 2), stop(5), new])?);
-    assert!(rt; !plain_fits(alloc, &[ran(line, 1, 1), stop(5), new])?);
-    assert!(rt; plain_fits(alloc, &[ran(line, 1, 0), stop(5), new])?);
-    assert!(rt; plain_fits(alloc, &[ran(line, 0, 3)])?);
-    assert!(rt; !plain_fits(alloc, &[ran(line, 0, 2)])?);
+    assert!(rt; plain_fits(alloc, Ack::Write, &[ran(line, 1, 1), stop(5)])?);
+    assert!(rt; plain_fits(alloc, Ack::Write, &[ran(line, 1, 3), stop(5)])?);
+    assert!(rt; !plain_fits(alloc, Ack::Write, &[ran(line, 1, 4), stop(5)])?);
+    assert!(rt; plain_fits(alloc, Ack::Write, &[ran(line, 1, 2), stop(5), new])?);
+    assert!(rt; !plain_fits(alloc, Ack::Write, &[ran(line, 1, 1), stop(5), new])?);
+    assert!(rt; plain_fits(alloc, Ack::Write, &[ran(line, 1, 0), stop(5), new])?);
+    assert!(rt; plain_fits(alloc, Ack::Write, &[ran(line, 0, 3)])?);
+    assert!(rt; !plain_fits(alloc, Ack::Write, &[ran(line, 0, 2)])?);
     Ok(())
 }
 
@@ -121,15 +162,15 @@ fn a_cut_write_fits_with_the_blocks_that_read_as_new(rt: HostRuntime) -> Result<
 fn only_armed_stops_cut(rt: HostRuntime) -> Result<(), Fail> {
     let alloc = rt.alloc();
     let read = Line::Read { lba: 0, count: 1 };
-    assert!(rt; plain_fits(alloc, &[])?);
-    assert!(rt; !plain_fits(alloc, &[ran(read, 1, 0)])?);
-    assert!(rt; !plain_fits(alloc, &[ran(write(0, 1, 9), 1, 1)])?);
-    assert!(rt; plain_fits(alloc, &[ran(read, 2, 0), stop(1), stop(5)])?);
-    assert!(rt; !plain_fits(alloc, &[ran(read, 3, 0), stop(1), stop(5)])?);
+    assert!(rt; plain_fits(alloc, Ack::Write, &[])?);
+    assert!(rt; !plain_fits(alloc, Ack::Write, &[ran(read, 1, 0)])?);
+    assert!(rt; !plain_fits(alloc, Ack::Write, &[ran(write(0, 1, 9), 1, 1)])?);
+    assert!(rt; plain_fits(alloc, Ack::Write, &[ran(read, 2, 0), stop(1), stop(5)])?);
+    assert!(rt; !plain_fits(alloc, Ack::Write, &[ran(read, 3, 0), stop(1), stop(5)])?);
     let once = ran(read, 1, 0);
-    assert!(rt; plain_fits(alloc, &[once, once, stop(1), stop(5)])?);
-    assert!(rt; !plain_fits(alloc, &[once, once, once, stop(1), stop(5)])?);
-    assert!(rt; !plain_fits(alloc, &[stop(1), once])?);
+    assert!(rt; plain_fits(alloc, Ack::Write, &[once, once, stop(1), stop(5)])?);
+    assert!(rt; !plain_fits(alloc, Ack::Write, &[once, once, once, stop(1), stop(5)])?);
+    assert!(rt; !plain_fits(alloc, Ack::Write, &[stop(1), once])?);
     Ok(())
 }
 
@@ -139,11 +180,29 @@ fn each_kind_of_line_is_cut_so_often_at_most(rt: HostRuntime) -> Result<(), Fail
     let cut = Line::Cut {
         outcome: Outcome::Blank,
     };
-    assert!(rt; plain_fits(alloc, &[ran(Line::Flush, 2, 0), stop(1), stop(5)])?);
-    assert!(rt; plain_fits(alloc, &[ran(Line::Idle, 1, 0), stop(1), stop(5)])?);
-    assert!(rt; !plain_fits(alloc, &[ran(Line::Idle, 2, 0), stop(1), stop(5)])?);
-    assert!(rt; plain_fits(alloc, &[ran(cut, 0, 0), stop(1)])?);
-    assert!(rt; !plain_fits(alloc, &[ran(cut, 1, 0), stop(1)])?);
-    assert!(rt; !plain_fits(alloc, &[ran(Line::Nothing, 1, 0), stop(1)])?);
+    assert!(rt;
+        plain_fits(
+            alloc,
+            Ack::Write,
+            &[ran(Line::Flush, 2, 0), stop(1), stop(5)]
+        )?
+    );
+    assert!(rt;
+        plain_fits(
+            alloc,
+            Ack::Write,
+            &[ran(Line::Idle, 1, 0), stop(1), stop(5)]
+        )?
+    );
+    assert!(rt;
+        !plain_fits(
+            alloc,
+            Ack::Write,
+            &[ran(Line::Idle, 2, 0), stop(1), stop(5)]
+        )?
+    );
+    assert!(rt; plain_fits(alloc, Ack::Write, &[ran(cut, 0, 0), stop(1)])?);
+    assert!(rt; !plain_fits(alloc, Ack::Write, &[ran(cut, 1, 0), stop(1)])?);
+    assert!(rt; !plain_fits(alloc, Ack::Write, &[ran(Line::Nothing, 1, 0), stop(1)])?);
     Ok(())
 }

@@ -1,0 +1,136 @@
+-- How far a run came: which lines were run, and what may be told next.
+use Rattle.std.specs.Prelude.{◌≡◌, ℕ, zero, suc, ◌+◌, ◌/◌, ◌≤◌, nat_le, nat_lt, Bool, true, false, ◌&&◌, if◌then◌else◌, List, [], ◌∷◌, ◌++◌, length, map, drop, Option, Some, None, Ok, Err, ⊤}
+use Rattle.std.specs.Ordering.{nat_cmp}
+use Rattle.std.specs.BTreeSet.{insert_key}
+use Rattle.ft_base.specs.PlainDisk.{BlockWrite, PlainDisk}
+use Rattle.ft_base.specs.Told.{Told}
+use Rattle.ft_base.specs.declared.told.Ack.TheVariants.{Write}
+use Rattle.trace_model.specs.declared.line.Line.{Line}
+use Rattle.trace_model.specs.declared.line.Line.TheVariants as line
+use Rattle.trace_model.specs.declared.line.LineError.{LineError}
+use Rattle.trace_model.specs.declared.line.LineError.TheVariants.{BadWord, TooLong, TooManyStops}
+use Rattle.trace_model.specs.declared.answer.Answer.{Answer}
+use Rattle.trace_model.specs.declared.answer.Answer.TheVariants as answer
+use Rattle.trace_model.specs.declared.ran.Ran.{Ran}
+use Rattle.trace_model.specs.Readings.{Reading, accepted}
+use Rattle.trace_model.specs.Run.{answers_of, disk_without, disk_written, end_answers, lines_of, with_line, writes_after}
+use Rattle.trace_model.specs.Fits.{Fits, FitsEnd, FitsNext, armed_after, block_count, kept_since_flush, may_write}
+
+-- ---- refusals
+
+-- the groups of these blocks, each at its place in the ascending order
+abbrev pub with_groups : ℕ → ℕ → ℕ → List ℕ → List ℕ
+with_groups p lba zero groups = groups
+with_groups p lba (suc n) groups = insert_key nat_cmp (with_groups p lba n groups) ((lba + n) / p)
+
+-- the groups of a line's writes join those of the lines before
+abbrev pub grouping : ℕ → Line → List ℕ → List ℕ
+grouping p (line.Write lba count tag) groups = with_groups p lba count groups
+grouping p other groups = groups
+
+-- each group of the writes once, ascending
+abbrev pub groups_after : ℕ → List Ran → List ℕ
+groups_after p [] = []
+groups_after p (ran ∷ earlier) = grouping p ran.line (groups_after p earlier)
+
+abbrev pub is_idle : Line → Bool
+is_idle line.Idle = true
+is_idle other = false
+
+abbrev pub is_stop : Line → Bool
+is_stop (line.Stop after outcome) = true
+is_stop other = false
+
+-- why a line is refused where so many stops are armed and these groups were written to
+abbrev pub refusal_when : Told → ℕ → List ℕ → Line → Option LineError
+refusal_when o armed groups line = if is_stop line && nat_le 16 armed then Some TooManyStops
+    else if is_idle line then Some BadWord
+    else if nat_lt o.geometry.c (length (grouping o.geometry.p line groups)) then Some TooLong
+    else None
+
+-- why a line is refused after these, where it is
+abbrev pub refusal_of : Told → List Ran → Line → Option LineError
+refusal_of o run line = refusal_when o (length (armed_after run)) (groups_after o.geometry.p run) line
+
+-- none of these lines was to be refused
+abbrev pub NoneRefused : Told → List Ran → Type 0
+NoneRefused o [] = ⊤
+NoneRefused o (ran ∷ earlier) = (refusal_of o earlier ran.line ≡ None) × NoneRefused o earlier
+
+-- why the next line is refused, where it is
+abbrev pub next_refusal : Told → List Ran → List Reading → Option LineError
+next_refusal o run [] = None
+next_refusal o run (Err cause ∷ left) = Some cause
+next_refusal o run (Ok line ∷ left) = refusal_of o run line
+
+-- what is told of a refusal
+abbrev pub refusal : List Ran → LineError → List Answer
+refusal run cause = answer.Refused (length (lines_of run) + 1) cause ∷ []
+
+-- ---- how far a run came
+
+-- of all that is known of the lines, these were run, as they can be, and these are left
+pub record WasRun (o : Told) (all : List Reading) (run : List Ran) (left : List Reading) : Type 0 where
+  pub lines : all ≡ map accepted (lines_of run) ++ left
+  pub accepted : NoneRefused o run
+  pub fits : Fits o.ack run
+
+-- a line with what became of it
+abbrev pub as_ran : Line → ℕ → ℕ → ℕ → Ran
+as_ran line cuts kept lost = record { line = line; cuts = cuts; kept = kept; lost = lost }
+
+-- the answers of a line that comes next, however often it is cut
+pub record AnswersLine (o : Told) (run : List Ran) (line : Line) (answers : List Answer) : Type 0 where
+  pub cuts : ℕ
+  pub kept : ℕ
+  pub lost : ℕ
+  pub fits : FitsNext o.ack (as_ran line cuts kept lost) (length (armed_after run)) (may_write run) (disk_without lost run)
+  pub told : answers ≡ answers_of (as_ran line cuts kept lost) (disk_without lost run)
+
+-- the answers that come after the last line, however often the reads of the end are cut
+pub record AnswersEnd (run : List Ran) (answers : List Answer) : Type 0 where
+  pub cuts : ℕ
+  pub lost : ℕ
+  pub fits : FitsEnd run cuts lost
+  pub told : answers ≡ end_answers run cuts lost
+
+-- what is told of a line: its refusal or its answers
+abbrev pub AnswersTo : Told → Option LineError → List Ran → Line → List Answer → Type 0
+AnswersTo o (Some cause) run line answers = answers ≡ refusal run cause
+AnswersTo o None run line answers = AnswersLine o run line answers
+
+-- what may be told next: of the next line its answers or its refusal; after the last one the end; nothing where no more is known
+abbrev pub MayTell : Told → Bool → List Ran → List Reading → List Answer → Type 0
+MayTell o true run [] answers = AnswersEnd run answers
+MayTell o false run [] answers = answers ≡ []
+MayTell o whole run (Err cause ∷ left) answers = answers ≡ refusal run cause
+MayTell o whole run (Ok line ∷ left) answers = AnswersTo o (refusal_of o run line) run line answers
+
+-- ---- the next line
+
+-- the block writes of a line that is not refused
+abbrev pub blocks_unless : Option LineError → Line → ℕ
+blocks_unless None line = block_count line
+blocks_unless (Some cause) line = 0
+
+-- those of the next line
+abbrev pub next_blocks : Told → List Ran → List Reading → ℕ
+next_blocks o run [] = 0
+next_blocks o run (Err cause ∷ left) = 0
+next_blocks o run (Ok line ∷ left) = blocks_unless (refusal_of o run line) line
+
+-- the block writes after these lines, without the newest so many, and then the first so many of the next line
+abbrev pub writes_within : List Ran → List Reading → ℕ → ℕ → List BlockWrite
+writes_within run [] lost n = drop lost (writes_after run)
+writes_within run (Err cause ∷ left) lost n = drop lost (writes_after run)
+writes_within run (Ok line ∷ left) lost n = with_line line n (drop lost (writes_after run))
+
+abbrev pub disk_within : List Ran → List Reading → ℕ → ℕ → PlainDisk
+disk_within run left lost n = disk_written (writes_within run left lost n)
+
+-- within the next line so many of its block writes can be there, and so many of those before it lost
+pub record MayRemain (o : Told) (run : List Ran) (left : List Reading) (lost n : ℕ) : Type 0 where
+  pub blocks : n ≤ next_blocks o run left
+  pub none : o.ack ≡ Write → lost ≡ 0
+  pub since : lost ≤ kept_since_flush run
+  pub front : 1 ≤ lost → n ≡ 0
