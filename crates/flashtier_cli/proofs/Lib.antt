@@ -1,2 +1,3 @@
 pub mod WordsLemmas
-pub mod EndLemmas
+pub mod BeginLemmas
+pub mod StatusLemmas

@@ -1,4 +1,4 @@
+pub mod Begun
 pub mod Command
 pub mod Defaults
-pub mod Endings
 pub mod Status

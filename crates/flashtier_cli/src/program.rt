@@ -1,12 +1,16 @@
-ghost use Rattle.std.specs.Prelude.{◌≡◌, ◌⊎◌, ◌≤◌, ◌↔◌, Err, map};
+ghost use Rattle.std.specs.Prelude.{◌≡◌, ◌≢◌, ◌⊎◌, ◌≤◌, ◌↔◌, [], true, Err, map};
 ghost use Rattle.std.specs.String.{string_bytes};
 ghost use Rattle.std.specs.Io.KnownBytes.{IsAtEnd};
 ghost use Rattle.ft_base.specs.Count.{Rose};
-ghost use Rattle.ft_base.specs.declared.geometry.Geometry.{Geometry};
+ghost use Rattle.ft_base.specs.Told.{Told};
+ghost use Rattle.cache_model.specs.Stands.{ImageStandsFor};
+ghost use Rattle.trace_model.specs.Readings.{Reads};
 ghost use Rattle.trace_replay.specs.declared.ended.Ended as ended;
+ghost use Rattle.trace_replay.specs.Said.{Tells, TellsPart};
+ghost use Rattle.trace_replay.specs.Theorem.{EndsPart, EndsRefused, EndsUnread, RunsWhole};
+ghost use Rattle.flashtier_cli.specs.Begun.{fitted_for};
 ghost use Rattle.flashtier_cli.specs.Command.{IsReplay};
 ghost use Rattle.flashtier_cli.specs.Defaults.{IsDefault};
-ghost use Rattle.flashtier_cli.specs.Endings.{EndsPart, EndsRefused, EndsUnread, RunsWhole};
 ghost use Rattle.flashtier_cli.specs.Status as status;
 
 use crate::command::is_replay;
@@ -41,32 +45,41 @@ pub fn run<I: Source, O: Sink, R: Rig>(
 ) -> u8
     // The text is what a plain disk prints that holds, after each recovery, a prefix of the block writes
     // with every acknowledged one; and the media are that disk, wherever power stops next.
-    ensures whole { result ≡ 0 → (g : Geometry) × IsDefault g × RunsWhole g (I.left source.old) (O.taken sink.old) (O.taken sink.new) (R.state rig.old) (R.state rig.new) }
-    ensures end { result ≡ 0 → IsAtEnd (I.left source.new) }
+    ensures whole { result ≡ 0 → (o : Told) × IsDefault o × RunsWhole o (Reads o.geometry.size (I.state source.old) (I.state source.new)) (Tells (O.state sink.old) (O.state sink.new))
+        (ImageStandsFor o.geometry) (fitted_for o.geometry (R.state rig.old)) (R.state rig.new) }
+    ensures end { result ≡ 0 → IsAtEnd (I.state source.new).left }
 
     ensures words { (result ≡ 1) ↔ (IsReplay (map string_bytes words.now) → ⊥) }
     ensures nothing { result ≡ 1 → (source.new ≡ source.old) × (sink.new ≡ sink.old) × (rig.new ≡ rig.old) }
 
-    ensures refused { result ≡ 2 → (g : Geometry) × IsDefault g × EndsRefused g (I.left source.old) (O.taken sink.old) (O.taken sink.new) (R.state rig.old) (R.state rig.new) }
-    ensures unread { result ≡ 3 → (g : Geometry) × IsDefault g × EndsUnread g (I.left source.old) (I.left source.new) (O.taken sink.old) (O.taken sink.new) (R.state rig.old) (R.state rig.new) }
+    ensures refused { result ≡ 2 → (o : Told) × IsDefault o × EndsRefused o (Reads o.geometry.size (I.state source.old) (I.state source.new)) (Tells (O.state sink.old) (O.state sink.new))
+        (ImageStandsFor o.geometry) (fitted_for o.geometry (R.state rig.old)) (R.state rig.new) }
+    ensures unread { result ≡ 3 → (o : Told) × IsDefault o × EndsUnread o (Reads o.geometry.size (I.state source.old) (I.state source.new)) (Tells (O.state sink.old) (O.state sink.new))
+        (ImageStandsFor o.geometry) (fitted_for o.geometry (R.state rig.old)) (R.state rig.new) }
 
-    // Another end comes before anything was read or printed, or within the answers of a line.
-    ensures part { 4 ≤ result → ((source.new ≡ source.old) × (sink.new ≡ sink.old))
-        ⊎ ((g : Geometry) × (e : ended.Ended) × IsDefault g × (result ≡ status.status_of (Err e)) × EndsPart g e (I.left source.old) (O.taken sink.old) (O.taken sink.new) (R.state rig.new)) }
+    // Another end comes before anything was read or printed, with no call of the disk that reads or writes, and
+    // with nothing armed where a device failed; or within the answers of a line.
+    ensures part { 4 ≤ result → ((source.new ≡ source.old) × (sink.new ≡ sink.old)
+        × ((R.state rig.new).counts.disk_reads ≡ (R.state rig.old).counts.disk_reads) × ((R.state rig.new).counts.disk_writes ≡ (R.state rig.old).counts.disk_writes)
+        × ((result ≡ 5) ⊎ (result ≡ 6) → (R.state rig.new).power.stops ≡ []))
+        ⊎ ((o : Told) × (e : ended.Ended) × IsDefault o × (result ≡ status.status_of (Err e)) × EndsPart o (Reads o.geometry.size (I.state source.old) (I.state source.new)) (Tells (O.state sink.old) (O.state sink.new)) (TellsPart (O.state sink.old) (O.state sink.new))
+        (ImageStandsFor o.geometry) (fitted_for o.geometry (R.state rig.old)) (R.state rig.new) e) }
     ensures known { result ≤ 7 }
 
-    ensures source { result ≡ 3 → Rose (I.faults source.old) (I.faults source.new) }
-    ensures sink { result ≡ 4 → Rose (O.faults sink.old) (O.faults sink.new) }
+    ensures source { result ≡ 3 → Rose (I.state source.old).faults (I.state source.new).faults }
+    ensures sink { result ≡ 4 → Rose (O.state sink.old).faults (O.state sink.new).faults }
     ensures flash { result ≡ 5 → Rose (R.state rig.old).faults.flash (R.state rig.new).faults.flash }
     ensures disk { result ≡ 6 → Rose (R.state rig.old).faults.disk (R.state rig.new).faults.disk }
 
+    // Also where power was off before.
+    ensures on { result ≢ 1 → result ≢ 7 → (R.state rig.new).power.on ≡ true }
     ensures disk_writes { (R.state rig.new).counts.disk_writes ≡ (R.state rig.old).counts.disk_writes }
-    ensures source_lent { I.lent source.new ≡ I.lent source.old }
-    ensures sink_lent { O.lent sink.new ≡ O.lent sink.old }
+    ensures source_lent { (I.state source.new).lent ≡ (I.state source.old).lent }
+    ensures sink_lent { (O.state sink.new).lent ≡ (O.state sink.old).lent }
     ensures rig_lent { (R.state rig.new).lent ≡ (R.state rig.old).lent }
 
     // Where nothing failed, memory was there and no line is refused, every line is run.
-    ensures complete { IsReplay (map string_bytes words.now) → (Rose (I.faults source.old) (I.faults source.new) → ⊥) → (Rose (O.faults sink.old) (O.faults sink.new) → ⊥)
+    ensures complete { IsReplay (map string_bytes words.now) → (Rose (I.state source.old).faults (I.state source.new).faults → ⊥) → (Rose (O.state sink.old).faults (O.state sink.new).faults → ⊥)
         → (Rose (R.state rig.old).faults.flash (R.state rig.new).faults.flash → ⊥) → (Rose (R.state rig.old).faults.disk (R.state rig.new).faults.disk → ⊥)
         → (result ≡ 0) ⊎ (result ≡ 2) ⊎ (result ≡ 7) }
 {

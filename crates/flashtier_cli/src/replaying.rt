@@ -1,11 +1,18 @@
-ghost use Rattle.std.specs.Prelude.{◌≡◌, ◌≢◌, ◌⊎◌, OnOk, IfErr, IsErrOf};
+ghost use Rattle.std.specs.Prelude.{◌≡◌, ◌≢◌, ◌⊎◌, [], true, OnOk, OnErr, IfErr, IsErrOf};
 ghost use Rattle.std.specs.Io.KnownBytes.{IsAtEnd};
 ghost use Rattle.ft_base.specs.Count.{Rose};
-ghost use Rattle.flashtier_cli.specs.Endings.{EndsPart, EndsRefused, EndsUnread, RunsWhole};
+ghost use Rattle.ft_base.specs.declared.told.Mode.TheVariants.{Back};
+ghost use Rattle.ft_volume.specs.Volume.{told_for};
+ghost use Rattle.cache_model.specs.Stands.{ImageStandsFor};
+ghost use Rattle.trace_model.specs.Readings.{Reads};
+ghost use Rattle.trace_replay.specs.Said.{Tells, TellsPart};
+ghost use Rattle.trace_replay.specs.Theorem.{EndsPart, EndsRefused, EndsUnread, RunsWhole};
+ghost use Rattle.flashtier_cli.specs.Begun.{fitted_for};
 
 use crate::beginning::begin;
 use ft_base::{Sink, Source};
-use ft_media::{Media, Options, Rig};
+use ft_media::{Media, Rig};
+use ft_volume::Options;
 use std::alloc::Global;
 use trace_replay::{Ended, replay};
 
@@ -18,20 +25,28 @@ pub fn replay_with<I: Source, O: Sink, R: Rig>(
     sink: &mut O,
     rig: &mut R,
 ) -> Result<(), Ended>
-    ensures whole { OnOk result (RunsWhole options.now.geometry (I.left source.old) (O.taken sink.old) (O.taken sink.new) (R.state rig.old) (R.state rig.new)) }
-    ensures end { OnOk result (IsAtEnd (I.left source.new)) }
-    ensures refused { IsErrOf result Ended.Trace → EndsRefused options.now.geometry (I.left source.old) (O.taken sink.old) (O.taken sink.new) (R.state rig.old) (R.state rig.new) }
-    ensures unread { IsErrOf result Ended.Source → EndsUnread options.now.geometry (I.left source.old) (I.left source.new) (O.taken sink.old) (O.taken sink.new) (R.state rig.old) (R.state rig.new) }
-    // Another end comes before anything was read or printed, or within the answers of a line.
-    ensures part { IfErr result (λ e. e ≢ Ended.Trace → e ≢ Ended.Source → ((source.new ≡ source.old) × (sink.new ≡ sink.old))
-        ⊎ EndsPart options.now.geometry e (I.left source.old) (O.taken sink.old) (O.taken sink.new) (R.state rig.new)) }
-    ensures source { IsErrOf result Ended.Source → Rose (I.faults source.old) (I.faults source.new) }
-    ensures sink { IsErrOf result Ended.Sink → Rose (O.faults sink.old) (O.faults sink.new) }
+    ensures whole { OnOk result (RunsWhole (told_for Back options.now) (Reads options.now.geometry.size (I.state source.old) (I.state source.new)) (Tells (O.state sink.old) (O.state sink.new))
+        (ImageStandsFor options.now.geometry) (fitted_for options.now.geometry (R.state rig.old)) (R.state rig.new)) }
+    ensures end { OnOk result (IsAtEnd (I.state source.new).left) }
+    ensures refused { IsErrOf result Ended.Trace → EndsRefused (told_for Back options.now) (Reads options.now.geometry.size (I.state source.old) (I.state source.new)) (Tells (O.state sink.old) (O.state sink.new))
+        (ImageStandsFor options.now.geometry) (fitted_for options.now.geometry (R.state rig.old)) (R.state rig.new) }
+    ensures unread { IsErrOf result Ended.Source → EndsUnread (told_for Back options.now) (Reads options.now.geometry.size (I.state source.old) (I.state source.new)) (Tells (O.state sink.old) (O.state sink.new))
+        (ImageStandsFor options.now.geometry) (fitted_for options.now.geometry (R.state rig.old)) (R.state rig.new) }
+    // Another end comes before anything was read or printed, with no call of the disk that reads or writes, and
+    // with nothing armed where a device failed; or within the answers of a line.
+    ensures part { IfErr result (λ e. e ≢ Ended.Trace → e ≢ Ended.Source → ((source.new ≡ source.old) × (sink.new ≡ sink.old)
+        × ((R.state rig.new).counts.disk_reads ≡ (R.state rig.old).counts.disk_reads) × ((R.state rig.new).counts.disk_writes ≡ (R.state rig.old).counts.disk_writes)
+        × ((e ≡ Ended.Flash) ⊎ (e ≡ Ended.Disk) → (R.state rig.new).power.stops ≡ []))
+        ⊎ EndsPart (told_for Back options.now) (Reads options.now.geometry.size (I.state source.old) (I.state source.new)) (Tells (O.state sink.old) (O.state sink.new)) (TellsPart (O.state sink.old) (O.state sink.new))
+        (ImageStandsFor options.now.geometry) (fitted_for options.now.geometry (R.state rig.old)) (R.state rig.new) e) }
+    ensures source { IsErrOf result Ended.Source → Rose (I.state source.old).faults (I.state source.new).faults }
+    ensures sink { IsErrOf result Ended.Sink → Rose (O.state sink.old).faults (O.state sink.new).faults }
     ensures flash { IsErrOf result Ended.Flash → Rose (R.state rig.old).faults.flash (R.state rig.new).faults.flash }
     ensures disk { IsErrOf result Ended.Disk → Rose (R.state rig.old).faults.disk (R.state rig.new).faults.disk }
+    ensures on { (IsErrOf result Ended.Memory → ⊥) → (R.state rig.new).power.on ≡ true }
     ensures disk_writes { (R.state rig.new).counts.disk_writes ≡ (R.state rig.old).counts.disk_writes }
-    ensures source_lent { I.lent source.new ≡ I.lent source.old }
-    ensures sink_lent { O.lent sink.new ≡ O.lent sink.old }
+    ensures source_lent { (I.state source.new).lent ≡ (I.state source.old).lent }
+    ensures sink_lent { (O.state sink.new).lent ≡ (O.state sink.old).lent }
     ensures rig_lent { (R.state rig.new).lent ≡ (R.state rig.old).lent }
 {
     match begin(alloc, rig, options) {

@@ -1,8 +1,9 @@
 //! Power cuts at given device writes.
 
-use crate::plain::is_plain;
+use crate::plain::{cuts_told, is_plain};
 use crate::small::{options, run};
 use std::test::Fail;
+use trace_replay::Ended;
 
 const WRITTEN: &str = "wrote 0 4\n";
 
@@ -15,7 +16,7 @@ const NEW: &str = "kept 1 of 1\nread 0 1\nread 1 1\nread 2 1\nread 3 1\nread 4 2
 #[test]
 fn a_seal_that_is_cut_counts_where_it_is_whole(rt: HostRuntime) -> Result<(), Fail> {
     let alloc = rt.alloc();
-    let options = options(2, 4)?;
+    let options = options(2, 2)?;
     for (outcome, after) in [("blank", OLD), ("torn", OLD), ("whole", NEW)] {
         let trace = format!(in alloc; "w 0 4 1\nstop 6 {outcome}\nw 4 1 2\nr 0 5\n")?;
         let run = run(alloc, &options, trace.as_bytes())?;
@@ -33,7 +34,7 @@ fn a_seal_that_is_cut_counts_where_it_is_whole(rt: HostRuntime) -> Result<(), Fa
 fn a_recovery_that_is_cut_loses_nothing(rt: HostRuntime) -> Result<(), Fail> {
     let alloc = rt.alloc();
     let trace = b"w 0 4 1\nstop 3 mixed\nstop 2 torn\nw 4 1 2\nr 0 5\n";
-    let run = run(alloc, &options(2, 4)?, trace)?;
+    let run = run(alloc, &options(2, 2)?, trace)?;
     assert_eq!(rt; run.ended, Ok(()));
     let wanted = format!(in alloc; "{WRITTEN}stopped\nstopped\n{OLD}")?;
     assert!(rt; run.text.starts_with(wanted.as_bytes()));
@@ -57,25 +58,40 @@ fn a_write_that_is_cut_keeps_its_first_blocks(rt: HostRuntime) -> Result<(), Fai
 }
 
 #[test]
-fn lines_that_find_no_room_are_refused(rt: HostRuntime) -> Result<(), Fail> {
+fn a_line_that_makes_too_many_groups_dirty_is_refused(rt: HostRuntime) -> Result<(), Fail> {
     let alloc = rt.alloc();
     let options = options(2, 2)?;
-    let refused: [(&[u8], &[u8]); 5] = [
-        // A page for each block, and an erase block for each stop and cut: 8 pages in all.
-        (b"w 0 8 1\nw 0 1 2\n", b"wrote 0 8\nline 2: TooLong\n"),
-        (b"w 0 5 1\ncut torn\n", b"wrote 0 5\nline 2: TooLong\n"),
-        (
-            b"stop 9 torn\nstop 9 torn\nr 0 1\nw 0 1 1\n",
-            b"read 0 0\nline 4: TooLong\n",
-        ),
-        // At most two groups of four.
+    // At most two groups of four.
+    let refused: [(&[u8], &[u8]); 3] = [
         (b"w 3 2 1\nw 8 1 1\n", b"wrote 3 2\nline 2: TooLong\n"),
         (b"w 3 6 1\n", b"line 1: TooLong\n"),
+        (
+            b"w 0 8 1\nw 0 8 2\nw 8 1 1\n",
+            b"wrote 0 8\nwrote 0 8\nline 3: TooLong\n",
+        ),
     ];
     for (trace, text) in refused {
         let run = run(alloc, &options, trace)?;
-        assert!(rt; run.ended.is_err());
+        assert_eq!(rt; run.ended, Err(Ended::Trace));
         assert_eq!(rt; run.text.as_slice(), text);
     }
+    Ok(())
+}
+
+// Two log blocks of four pages take forty writes, each with stops at its first device writes.
+#[test]
+fn merges_that_are_cut_lose_nothing(rt: HostRuntime) -> Result<(), Fail> {
+    let alloc = rt.alloc();
+    let mut trace = Vec::new(alloc);
+    for tag in 1..=40u64 {
+        let (first, after) = (tag * 3 % 7, 1 + tag % 9);
+        let line = format!(in alloc; "stop {after} torn\nw {first} 1 {tag}\nr {first} 1\n")?;
+        trace.extend_from_slice(line.as_bytes())?;
+    }
+    let run = run(alloc, &options(2, 2)?, trace.as_slice())?;
+    assert_eq!(rt; run.ended, Ok(()));
+    assert!(rt; is_plain(alloc, trace.as_slice(), run.text.as_slice(), 64)?);
+    let (stops, kept) = cuts_told(run.text.as_slice());
+    assert!(rt; stops > 20 && kept > 10);
     Ok(())
 }

@@ -1,8 +1,9 @@
 //! What a plain disk prints of a trace, where power stopped as a printed text says.
 
 ghost use Rattle.std.specs.Prelude.{IsTrue};
-ghost use Rattle.trace_model.specs.Plain.{AreAddressed, AreRunLines, IsRunLine};
+ghost use Rattle.trace_model.specs.Plain.{AreAddressed, AreRunLines, IsAddressed, IsKeptWithin, IsRunLine};
 
+use ft_base::Ack;
 use std::alloc::Global;
 use std::test::Fail;
 use trace_model::{Line, Ran, plain_end, plain_fits, plain_told};
@@ -20,7 +21,7 @@ struct Record {
 pub(crate) fn is_plain(alloc: Global, trace: &[u8], text: &[u8], size: u64) -> Result<bool, Fail> {
     let record = record_of(alloc, trace, text, size)?;
     let run = record.run.as_slice();
-    if !are_run_lines(run) || !plain_fits(alloc, run)? {
+    if !are_run_lines(run) || !plain_fits(alloc, Ack::Write, run)? {
         return Ok(false);
     }
     let mut wanted = Vec::new(alloc);
@@ -32,6 +33,25 @@ pub(crate) fn is_plain(alloc: Global, trace: &[u8], text: &[u8], size: u64) -> R
     }
     put_answer(&mut wanted, &plain_end(alloc, run)?)?;
     Ok(wanted.as_slice() == text)
+}
+
+/// How many of the printed lines tell of a stop, and how many of a write that was cut.
+pub(crate) fn cuts_told(text: &[u8]) -> (u64, u64) {
+    let mut stops: u64 = 0;
+    let mut writes: u64 = 0;
+    let mut rest = text;
+    for _ in 0..text.len() {
+        let Some((answer, after)) = next_answer(rest) else {
+            break;
+        };
+        match answer {
+            Answer::Stopped => stops = stops.saturating_add(1),
+            Answer::Kept { .. } => writes = writes.saturating_add(1),
+            _ => {}
+        }
+        rest = after;
+    }
+    (stops, writes)
 }
 
 fn record_of(alloc: Global, trace: &[u8], text: &[u8], size: u64) -> Result<Record, Fail> {
@@ -66,7 +86,14 @@ fn became(line: Line, answers: &[u8]) -> (Ran, &[u8]) {
         Line::Flush | Line::Idle | Line::Cut { .. } => (0, after_answers(rest, 1)),
         Line::Stop { .. } | Line::Nothing => (0, rest),
     };
-    (Ran { line, cuts, kept }, rest)
+    let lost = 0;
+    let ran = Ran {
+        line,
+        cuts,
+        kept,
+        lost,
+    };
+    (ran, rest)
 }
 
 /// How many lines that tell of a stop come first, and what comes after them.
@@ -110,7 +137,8 @@ fn next_answer(answers: &[u8]) -> Option<(Answer, &[u8])> {
     Some((read_answer(line)?, after))
 }
 
-/// Whether the addresses of the lines are numbers of 64 bits, and no more blocks count than a write has.
+/// Whether the addresses of the lines are numbers of 64 bits, no more blocks count than a write has, and no
+/// block write is lost.
 #[tactic(auto, using(crate::proofs::PlainLemmas::first_runs, crate::proofs::PlainLemmas::first_addressed))]
 fn are_run_lines(run: &[Ran]) -> bool
     ensures run { IsTrue result → AreRunLines run.now }
@@ -128,6 +156,13 @@ fn are_run_lines(run: &[Ran]) -> bool
 
 fn is_run_line(ran: &Ran) -> bool
     ensures { IsTrue result → IsRunLine ran.now }
+{
+    ran.lost == 0 && is_in_range(ran)
+}
+
+fn is_in_range(ran: &Ran) -> bool
+    ensures addressed { IsTrue result → IsAddressed ran.now.line }
+    ensures kept { IsTrue result → IsKeptWithin ran.now.line ran.now.kept }
 {
     match ran.line {
         Line::Write { lba, count, .. } => lba.checked_add(count).is_some() && ran.kept <= count,

@@ -140,25 +140,18 @@ fn sixteen_stops_can_be_armed(rt: HostRuntime) -> Result<(), Fail> {
     Ok(())
 }
 
+// 16 log blocks of 64 pages are full after the first line.
 #[test]
-fn a_run_has_room_for_1024_blocks(rt: HostRuntime) -> Result<(), Fail> {
+fn erase_blocks_are_used_again(rt: HostRuntime) -> Result<(), Fail> {
     let alloc = rt.alloc();
-    let full = replay(alloc, b"w 0 1024 1\nr 1023 1")?;
+    let full = replay(alloc, b"w 0 1024 1\nw 0 1 2\nr 0 2\nr 1023 1\n")?;
     assert_eq!(rt; full.status, 0);
     assert!(rt;
-        full.text
-            .starts_with(b"wrote 0 1024\nread 1023 1\nend 1 1 1024 ")
+        full.text.starts_with(
+            b"wrote 0 1024\nwrote 0 1\nread 0 2\nread 1 1\nread 1023 1\nend 2 2 1024 "
+        )
     );
     assert_eq!(rt; full.counts.disk_writes, 0);
-    let over = replay(alloc, b"w 0 1024 1\nw 0 1 2\n")?;
-    assert_eq!(rt; over.status, 2);
-    assert_eq!(rt;
-        over.text.as_slice(),
-        b"wrote 0 1024\nline 2: TooLong\n".as_slice()
-    );
-    let wide = replay(alloc, b"w 0 1025 1\n")?;
-    assert_eq!(rt; wide.status, 2);
-    assert_eq!(rt; wide.text.as_slice(), b"line 1: TooLong\n".as_slice());
     Ok(())
 }
 
@@ -234,6 +227,13 @@ fn streams_that_fail_end_the_run(rt: HostRuntime) -> Result<(), Fail> {
     let status = run(alloc, words.as_slice(), &mut source, &mut sink, &mut rig);
     assert_eq!(rt; status, 2);
     assert_eq!(rt; sink.bytes(), b"line 1: BadWord\n".as_slice());
+    // A line is too long once 201 of its bytes were read, whatever comes after them.
+    let trace = Vec::from_slice(alloc, [b'w'; 201].as_slice())?;
+    let mut source = MemSource::new(trace, 201, [2].to_vec(alloc)?);
+    let mut sink = MemSink::new(alloc, 1000, 100, Vec::new(alloc))?;
+    let status = run(alloc, words.as_slice(), &mut source, &mut sink, &mut rig);
+    assert_eq!(rt; status, 2);
+    assert_eq!(rt; sink.bytes(), b"line 1: LineTooLong\n".as_slice());
     let trace = Vec::from_slice(alloc, b"w 5 1 7\nr 5 1\nr 6 1\n")?;
     let mut source = MemSource::new(trace, 100, Vec::new(alloc));
     let mut sink = MemSink::new(alloc, 1000, 5, [2].to_vec(alloc)?)?;

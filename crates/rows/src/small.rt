@@ -2,7 +2,7 @@
 
 use flashtier_cli::replay_with;
 use ft_base::{Geometry, MemSink, MemSource};
-use ft_media::Options;
+use ft_volume::Options;
 use mem_rig::MemRig;
 use std::alloc::Global;
 use std::test::Fail;

@@ -1,16 +1,30 @@
 -- The block writes of a request, one after the other.
-use Rattle.std.proofs.Common.{◌≡◌, ◌≢◌, inl, inr, ℕ, zero, suc, ◌+◌, ◌-◌, ◌<◌, ◌≤◌, refl, sym, ap, ◌∙◌, subst, arith}
+use Rattle.std.proofs.Common.{◌≡◌, ◌≢◌, inl, inr, ℕ, zero, suc, ◌+◌, ◌-◌, ◌<◌, ◌≤◌, List, [], ◌∷◌, ◌++◌, refl, sym, ap, ◌∙◌, subst, add-one, arith}
 use Rattle.std.proofs.lemmas.Bool.{cases_lt, cases_eq}
+use Rattle.std.proofs.lemmas.List.FromFn.{map-range_with_len_more}
 use Rattle.ft_base.specs.declared.block.Block.{Block}
 use Rattle.ft_base.specs.Contents.{Contents, Image, set}
 use Rattle.ft_base.specs.PlainDisk.{PlainDisk}
-use Rattle.ft_base.specs.Pattern.{pat}
+use Rattle.ft_base.specs.Pattern.{pat, tag_in}
 use Rattle.ft_base.proofs.Images.{set_here, set_other}
-use Rattle.ft_media.specs.State.{State}
-use Rattle.ft_media.specs.Volume.{StandFor, StandForEither, StandForOne}
-use Rattle.trace_model.specs.Run.{after_blocks, FitsWrite}
-use Rattle.trace_replay.specs.Ends.{Cuts, IsKept, StandForFront}
-use Rattle.trace_replay.proofs.GoesLemmas.{blocks_more}
+use Rattle.ft_volume.specs.Volume.{StandFor, StandForEither, StandForOne}
+use Rattle.trace_model.specs.declared.answer.Answer.{Answer}
+use Rattle.trace_model.specs.declared.answer.Answer.TheVariants as answer
+use Rattle.trace_model.specs.Fits.{FitsWrite}
+use Rattle.trace_model.specs.Run.{after_blocks, read_backs}
+use Rattle.trace_replay.specs.Ends.{IsKept, StandForFront}
+
+-- one more block is written
+pub blocks_more : (lba tag i : ℕ) (d : PlainDisk) (block : Block) → block ≡ pat (lba + i) tag → set (after_blocks lba tag i d) (lba + i) block ≡ after_blocks lba tag (i + 1) d
+blocks_more lba tag i d block is = ap (λ b. set (after_blocks lba tag i d) (lba + i) b) is ∙ sym (ap (λ k. after_blocks lba tag k d) (add-one i))
+
+-- one more block is read
+pub read_backs_more : (lba i tag : ℕ) (block : Block) (disk : PlainDisk) (before after : List Answer) → before ≡ read_backs lba i disk → after ≡ before ++ answer.ReadBack (lba + i) tag ∷ [] → tag ≡ tag_in block → block ≡ disk (lba + i) → after ≡ read_backs lba (i + 1) disk
+read_backs_more lba i tag block disk before after is pushed tag_is found =
+    let back : ℕ → Answer = λ a. answer.ReadBack a (tag_in (disk a)) in
+    pushed ∙ ap (λ xs. xs ++ answer.ReadBack (lba + i) tag ∷ []) is
+    ∙ ap (λ t. read_backs lba i disk ++ answer.ReadBack (lba + i) t ∷ []) (tag_is ∙ ap tag_in found)
+    ∙ sym (map-range_with_len_more back lba i (lba + i) refl)
 
 module _ (stands : Image → PlainDisk → Type 0) (c : Contents) (lba tag i count : ℕ) (d : PlainDisk) (block : Block) (is : block ≡ pat (lba + i) tag) where
   pub one_more : StandFor stands c (set (after_blocks lba tag i d) (lba + i) block) → StandFor stands c (after_blocks lba tag (i + 1) d)
@@ -33,10 +47,6 @@ module _ (stands : Image → PlainDisk → Type 0) (c : Contents) (lba tag i cou
 -- all blocks are there
 pub front_whole : (stands : Image → PlainDisk → Type 0) (c : Contents) (lba tag i count : ℕ) (d : PlainDisk) → i ≤ count → StandFor stands c (after_blocks lba tag i d) → StandForFront stands c lba tag count d
 front_whole stands c lba tag i count d most stood x now = (i, most, stood x now)
-
--- of a write that was cut it doesn't matter how many device writes were made
-pub cut_spends : (n s t : ℕ) (a b : State) → 1 ≤ n → Cuts n s a b → Cuts n t a b
-cut_spends n s t a b some cuts = record { few = cuts.few; stops = cuts.stops; rest = λ none _. absurd (omega arith); risen = cuts.risen; ready = cuts.ready }
 
 -- within the request, and outside
 pub blocks_in : (lba tag n k : ℕ) (d : PlainDisk) → k < n → after_blocks lba tag n d (lba + k) ≡ pat (lba + k) tag
@@ -81,17 +91,18 @@ kept_front lba tag n kept count d within is =
     let sum : n + (kept - n) ≡ kept = omega arith in
     sym (written_on lba tag n (kept - n) d (λ m less. is.before m (omega arith))) ∙ ap (λ m. after_blocks lba tag m d) sum
 
-pub kept_fits : (lba tag n kept count cuts : ℕ) (d : PlainDisk) → n ≤ count → IsKept lba count tag kept (after_blocks lba tag n d) → FitsWrite lba count tag (cuts + 1) kept d
+pub kept_fits : (lba tag n kept count cuts : ℕ) (d : PlainDisk) → n ≤ count → IsKept lba count tag kept (after_blocks lba tag n d) → FitsWrite lba count tag (cuts + 1) kept 0 d
 kept_fits lba tag n kept count cuts d within is =
     let more : n ≤ kept = kept_is lba tag n kept count d within is in
     record {
       whole = λ none. absurd (omega arith);
       most = is.most;
-      first_old = λ less here. is.first_old less (blocks_past lba tag n (lba + kept) d (omega arith) ∙ here);
+      first_old = λ _ less here. is.first_old less (blocks_past lba tag n (lba + kept) d (omega arith) ∙ here);
+      lost_all = λ some. absurd (omega arith);
     }
 
-pub whole_fits : (lba tag count : ℕ) (d : PlainDisk) → FitsWrite lba count tag 0 count d
-whole_fits lba tag count d = record { whole = λ _. refl; most = omega arith; first_old = λ less. absurd (omega arith) }
+pub whole_fits : (lba tag count : ℕ) (d : PlainDisk) → FitsWrite lba count tag 0 count 0 d
+whole_fits lba tag count d = record { whole = λ _. refl; most = omega arith; first_old = λ _ less. absurd (omega arith); lost_all = λ some. absurd (omega arith) }
 
 pub kept_here : (lba tag i count : ℕ) (d : PlainDisk) (got wanted : Block) → ((k : ℕ) → k < i → d (lba + k) ≡ pat (lba + k) tag) → i < count → got ≡ d (lba + i) → wanted ≡ pat (lba + i) tag → got ≢ wanted → IsKept lba count tag i d
 kept_here lba tag i count d got wanted before within found is other = record {

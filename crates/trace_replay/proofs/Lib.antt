@@ -1,12 +1,23 @@
-pub mod PartLemmas
-pub mod CutsLemmas
-pub mod GoesLemmas
-pub mod GroupLemmas
-pub mod BlocksLemmas
-pub mod TallyLemmas
-pub mod TouchedLemmas
-pub mod LinesLemmas
+pub mod ExitLemmas
+pub mod FromLemmas
+pub mod GivenLemmas
+pub mod GroupingLemmas
 pub mod RanLemmas
-pub mod ToldLemmas
+pub mod TallyLemmas
+pub mod TheoremLemmas
+mod AmongLemmas
+mod BlocksLemmas
+mod CallLemmas
+mod CutsLemmas
+mod EndingLemmas
+mod EventsLemmas
+mod MayHoldLemmas
+mod SayingLemmas
+mod WentLemmas
+mod WithinLemmas
+pub mod SaidLemmas
+pub mod InputLemmas
 pub mod ReadingsLemmas
-pub mod SoFarLemmas
+pub mod BytesLemmas
+pub mod UnreadLemmas
+pub mod TraceLemmas

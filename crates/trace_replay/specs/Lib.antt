@@ -1,3 +1,10 @@
+pub mod Events
+pub mod Said
+pub mod Went
 pub mod Ends
-pub mod Input
+pub mod Theorem
+pub mod Before
 pub mod Ran
+pub mod Saying
+pub mod Input
+pub mod Bytes

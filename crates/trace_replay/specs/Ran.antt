@@ -1,37 +1,40 @@
 -- What was counted of the lines that were run, and what they left.
-use Rattle.std.specs.Prelude.{◌≡◌, ◌≢◌, ◌≤◌, ◌+◌, ◌*◌, ℕ, List, [], length, drop, Option, Some, None, Result, ⊤}
-use Rattle.std.specs.Io.KnownBytes.{Appends}
+use Rattle.std.specs.Prelude.{◌≡◌, ◌≢◌, ◌≤◌, ◌+◌, ℕ, Bool, true, List, [], length, Option, Some, None, ⊤}
 use Rattle.ft_base.specs.Contents.{Image}
+use Rattle.ft_base.specs.Count.{Rose}
 use Rattle.ft_base.specs.PlainDisk.{PlainDisk}
-use Rattle.ft_base.specs.declared.geometry.Geometry.{Geometry}
-use Rattle.ft_media.specs.Media.{KeepsReady}
+use Rattle.ft_base.specs.Told.{Told}
 use Rattle.ft_base.specs.declared.power.Stop.{Stop}
+use Rattle.ft_media.specs.Media.{KeepsReady}
 use Rattle.ft_media.specs.State.{State}
-use Rattle.ft_media.specs.Volume.{AreAmong, StandFor}
+use Rattle.ft_volume.specs.Volume.{AreAmong, StandFor}
 use Rattle.trace_model.specs.declared.answer.Answer.{Answer}
 use Rattle.trace_model.specs.declared.line.Line.{Line}
-use Rattle.trace_model.specs.declared.line.LineError.{LineError}
 use Rattle.trace_model.specs.declared.ran.Ran.{Ran}
-use Rattle.trace_model.specs.Run.{armed_after, cuts_in, disk_after, may_write, read_count, reads_in, told, touched_after, touching, write_count, writes_in}
-use Rattle.trace_model.specs.Text.{text}
-use Rattle.trace_model.specs.Told.{MayTell, WasRun, block_room, grouping, groups_after, page_count, pages_in}
+use Rattle.trace_model.specs.Fits.{Fits, armed_after, may_write}
+use Rattle.trace_model.specs.Readings.{Reading}
+use Rattle.trace_model.specs.Run.{cuts_in, disk_after, lines_of, read_count, reads_in, touched_after, touching, write_count, writes_in}
+use Rattle.trace_model.specs.SoFar.{NoneRefused, grouping, groups_after}
 use Rattle.trace_replay.specs.declared.ended.Ended.{Ended}
+use Rattle.trace_replay.specs.declared.ended.Ended.TheVariants as ended
 use Rattle.trace_replay.specs.declared.tally.Tally.{Tally}
-use Rattle.trace_replay.specs.Ends.{QueueTold, RoseAtLeast, StandForNext, TookPart}
+use Rattle.trace_replay.specs.Events.{ScriptState}
+use Rattle.trace_replay.specs.Said.{RoseAtLeast}
+use Rattle.trace_replay.specs.Theorem.{EndsPart, EndsRefused, EndsUnread, LeavesRig}
 
 -- one more line was counted
 pub record IsTallied (p : ℕ) (line : Line) (old new : Tally) : Type 0 where
+  pub lines : new.lines ≡ old.lines + 1
   pub writes : new.writes ≡ old.writes + write_count line
   pub reads : new.reads ≡ old.reads + read_count line
-  pub pages : new.pages ≡ old.pages + page_count p line
   pub groups : new.groups.keys ≡ grouping p line old.groups.keys
   pub touched : new.touched.keys ≡ touching line old.touched.keys
 
 -- the lines of a run were counted
 pub record IsTallyOf (p : ℕ) (run : List Ran) (tally : Tally) : Type 0 where
+  pub lines : tally.lines ≡ length (lines_of run)
   pub writes : tally.writes ≡ writes_in run
   pub reads : tally.reads ≡ reads_in run
-  pub pages : tally.pages ≡ pages_in p run
   pub groups : tally.groups.keys ≡ groups_after p run
   pub touched : tally.touched.keys ≡ touched_after run
 
@@ -40,34 +43,45 @@ abbrev pub RestWithin : Option ℕ → List Stop → ℕ → Type 0
 RestWithin None stops rest = ⊤
 RestWithin (Some most) stops rest = (stops ≢ []) × (rest ≤ most)
 
--- what these lines left, and so many cuts after them: whatever a crash leaves now stands for the plain disk, the stops are those that did not cut, each cut was counted, and without a cut what was ready is ready
-pub record HasRun (stands : Image → PlainDisk → Type 0) (first now : State) (run : List Ran) (cuts : ℕ) : Type 0 where
+-- these lines were run so far and none was refused: whatever a crash leaves now stands for their plain disk, the stops are those that did not cut, each cut was counted, without a cut what was ready is ready, and no other groups have a block that the disk lacks than those of the lines
+pub record RanSoFar (o : Told) (stands : Image → PlainDisk → Type 0) (first now : State) (counted : Tally) (held : List ℕ) (run : List Ran) : Type 0 where
+  pub accepted : NoneRefused o run
+  pub fits : Fits o.ack run
+  pub rig : LeavesRig first now
   pub disk : StandFor stands now.contents (disk_after run)
-  pub few : cuts ≤ length (armed_after run)
-  pub stops : now.power.stops ≡ drop cuts (armed_after run)
-  pub risen : RoseAtLeast (cuts_in run + cuts) first.faults.cuts now.faults.cuts
-  pub ready : cuts_in run + cuts ≡ 0 → KeepsReady first now
-
--- a run ended so within what may be told after these lines
-pub record EndsNext (stands : Image → PlainDisk → Type 0) (e : Ended) (old new : Option (List ℕ)) (now : State) (g : Geometry) (run : List Ran) (left : List (Result Line LineError)) : Type 0 where
-  pub next : List Answer
-  pub may : MayTell g run left next
-  pub part : TookPart e old new (told run) next
-  pub queue : QueueTold e old new (told run) (armed_after run) now.power.stops
-  pub media : StandForNext stands now.contents g run left
-
--- where a run began: all that its trace says, the media, and what the sink had taken
-pub record Origin : Type 0 where
-  pub all : List (Result Line LineError)
-  pub first : State
-  pub taken : Option (List ℕ)
-
--- these lines were run so far, and these readings are left; there are pages for what is armed, and no other groups have a block that the disk lacks than those of the lines
-pub record RanSoFar (g : Geometry) (stands : Image → PlainDisk → Type 0) (origin : Origin) (now : State) (taken : Option (List ℕ)) (counted : Tally) (room : ℕ) (held : List ℕ) (run : List Ran) (left : List (Result Line LineError)) : Type 0 where
-  pub was : WasRun g origin.all run left
-  pub said : Appends origin.taken taken (text (told run))
-  pub has : HasRun stands origin.first now run 0
+  pub stops : now.power.stops ≡ armed_after run
   pub rest : RestWithin (may_write run) now.power.stops now.power.rest
-  pub tally : IsTallyOf g.p run counted
-  pub pages : block_room g + length now.power.stops * g.p ≤ room + pages_in g.p run
-  pub groups : AreAmong held (groups_after g.p run)
+  pub risen : RoseAtLeast (cuts_in run) first.faults.cuts now.faults.cuts
+  pub ready : cuts_in run ≡ 0 → KeepsReady first now
+  pub tally : IsTallyOf o.geometry.p run counted
+  pub groups : AreAmong held (groups_after o.geometry.p run)
+
+-- ---- an end before the end line
+
+-- a run ended so: at a refusal, at the source, or within a line
+pub record EndsRun (o : Told) (reads : List Reading → Bool → Type 0) (says : List Ran → List Answer → Type 0) (short : List Ran → List Answer → Option Answer → Type 0) (stands : Image → PlainDisk → Type 0) (first now : State) (e : Ended) : Type 0 where
+  pub refused : e ≡ ended.Trace → EndsRefused o reads says stands first now
+  pub unread : e ≡ ended.Source → EndsUnread o reads says stands first now
+  pub part : e ≢ ended.Trace → e ≢ ended.Source → EndsPart o reads says short stands first now e
+
+-- over a script's state
+module _ {P : Type 0} (tells : P → ScriptState) where
+  -- the sink and the devices are blamed only where their counts of faults rose
+  pub record BlamesRun (e : Ended) (x y : P) (old new : State) : Type 0 where
+    pub sink : e ≡ ended.Sink → Rose (tells x).sink_faults (tells y).sink_faults
+    pub flash : e ≡ ended.Flash → Rose old.faults.flash new.faults.flash
+    pub disk : e ≡ ended.Disk → Rose old.faults.disk new.faults.disk
+
+  -- whatever a part of a run answers: power is on, what lies beneath stays, no block is written to the disk, and no count of faults falls
+  pub record GoesOn (x y : P) (old new : State) : Type 0 where
+    pub on : new.power.on ≡ true
+    pub shape : new.contents.shape ≡ old.contents.shape
+    pub lent : new.lent ≡ old.lent
+    pub disk_writes : new.counts.disk_writes ≡ old.counts.disk_writes
+    pub flash : old.faults.flash ≤ new.faults.flash
+    pub disk : old.faults.disk ≤ new.faults.disk
+    pub source : (tells x).source_faults ≤ (tells y).source_faults
+    pub sink : (tells x).sink_faults ≤ (tells y).sink_faults
+    pub script_lent : (tells y).lent ≡ (tells x).lent
+    pub size : (tells y).size ≡ (tells x).size
+    pub turns : (tells y).turns ≤ (tells x).turns

@@ -1,7 +1,6 @@
-ghost use Rattle.std.specs.Prelude.{◌≡◌, ◌<◌, ◌≤◌, ◌++◌, ℕ, List, length, IfOk, OnOk, OnErr, IsErrOf};
+ghost use Rattle.std.specs.Prelude.{◌≡◌, ◌⊎◌, ◌<◌, ◌≤◌, ◌+◌, ◌++◌, ℕ, List, length, IfOk, OnOk, OnErr, IsErrOf};
 ghost use Rattle.std.specs.Io.KnownBytes.{Consumes, IsAtEnd, Keeps};
 ghost use Rattle.ft_base.specs.Count.{Rose};
-ghost use Rattle.trace_replay.specs.Ends.{SourceBlamed};
 ghost use Rattle.trace_replay.specs.Input as input;
 
 use crate::Ended;
@@ -42,12 +41,14 @@ pub(crate) fn read_whole<I: Source>(
     source: &mut I,
     limit: usize,
 ) -> Result<Trace, Ended>
-    ensures bytes { IfOk result (λ t. Consumes (I.left source.old) (I.left source.new) t.bytes.items) }
-    ensures whole { IfOk result (λ t. t.end ≡ InputEnd.Whole → (length t.bytes.items < limit) × IsAtEnd (I.left source.new)) }
+    ensures bytes { IfOk result (λ t. Consumes (I.state source.old).left (I.state source.new).left t.bytes.items) }
+    ensures whole { IfOk result (λ t. t.end ≡ InputEnd.Whole → (length t.bytes.items < limit) × IsAtEnd (I.state source.new).left) }
     ensures limit { IfOk result (λ t. t.end ≡ InputEnd.AtLimit → length t.bytes.items ≡ limit) }
-    ensures faulted { IfOk result (λ t. t.end ≡ InputEnd.Faulted → (length t.bytes.items < limit) × Rose (I.faults source.old) (I.faults source.new)) }
+    ensures faulted { IfOk result (λ t. t.end ≡ InputEnd.Faulted → (length t.bytes.items < limit) × Rose (I.state source.old).faults (I.state source.new).faults) }
+    // Where memory was refused, some bytes were taken too.
+    ensures some { OnErr result ((bytes : List ℕ) × (length bytes ≤ limit) × Consumes (I.state source.old).left (I.state source.new).left bytes) }
     ensures memory { OnErr result (IsErrOf result Ended.Memory) }
-    ensures lent { I.lent source.new ≡ I.lent source.old }
+    ensures lent { (I.state source.new).lent ≡ (I.state source.old).lent }
 {
     let mut bytes = Vec::new(alloc);
     while bytes.len() < limit {
@@ -72,12 +73,16 @@ pub(crate) fn read_whole<I: Source>(
 fn read_piece<I: Source>(source: &mut I, bytes: &mut Vec<u8>, limit: usize) -> Result<usize, Ended>
     requires { length bytes.old.items < limit }
     ensures piece { IfOk result (λ n. (piece : List ℕ) × (length piece ≡ n) × (bytes.new.items ≡ bytes.old.items ++ piece)
-        × Consumes (I.left source.old) (I.left source.new) piece) }
+        × Consumes (I.state source.old).left (I.state source.new).left piece) }
     ensures within { OnOk result (length bytes.new.items ≤ limit) }
-    ensures end { IfOk result (λ n. n ≡ 0 → IsAtEnd (I.left source.new)) }
-    ensures faulted { IsErrOf result Ended.Source → (bytes.new.items ≡ bytes.old.items) × Keeps (I.left source.old) (I.left source.new) }
-    ensures blamed { SourceBlamed (I.faults source.old) (I.faults source.new) result }
-    ensures lent { I.lent source.new ≡ I.lent source.old }
+    ensures end { IfOk result (λ n. n ≡ 0 → IsAtEnd (I.state source.new).left) }
+    ensures faulted { IsErrOf result Ended.Source → (bytes.new.items ≡ bytes.old.items) × Keeps (I.state source.old).left (I.state source.new).left
+        × Rose (I.state source.old).faults (I.state source.new).faults }
+    ensures some { OnErr result ((piece : List ℕ) × (length bytes.old.items + length piece ≤ limit)
+        × Consumes (I.state source.old).left (I.state source.new).left piece) }
+    ensures only { OnErr result (IsErrOf result Ended.Source ⊎ IsErrOf result Ended.Memory) }
+    ensures later { (I.state source.old).faults ≤ (I.state source.new).faults }
+    ensures lent { (I.state source.new).lent ≡ (I.state source.old).lent }
 {
     let mut buffer = [0; 4096];
     let room = buffer.len().min(limit - bytes.len());

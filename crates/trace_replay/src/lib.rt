@@ -1,12 +1,12 @@
-//! Runs a trace over any volume, and prints what a plain disk answers, wherever power stops.
+//! Runs a trace over any volume, and tells what a plain disk answers, wherever power stops.
 //!
-//! The layer above relies on the clauses of `replay`: the text, each end with its cause, what the media
-//! stand for then, and which stops are still armed. They rest on those of `Volume`, `Rig`, `Source` and
-//! `Sink` and on the definitions of `trace_model` alone.
+//! The layer above relies on the clauses of `replay` and `replay_script`: the text, each end with its cause,
+//! what the media stand for then, and which stops are still armed. They rest on those of `Volume`, `Rig`,
+//! `Source`, `Sink` and `Script` and on the definitions of `trace_model` alone.
 #![tactic(auto)]
 
 mod again;
-mod digest;
+mod bytes;
 mod ended;
 mod input;
 mod lines;
@@ -14,11 +14,16 @@ mod output;
 mod reading;
 mod replaying;
 mod running;
+mod saying;
 mod scratch;
+mod script;
 mod tally;
 #[cfg(test)]
 mod tests;
+mod touched;
 mod writing;
 
 pub use ended::{Ended, end_at};
 pub use replaying::replay;
+pub use running::replay_script;
+pub use script::Script;

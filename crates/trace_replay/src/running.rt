@@ -1,176 +1,165 @@
-//! The lines of a trace, run one after the other.
-ghost use Rattle.std.specs.Prelude.{◌≡◌, ◌≢◌, ◌+◌, ◌≤◌, ◌<◌, ◌^◌, ◌++◌, ◌∷◌, [], ℕ, List, true, false, length, All, OnOk, IfOk, IfErr, Some, None, IsErrOf, Result};
-ghost use Rattle.std.specs.Io.KnownBytes.{Appends};
-ghost use Rattle.ft_base.specs.PlainDisk.{PlainDisk, empty};
-ghost use Rattle.ft_media.specs.Volume.{StandFor};
-ghost use Rattle.trace_model.specs.declared.line.Line.{Line};
-ghost use Rattle.trace_model.specs.declared.line.LineError.{LineError};
+//! The lines of a script, run one after the other.
+ghost use Rattle.std.specs.Prelude.{◌≡◌, ◌≢◌, ◌⊎◌, ◌+◌, ◌≤◌, ◌<◌, ◌^◌, ◌++◌, ◌∷◌, [], ℕ, Bool, List, true, false, length, All, OnOk, IfErr, IsErrOf};
+ghost use Rattle.ft_base.specs.Count.{Rose};
+ghost use Rattle.ft_base.specs.PlainDisk.{empty};
+ghost use Rattle.ft_base.specs.StreamState.{SinkState, SourceState};
+ghost use Rattle.ft_base.specs.declared.told.Ack.TheVariants as ack;
+ghost use Rattle.ft_media.specs.State.{State};
+ghost use Rattle.ft_volume.specs.Volume.{StandFor};
 ghost use Rattle.trace_model.specs.declared.answer.Answer.TheVariants as answer;
 ghost use Rattle.trace_model.specs.declared.ran.Ran.{Ran};
-ghost use Rattle.trace_model.specs.Lines.{line_of};
-ghost use Rattle.trace_model.specs.Run.{told};
-ghost use Rattle.trace_model.specs.Text.{text};
-ghost use Rattle.trace_model.specs.Told.{WasRun, block_room, next_refusal, refusal};
-ghost use Rattle.trace_replay.specs.Input.{readings_by};
-ghost use Rattle.trace_replay.specs.Ends.{Blamed, GoesOn, SinkBlamed, TookPart};
-ghost use Rattle.trace_replay.specs.Ran.{EndsNext, HasRun, IsTallyOf, Origin, RanSoFar};
+ghost use Rattle.trace_model.specs.Lines.{IsRunnable};
+ghost use Rattle.trace_model.specs.Readings.{Reading};
+ghost use Rattle.trace_model.specs.SoFar.{is_stop};
+ghost use Rattle.trace_replay.specs.Events.{Breaks, BreaksBy, CameBy, KnowsLines, Says, events_of};
+ghost use Rattle.trace_replay.specs.Events.Event.{Gave};
+ghost use Rattle.trace_replay.specs.Ran.{BlamesRun, EndsRun, GoesOn, IsTallyOf, RanSoFar};
+ghost use Rattle.trace_replay.specs.Said.{Takes};
+ghost use Rattle.trace_replay.specs.Theorem.{EndsPart, EndsRefused, EndsUnread, LeavesRig, RunsWhole};
 
-use crate::Ended;
-use crate::input::{InputEnd, is_whole};
 use crate::lines::run_line;
-use crate::output::say;
 use crate::scratch::Scratch;
 use crate::tally::{Tally, admit};
-use ft_base::{Geometry, Sink};
-use ft_media::{Media, Rig, Volume};
+use crate::touched::say_end;
+use crate::{Ended, Script};
+use ft_media::{Media, Rig};
+use ft_volume::Volume;
 use std::alloc::Global;
-use trace_model::{Answer, LineError};
-use trace_text::{next_line, read_line};
+use trace_model::{Answer, Line, LineError};
 
-/// Runs the lines, one after the other, up to the first that is refused. Says whether none was; a refusal
-/// is printed.
-pub(crate) fn run_lines<O: Sink, R: Rig, V: Volume<R>>(
+/// Runs the lines that a script gives, one after the other up to the first that is refused, and gives it
+/// what a plain disk answers, wherever power stops.
+pub fn replay_script<P: Script, R: Rig, V: Volume<R>>(
     alloc: Global,
-    sink: &mut O,
+    script: &mut P,
     rig: &mut R,
     volume: &mut V,
-    geometry: &Geometry,
-    bytes: &[u8],
-    end: InputEnd,
-    tally: &mut Tally,
-) -> Result<bool, Ended>
+) -> Result<(), Ended>
     requires owns { V.owns volume.old (R.state rig.old).contents }
+    requires ack { (V.state volume.old).told.ack ≡ ack.Write }
+    requires size { (P.state script.old).size ≡ (V.state volume.old).told.geometry.size }
     requires on { (R.state rig.old).power.on ≡ true }
     requires unarmed { (R.state rig.old).power.stops ≡ [] }
-    requires empty { StandFor (V.stands (V.told volume.old)) (R.state rig.old).contents empty }
-    requires pages { V.pages volume.old ≡ block_room geometry.now }
-    requires groups { V.groups volume.old ≡ [] }
-    requires geometry { geometry.now ≡ (V.told volume.old).geometry }
-    requires tally { IsTallyOf geometry.now.p [] tally.old }
+    requires empty { StandFor (V.stands (V.state volume.old).told) (R.state rig.old).contents empty }
+    requires groups { (V.state volume.old).groups ≡ [] }
     ensures owns { V.owns volume.new (R.state rig.new).contents }
-    ensures told { V.told volume.new ≡ V.told volume.old }
-    ensures ended { IfOk result (λ all. all ≡ true → end ≡ InputEnd.Whole) }
-    ensures within { IfOk result (λ all. all ≡ true → All (λ a. a < geometry.now.size) tally.new.touched.keys) }
-    ensures whole { IfOk result (λ all. all ≡ true → (run : List Ran)
-        × WasRun geometry.now (readings_by end geometry.now.size bytes.now) run []
-        × Appends (O.taken sink.old) (O.taken sink.new) (text (told run))
-        × HasRun (V.stands (V.told volume.new)) (R.state rig.old) (R.state rig.new) run 0
-        × IsTallyOf geometry.now.p run tally.new) }
-    ensures refused { IfOk result (λ all. all ≡ false → (run : List Ran) × (left : List (Result Line LineError)) × (cause : LineError)
-        × WasRun geometry.now (readings_by end geometry.now.size bytes.now) run left
-        × (next_refusal geometry.now run left ≡ Some cause)
-        × Appends (O.taken sink.old) (O.taken sink.new) (text (told run ++ refusal run cause))
-        × HasRun (V.stands (V.told volume.new)) (R.state rig.old) (R.state rig.new) run 0) }
-    ensures part { IfErr result (λ e. e ≢ Ended.Source → (run : List Ran) × (next : Result Line LineError) × (left : List (Result Line LineError))
-        × WasRun geometry.now (readings_by end geometry.now.size bytes.now) run (next ∷ left)
-        × EndsNext (V.stands (V.told volume.new)) e (O.taken sink.old) (O.taken sink.new) (R.state rig.new) geometry.now run (next ∷ left)) }
-    ensures faulted { IsErrOf result Ended.Source → (end ≡ InputEnd.Faulted) × ((run : List Ran)
-        × WasRun geometry.now (readings_by end geometry.now.size bytes.now) run []
-        × Appends (O.taken sink.old) (O.taken sink.new) (text (told run))
-        × HasRun (V.stands (V.told volume.new)) (R.state rig.old) (R.state rig.new) run 0) }
-    ensures goes { GoesOn (R.state rig.old) (R.state rig.new) }
-    ensures blamed { Blamed (O.faults sink.old) (O.faults sink.new) (R.state rig.old) (R.state rig.new) result }
-    ensures lent { O.lent sink.new ≡ O.lent sink.old }
+    ensures told { (V.state volume.new).told ≡ (V.state volume.old).told }
+    ensures whole { OnOk result ((s : SourceState) → (b : SinkState) → P.came s b [] script.old → RunsWhole (V.state volume.old).told
+        (P.knows s script.new) (CameBy P.came s b script.new) (V.stands (V.state volume.new).told) (R.state rig.old) (R.state rig.new)) }
+    ensures refused { IsErrOf result Ended.Trace → (s : SourceState) → (b : SinkState) → P.came s b [] script.old → EndsRefused (V.state volume.old).told
+        (P.knows s script.new) (CameBy P.came s b script.new) (V.stands (V.state volume.new).told) (R.state rig.old) (R.state rig.new) }
+    ensures unread { IsErrOf result Ended.Source → (s : SourceState) → (b : SinkState) → P.came s b [] script.old → EndsUnread (V.state volume.old).told
+        (P.knows s script.new) (CameBy P.came s b script.new) (V.stands (V.state volume.new).told) (R.state rig.old) (R.state rig.new) }
+    ensures part { IfErr result (λ e. e ≢ Ended.Trace → e ≢ Ended.Source → (s : SourceState) → (b : SinkState) → P.came s b [] script.old
+        → EndsPart (V.state volume.old).told (P.knows s script.new) (CameBy P.came s b script.new) (BreaksBy P.broke s b script.new) (V.stands (V.state volume.new).told) (R.state rig.old) (R.state rig.new) e) }
+    ensures source { IsErrOf result Ended.Source → Rose (P.state script.old).source_faults (P.state script.new).source_faults }
+    ensures sink { IsErrOf result Ended.Sink → Rose (P.state script.old).sink_faults (P.state script.new).sink_faults }
+    ensures flash { IsErrOf result Ended.Flash → Rose (R.state rig.old).faults.flash (R.state rig.new).faults.flash }
+    ensures disk { IsErrOf result Ended.Disk → Rose (R.state rig.old).faults.disk (R.state rig.new).faults.disk }
+    ensures lent { (R.state rig.new).lent ≡ (R.state rig.old).lent }
+    ensures script_lent { (P.state script.new).lent ≡ (P.state script.old).lent }
+    ensures rig { LeavesRig (R.state rig.old) (R.state rig.new) }
 {
-    let whole = is_whole(end);
-    let mut scratch = Scratch::new(alloc);
-    let mut number = 1;
-    let mut rest = bytes;
-    'lines: while let Some((spelled, after)) = next_line(rest, whole) {
-        let ran = run_next(
-            alloc,
-            sink,
-            rig,
-            volume,
-            geometry,
-            spelled,
-            tally,
-            &mut scratch,
-        );
-        let refused = match ran {
-            Ok(refused) => refused,
-            Err(ended) => return Err(ended),
-        };
-        if let Some(cause) = refused {
-            return refuse(alloc, sink, number, cause);
-        }
-        number += 1;
-        rest = after;
-    }
-    match end {
-        InputEnd::Whole => Ok(true),
-        InputEnd::AtLimit => refuse(alloc, sink, number, LineError::TooLong),
-        InputEnd::Faulted => Err(Ended::Source),
-    }
+    let mut tally = Tally::new(alloc);
+    run_lines(alloc, script, rig, volume, &mut tally)?;
+    let _cuts = say_end(script, rig, volume, &tally)?;
+    Ok(())
 }
 
-/// Runs the line that is spelled so, unless it is refused. Says for what.
-fn run_next<O: Sink, R: Rig, V: Volume<R>>(
+/// Runs the lines, one after the other, up to the last.
+fn run_lines<P: Script, R: Rig, V: Volume<R>>(
     alloc: Global,
-    sink: &mut O,
+    script: &mut P,
     rig: &mut R,
     volume: &mut V,
-    geometry: &Geometry,
-    spelled: &[u8],
+    tally: &mut Tally,
+) -> Result<(), Ended>
+    requires owns { V.owns volume.old (R.state rig.old).contents }
+    requires ack { (V.state volume.old).told.ack ≡ ack.Write }
+    requires size { (P.state script.old).size ≡ (V.state volume.old).told.geometry.size }
+    requires on { (R.state rig.old).power.on ≡ true }
+    requires unarmed { (R.state rig.old).power.stops ≡ [] }
+    requires empty { StandFor (V.stands (V.state volume.old).told) (R.state rig.old).contents empty }
+    requires groups { (V.state volume.old).groups ≡ [] }
+    requires tally { (p : ℕ) → IsTallyOf p [] tally.old }
+    ensures owns { V.owns volume.new (R.state rig.new).contents }
+    ensures told { (V.state volume.new).told ≡ (V.state volume.old).told }
+    ensures whole { OnOk result ((run : List Ran)
+        × RanSoFar (V.state volume.old).told (V.stands (V.state volume.new).told) (R.state rig.old) (R.state rig.new) tally.new (V.state volume.new).groups run
+        × ((s : SourceState) → (b : SinkState) → P.came s b [] script.old → P.came s b (events_of run) script.new × KnowsLines P.knows s script.new (events_of run) true)) }
+    ensures within { OnOk result (All (λ a. a < (V.state volume.new).told.geometry.size) tally.new.touched.keys) }
+    ensures ends { IfErr result (λ e. (s : SourceState) → (b : SinkState) → P.came s b [] script.old
+        → EndsRun (V.state volume.old).told (P.knows s script.new) (CameBy P.came s b script.new) (BreaksBy P.broke s b script.new) (V.stands (V.state volume.new).told) (R.state rig.old) (R.state rig.new) e) }
+    ensures source { IsErrOf result Ended.Source → Rose (P.state script.old).source_faults (P.state script.new).source_faults }
+    ensures blames { IfErr result (λ e. BlamesRun P.state e script.old script.new (R.state rig.old) (R.state rig.new)) }
+    ensures goes { GoesOn P.state script.old script.new (R.state rig.old) (R.state rig.new) }
+{
+    let mut scratch = Scratch::new(alloc);
+    'lines: while let Some(line) = script.next(rig.armed())? {
+        run_given(script, rig, volume, &line, tally, &mut scratch)?;
+    }
+    Ok(())
+}
+
+/// Runs the line that was given, unless it is refused.
+fn run_given<P: Script, R: Rig, V: Volume<R>>(
+    script: &mut P,
+    rig: &mut R,
+    volume: &mut V,
+    line: &Line,
     tally: &mut Tally,
     scratch: &mut Scratch,
-) -> Result<Option<LineError>, Ended>
+) -> Result<(), Ended>
     requires owns { V.owns volume.old (R.state rig.old).contents }
     requires on { (R.state rig.old).power.on ≡ true }
-    requires geometry { geometry.now ≡ (V.told volume.old).geometry }
-    requires so_far { (origin : Origin) × (run : List Ran) × (left : List (Result Line LineError))
-        × RanSoFar geometry.now (V.stands (V.told volume.old)) origin (R.state rig.old) (O.taken sink.old) tally.old (V.pages volume.old) (V.groups volume.old) run left }
-    requires writes { tally.old.writes + 1 < 2 ^ 64 }
-    requires reads { tally.old.reads + 1 < 2 ^ 64 }
-    requires within { All (λ a. a < geometry.now.size) tally.old.touched.keys }
+    requires ack { (V.state volume.old).told.ack ≡ ack.Write }
+    requires runnable { IsRunnable (V.state volume.old).told.geometry.size line.now }
+    requires stops { is_stop line.now ≡ true → length (R.state rig.old).power.stops < 16 }
+    requires lines { tally.old.lines + 1 < 2 ^ 64 }
+    requires so_far { (first : State) × (run : List Ran)
+        × RanSoFar (V.state volume.old).told (V.stands (V.state volume.old).told) first (R.state rig.old) tally.old (V.state volume.old).groups run }
+    requires within { All (λ a. a < (V.state volume.old).told.geometry.size) tally.old.touched.keys }
     ensures owns { V.owns volume.new (R.state rig.new).contents }
-    ensures told { V.told volume.new ≡ V.told volume.old }
-    ensures ran { IfOk result (λ refused. refused ≡ None → (origin : Origin) → (run : List Ran) → (left : List (Result Line LineError))
-        → RanSoFar geometry.now (V.stands (V.told volume.old)) origin (R.state rig.old) (O.taken sink.old) tally.old (V.pages volume.old) (V.groups volume.old) run (line_of geometry.now.size spelled.now ∷ left)
-        → (one : Ran) × RanSoFar geometry.now (V.stands (V.told volume.new)) origin (R.state rig.new) (O.taken sink.new) tally.new (V.pages volume.new) (V.groups volume.new) (one ∷ run) left) }
-    ensures within { IfOk result (λ refused. refused ≡ None → All (λ a. a < geometry.now.size) tally.new.touched.keys) }
-    ensures refused { IfOk result (λ refused. (cause : LineError) → refused ≡ Some cause → (origin : Origin) → (run : List Ran) → (left : List (Result Line LineError))
-        → RanSoFar geometry.now (V.stands (V.told volume.old)) origin (R.state rig.old) (O.taken sink.old) tally.old (V.pages volume.old) (V.groups volume.old) run (line_of geometry.now.size spelled.now ∷ left)
-        → (next_refusal geometry.now run (line_of geometry.now.size spelled.now ∷ left) ≡ Some cause)
-        × Appends origin.taken (O.taken sink.new) (text (told run))
-        × HasRun (V.stands (V.told volume.new)) origin.first (R.state rig.new) run 0) }
-    ensures part { IfErr result (λ e. (origin : Origin) → (run : List Ran) → (left : List (Result Line LineError))
-        → RanSoFar geometry.now (V.stands (V.told volume.old)) origin (R.state rig.old) (O.taken sink.old) tally.old (V.pages volume.old) (V.groups volume.old) run (line_of geometry.now.size spelled.now ∷ left)
-        → EndsNext (V.stands (V.told volume.new)) e origin.taken (O.taken sink.new) (R.state rig.new) geometry.now run (line_of geometry.now.size spelled.now ∷ left)) }
-    ensures goes { GoesOn (R.state rig.old) (R.state rig.new) }
-    ensures blamed { Blamed (O.faults sink.old) (O.faults sink.new) (R.state rig.old) (R.state rig.new) result }
+    ensures told { (V.state volume.new).told ≡ (V.state volume.old).told }
+    ensures ran { OnOk result ((first : State) → (run : List Ran)
+        → RanSoFar (V.state volume.old).told (V.stands (V.state volume.old).told) first (R.state rig.old) tally.old (V.state volume.old).groups run
+        → (one : Ran) × RanSoFar (V.state volume.old).told (V.stands (V.state volume.new).told) first (R.state rig.new) tally.new (V.state volume.new).groups (one ∷ run)
+        × ((s : SourceState) → (b : SinkState) → P.came s b (events_of run ++ Gave line.now ∷ []) script.old → P.came s b (events_of (one ∷ run)) script.new)) }
+    ensures within { OnOk result (All (λ a. a < (V.state volume.old).told.geometry.size) tally.new.touched.keys) }
+    ensures ends { IfErr result (λ e. (first : State) → (run : List Ran)
+        → RanSoFar (V.state volume.old).told (V.stands (V.state volume.old).told) first (R.state rig.old) tally.old (V.state volume.old).groups run
+        → (s : SourceState) → (b : SinkState) → P.came s b (events_of run ++ Gave line.now ∷ []) script.old
+        → EndsRun (V.state volume.old).told (P.knows s script.new) (CameBy P.came s b script.new) (BreaksBy P.broke s b script.new) (V.stands (V.state volume.new).told) first (R.state rig.new) e) }
     ensures not_source { IsErrOf result Ended.Source → ⊥ }
-    ensures lent { O.lent sink.new ≡ O.lent sink.old }
+    ensures blames { IfErr result (λ e. BlamesRun P.state e script.old script.new (R.state rig.old) (R.state rig.new)) }
+    ensures goes { GoesOn P.state script.old script.new (R.state rig.old) (R.state rig.new) }
 {
-    let line = match read_line(spelled, geometry.size()) {
-        Ok(line) => line,
-        Err(cause) => return Ok(Some(cause)),
-    };
-    let Ok(refused) = admit(tally, &line, geometry, rig.armed()) else {
+    let number = tally.lines + 1;
+    let Ok(refused) = admit(tally, line, &volume.geometry(), rig.armed()) else {
         return Err(Ended::Memory);
     };
     if let Some(cause) = refused {
-        return Ok(Some(cause));
+        return Err(refuse(script, number, cause));
     }
-    match run_line(alloc, sink, rig, volume, &line, scratch) {
-        Ok(_) => Ok(None),
-        Err(ended) => Err(ended),
-    }
+    let _became = run_line(script, rig, volume, line, scratch)?;
+    Ok(())
 }
 
-/// Prints a refusal.
-pub(crate) fn refuse<O: Sink>(
-    alloc: Global,
-    sink: &mut O,
-    line: u64,
-    cause: LineError,
-) -> Result<bool, Ended>
-    ensures refused { IfOk result (λ all. all ≡ false) }
-    ensures text { OnOk result (Appends (O.taken sink.old) (O.taken sink.new) (text (answer.Refused line cause ∷ []))) }
-    ensures part { IfErr result (λ e. TookPart e (O.taken sink.old) (O.taken sink.new) [] (answer.Refused line cause ∷ [])) }
-    ensures blamed { SinkBlamed (O.faults sink.old) (O.faults sink.new) result }
-    ensures lent { O.lent sink.new ≡ O.lent sink.old }
+/// Says a refusal, which ends the run.
+fn refuse<P: Script>(script: &mut P, line: u64, cause: LineError) -> Ended
+    ensures said { result ≡ Ended.Trace → Says P.came script.old script.new (answer.Refused line cause ∷ []) }
+    ensures part { result ≢ Ended.Trace → Takes result (Says P.came script.old script.new) (Breaks P.came P.broke script.old script.new) [] (answer.Refused line cause ∷ []) }
+    ensures only { (result ≡ Ended.Trace) ⊎ ((result ≡ Ended.Sink) ⊎ (result ≡ Ended.Memory)) }
+    ensures sink { result ≡ Ended.Sink → Rose (P.state script.old).sink_faults (P.state script.new).sink_faults }
+    ensures knew { (s : SourceState) → (all : List Reading) → (whole : Bool) → P.knows s script.old all whole → P.knows s script.new all whole }
+    ensures source_later { (P.state script.old).source_faults ≤ (P.state script.new).source_faults }
+    ensures later { (P.state script.old).sink_faults ≤ (P.state script.new).sink_faults }
+    ensures turns { (P.state script.new).turns ≤ (P.state script.old).turns }
+    ensures size { (P.state script.new).size ≡ (P.state script.old).size }
+    ensures lent { (P.state script.new).lent ≡ (P.state script.old).lent }
 {
-    say(alloc, sink, &Answer::Refused { line, cause })?;
-    Ok(false)
+    match script.answer(&Answer::Refused { line, cause }) {
+        Ok(()) => Ended::Trace,
+        Err(ended) => ended,
+    }
 }

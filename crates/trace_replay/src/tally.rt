@@ -1,9 +1,10 @@
 //! What is counted of the lines that are run, and which lines are refused when they are run.
 ghost use Rattle.std.specs.Prelude.{◌≡◌, ◌+◌, ◌/◌, ◌≤◌, ◌<◌, ◌^◌, [], ℕ, None, All, OnOk, IfOk, length};
+ghost use Rattle.ft_base.specs.Told.{Told};
 ghost use Rattle.trace_model.specs.Lines.{IsRunnable};
 ghost use Rattle.trace_model.specs.Run.{read_count, touching, with_each, write_count};
-ghost use Rattle.trace_model.specs.Told as told;
-ghost use Rattle.trace_model.specs.Told.{block_room, grouping, page_count, refusal_when, with_groups};
+ghost use Rattle.trace_model.specs.SoFar as so_far;
+ghost use Rattle.trace_model.specs.SoFar.{grouping, refusal_when, with_groups};
 ghost use Rattle.trace_replay.specs.Ran.{IsTallied, IsTallyOf};
 
 use ft_base::Geometry;
@@ -17,13 +18,12 @@ const STOP_LIMIT: u32 = 16;
 /// What was counted of the lines that were run.
 #[derive(Drop)]
 pub(crate) struct Tally {
+    /// Lines.
+    pub(crate) lines: u64,
     /// Lines that write.
     pub(crate) writes: u64,
     /// Lines that read.
     pub(crate) reads: u64,
-    /// Pages that the lines may take: one for each block written, and those of an erase block for each
-    /// power cut.
-    pub(crate) pages: u64,
     /// The groups of the blocks written.
     pub(crate) groups: BTreeSet<u64>,
     /// The addresses of writes and reads.
@@ -36,9 +36,9 @@ impl Tally {
         ensures { (p : ℕ) → IsTallyOf p [] result }
     {
         Tally {
+            lines: 0,
             writes: 0,
             reads: 0,
-            pages: 0,
             groups: BTreeSet::new(alloc),
             touched: BTreeSet::new(alloc),
         }
@@ -53,64 +53,41 @@ pub(crate) fn admit(
     armed: u32,
 ) -> Result<Option<LineError>, AllocError>
     requires runnable { IsRunnable geometry.now.size line.now }
-    requires pages { tally.old.pages ≤ block_room geometry.now }
-    requires writes { tally.old.writes + 1 < 2 ^ 64 }
-    requires reads { tally.old.reads + 1 < 2 ^ 64 }
+    requires lines { tally.old.lines + 1 < 2 ^ 64 }
+    requires writes { tally.old.writes ≤ tally.old.lines }
+    requires reads { tally.old.reads ≤ tally.old.lines }
     requires within { All (λ a. a < geometry.now.size) tally.old.touched.keys }
-    ensures refused { IfOk result (λ o. o ≡ refusal_when geometry.now armed tally.old.pages tally.old.groups.keys line.now) }
-    ensures counted { IfOk result (λ o. o ≡ None → IsTallied geometry.now.p line.now tally.old tally.new) }
-    ensures within { IfOk result (λ o. o ≡ None → All (λ a. a < geometry.now.size) tally.new.touched.keys) }
+    ensures refused { IfOk result (λ r. (o : Told) → o.geometry ≡ geometry.now → r ≡ refusal_when o armed tally.old.groups.keys line.now) }
+    ensures counted { IfOk result (λ r. r ≡ None → IsTallied geometry.now.p line.now tally.old tally.new) }
+    ensures within { IfOk result (λ r. r ≡ None → All (λ a. a < geometry.now.size) tally.new.touched.keys) }
 {
-    if is_idle(line) {
-        return Ok(Some(LineError::BadWord));
-    }
     if is_stop(line) && armed >= STOP_LIMIT {
         return Ok(Some(LineError::TooManyStops));
     }
-    let pages = pages_of(line, geometry.p());
-    if pages > room_of(geometry) - tally.pages {
-        return Ok(Some(LineError::TooLong));
+    if is_idle(line) {
+        return Ok(Some(LineError::BadWord));
     }
     group(&mut tally.groups, line, geometry.p())?;
     if tally.groups.len() > geometry.c() as usize {
         return Ok(Some(LineError::TooLong));
     }
     touch(&mut tally.touched, line, geometry.size())?;
-    tally.pages += pages;
+    tally.lines += 1;
     tally.writes += writes_of(line);
     tally.reads += reads_of(line);
     Ok(None)
 }
 
-/// Pages that are there for writes.
-fn room_of(geometry: &Geometry) -> u64
-    ensures room { result ≡ block_room geometry.now }
-    ensures few { result ≤ 4096 }
-{
-    geometry.l() as u64 * geometry.p() as u64
-}
-
 fn is_idle(line: &Line) -> bool
-    ensures { result ≡ told.is_idle line.now }
+    ensures { result ≡ so_far.is_idle line.now }
 {
     matches!(*line, Line::Idle)
 }
 
 fn is_stop(line: &Line) -> bool
-    ensures { result ≡ told.is_stop line.now }
+    ensures { result ≡ so_far.is_stop line.now }
 {
     matches!(*line, Line::Stop { .. })
-}
-
-/// Pages that a line may take.
-fn pages_of(line: &Line, p: u32) -> u64
-    ensures { result ≡ page_count p line.now }
-{
-    match *line {
-        Line::Write { count, .. } => count,
-        Line::Stop { .. } | Line::Cut { .. } => p as u64,
-        _ => 0,
-    }
 }
 
 fn writes_of(line: &Line) -> u64
@@ -173,7 +150,7 @@ fn touch(touched: &mut BTreeSet<u64>, line: &Line, size: u64) -> Result<(), Allo
     }
 }
 
-#[tactic(auto, using(crate::proofs::TouchedLemmas::with_more))]
+#[tactic(auto, using(crate::proofs::TallyLemmas::with_one_address))]
 fn touch_each(touched: &mut BTreeSet<u64>, lba: u64, count: u64) -> Result<(), AllocError>
     requires { lba + count < 2 ^ 64 }
     ensures { OnOk result (touched.new.keys ≡ with_each lba count touched.old.keys) }

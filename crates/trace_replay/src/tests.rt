@@ -1,15 +1,15 @@
-ghost use Rattle.trace_model.specs.Lines.{IsRunnable};
+ghost use Rattle.std.specs.Prelude.{◌≤◌, length};
 
-use crate::Ended;
+use crate::bytes::BytesScript;
 use crate::input::{InputEnd, read_whole};
 use crate::output::say;
-use crate::running::refuse;
-use crate::tally::{Tally, admit};
-use ft_base::{Geometry, MemSink, MemSource, Outcome};
+use crate::{Ended, Script};
+use ft_base::{MemSink, MemSource};
+use sha2::{Digest, Sha256};
 use std::alloc::Global;
 use std::process::Abort;
 use std::test::Fail;
-use trace_model::{Answer, Line, LineError};
+use trace_model::{Answer, Line};
 
 /// Of a source of these bytes, in pieces of 2 and with a limit of 4, so many are read, and they end so.
 fn read_so(
@@ -40,52 +40,68 @@ fn a_source_is_read_to_its_end_its_first_fault_or_the_limit(rt: HostRuntime) -> 
 #[test]
 fn answers_are_printed_as_far_as_there_is_room(rt: HostRuntime) -> Result<(), Fail> {
     let alloc = rt.alloc();
-    let mut sink = MemSink::new(alloc, 21, 5, Vec::new(alloc))?;
+    let mut sink = MemSink::new(alloc, 5, 5, Vec::new(alloc))?;
     assert_eq!(rt; say(alloc, &mut sink, &Answer::Cut), Ok(()));
-    let refused = refuse(alloc, &mut sink, 3, LineError::TooLong);
-    assert_eq!(rt; refused, Ok(false));
     let ended = say(alloc, &mut sink, &Answer::Stopped);
     assert_eq!(rt; ended, Err(Ended::Sink));
-    assert_eq!(rt; sink.bytes(), b"cut\nline 3: TooLong\ns".as_slice());
+    assert_eq!(rt; sink.bytes(), b"cut\ns".as_slice());
     assert_eq!(rt; sink.faults(), 1);
     Ok(())
 }
 
-/// With room for 8 pages and 2 groups of 4 blocks, where so many stops are armed, the first line is refused
-/// for this cause.
-fn first_line(
+/// The lines of these bytes, of which the first is a flush, go on so, and this is printed.
+fn second_line(
     rt: &impl Abort,
     alloc: Global,
-    line: Line,
-    armed: u32,
-    cause: Option<LineError>,
+    bytes: &[u8],
+    end: InputEnd,
+    second: Result<Option<Line>, Ended>,
+    printed: &[u8],
 ) -> Result<(), Fail>
-    requires { IsRunnable 64 line }
+    requires { length bytes.now ≤ 1000 }
 {
-    let geometry = Geometry::new(4, 2, 2, 1, 64)?;
-    let mut tally = Tally::new(alloc);
-    let refused = admit(&mut tally, &line, &geometry, armed)?;
-    assert_eq!(rt; refused, cause);
+    let mut sink = MemSink::new(alloc, 100, 100, Vec::new(alloc))?;
+    let mut script = BytesScript {
+        alloc,
+        sink: &mut sink,
+        size: 64,
+        rest: bytes,
+        end,
+        given: 0,
+        faults: 0,
+        hasher: Sha256::new(),
+    };
+    assert_eq!(rt; script.next(0), Ok(Some(Line::Flush)));
+    assert_eq!(rt; script.next(0), second);
+    assert_eq!(rt; sink.bytes(), printed);
     Ok(())
 }
 
 #[test]
-fn a_line_is_refused_when_it_is_run(rt: HostRuntime) -> Result<(), Fail> {
+fn bytes_that_no_line_feed_ends_are_a_line_where_the_source_ended(
+    rt: HostRuntime,
+) -> Result<(), Fail> {
     let alloc = rt.alloc();
-    let (after, outcome, tag) = (1, Outcome::Torn, 1);
-    first_line(&rt, alloc, Line::Idle, 0, Some(LineError::BadWord))?;
-    let stop = Line::Stop { after, outcome };
-    first_line(&rt, alloc, stop, 15, None)?;
-    first_line(&rt, alloc, stop, 16, Some(LineError::TooManyStops))?;
-    let (lba, count) = (0, 8);
-    let write = Line::Write { lba, count, tag };
-    first_line(&rt, alloc, write, 0, None)?;
-    let count = 9;
-    let write = Line::Write { lba, count, tag };
-    first_line(&rt, alloc, write, 0, Some(LineError::TooLong))?;
-    let read = Line::Read { lba, count };
-    first_line(&rt, alloc, read, 16, None)?;
-    let (lba, count) = (3, 6);
-    let write = Line::Write { lba, count, tag };
-    first_line(&rt, alloc, write, 0, Some(LineError::TooLong))
+    let flush = Ok(Some(Line::Flush));
+    second_line(&rt, alloc, b"f\nf", InputEnd::Whole, flush, b"")?;
+    second_line(&rt, alloc, b"f\n", InputEnd::Whole, Ok(None), b"")?;
+    let failed = Err(Ended::Source);
+    second_line(&rt, alloc, b"f\nf", InputEnd::Faulted, failed, b"")?;
+    let refused = Err(Ended::Trace);
+    let printed = b"line 2: TooLong\n".as_slice();
+    second_line(&rt, alloc, b"f\nf", InputEnd::AtLimit, refused, printed)
+}
+
+#[test]
+fn a_line_is_over_long_also_where_the_source_fails_behind_it(rt: HostRuntime) -> Result<(), Fail> {
+    let alloc = rt.alloc();
+    let mut bytes = [b'#'; 203];
+    bytes[0] = b'f';
+    bytes[1] = b'\n';
+    let refused = Err(Ended::Trace);
+    let printed = b"line 2: LineTooLong\n".as_slice();
+    second_line(&rt, alloc, &bytes, InputEnd::Faulted, refused, printed)?;
+    second_line(&rt, alloc, &bytes, InputEnd::AtLimit, refused, printed)?;
+    let failed = Err(Ended::Source);
+    second_line(&rt, alloc, &bytes[..202], InputEnd::Faulted, failed, b"")
 }

@@ -1,12 +1,33 @@
-use Rattle.std.proofs.Common.{ap}
-use Rattle.trace_replay.proofs.CutsLemmas.{ends_call}
-use Rattle.trace_replay.proofs.GoesLemmas.{at_exit}
+use Rattle.std.proofs.Common.{refl, ap, subst, arith}
+use Rattle.ft_base.specs.Contents.{Contents}
+use Rattle.ft_volume.specs.Volume.{StandFor}
+use Rattle.ft_volume.specs.Volume.Call.{Reads}
+use Rattle.trace_replay.specs.Went.{count_of}
+use Rattle.trace_replay.proofs.CallLemmas.{one_call, still_contents}
+use Rattle.trace_replay.proofs.WentLemmas.{refused, went_call, went_ends}
 use Rattle.trace_replay.proofs.again.read_once.Goals as goal
 
-pub returns-in_err-go_on-in-Err-clause-ends : goal.returns-in_err-go_on-in-Err-clause-ends
-returns-in_err-go_on-in-Err-clause-ends g c =
-    at_exit c.from_residual.result _ _ c.from_residual.ensures.1
-    (ends_call _ c.in-Err.error _ _ (g.R.Media.state c.args.rig.now) _ _ c.requires.on c.in-Err.ensures.passes
-    (λ other. let same = c.go_on.ensures.same other in (same.0, ap g.O.Sink.taken same.1))
-    c.in_err-go_on-in-Err.ensures.part
-    c.in_err-go_on-in-Err.ensures.printing)
+pub returns-in_err-go_on-in-Err-clause-went : goal.returns-in_err-go_on-in-Err-clause-went
+returns-in_err-go_on-in-Err-clause-went g c =
+    let went = went_call g.P.Script.state g.P.Script.came g.P.Script.broke g.P.Script.knows _ c.in-Err.error c.args.script.now _ (g.R.Media.state c.args.rig.now) (g.R.Media.state c.read.new.rig) _
+    (record { on = c.requires.on; passes = c.in-Err.ensures.goes.passes; cause = c.in-Err.ensures.goes.cause; disk_writes = c.read.ensures.costs.disk_writes })
+    (λ is. let over = c.in-Err.ensures.outside.0 (ap refused is) in absurd (omega (arith, over, c.requires.within)))
+    (λ lost. let said = c.in_err-go_on-in-Err.ensures.said lost in (c.go_on.ensures.powered lost, said.goes, said.ended))
+    c.go_on.ensures.same c.in_err-go_on-in-Err.ensures.ended in
+    went_ends g.P.Script.state g.P.Script.came g.P.Script.broke g.P.Script.knows count_of 0 _ _ _ _ c.from_residual.result _ c.from_residual.ensures.1 went.0 went.1
+
+pub returns-in_err-go_on-in-Err-clause-kept : goal.returns-in_err-go_on-in-Err-clause-kept
+returns-in_err-go_on-in-Err-clause-kept g c = λ d stood.
+    subst (λ (k : Contents). StandFor (g.V.Volume.stands (g.V.Volume.state c.read.new.self).told) k d) (still_contents c.in-Err.error _ _ c.go_on.ensures.powered c.go_on.ensures.same)
+    ((one_call g.V.Volume.stands (Reads c.args.lba c.read.new.block) (g.V.Volume.state c.args.volume.now) (g.V.Volume.state c.read.new.self) _ _ _ d (g.met.V.Volume.write_owes_nothing c.args.volume.now _ c.requires.owns) (g.met.V.Volume.write_owes_nothing c.read.new.self _ c.read.ensures.owns) c.requires.ack c.read.ensures.goes.told c.in-Err.ensures.disk stood).kept refl)
+
+pub returns-in_ok-go_on-in-Err-clause-kept : goal.returns-in_ok-go_on-in-Err-clause-kept
+returns-in_ok-go_on-in-Err-clause-kept g c = λ d stood.
+    subst (λ (k : Contents). StandFor (g.V.Volume.stands (g.V.Volume.state c.read.new.self).told) k d) (still_contents c.in-Err.error _ _ c.go_on.ensures.powered c.go_on.ensures.same)
+    ((one_call g.V.Volume.stands (Reads c.args.lba c.read.new.block) (g.V.Volume.state c.args.volume.now) (g.V.Volume.state c.read.new.self) _ _ _ d (g.met.V.Volume.write_owes_nothing c.args.volume.now _ c.requires.owns) (g.met.V.Volume.write_owes_nothing c.read.new.self _ c.read.ensures.owns) c.requires.ack c.read.ensures.goes.told c.in-Err.ensures.disk stood).kept refl)
+
+pub returns-in-Ok-clause-kept : goal.returns-in-Ok-clause-kept
+returns-in-Ok-clause-kept g c = λ d stood. (one_call g.V.Volume.stands (Reads c.args.lba c.read.new.block) (g.V.Volume.state c.args.volume.now) (g.V.Volume.state c.read.new.self) _ _ _ d (g.met.V.Volume.write_owes_nothing c.args.volume.now _ c.requires.owns) (g.met.V.Volume.write_owes_nothing c.read.new.self _ c.read.ensures.owns) c.requires.ack c.read.ensures.goes.told c.in-Ok.ensures.disk stood).kept refl
+
+pub returns-in-Ok-clause-found : goal.returns-in-Ok-clause-found
+returns-in-Ok-clause-found g c = λ _ d stood. (one_call g.V.Volume.stands (Reads c.args.lba c.read.new.block) (g.V.Volume.state c.args.volume.now) (g.V.Volume.state c.read.new.self) _ _ _ d (g.met.V.Volume.write_owes_nothing c.args.volume.now _ c.requires.owns) (g.met.V.Volume.write_owes_nothing c.read.new.self _ c.read.ensures.owns) c.requires.ack c.read.ensures.goes.told c.in-Ok.ensures.disk stood).found

@@ -1,21 +1,38 @@
-use Rattle.std.proofs.Common.{◌≡◌, Err, ap, sym, subst}
+use Rattle.std.proofs.Common.{Err, ap, subst, arith}
 use Rattle.ft_base.specs.Contents.{Contents, set}
-use Rattle.ft_media.specs.State.{State}
-use Rattle.ft_media.specs.Volume.{StandForOne}
-use Rattle.trace_replay.proofs.CutsLemmas.{ends_call}
-use Rattle.trace_replay.proofs.GoesLemmas.{at_exit}
+use Rattle.ft_volume.specs.Volume.{StandForEither, StandForOne}
+use Rattle.ft_volume.specs.Volume.Call.{Writes}
+use Rattle.trace_replay.specs.Went.{count_of}
+use Rattle.trace_replay.proofs.CallLemmas.{one_call, still_contents}
+use Rattle.trace_replay.proofs.WentLemmas.{refused, went_call, went_ends}
 use Rattle.trace_replay.proofs.again.write_once.Goals as goal
 
-pub returns-in_err-go_on-in-Err-clause-ends : goal.returns-in_err-go_on-in-Err-clause-ends
-returns-in_err-go_on-in-Err-clause-ends g c =
-    at_exit c.from_residual.result _ _ c.from_residual.ensures.1
-    (ends_call _ c.in-Err.error _ _ (g.R.Media.state c.args.rig.now) _ _ c.requires.on c.in-Err.ensures.passes
-    (λ other. let same = c.go_on.ensures.same other in (same.0, ap g.O.Sink.taken same.1))
-    c.in_err-go_on-in-Err.ensures.part
-    c.in_err-go_on-in-Err.ensures.printing)
+pub returns-in_err-go_on-in-Err-clause-went : goal.returns-in_err-go_on-in-Err-clause-went
+returns-in_err-go_on-in-Err-clause-went g c =
+    let went = went_call g.P.Script.state g.P.Script.came g.P.Script.broke g.P.Script.knows _ c.in-Err.error c.args.script.now _ (g.R.Media.state c.args.rig.now) (g.R.Media.state c.write.new.rig) _
+    (record { on = c.requires.on; passes = c.in-Err.ensures.goes.passes; cause = c.in-Err.ensures.goes.cause; disk_writes = c.write.ensures.costs.disk_writes })
+    (λ is. let over = c.in-Err.ensures.outside.0 (ap refused is) in absurd (omega (arith, over, c.requires.within)))
+    (λ lost. let said = c.in_err-go_on-in-Err.ensures.said lost in (c.go_on.ensures.powered lost, said.goes, said.ended))
+    c.go_on.ensures.same c.in_err-go_on-in-Err.ensures.ended in
+    went_ends g.P.Script.state g.P.Script.came g.P.Script.broke g.P.Script.knows count_of 1 _ _ _ _ c.from_residual.result _ c.from_residual.ensures.1 went.0 went.1
+
+pub returns-in_err-go_on-in-Err-clause-images : goal.returns-in_err-go_on-in-Err-clause-images
+returns-in_err-go_on-in-Err-clause-images g c = λ d stood.
+    subst (λ (k : Contents). StandForEither (g.V.Volume.stands (g.V.Volume.state c.write.new.self).told) k d (set d c.args.lba c.args.block.now)) (still_contents c.in-Err.error _ _ c.go_on.ensures.powered c.go_on.ensures.same)
+    (one_call g.V.Volume.stands (Writes c.args.lba c.args.block.now) (g.V.Volume.state c.args.volume.now) (g.V.Volume.state c.write.new.self) _ _ _ d (g.met.V.Volume.write_owes_nothing c.args.volume.now _ c.requires.owns) (g.met.V.Volume.write_owes_nothing c.write.new.self _ c.write.ensures.owns) c.requires.ack c.write.ensures.goes.told c.in-Err.ensures.disk stood).images
+
+pub returns-in_ok-go_on-in-Err-clause-images : goal.returns-in_ok-go_on-in-Err-clause-images
+returns-in_ok-go_on-in-Err-clause-images g c = λ d stood.
+    subst (λ (k : Contents). StandForEither (g.V.Volume.stands (g.V.Volume.state c.write.new.self).told) k d (set d c.args.lba c.args.block.now)) (still_contents c.in-Err.error _ _ c.go_on.ensures.powered c.go_on.ensures.same)
+    (one_call g.V.Volume.stands (Writes c.args.lba c.args.block.now) (g.V.Volume.state c.args.volume.now) (g.V.Volume.state c.write.new.self) _ _ _ d (g.met.V.Volume.write_owes_nothing c.args.volume.now _ c.requires.owns) (g.met.V.Volume.write_owes_nothing c.write.new.self _ c.write.ensures.owns) c.requires.ack c.write.ensures.goes.told c.in-Err.ensures.disk stood).images
 
 pub returns-in_ok-go_on-in-Err-clause-one : goal.returns-in_ok-go_on-in-Err-clause-one
 returns-in_ok-go_on-in-Err-clause-one g c = λ _ d stood.
-    let lost = c.in_ok-go_on-in-Err.ensures.lost in
-    let same : (g.R.Media.state c.go_on.new.rig).contents ≡ (g.R.Media.state c.write.new.rig).contents = ap (λ (s : State). s.contents) (c.go_on.ensures.powered lost) in
-    subst (λ (k : Contents). StandForOne (g.V.Volume.stands (g.V.Volume.told c.write.new.self)) k d (set d c.args.lba c.args.block.now)) (sym same) (c.in-Err.ensures.one (ap Err lost) d stood)
+    subst (λ (k : Contents). StandForOne (g.V.Volume.stands (g.V.Volume.state c.write.new.self).told) k d (set d c.args.lba c.args.block.now)) (still_contents c.in-Err.error _ _ c.go_on.ensures.powered c.go_on.ensures.same)
+    ((one_call g.V.Volume.stands (Writes c.args.lba c.args.block.now) (g.V.Volume.state c.args.volume.now) (g.V.Volume.state c.write.new.self) _ _ _ d (g.met.V.Volume.write_owes_nothing c.args.volume.now _ c.requires.owns) (g.met.V.Volume.write_owes_nothing c.write.new.self _ c.write.ensures.owns) c.requires.ack c.write.ensures.goes.told c.in-Err.ensures.disk stood).one (ap Err c.in_ok-go_on-in-Err.ensures.lost))
+
+pub returns-in-Ok-clause-done : goal.returns-in-Ok-clause-done
+returns-in-Ok-clause-done g c = λ _ d stood. (one_call g.V.Volume.stands (Writes c.args.lba c.args.block.now) (g.V.Volume.state c.args.volume.now) (g.V.Volume.state c.write.new.self) _ _ _ d (g.met.V.Volume.write_owes_nothing c.args.volume.now _ c.requires.owns) (g.met.V.Volume.write_owes_nothing c.write.new.self _ c.write.ensures.owns) c.requires.ack c.write.ensures.goes.told c.in-Ok.ensures.disk stood).done
+
+pub returns-in-Ok-clause-images : goal.returns-in-Ok-clause-images
+returns-in-Ok-clause-images g c = λ d stood. (one_call g.V.Volume.stands (Writes c.args.lba c.args.block.now) (g.V.Volume.state c.args.volume.now) (g.V.Volume.state c.write.new.self) _ _ _ d (g.met.V.Volume.write_owes_nothing c.args.volume.now _ c.requires.owns) (g.met.V.Volume.write_owes_nothing c.write.new.self _ c.write.ensures.owns) c.requires.ack c.write.ensures.goes.told c.in-Ok.ensures.disk stood).images

@@ -1,25 +1,22 @@
-use Rattle.std.proofs.Common.{refl, arith}
-use Rattle.ft_base.proofs.AppendsLemmas.{appends_none}
+use Rattle.std.proofs.Common.{refl, ap, arith}
+use Rattle.ft_media.specs.State.{Power}
 use Rattle.trace_model.specs.declared.line.Line.TheVariants as line
-use Rattle.trace_replay.proofs.CutsLemmas.{within_said}
-use Rattle.trace_replay.proofs.GoesLemmas.{at_exit, said_only}
-use Rattle.trace_replay.proofs.LinesLemmas.{goes_cut, runs_cut}
+use Rattle.trace_replay.proofs.CallLemmas.{fixes_one}
+use Rattle.trace_replay.proofs.EventsLemmas.{says_none}
+use Rattle.trace_replay.proofs.WentLemmas.{at_exit}
+use Rattle.trace_replay.proofs.WithinLemmas.{goes_through, within_said}
 use Rattle.trace_replay.proofs.lines.run_cut.Goals as goal
+
+pub returns-in_err-say-clause-kept : goal.returns-in_err-say-clause-kept
+returns-in_err-say-clause-kept g c = λ d stood. fixes_one g.V.Volume.stands (g.V.Volume.state c.args.volume.now) (g.V.Volume.state c.cut.new.self) _ _ d c.cut.ensures.disk stood
 
 pub returns-in_err-say-clause-ends : goal.returns-in_err-say-clause-ends
 returns-in_err-say-clause-ends g c =
+    let goes = goes_through g.P.Script.state g.P.Script.came g.P.Script.broke g.P.Script.knows c.args.script.now _ _ c.args.outcome (g.met.R.Media.is_small c.args.rig.now) c.cut.ensures.through in
     at_exit c.from_residual.result _ _ c.from_residual.ensures.1
-    (λ d. within_said c.in_err-say.field-0.0 (g.O.Sink.taken c.args.sink.now) (g.O.Sink.taken c.args.sink.now) (g.O.Sink.taken c.say.new.sink) (g.R.Media.state c.args.rig.now).power (g.R.Media.state c.cut.new.rig).power.stops (line.Cut c.args.outcome) 0 0 d
-    (record { few = omega arith; spends = λ _ _. omega arith; fits = refl })
-    (appends_none _)
-    c.in_err-say.ensures.part
-    (said_only c.in_err-say.field-0.0 c.in_err-say.ensures.blamed.only))
+    (λ d. within_said g.P.Script.state g.P.Script.came g.P.Script.broke g.P.Script.knows _ c.args.script.now c.args.script.now c.say.new.script (g.R.Media.state c.args.rig.now) (g.R.Media.state c.cut.new.rig) (line.Cut c.args.outcome) 0 0 d
+    (record { few = omega arith; spends = λ _ _. omega arith; fits = λ _. refl })
+    goes (says_none g.P.Script.came c.args.script.now) (λ below. let later = goes.cuts in omega arith) (ap (λ (p : Power). p.stops) c.cut.ensures.through.power) c.in_err-say.ensures.ended)
 
-pub returns-in_err-say-clause-goes : goal.returns-in_err-say-clause-goes
-returns-in_err-say-clause-goes g c = goes_cut _ _ (g.met.R.Media.is_small c.args.rig.now) c.cut.ensures.through
-
-pub returns-clause-goes : goal.returns-clause-goes
-returns-clause-goes g c = goes_cut _ _ (g.met.R.Media.is_small c.args.rig.now) c.cut.ensures.through
-
-pub returns-clause-runs : goal.returns-clause-runs
-returns-clause-runs g c = runs_cut c.args.outcome _ _ c.cut.ensures.through
+pub returns-clause-kept : goal.returns-clause-kept
+returns-clause-kept g c = λ d stood. fixes_one g.V.Volume.stands (g.V.Volume.state c.args.volume.now) (g.V.Volume.state c.cut.new.self) _ _ d c.cut.ensures.disk stood

@@ -1,29 +1,24 @@
-use Rattle.std.proofs.Common.{◌≡◌, ◌+◌, ◌*◌, ◌≤◌, length}
-use Rattle.std.specs.Io.KnownBytes.{Appends}
+use Rattle.std.proofs.Common.{◌≡◌, ◌≤◌, length}
 use Rattle.ft_base.specs.PlainDisk.{PlainDisk}
-use Rattle.ft_media.specs.Volume.{AreAmong, StandFor}
-use Rattle.trace_model.specs.Run.{read_backs, stopped}
-use Rattle.trace_model.specs.Text.{text}
-use Rattle.trace_replay.specs.Ends.{Cuts, GoesOn}
+use Rattle.ft_base.specs.declared.told.Ack.TheVariants as ack
+use Rattle.ft_volume.specs.Volume.{AreAmong, StandFor}
+use Rattle.trace_model.specs.Run.{read_backs}
+use Rattle.trace_replay.specs.Went.{GoesCut, Keeps}
 use Rattle.trace_replay.proofs.reading.read_blocks.Given as goal
 
 abbrev pub invariant-loop-i : goal.invariant-loop-i
 invariant-loop-i g l =
     let first = g.R.Media.state l.fn.rig in
     let now = g.R.Media.state l.rig in
-    let stands = g.V.Volume.stands in
-    let tells = g.V.Volume.told in
+    let was = g.V.Volume.state l.fn.volume in
+    let is = g.V.Volume.state l.volume in
     record {
       owns : g.V.Volume.owns l.volume now.contents;
-      told : tells l.volume ≡ tells l.fn.volume;
-      found : (d : PlainDisk) → StandFor (stands (tells l.fn.volume)) first.contents d → l.answers.items ≡ read_backs l.lba l.i d;
-      kept : (d : PlainDisk) → StandFor (stands (tells l.fn.volume)) first.contents d → StandFor (stands (tells l.volume)) now.contents d;
-      pages : g.V.Volume.pages l.fn.volume ≤ g.V.Volume.pages l.volume + l.cuts * (tells l.fn.volume).geometry.p;
-      groups : AreAmong (g.V.Volume.groups l.volume) (g.V.Volume.groups l.fn.volume);
-      text : Appends (g.O.Sink.taken l.fn.sink) (g.O.Sink.taken l.sink) (text (stopped l.cuts));
-      cuts : Cuts l.cuts 0 first now;
+      told : is.told ≡ was.told;
+      ack : is.told.ack ≡ ack.Write;
+      found : (d : PlainDisk) → StandFor (g.V.Volume.stands was.told) first.contents d → l.scratch.answers.items ≡ read_backs l.lba l.i d;
+      kept : Keeps (g.V.Volume.stands was.told) (g.V.Volume.stands is.told) first.contents now.contents;
+      groups : AreAmong is.groups was.groups;
+      went : GoesCut g.P.Script.state g.P.Script.came g.P.Script.broke g.P.Script.knows l.cuts 0 l.fn.script l.script first now;
       few : length first.power.stops ≤ 16;
-      goes : GoesOn first now;
-      sink : g.O.Sink.faults l.fn.sink ≤ g.O.Sink.faults l.sink;
-      lent : g.O.Sink.lent l.sink ≡ g.O.Sink.lent l.fn.sink;
     }

@@ -1,50 +1,66 @@
-use Rattle.std.proofs.Common.{◌≡◌, ◌++◌, []}
+use Rattle.std.proofs.Common.{◌≡◌, ◌<◌, length, false}
+use Rattle.trace_model.specs.Readings.{readings_in}
 use Rattle.trace_replay.specs.declared.ended.Ended.TheVariants as ended
-use Rattle.trace_replay.specs.declared.input.InputEnd.TheVariants as input
-use Rattle.trace_replay.proofs.GoesLemmas.{same_error}
-use Rattle.trace_replay.proofs.ReadingsLemmas.{ends_over, over_source, over_whole, refused_over, runs_none, unread}
-use Rattle.trace_replay.proofs.SoFarLemmas.{ends_unread}
-use Rattle.trace_replay.proofs.ToldLemmas.{if_err}
-use Rattle.trace_replay.proofs.TouchedLemmas.{on_ok}
+use Rattle.trace_replay.specs.declared.input.InputEnd.TheVariants as input_end
+use Rattle.trace_replay.proofs.BytesLemmas.{on_err, on_ok, same_error}
+use Rattle.trace_replay.proofs.FromLemmas.{before_itself, part_from, refused_from, unread_from, whole_from}
+use Rattle.trace_replay.proofs.SaidLemmas.{said_none}
+use Rattle.trace_replay.proofs.TraceLemmas.{read_so, read_some}
+use Rattle.trace_replay.proofs.UnreadLemmas.{ends_refused_memory}
 use Rattle.trace_replay.proofs.replaying.replay.Goals as goal
 
 pub returns-in-Ok-clause-whole : goal.returns-in-Ok-clause-whole
 returns-in-Ok-clause-whole g c =
-    let bytes = c.in-Ok.trace.bytes.items in
-    let geometry = (g.V.Volume.told c.args.volume.now).geometry in
-    on_ok c.run_trace.result _ _ (λ w. (w.1.0, w.1.1, over_whole (g.I.Source.left c.args.source.now) (g.I.Source.left c.read_whole.new.source) bytes c.as_slice-bytes.result.now geometry c.geometry-geometry.result c.in-Ok.trace.end c.as_slice-bytes.ensures.value c.geometry-geometry.ensures c.in-Ok.ensures.bytes c.in-Ok.ensures.whole c.in-Ok.ensures.limit (λ faulted. (c.in-Ok.ensures.faulted faulted).0) w.1.0 w.0 w.1.2, w.1.3, w.1.4)) c.run_trace.ensures.whole
+    let told = (g.V.Volume.state c.args.volume.now).told in
+    let short : c.in-Ok.trace.end ≡ input_end.Faulted → length c.in-Ok.trace.bytes.items < 4294967296 = λ is. (c.in-Ok.ensures.faulted is).0 in
+    on_ok c.replay_bytes.result _ _ c.replay_bytes.ensures.whole (λ whole.
+    whole_from told _ _ _ _ _ _ _ _ _
+    (read_so told.geometry.size (g.I.Source.state c.args.source.now) (g.I.Source.state c.read_whole.new.source) c.in-Ok.trace.bytes.items c.in-Ok.trace.end c.in-Ok.ensures.bytes c.in-Ok.ensures.whole c.in-Ok.ensures.limit short)
+    (λ run answers says. says)
+    (λ y d stood. stood)
+    (before_itself _)
+    whole)
 
 pub returns-in-Ok-clause-refused : goal.returns-in-Ok-clause-refused
 returns-in-Ok-clause-refused g c = λ is.
-    let w = c.run_trace.ensures.refused is in
-    let bytes = c.in-Ok.trace.bytes.items in
-    let geometry = (g.V.Volume.told c.args.volume.now).geometry in
-    let short = λ (faulted : c.in-Ok.trace.end ≡ input.Faulted). (c.in-Ok.ensures.faulted faulted).0 in
-    let after = unread (g.I.Source.left c.args.source.now) (g.I.Source.left c.read_whole.new.source) bytes c.as_slice-bytes.result.now geometry c.geometry-geometry.result c.in-Ok.trace.end c.as_slice-bytes.ensures.value c.geometry-geometry.ensures c.in-Ok.ensures.bytes c.in-Ok.ensures.whole c.in-Ok.ensures.limit short in (
-      w.0,
-      w.1 ++ after,
-      w.2,
-      over_source (g.I.Source.left c.args.source.now) (g.I.Source.left c.read_whole.new.source) bytes c.as_slice-bytes.result.now geometry c.geometry-geometry.result c.in-Ok.trace.end c.as_slice-bytes.ensures.value c.geometry-geometry.ensures c.in-Ok.ensures.bytes c.in-Ok.ensures.whole c.in-Ok.ensures.limit short w.0 w.1 w.3,
-      refused_over (g.I.Source.left c.args.source.now) (g.I.Source.left c.read_whole.new.source) bytes c.as_slice-bytes.result.now geometry c.geometry-geometry.result c.in-Ok.trace.end c.as_slice-bytes.ensures.value c.geometry-geometry.ensures c.in-Ok.ensures.bytes c.in-Ok.ensures.whole c.in-Ok.ensures.limit short w.0 w.1 w.2 w.4,
-      w.5,
-      w.6,
-    )
+    let told = (g.V.Volume.state c.args.volume.now).told in
+    let short : c.in-Ok.trace.end ≡ input_end.Faulted → length c.in-Ok.trace.bytes.items < 4294967296 = λ is. (c.in-Ok.ensures.faulted is).0 in
+    refused_from told _ _ _ _ _ _ _ _ _
+    (read_so told.geometry.size (g.I.Source.state c.args.source.now) (g.I.Source.state c.read_whole.new.source) c.in-Ok.trace.bytes.items c.in-Ok.trace.end c.in-Ok.ensures.bytes c.in-Ok.ensures.whole c.in-Ok.ensures.limit short)
+    (λ run answers says. says)
+    (λ y d stood. stood)
+    (before_itself _)
+    (c.replay_bytes.ensures.refused is)
+
+pub returns-in-Ok-clause-unread : goal.returns-in-Ok-clause-unread
+returns-in-Ok-clause-unread g c = λ is.
+    let told = (g.V.Volume.state c.args.volume.now).told in
+    let short : c.in-Ok.trace.end ≡ input_end.Faulted → length c.in-Ok.trace.bytes.items < 4294967296 = λ is. (c.in-Ok.ensures.faulted is).0 in
+    unread_from told _ _ _ _ _ _ _ _ _
+    (read_so told.geometry.size (g.I.Source.state c.args.source.now) (g.I.Source.state c.read_whole.new.source) c.in-Ok.trace.bytes.items c.in-Ok.trace.end c.in-Ok.ensures.bytes c.in-Ok.ensures.whole c.in-Ok.ensures.limit short)
+    (λ run answers says. says)
+    (λ y d stood. stood)
+    (before_itself _)
+    (c.replay_bytes.ensures.unread is)
 
 pub returns-in-Ok-clause-part : goal.returns-in-Ok-clause-part
 returns-in-Ok-clause-part g c =
-    let bytes = c.in-Ok.trace.bytes.items in
-    let geometry = (g.V.Volume.told c.args.volume.now).geometry in
-    let short = λ (faulted : c.in-Ok.trace.end ≡ input.Faulted). (c.in-Ok.ensures.faulted faulted).0 in
-    let after = unread (g.I.Source.left c.args.source.now) (g.I.Source.left c.read_whole.new.source) bytes c.as_slice-bytes.result.now geometry c.geometry-geometry.result c.in-Ok.trace.end c.as_slice-bytes.ensures.value c.geometry-geometry.ensures c.in-Ok.ensures.bytes c.in-Ok.ensures.whole c.in-Ok.ensures.limit short in
-    if_err c.run_trace.result _ _ c.run_trace.ensures.part (λ e holds not_trace not_source.
-    let w = holds not_trace not_source in (
-      w.0,
-      w.1 ++ after,
-      over_source (g.I.Source.left c.args.source.now) (g.I.Source.left c.read_whole.new.source) bytes c.as_slice-bytes.result.now geometry c.geometry-geometry.result c.in-Ok.trace.end c.as_slice-bytes.ensures.value c.geometry-geometry.ensures c.in-Ok.ensures.bytes c.in-Ok.ensures.whole c.in-Ok.ensures.limit short w.0 w.1 w.3,
-      ends_over (g.I.Source.left c.args.source.now) (g.I.Source.left c.read_whole.new.source) bytes c.as_slice-bytes.result.now geometry c.geometry-geometry.result c.in-Ok.trace.end c.as_slice-bytes.ensures.value c.geometry-geometry.ensures c.in-Ok.ensures.bytes c.in-Ok.ensures.whole c.in-Ok.ensures.limit short _ e _ _ _ w.0 w.1 w.2 w.4,
-    ))
+    let told = (g.V.Volume.state c.args.volume.now).told in
+    let short : c.in-Ok.trace.end ≡ input_end.Faulted → length c.in-Ok.trace.bytes.items < 4294967296 = λ is. (c.in-Ok.ensures.faulted is).0 in
+    on_err c.replay_bytes.result _ _ c.replay_bytes.ensures.part (λ e part not_trace not_source.
+    part_from told _ _ _ _ _ _ _ _ _
+    (read_so told.geometry.size (g.I.Source.state c.args.source.now) (g.I.Source.state c.read_whole.new.source) c.in-Ok.trace.bytes.items c.in-Ok.trace.end c.in-Ok.ensures.bytes c.in-Ok.ensures.whole c.in-Ok.ensures.limit short)
+    (λ run answers says. says)
+    (λ y d stood. stood)
+    (before_itself _)
+    _ _ (λ run answers next says. says) e
+    (part not_trace not_source))
 
 pub returns-in-Err-clause-part : goal.returns-in-Err-clause-part
-returns-in-Err-clause-part g c = λ _ _.
-    let none = runs_none (g.I.Source.left c.args.source.now) (g.V.Volume.told c.args.volume.now).geometry in
-    ([], none.0, none.1, ends_unread _ _ _ none.0 _ c.in-Err.ended c.requires.empty c.requires.unarmed (same_error c.in-Err.ended ended.Memory c.in-Err.ensures.memory))
+returns-in-Err-clause-part g c = λ not_trace not_source.
+    let told = (g.V.Volume.state c.args.volume.now).told in
+    let some = c.in-Err.ensures.some in
+    ends_refused_memory told _ _ _ _ (g.R.Media.state c.args.rig.now) (readings_in told.geometry.size false some.0) false
+    (read_some told.geometry.size (g.I.Source.state c.args.source.now) (g.I.Source.state c.read_whole.new.source) some.0 some.1 some.2)
+    (said_none (g.O.Sink.state c.args.sink.now)) c.requires.on c.requires.unarmed c.requires.empty
+    c.in-Err.ended (same_error c.in-Err.ended ended.Memory c.in-Err.ensures.memory)

@@ -1,95 +1,82 @@
-use Rattle.std.proofs.Common.{◌∷◌, [], Err, refl, ap, ◌∙◌, arith}
-use Rattle.trace_model.specs.declared.line.LineError.TheVariants.{TooLong}
-use Rattle.trace_model.specs.Lines.{line_of}
-use Rattle.trace_replay.specs.Input.{left_over, readings_by}
-use Rattle.trace_replay.proofs.GoesLemmas.{goes_then, if_said, if_unsaid}
-use Rattle.trace_replay.proofs.ReadingsLemmas.{readings_end, readings_line}
-use Rattle.trace_replay.proofs.SoFarLemmas.{ends_telling, reads_few, so_far_left, writes_few}
-use Rattle.trace_replay.proofs.ToldLemmas.{number_more, refused_part, refused_said}
+use Rattle.std.proofs.Common.{◌∷◌, [], Err, refl, sym, ap, ◌∙◌, arith, rules}
+use Rattle.trace_replay.specs.Events.{BreaksBy, CameBy, events_of}
+use Rattle.trace_replay.specs.Theorem.{EndsPart}
+use Rattle.trace_replay.proofs.ExitLemmas.{at_exit, exit_is, rose_later, sink_or_memory}
+use Rattle.trace_replay.proofs.RanLemmas.{lines_more, on_script, on_then, so_far_none, so_far_told}
+use Rattle.trace_replay.proofs.TallyLemmas.{within_none}
+use Rattle.trace_replay.proofs.TheoremLemmas.{ends_memory, ends_sink, ends_source, ends_trace}
 use Rattle.trace_replay.proofs.running.run_lines.Goals as goal
 
-pub run_next-ran-requires-clause-writes : goal.run_next-ran-requires-clause-writes
-run_next-ran-requires-clause-writes g c =
-    let counted = c.lines.invariant.so_far.tally.writes in
-    let fewer = writes_few c.lines.invariant.run in
-    let number = c.lines.invariant.number in
-    let few = c.lines.invariant.few in
-    let shorter = c.in-Some.ensures.shorter in
-    omega arith
+pub lines-init : goal.lines-init
+lines-init g c =
+    let o = (g.V.Volume.state c.args.volume.now).told in
+    let tally = c.requires.tally o.geometry.p in
+    let lines = tally.lines in
+    record {
+      owns = c.requires.owns;
+      same = refl;
+      run = [];
+      so_far = so_far_none o (g.V.Volume.stands o) (g.R.Media.state c.args.rig.now) c.args.tally.now (g.V.Volume.state c.args.volume.now).groups c.requires.on c.requires.unarmed c.requires.empty c.requires.groups tally;
+      came = λ s b come. come;
+      within = within_none o.geometry.size c.args.tally.now.touched.keys tally.touched;
+      few = omega arith;
+      goes = on_script g.P.Script.state c.args.script.now c.args.script.now (g.R.Media.state c.args.rig.now) c.requires.on (omega arith) (omega arith) refl refl (omega arith);
+    }
 
-pub run_next-ran-requires-clause-reads : goal.run_next-ran-requires-clause-reads
-run_next-ran-requires-clause-reads g c =
-    let counted = c.lines.invariant.so_far.tally.reads in
-    let fewer = reads_few c.lines.invariant.run in
-    let number = c.lines.invariant.number in
-    let few = c.lines.invariant.few in
-    let shorter = c.in-Some.ensures.shorter in
-    omega arith
+pub returns-in_err-line-clause-ends : goal.returns-in_err-line-clause-ends
+returns-in_err-line-clause-ends g c = at_exit c.from_residual.result _ _ c.from_residual.ensures.1 (λ s b come.
+    let e = c.in_err-line.field-0.0 in
+    let o = (g.V.Volume.state c.args.volume.now).told in
+    let run = c.lines.invariant.run in
+    let so_far = c.lines.invariant.so_far in
+    let here = c.lines.invariant.came s b come in
+    let x = c.lines.script in
+    let y = c.next.new.self in
+    let armed = c.armed.result in
+    record {
+      refused = λ is.
+          let next = c.next.ensures.refused (c.in_err-line.was ∙ ap Err is) s b (events_of run) here in
+          ends_trace _ _ _ _ _ _ run so_far g.P.Script.state g.P.Script.came g.P.Script.broke g.P.Script.knows s b x y armed next.0 c.armed.ensures.armed next.1 next.2;
+      unread = λ is.
+          let next = c.next.ensures.source (c.in_err-line.was ∙ ap Err is) in
+          ends_source _ _ _ _ _ _ run so_far g.P.Script.state g.P.Script.came g.P.Script.broke g.P.Script.knows s b x y (next.2 s b (events_of run) here) (next.1 s b (events_of run) here);
+      part = λ not_trace not_source.
+          sink_or_memory e (λ k. EndsPart o (g.P.Script.knows s y) (CameBy g.P.Script.came s b y) (BreaksBy g.P.Script.broke s b y) (g.V.Volume.stands (g.V.Volume.state c.lines.volume).told) (g.R.Media.state c.args.rig.now) (g.R.Media.state c.lines.rig) k) not_trace not_source
+          ((λ is. c.next.ensures.only.0 (c.in_err-line.was ∙ ap Err is)), (λ is. c.next.ensures.only.1 (c.in_err-line.was ∙ ap Err is)))
+          (λ is.
+          let next = (c.next.ensures.sink (c.in_err-line.was ∙ ap Err is)).1 s b (events_of run) here in
+          ends_sink _ _ _ _ _ _ run so_far g.P.Script.state g.P.Script.came g.P.Script.broke g.P.Script.knows s b x y armed next.0 c.armed.ensures.armed next.1 next.2)
+          (λ is.
+          let now = c.next.ensures.memory (c.in_err-line.was ∙ ap Err is) s b (events_of run) here in
+          ends_memory _ _ _ _ _ _ run so_far g.P.Script.state g.P.Script.came g.P.Script.broke g.P.Script.knows s b x y c.requires.ack (g.met.P.Script.known y s b _ now) now);
+    })
+
+pub returns-in_err-line-clause-source : goal.returns-in_err-line-clause-source
+returns-in_err-line-clause-source g c = λ is.
+    rose_later _ _ _ c.lines.invariant.goes.source (c.next.ensures.source (c.in_err-line.was ∙ ap Err (exit_is c.from_residual.result c.in_err-line.field-0.0 _ c.from_residual.ensures.1 is))).0
 
 pub lines-preserved : goal.lines-preserved
 lines-preserved g c =
-    let size = c.args.geometry.now.size in
+    let same = c.lines.invariant.same in
     let run = c.lines.invariant.run in
-    let reading = line_of size c.in-Some.spelled.now in
-    let rest = readings_by c.args.end size c.in-Some.after.now in
-    let at = so_far_left _ _ _ _ _ _ _ _ run _ (reading ∷ rest) (readings_line size c.args.end c.is_whole-whole.result c.lines.rest.now c.in-Some.spelled.now c.in-Some.after.now reading c.is_whole-whole.ensures c.in-Some.ensures.split refl) c.lines.invariant.so_far in
-    let next = c.in-Ok.ensures.ran c.in_default-refused.is _ run rest at in
-    let shorter = c.in-Some.ensures.shorter in
+    let so_far = c.lines.invariant.so_far in
+    let given = rw c.in-Some.is at c.in_ok-line.ensures.line in
+    let ran = c.in_ok-run_given.ensures.ran (g.R.Media.state c.args.rig.now) run (so_far_told _ _ _ _ _ _ _ _ (sym same) so_far) in
+    let after = so_far_told _ _ _ _ _ _ _ _ same ran.1 in
+    let counted = lines_more run ran.0 c.lines.tally.lines c.run_given.new.tally.lines so_far.tally.lines after.tally.lines in
+    let turn = given.1 in
+    let turns = c.run_given.ensures.goes.turns in
     let few = c.lines.invariant.few in
-    let sink_before = c.lines.invariant.sink in
-    let sink_after = c.run_next-ran.ensures.blamed.sink_later in
     record {
-      owns = c.run_next-ran.ensures.owns;
-      same = c.run_next-ran.ensures.told ∙ c.lines.invariant.same;
-      run = next.0 ∷ run;
-      so_far = next.1;
-      within = c.in-Ok.ensures.within c.in_default-refused.is;
-      number = number_more run next.0.line next.0.cuts next.0.kept c.lines.number c.lines.invariant.number;
+      owns = c.run_given.ensures.owns;
+      same = c.run_given.ensures.told ∙ same;
+      run = ran.0 ∷ run;
+      so_far = after;
+      came = λ s b come. ran.2 s b (given.3 s b (events_of run) (c.lines.invariant.came s b come));
+      within = search rules;
       few = omega arith;
-      goes = goes_then _ _ _ c.lines.invariant.goes c.run_next-ran.ensures.goes;
-      sink = omega arith;
-      lent = c.run_next-ran.ensures.lent ∙ c.lines.invariant.lent;
+      goes = on_then g.P.Script.state c.args.script.now c.lines.script c.run_given.new.script (g.R.Media.state c.args.rig.now) (g.R.Media.state c.lines.rig) (g.R.Media.state c.run_given.new.rig) c.lines.invariant.goes
+          (on_then g.P.Script.state c.lines.script c.next.new.self c.run_given.new.script (g.R.Media.state c.lines.rig) (g.R.Media.state c.lines.rig) (g.R.Media.state c.run_given.new.rig)
+          (on_script g.P.Script.state c.lines.script c.next.new.self (g.R.Media.state c.lines.rig) c.lines.invariant.goes.on c.next.ensures.source_later c.next.ensures.later c.next.ensures.lent c.next.ensures.size c.next.ensures.turns)
+          c.run_given.ensures.goes);
     }
-
-pub returns-in-Some-refused-clause-refused : goal.returns-in-Some-refused-clause-refused
-returns-in-Some-refused-clause-refused g c =
-    let size = c.args.geometry.now.size in
-    let run = c.lines.invariant.run in
-    let cause = c.in-Some-refused.cause in
-    let reading = line_of size c.in-Some.spelled.now in
-    let rest = readings_by c.args.end size c.in-Some.after.now in
-    let at = so_far_left _ _ _ _ _ _ _ _ run _ (reading ∷ rest) (readings_line size c.args.end c.is_whole-whole.result c.lines.rest.now c.in-Some.spelled.now c.in-Some.after.now reading c.is_whole-whole.ensures c.in-Some.ensures.split refl) c.lines.invariant.so_far in
-    let refused = c.in-Ok.ensures.refused cause c.in-Some-refused.is _ run rest at in
-    if_said c.refuse.result _ _ (λ all said _. (run, reading ∷ rest, cause, at.was, refused.0, refused_said _ _ _ run c.lines.number cause c.lines.invariant.number refused.1 said, refused.2)) c.refuse.ensures.text
-
-pub returns-in-Some-refused-clause-part : goal.returns-in-Some-refused-clause-part
-returns-in-Some-refused-clause-part g c =
-    let size = c.args.geometry.now.size in
-    let run = c.lines.invariant.run in
-    let cause = c.in-Some-refused.cause in
-    let reading = line_of size c.in-Some.spelled.now in
-    let rest = readings_by c.args.end size c.in-Some.after.now in
-    let at = so_far_left _ _ _ _ _ _ _ _ run _ (reading ∷ rest) (readings_line size c.args.end c.is_whole-whole.result c.lines.rest.now c.in-Some.spelled.now c.in-Some.after.now reading c.is_whole-whole.ensures c.in-Some.ensures.split refl) c.lines.invariant.so_far in
-    let refused = c.in-Ok.ensures.refused cause c.in-Some-refused.is _ run rest at in
-    if_unsaid _ _ c.refuse.result _ _ c.refuse.ensures.blamed c.refuse.ensures.part (λ e only part _. (run, reading, rest, at.was, ends_telling _ _ _ _ run (reading ∷ rest) cause _ _ _ e refused.2 refused.1 refused.0 (refused_part _ _ _ run c.lines.number cause e c.lines.invariant.number refused.1 part) only))
-
-pub returns-in-Err-clause-part : goal.returns-in-Err-clause-part
-returns-in-Err-clause-part g c =
-    let size = c.args.geometry.now.size in
-    let run = c.lines.invariant.run in
-    let reading = line_of size c.in-Some.spelled.now in
-    let rest = readings_by c.args.end size c.in-Some.after.now in
-    let at = so_far_left _ _ _ _ _ _ _ _ run _ (reading ∷ rest) (readings_line size c.args.end c.is_whole-whole.result c.lines.rest.now c.in-Some.spelled.now c.in-Some.after.now reading c.is_whole-whole.ensures c.in-Some.ensures.split refl) c.lines.invariant.so_far in
-    λ _. (run, reading, rest, at.was, c.in-Err.ensures.part _ run rest at)
-
-pub returns-in-AtLimit-clause-refused : goal.returns-in-AtLimit-clause-refused
-returns-in-AtLimit-clause-refused g c =
-    let run = c.lines.invariant.run in
-    let at = so_far_left _ _ _ _ _ _ _ _ run _ (Err TooLong ∷ []) (readings_end c.args.geometry.now.size c.args.end c.is_whole-whole.result c.lines.rest.now c.is_whole-whole.ensures c.in_default.ensures.none ∙ ap left_over c.in-AtLimit.is) c.lines.invariant.so_far in
-    if_said c.refuse-in-AtLimit.result _ _ (λ all said _. (run, Err TooLong ∷ [], TooLong, at.was, refl, refused_said _ _ _ run c.lines.number TooLong c.lines.invariant.number at.said said, at.has)) c.refuse-in-AtLimit.ensures.text
-
-pub returns-in-AtLimit-clause-part : goal.returns-in-AtLimit-clause-part
-returns-in-AtLimit-clause-part g c =
-    let run = c.lines.invariant.run in
-    let at = so_far_left _ _ _ _ _ _ _ _ run _ (Err TooLong ∷ []) (readings_end c.args.geometry.now.size c.args.end c.is_whole-whole.result c.lines.rest.now c.is_whole-whole.ensures c.in_default.ensures.none ∙ ap left_over c.in-AtLimit.is) c.lines.invariant.so_far in
-    if_unsaid _ _ c.refuse-in-AtLimit.result _ _ c.refuse-in-AtLimit.ensures.blamed c.refuse-in-AtLimit.ensures.part (λ e only part _. (run, Err TooLong, [], at.was, ends_telling _ _ _ _ run (Err TooLong ∷ []) TooLong _ _ _ e at.has at.said refl (refused_part _ _ _ run c.lines.number TooLong e c.lines.invariant.number at.said part) only))

@@ -1,28 +1,25 @@
-use Rattle.std.proofs.Common.{◌≡◌, ◌+◌, ◌<◌, ◌≤◌, All, List, length}
+use Rattle.std.proofs.Common.{◌≡◌, ◌+◌, ◌<◌, ◌≤◌, [], All, List}
+use Rattle.ft_base.specs.StreamState.{SinkState, SourceState}
 use Rattle.trace_model.specs.declared.ran.Ran.{Ran}
-use Rattle.trace_model.specs.Run.{lines_of}
-use Rattle.trace_replay.specs.Ends.{GoesOn}
-use Rattle.trace_replay.specs.Input.{readings_by}
-use Rattle.trace_replay.specs.Ran.{RanSoFar}
+use Rattle.trace_replay.specs.Events.{events_of}
+use Rattle.trace_replay.specs.Ran.{GoesOn, RanSoFar}
 use Rattle.trace_replay.proofs.running.run_lines.Given as goal
 
 abbrev pub invariant-lines : goal.invariant-lines
 invariant-lines g l =
     let first = g.R.Media.state l.fn.rig in
     let now = g.R.Media.state l.rig in
-    let tells = g.V.Volume.told in
+    let o = (g.V.Volume.state l.fn.volume).told in
     record {
       owns : g.V.Volume.owns l.volume now.contents;
-      same : tells l.volume ≡ tells l.fn.volume;
+      same : (g.V.Volume.state l.volume).told ≡ o;
       run : List Ran;
-      so_far : RanSoFar l.geometry (g.V.Volume.stands (tells l.volume)) (record { all = readings_by l.end l.geometry.size l.bytes; first = first; taken = g.O.Sink.taken l.fn.sink }) now (g.O.Sink.taken l.sink) l.tally (g.V.Volume.pages l.volume) (g.V.Volume.groups l.volume) run (readings_by l.end l.geometry.size l.rest);
-      within : All (λ a. a < l.geometry.size) l.tally.touched.keys;
-      number : l.number ≡ length (lines_of run) + 1;
-      few : l.number + length l.rest ≤ length l.bytes + 1;
-      goes : GoesOn first now;
-      sink : g.O.Sink.faults l.fn.sink ≤ g.O.Sink.faults l.sink;
-      lent : g.O.Sink.lent l.sink ≡ g.O.Sink.lent l.fn.sink;
+      so_far : RanSoFar o (g.V.Volume.stands (g.V.Volume.state l.volume).told) first now l.tally (g.V.Volume.state l.volume).groups run;
+      came : (s : SourceState) → (b : SinkState) → g.P.Script.came s b [] l.fn.script → g.P.Script.came s b (events_of run) l.script;
+      within : All (λ a. a < o.geometry.size) l.tally.touched.keys;
+      few : l.tally.lines + (g.P.Script.state l.script).turns ≤ (g.P.Script.state l.fn.script).turns;
+      goes : GoesOn g.P.Script.state l.fn.script l.script first now;
     }
 
 abbrev pub decreases-lines : goal.decreases-lines
-decreases-lines g l = length l.rest
+decreases-lines g l = (g.P.Script.state l.script).turns

@@ -1,5 +1,5 @@
 use Rattle.std.proofs.Common.{◌≡◌}
-use Rattle.trace_model.specs.Told.{with_groups}
+use Rattle.trace_model.specs.SoFar.{with_groups}
 use Rattle.trace_replay.proofs.tally.group_each.Given as goal
 
 abbrev pub invariant-loop-i : goal.invariant-loop-i

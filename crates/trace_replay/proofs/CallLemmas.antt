@@ -1,0 +1,37 @@
+-- What a call did to a volume that owes nothing, and what going on after it leaves.
+use Rattle.std.proofs.Common.{◌≡◌, ◌≢◌, inl, inr, [], ◌∷◌, Result, Ok, Err, IfOk, sym, ap, ◌∙◌}
+use Rattle.ft_base.specs.Contents.{Contents, Image}
+use Rattle.ft_base.specs.PlainDisk.{PlainDisk}
+use Rattle.ft_base.specs.Told.{Told}
+use Rattle.ft_base.specs.declared.told.Ack.TheVariants as ack
+use Rattle.ft_media.specs.Rig.{powered}
+use Rattle.ft_media.specs.State.{State}
+use Rattle.ft_volume.specs.Volume.{Call, Done, Fixes, StandFor, VolumeState, WasOne}
+use Rattle.ft_volume.specs.declared.volume.VolumeError.{VolumeError}
+use Rattle.ft_volume.specs.declared.volume.VolumeError.TheVariants as volume
+use Rattle.ft_volume.proofs.DoneLemmas.{one_disk}
+
+-- each write is on the media when it answers
+pub one_call : {T : Type 0} (stands : Told → Image → PlainDisk → Type 0) (call : Call) (old new : VolumeState) (before after : Contents) (result : Result T VolumeError) (d : PlainDisk)
+    → (old.told.ack ≡ ack.Write → old.owed ≡ []) → (new.told.ack ≡ ack.Write → new.owed ≡ [])
+    → old.told.ack ≡ ack.Write → new.told ≡ old.told
+    → Done stands call old new before after result → StandFor (stands old.told) before d → WasOne (stands new.told) call after result d
+one_call stands call old new before after result d none none_new at_write told done stood =
+    one_disk stands call old new before after result d (none at_write) (none_new (ap (λ (t : Told). t.ack) told ∙ at_write)) done stood
+
+-- what is done after a call that was refused leaves the contents
+pub still_contents : {B : Type 0} (error : VolumeError) (before after : State) → (error ≡ volume.PowerLost → after ≡ powered before) → (error ≢ volume.PowerLost → (after ≡ before) × B) → before.contents ≡ after.contents
+still_contents volume.PowerLost before after lost same = sym (ap (λ (s : State). s.contents) (lost cc))
+still_contents volume.FlashFault before after lost same = let is = same (λ e. cc) in sym (ap (λ (s : State). s.contents) is.0)
+still_contents volume.DiskFault before after lost same = let is = same (λ e. cc) in sym (ap (λ (s : State). s.contents) is.0)
+still_contents volume.OutOfMemory before after lost same = let is = same (λ e. cc) in sym (ap (λ (s : State). s.contents) is.0)
+still_contents volume.OutOfVolume before after lost same = let is = same (λ e. cc) in sym (ap (λ (s : State). s.contents) is.0)
+
+-- a cut leaves the plain disk
+pub fixes_one : (stands : Told → Image → PlainDisk → Type 0) (old new : VolumeState) (before after : Contents) (d : PlainDisk) → Fixes stands old new before after → StandFor (stands old.told) before d → StandFor (stands new.told) after d
+fixes_one stands old new before after d fixes stood = elim (fixes (d ∷ []) (λ x now. inl (stood x now))) [ inl is ↦ is | inr none ↦ absurd none ]
+
+-- what follows of what was answered
+pub if_ok : {T E : Type 0} (r : Result T E) (p q : T → Type 0) → ((value : T) → p value → q value) → IfOk r p → IfOk r q
+if_ok (Ok value) p q follows holds = follows value holds
+if_ok (Err e) p q follows holds = tt

@@ -1,0 +1,337 @@
+-- How a run ends: the records of the theorem from what the lines left.
+use Rattle.std.proofs.Common.{◌≡◌, ◌≢◌, ◌≤◌, ◌+◌, ◌&&◌, ◌∷◌, ◌++◌, [], ℕ, Bool, true, false, cond, nat_le, List, Option, Some, None, Ok, Err, map, drop, length, refl, sym, ap, ◌∙◌, subst, append_assoc, arith}
+use Rattle.std.proofs.lemmas.List.{append-nil}
+use Rattle.ft_base.specs.Contents.{Contents, Image}
+use Rattle.ft_base.specs.PlainDisk.{PlainDisk}
+use Rattle.ft_base.specs.StreamState.{SinkState, SourceState}
+use Rattle.ft_base.specs.Told.{Told}
+use Rattle.ft_base.specs.declared.power.Stop.{Stop}
+use Rattle.ft_base.specs.declared.told.Ack.TheVariants as ack
+use Rattle.ft_media.specs.State.{State}
+use Rattle.ft_volume.specs.Volume.{StandFor}
+use Rattle.trace_model.specs.declared.answer.Answer.{Answer}
+use Rattle.trace_model.specs.declared.answer.Answer.TheVariants as answer
+use Rattle.trace_model.specs.declared.line.Line.{Line}
+use Rattle.trace_model.specs.declared.line.Line.TheVariants as line
+use Rattle.trace_model.specs.declared.line.LineError.{LineError}
+use Rattle.trace_model.specs.declared.line.LineError.TheVariants.{TooManyStops}
+use Rattle.trace_model.specs.declared.ran.Ran.{Ran}
+use Rattle.trace_model.specs.Fits.{armed_after}
+use Rattle.trace_model.specs.Readings.{Reading, accepted}
+use Rattle.trace_model.specs.Run.{after_line, answers_of, cuts_in, digest_of, disk_after, disk_without, end_answers, end_of, lines_of, reads_in, stopped, touched_after, writes_after, writes_in}
+use Rattle.trace_model.specs.SoFar.{AnswersTo, MayTell, WasRun, as_ran, blocks_unless, disk_within, is_stop, next_refusal, refusal, refusal_of}
+use Rattle.trace_model.proofs.RunLemmas.{disk_line, disk_without-none}
+use Rattle.trace_replay.specs.declared.ended.Ended.{Ended}
+use Rattle.trace_replay.specs.declared.ended.Ended.TheVariants as ended
+use Rattle.trace_replay.specs.declared.tally.Tally.{Tally}
+use Rattle.trace_replay.specs.Ends.{BreaksThrough, EndsEnd, EndsWithin, SaysThrough, StandForPart}
+use Rattle.trace_replay.specs.Events.{Breaks, BreaksBy, CameBy, Event, KnowsGiven, KnowsLines, NextRefused, Says, ScriptState, events_of, lines_given, refusal_after, refused_for, taking}
+use Rattle.trace_replay.specs.Events.Event.{Gave, Took}
+use Rattle.trace_replay.specs.Ran.{EndsRun, RanSoFar}
+use Rattle.trace_replay.specs.Said.{Cuts, Takes, TellsStops}
+use Rattle.trace_replay.specs.Theorem.{EndsPart, EndsRefused, EndsUnread, LeavesLines, LeavesRig, RunsWhole, StandForNext}
+use Rattle.trace_replay.proofs.FromLemmas.{takes_from}
+use Rattle.trace_replay.proofs.GivenLemmas.{answers_in-taking, given_left, lines_given-run, next_left, told_bytes-run}
+use Rattle.trace_replay.proofs.RanLemmas.{can_next, can_some}
+
+-- ---- the media
+
+after_none : (l : Line) (d : PlainDisk) → after_line l 0 d ≡ d
+after_none (line.Write lba count tag) d = refl
+after_none (line.Read lba count) d = refl
+after_none line.Flush d = refl
+after_none line.Idle d = refl
+after_none (line.Stop after outcome) d = refl
+after_none (line.Cut outcome) d = refl
+after_none line.Nothing d = refl
+
+none_within : (run : List Ran) (left : List Reading) → disk_within run left 0 0 ≡ disk_after run
+none_within run [] = disk_without-none 0 run refl
+none_within run (Err cause ∷ left) = disk_without-none 0 run refl
+none_within run (Ok l ∷ left) = disk_line l 0 (drop 0 (writes_after run)) ∙ after_none l (disk_without 0 run) ∙ disk_without-none 0 run refl
+
+-- nothing of the next line was written
+pub media_none : (o : Told) (stands : Image → PlainDisk → Type 0) (contents : Contents) (run : List Ran) (left : List Reading) → StandFor stands contents (disk_after run) → StandForNext o stands contents run left
+media_none o stands contents run left stood x now = (0, 0, record { blocks = omega arith; none = λ _. refl; since = omega arith; front = λ _. refl }, subst (λ (d : PlainDisk). stands x d) (sym (none_within run left)) (stood x now))
+
+-- some first blocks of it were
+media_line : (o : Told) (stands : Image → PlainDisk → Type 0) (contents : Contents) (run : List Ran) (l : Line) (left : List Reading) → refusal_of o run l ≡ None → StandForPart stands contents l (disk_after run) → StandForNext o stands contents run (Ok l ∷ left)
+media_line o stands contents run l left none part x now =
+    let is = part x now in
+    let disk : disk_within run (Ok l ∷ left) 0 is.0 ≡ after_line l is.0 (disk_after run) = disk_line l is.0 (drop 0 (writes_after run)) ∙ ap (after_line l is.0) (disk_without-none 0 run refl) in (
+      0,
+      is.0,
+      record { blocks = subst (λ (r : Option LineError). is.0 ≤ blocks_unless r l) (sym none) is.1; none = λ _. refl; since = omega arith; front = λ some. absurd (omega arith) },
+      subst (λ (d : PlainDisk). stands x d) (sym disk) is.2,
+    )
+
+-- ---- what may be told
+
+some_is : (x y : LineError) → ◌≡◌ {A = Option LineError} (Some x) (Some y) → x ≡ y
+some_is x y same = cc
+
+-- a refusal, where the next line is refused
+may_refuse : (o : Told) (run : List Ran) (whole : Bool) (left : List Reading) (cause : LineError) → next_refusal o run left ≡ Some cause → MayTell o whole run left (refusal run cause)
+may_refuse o run true [] cause is = absurd (cc)
+may_refuse o run false [] cause is = absurd (cc)
+may_refuse o run true (Err e ∷ left) cause is = ap (refusal run) (some_is cause e (sym is))
+may_refuse o run false (Err e ∷ left) cause is = ap (refusal run) (some_is cause e (sym is))
+may_refuse o run true (Ok l ∷ left) cause is = subst (λ (r : Option LineError). AnswersTo o r run l (refusal run cause)) (sym is) refl
+may_refuse o run false (Ok l ∷ left) cause is = subst (λ (r : Option LineError). AnswersTo o r run l (refusal run cause)) (sym is) refl
+
+-- its answers, where it is not
+may_answer : (o : Told) (run : List Ran) (whole : Bool) (l : Line) (left : List Reading) (answers : List Answer) → AnswersTo o (refusal_of o run l) run l answers → MayTell o whole run (Ok l ∷ left) answers
+may_answer o run true l left answers tells = tells
+may_answer o run false l left answers tells = tells
+
+-- what is refused where so many stops are armed
+refused_next : (o : Told) (run : List Ran) (armed : ℕ) (next : Reading) (left : List Reading) (cause : LineError) → armed ≡ length (armed_after run) → refused_for armed next ≡ Some cause → next_refusal o run (next ∷ left) ≡ Some cause
+refused_next o run armed (Err e) left cause same is = is
+refused_next o run armed (Ok l) left cause same is =
+    refused_by (is_stop l && nat_le 16 (length (armed_after run))) _ cause (subst (λ n. refused_for n (Ok l) ≡ Some cause) same is)
+  where
+    refused_by : (many : Bool) (other : Option LineError) (cause : LineError) → cond many (Some TooManyStops) None ≡ Some cause → cond many (Some TooManyStops) other ≡ Some cause
+    refused_by true other cause is = is
+    refused_by false other cause is = absurd (cc)
+
+-- ---- an end
+
+run_part : (o : Told) (reads : List Reading → Bool → Type 0) (says : List Ran → List Answer → Type 0) (short : List Ran → List Answer → Option Answer → Type 0) (stands : Image → PlainDisk → Type 0) (first now : State) (e : Ended) → (e ≡ ended.Trace → ⊥) → (e ≡ ended.Source → ⊥) → EndsPart o reads says short stands first now e → EndsRun o reads says short stands first now e
+run_part o reads says short stands first now e not_trace not_source ends = record { refused = λ is. absurd (not_trace is); unread = λ is. absurd (not_source is); part = λ _ _. ends }
+
+module _ (o : Told) (stands : Image → PlainDisk → Type 0) (first a : State) (counted : Tally) (held : List ℕ) (run : List Ran) (so_far : RanSoFar o stands first a counted held run) where
+  lines_left : (all left : List Reading) → all ≡ map accepted (lines_of run) ++ left → WasRun o all run left
+  lines_left all left front = record { lines = front; accepted = so_far.accepted; fits = so_far.fits }
+
+  leaves_lines : (left : List Reading) → LeavesLines o stands first a run left
+  leaves_lines left = record { rig = so_far.rig; media = media_none o stands a.contents run left so_far.disk; stops = so_far.stops; risen = so_far.risen; ready = so_far.ready }
+
+  -- something may be told of whatever comes next
+  tells_some : o.ack ≡ ack.Write → (whole : Bool) (left : List Reading) → (due : List Answer) × MayTell o whole run left due
+  tells_some acked true [] = (end_answers run 0 0, record { cuts = 0; lost = 0; fits = record { few = omega arith; none = refl }; told = refl })
+  tells_some acked false [] = ([], refl)
+  tells_some acked whole (Err cause ∷ left) = (refusal run cause, may_refuse o run whole (Err cause ∷ left) cause refl)
+  tells_some acked whole (Ok l ∷ left) = let some = tells_line (refusal_of o run l) in (some.0, may_answer o run whole l left some.0 some.1)
+    where
+      tells_line : (r : Option LineError) → (due : List Answer) × AnswersTo o r run l due
+      tells_line (Some cause) = (refusal run cause, refl)
+      tells_line None =
+          let can = can_some a.power (disk_after run) l a.power.stops refl in
+          (answers_of (as_ran l can.0 can.1 0) (disk_without 0 run), record { cuts = can.0; kept = can.1; lost = 0; fits = can_next o stands first a counted held run so_far l can.0 can.1 acked can.2; told = refl })
+
+  -- before any answer of the next line was taken
+  ends_before : (reads : List Reading → Bool → Type 0) (says : List Ran → List Answer → Type 0) (short : List Ran → List Answer → Option Answer → Type 0) (e : Ended) (all : List Reading) (whole : Bool) (left : List Reading) (due : List Answer) → reads all whole → all ≡ map accepted (lines_of run) ++ left → MayTell o whole run left due → Takes e (says run) (short run) [] due → EndsPart o reads says short stands first a e
+  ends_before reads says short e all whole left due trace front may taken = record {
+    all = all;
+    whole = whole;
+    run = run;
+    left = left;
+    due = due;
+    trace = trace;
+    lines = lines_left all left front;
+    may = may;
+    part = record { front = []; rest = due; both = refl; taken = taken };
+    proper = λ none. none;
+    stops = record {
+      risen = λ below. let one = so_far.risen below in omega arith;
+      only = λ _. refl;
+      queue = λ _. so_far.stops;
+      fell = (0, omega arith, omega arith, so_far.stops);
+    };
+    media = media_none o stands a.contents run left so_far.disk;
+    rig = so_far.rig;
+  }
+
+  rig_then : (b : State) → LeavesRig a b → LeavesRig first b
+  rig_then b rig = record { on = rig.on; shape = rig.shape ∙ so_far.rig.shape; disk_writes = rig.disk_writes ∙ so_far.rig.disk_writes }
+
+  stops_then : (e : Ended) (front : List Answer) (b : State) → TellsStops e front 0 a b a.power.stops → TellsStops e front (cuts_in run) first b (armed_after run)
+  stops_then e front b tells = record {
+    risen = λ below. let two = tells.risen below in let one = so_far.risen (omega arith) in omega arith;
+    only = tells.only;
+    queue = λ device. tells.queue device ∙ ap (drop (length front)) so_far.stops;
+    fell = let fell = tells.fell in (fell.0, fell.1, fell.2, fell.3 ∙ ap (drop fell.0) so_far.stops);
+  }
+
+  -- the end line
+  end_is : answer.End counted.writes counted.reads (length counted.touched.keys) (digest_of counted.touched.keys (disk_after run)) ≡ end_of 0 run
+  end_is =
+      ap (λ n. answer.End n counted.reads (length counted.touched.keys) (digest_of counted.touched.keys (disk_after run))) so_far.tally.writes
+      ∙ ap (λ n. answer.End (writes_in run) n (length counted.touched.keys) (digest_of counted.touched.keys (disk_after run))) so_far.tally.reads
+      ∙ ap (λ (xs : List ℕ). answer.End (writes_in run) (reads_in run) (length xs) (digest_of xs (disk_after run))) so_far.tally.touched
+      ∙ ap (λ (d : PlainDisk). answer.End (writes_in run) (reads_in run) (length (touched_after run)) (digest_of (touched_after run) d)) (sym (disk_without-none 0 run refl))
+
+  -- ---- over a script
+
+  module _ {P : Type 0} (tells : P → ScriptState) (came : SourceState → SinkState → List Event → P → Type 0) (broke : SourceState → SinkState → List Event → Event → P → Type 0) (knows : SourceState → P → List Reading → Bool → Type 0) (s : SourceState) (b : SinkState) (x y : P) where
+    -- where the next line was given
+    module _ (l : Line) (come : came s b (events_of run ++ Gave l ∷ []) x) (given : KnowsGiven knows s x (events_of run ++ Gave l ∷ [])) (knew : (all : List Reading) (whole : Bool) → knows s x all whole → knows s y all whole) where
+      says_next : (answers : List Answer) → Says came x y answers → CameBy came s b y run answers
+      says_next answers says = (Gave l ∷ taking answers, answers_in-taking answers, subst (λ (r : List Event). came s b r y) (append_assoc (events_of run) (Gave l ∷ []) (taking answers)) (says s b (events_of run ++ Gave l ∷ []) come))
+
+      breaks_next : (answers : List Answer) (next : Option Answer) → Breaks came broke x y answers next → BreaksBy broke s b y run answers next
+      breaks_next answers None breaks = absurd breaks
+      breaks_next answers (Some next) breaks = (Gave l ∷ taking answers, answers_in-taking answers, subst (λ (r : List Event). broke s b r (Took next) y) (append_assoc (events_of run) (Gave l ∷ []) (taking answers)) (breaks s b (events_of run ++ Gave l ∷ []) come))
+
+      left_next : given.all ≡ map accepted (lines_of run) ++ Ok l ∷ given.left
+      left_next = next_left run l given.all given.left given.front
+
+      -- it ended within it
+      pub ends_within : (more : Image → PlainDisk → Type 0) (c : State) (e : Ended) → o.ack ≡ ack.Write → refusal_of o run l ≡ None → LeavesRig a c → EndsWithin tells came broke knows e x y a c l (disk_after run) → StandForPart more c.contents l (disk_after run) → EndsRun o (knows s y) (CameBy came s b y) (BreaksBy broke s b y) more first c e
+      ends_within more c e acked none rig within part = run_part o _ _ _ more first c e within.blamed.not_trace within.blamed.not_source (record {
+        all = given.all;
+        whole = given.whole;
+        run = run;
+        left = Ok l ∷ given.left;
+        due = answers_of (as_ran l within.cuts within.kept 0) (disk_after run);
+        trace = knew given.all given.whole given.known;
+        lines = lines_left given.all (Ok l ∷ given.left) left_next;
+        may = may_answer o run given.whole l given.left _ (subst (λ (r : Option LineError). AnswersTo o r run l (answers_of (as_ran l within.cuts within.kept 0) (disk_after run))) (sym none)
+            (record { cuts = within.cuts; kept = within.kept; lost = 0; fits = can_next o stands first a counted held run so_far l within.cuts within.kept acked within.can; told = ap (answers_of (as_ran l within.cuts within.kept 0)) (sym (disk_without-none 0 run refl)) }));
+        part = record {
+          front = within.part.front;
+          rest = within.part.rest;
+          both = within.part.both;
+          taken = takes_from e (Says came x y) (CameBy came s b y run) (Breaks came broke x y) (BreaksBy broke s b y run) says_next breaks_next within.part.front within.part.rest within.part.taken;
+        };
+        proper = within.proper;
+        stops = stops_then e within.part.front c within.stops;
+        media = media_line o more c.contents run l given.left none part;
+        rig = rig_then c rig;
+      })
+
+      -- memory was refused before it was counted
+      pub ends_uncounted : o.ack ≡ ack.Write → came s b (events_of run ++ Gave l ∷ []) y → EndsRun o (knows s y) (CameBy came s b y) (BreaksBy broke s b y) stands first a ended.Memory
+      ends_uncounted acked now =
+          let some = tells_some acked given.whole (Ok l ∷ given.left) in
+          run_part o _ _ _ stands first a ended.Memory (λ is. cc) (λ is. cc)
+          (ends_before (knows s y) (CameBy came s b y) (BreaksBy broke s b y) ended.Memory given.all given.whole (Ok l ∷ given.left) some.0 (knew given.all given.whole given.known) left_next some.1 (Gave l ∷ [], refl, now))
+
+      -- it was refused
+      pub ends_refusing : (number : ℕ) (cause : LineError) (e : Ended) → refusal_of o run l ≡ Some cause → number ≡ length (lines_of run) + 1 → (e ≡ ended.Trace → Says came x y (answer.Refused number cause ∷ [])) → (e ≢ ended.Trace → Takes e (Says came x y) (Breaks came broke x y) [] (answer.Refused number cause ∷ [])) → (e ≡ ended.Source → ⊥) → EndsRun o (knows s y) (CameBy came s b y) (BreaksBy broke s b y) stands first a e
+      ends_refusing number cause e refused number_is said part not_source =
+          let same : answer.Refused number cause ∷ [] ≡ refusal run cause = ap (λ n. answer.Refused n cause ∷ []) number_is in
+          record {
+            refused = λ is. record {
+              all = given.all;
+              whole = given.whole;
+              run = run;
+              left = Ok l ∷ given.left;
+              cause = cause;
+              trace = knew given.all given.whole given.known;
+              lines = lines_left given.all (Ok l ∷ given.left) left_next;
+              why = refused;
+              printed = says_next (refusal run cause) (subst (λ (r : List Answer). Says came x y r) same (said is));
+              leaves = leaves_lines (Ok l ∷ given.left);
+            };
+            unread = λ is. absurd (not_source is);
+            part = λ not_trace _. ends_before (knows s y) (CameBy came s b y) (BreaksBy broke s b y) e given.all given.whole (Ok l ∷ given.left) (refusal run cause) (knew given.all given.whole given.known) left_next (may_refuse o run given.whole (Ok l ∷ given.left) cause refused)
+                (takes_from e (Says came x y) (CameBy came s b y run) (Breaks came broke x y) (BreaksBy broke s b y run) says_next breaks_next [] (refusal run cause) (subst (λ (r : List Answer). Takes e (Says came x y) (Breaks came broke x y) [] r) same (part not_trace)));
+          }
+
+    -- ---- where no line was given
+
+    left_here : (e : List Event) (all left : List Reading) → e ≡ events_of run → all ≡ map accepted (lines_given e) ++ left → all ≡ map accepted (lines_of run) ++ left
+    left_here e all left same front = given_left e run all left (ap lines_given same ∙ lines_given-run run) front
+
+    all_given : (all : List Reading) → all ≡ map accepted (lines_given (events_of run)) → all ≡ map accepted (lines_of run) ++ []
+    all_given all is = left_here (events_of run) all [] refl (is ∙ sym (append-nil (map accepted (lines_given (events_of run)))))
+
+    said_is : (cause : LineError) → refusal_after (events_of run) cause ∷ [] ≡ refusal run cause
+    said_is cause = ap (λ (ls : List Line). answer.Refused (length ls + 1) cause ∷ []) (lines_given-run run)
+
+    -- the next line was refused, and that was said
+    pub ends_trace : (armed : ℕ) (cause : LineError) → armed ≡ length a.power.stops → NextRefused knows s y (events_of run) armed cause → came s b (events_of run ++ taking (refusal_after (events_of run) cause ∷ [])) y → EndsRefused o (knows s y) (CameBy came s b y) stands first a
+    ends_trace armed cause armed_is next now = record {
+      all = next.all;
+      whole = next.whole;
+      run = run;
+      left = next.next ∷ next.left;
+      cause = cause;
+      trace = next.known;
+      lines = lines_left next.all (next.next ∷ next.left) (left_here (events_of run) next.all (next.next ∷ next.left) refl next.front);
+      why = refused_next o run armed next.next next.left cause (armed_is ∙ ap (λ (q : List Stop). length q) so_far.stops) next.why;
+      printed = (taking (refusal_after (events_of run) cause ∷ []), said_is cause, now);
+      leaves = leaves_lines (next.next ∷ next.left);
+    }
+
+    -- the source failed
+    pub ends_source : KnowsLines knows s y (events_of run) false → came s b (events_of run ++ []) y → EndsUnread o (knows s y) (CameBy came s b y) stands first a
+    ends_source known now = record {
+      all = map accepted (lines_given (events_of run));
+      run = run;
+      trace = known;
+      lines = lines_left _ [] (all_given _ refl);
+      printed = ([], refl, now);
+      leaves = leaves_lines [];
+    }
+
+    -- the sink failed while a refusal was said
+    pub ends_sink : (armed : ℕ) (cause : LineError) → armed ≡ length a.power.stops → NextRefused knows s y (events_of run) armed cause → broke s b (events_of run) (Took (refusal_after (events_of run) cause)) y → EndsPart o (knows s y) (CameBy came s b y) (BreaksBy broke s b y) stands first a ended.Sink
+    ends_sink armed cause armed_is next broken =
+        let why = refused_next o run armed next.next next.left cause (armed_is ∙ ap (λ (q : List Stop). length q) so_far.stops) next.why in
+        ends_before (knows s y) (CameBy came s b y) (BreaksBy broke s b y) ended.Sink next.all next.whole (next.next ∷ next.left) (refusal run cause) next.known (left_here (events_of run) next.all (next.next ∷ next.left) refl next.front) (may_refuse o run next.whole (next.next ∷ next.left) cause why) (
+          [],
+          refl,
+          subst (λ (r : List Event). broke s b r (Took (answer.Refused (length (lines_of run) + 1) cause)) y) (sym (append-nil (events_of run)))
+              (subst (λ (ls : List Line). broke s b (events_of run) (Took (answer.Refused (length ls + 1) cause)) y) (lines_given-run run) broken),
+        )
+
+    -- memory was refused before the next line
+    pub ends_memory : o.ack ≡ ack.Write → KnowsGiven knows s y (events_of run ++ []) → came s b (events_of run ++ []) y → EndsPart o (knows s y) (CameBy came s b y) (BreaksBy broke s b y) stands first a ended.Memory
+    ends_memory acked given now =
+        let some = tells_some acked given.whole given.left in
+        ends_before (knows s y) (CameBy came s b y) (BreaksBy broke s b y) ended.Memory given.all given.whole given.left some.0 given.known (left_here (events_of run ++ []) given.all given.left (append-nil (events_of run)) given.front) some.1 ([], refl, now)
+
+    -- ---- the end line
+
+    module _ (come : came s b (events_of run) x) (known : KnowsLines knows s x (events_of run) true) (knew : (all : List Reading) (whole : Bool) → knows s x all whole → knows s y all whole) (more : Image → PlainDisk → Type 0) (c : State) (stood : StandFor more c.contents (disk_after run)) (rig : LeavesRig a c) where
+      through : (answers : List Answer) → SaysThrough came x y answers → CameBy came s b y run answers
+      through answers says = says s b (events_of run) come (told_bytes-run run)
+
+      broken_through : (answers : List Answer) (next : Option Answer) → BreaksThrough came broke x y answers next → BreaksBy broke s b y run answers next
+      broken_through answers None breaks = absurd breaks
+      broken_through answers (Some next) breaks = breaks s b (events_of run) come (told_bytes-run run)
+
+      -- it was said
+      pub ends_whole : (cuts : ℕ) → Cuts cuts 0 a c → SaysThrough came x y (stopped cuts ++ answer.End counted.writes counted.reads (length counted.touched.keys) (digest_of counted.touched.keys (disk_after run)) ∷ []) → RunsWhole o (knows s y) (CameBy came s b y) more first c
+      ends_whole cuts cut said = record {
+        all = map accepted (lines_given (events_of run));
+        run = run;
+        cuts = cuts;
+        lost = 0;
+        trace = knew _ true known;
+        lines = lines_left _ [] (all_given _ refl);
+        printed = through (end_answers run cuts 0) (subst (λ (z : Answer). SaysThrough came x y (stopped cuts ++ z ∷ [])) end_is said);
+        leaves = record {
+          rig = rig_then c rig;
+          fits = record { few = subst (λ (q : List Stop). cuts ≤ length q) so_far.stops cut.few; none = refl };
+          disk = subst (λ (d : PlainDisk). StandFor more c.contents d) (sym (disk_without-none 0 run refl)) stood;
+          stops = cut.stops ∙ ap (drop cuts) so_far.stops;
+          risen = λ below. let two = cut.risen below in let one = so_far.risen (omega arith) in omega arith;
+          ready = λ none block ready. cut.ready (omega arith) block (so_far.ready (omega arith) block ready);
+        };
+      }
+
+      -- the run ended within it
+      pub ends_end : (e : Ended) → EndsEnd tells came broke knows e x y a c (answer.End counted.writes counted.reads (length counted.touched.keys) (digest_of counted.touched.keys (disk_after run))) → EndsPart o (knows s y) (CameBy came s b y) (BreaksBy broke s b y) more first c e
+      ends_end e ends = record {
+        all = map accepted (lines_given (events_of run));
+        whole = true;
+        run = run;
+        left = [];
+        due = stopped ends.cuts ++ answer.End counted.writes counted.reads (length counted.touched.keys) (digest_of counted.touched.keys (disk_after run)) ∷ [];
+        trace = knew _ true known;
+        lines = lines_left _ [] (all_given _ refl);
+        may = record { cuts = ends.cuts; lost = 0; fits = record { few = subst (λ (q : List Stop). ends.cuts ≤ length q) so_far.stops ends.few; none = refl }; told = ap (λ (z : Answer). stopped ends.cuts ++ z ∷ []) end_is };
+        part = record {
+          front = ends.part.front;
+          rest = ends.part.rest;
+          both = ends.part.both;
+          taken = takes_from e (SaysThrough came x y) (CameBy came s b y run) (BreaksThrough came broke x y) (BreaksBy broke s b y run) through broken_through ends.part.front ends.part.rest ends.part.taken;
+        };
+        proper = λ none. absurd (ends.proper none);
+        stops = stops_then e ends.part.front c ends.stops;
+        media = media_none o more c.contents run [] stood;
+        rig = rig_then c rig;
+      }

@@ -1,0 +1,95 @@
+-- How a run of a trace ends, and what it leaves: the theorem.
+use Rattle.std.specs.Prelude.{◌≡◌, ◌+◌, ℕ, Bool, true, false, List, [], drop, Option, Some}
+use Rattle.ft_base.specs.Contents.{Contents, Image, Now}
+use Rattle.ft_base.specs.PlainDisk.{PlainDisk}
+use Rattle.ft_base.specs.Told.{Told}
+use Rattle.ft_media.specs.Media.{KeepsReady}
+use Rattle.ft_media.specs.State.{State}
+use Rattle.ft_volume.specs.Volume.{StandFor}
+use Rattle.trace_model.specs.declared.answer.Answer.{Answer}
+use Rattle.trace_model.specs.declared.line.LineError.{LineError}
+use Rattle.trace_model.specs.declared.ran.Ran.{Ran}
+use Rattle.trace_model.specs.Fits.{FitsEnd, armed_after}
+use Rattle.trace_model.specs.Readings.{Reading}
+use Rattle.trace_model.specs.Run.{cuts_in, disk_without, end_answers}
+use Rattle.trace_model.specs.SoFar.{MayRemain, MayTell, WasRun, disk_within, next_refusal, refusal}
+use Rattle.trace_replay.specs.declared.ended.Ended.{Ended}
+use Rattle.trace_replay.specs.Said.{RoseAtLeast, TellsStops, TookPart}
+
+-- what every run leaves: power on, the shape to which the rig was fitted, and no block written to the disk
+pub record LeavesRig (first now : State) : Type 0 where
+  pub on : now.power.on ≡ true
+  pub shape : now.contents.shape ≡ first.contents.shape
+  pub disk_writes : now.counts.disk_writes ≡ first.counts.disk_writes
+
+-- what is left after these lines, and so many cuts and lost block writes: whatever a crash leaves stands for the plain disk, the stops are those that did not cut, and where none was told power was not cut
+pub record Leaves (stands : Image → PlainDisk → Type 0) (first now : State) (run : List Ran) (cuts lost : ℕ) : Type 0 where
+  pub rig : LeavesRig first now
+  pub fits : FitsEnd run cuts lost
+  pub disk : StandFor stands now.contents (disk_without lost run)
+  pub stops : now.power.stops ≡ drop cuts (armed_after run)
+  pub risen : RoseAtLeast (cuts_in run + cuts) first.faults.cuts now.faults.cuts
+  pub ready : cuts_in run + cuts ≡ 0 → KeepsReady first now
+
+-- whatever a crash leaves stands for the plain disk after these lines, with some first block writes of the next one
+abbrev pub StandForNext : Told → (Image → PlainDisk → Type 0) → Contents → List Ran → List Reading → Type 0
+StandForNext o stands contents run left = (x : Image) → Now contents x → (lost : ℕ) × (n : ℕ) × MayRemain o run left lost n × stands x (disk_within run left lost n)
+
+-- what is left after these lines where the next one was not begun: whatever a crash leaves stands for their plain disk, no stop is gone that did not cut one of them, and where none was told power was not cut
+pub record LeavesLines (o : Told) (stands : Image → PlainDisk → Type 0) (first now : State) (run : List Ran) (left : List Reading) : Type 0 where
+  pub rig : LeavesRig first now
+  pub media : StandForNext o stands now.contents run left
+  pub stops : now.power.stops ≡ armed_after run
+  pub risen : RoseAtLeast (cuts_in run) first.faults.cuts now.faults.cuts
+  pub ready : cuts_in run ≡ 0 → KeepsReady first now
+
+-- what a run is told by: what is known of its lines (of all of them or not), what was said of these lines and after them, and that with a part of an answer
+module _ (o : Told) (reads : List Reading → Bool → Type 0) (says : List Ran → List Answer → Type 0) (stands : Image → PlainDisk → Type 0) (first now : State) where
+  -- every line of the trace was run: a plain disk's answers were said, and the end line after its cuts
+  pub record RunsWhole : Type 0 where
+    pub all : List Reading
+    pub run : List Ran
+    pub cuts : ℕ
+    pub lost : ℕ
+    pub trace : reads all true
+    pub lines : WasRun o all run []
+    pub printed : says run (end_answers run cuts lost)
+    pub leaves : Leaves stands first now run cuts lost
+
+  -- the line after those that were run is refused for a cause, and that was said
+  pub record EndsRefused : Type 0 where
+    pub all : List Reading
+    pub whole : Bool
+    pub run : List Ran
+    pub left : List Reading
+    pub cause : LineError
+    pub trace : reads all whole
+    pub lines : WasRun o all run left
+    pub why : next_refusal o run left ≡ Some cause
+    pub printed : says run (refusal run cause)
+    pub leaves : LeavesLines o stands first now run left
+
+  -- the source failed: the lines that were known by then were run
+  pub record EndsUnread : Type 0 where
+    pub all : List Reading
+    pub run : List Ran
+    pub trace : reads all false
+    pub lines : WasRun o all run []
+    pub printed : says run []
+    pub leaves : LeavesLines o stands first now run []
+
+-- it ended so after the answers of these lines and before the last one of the next line; the media are the plain disk after the former, with first block writes of the latter
+pub record EndsPart (o : Told) (reads : List Reading → Bool → Type 0) (says : List Ran → List Answer → Type 0) (short : List Ran → List Answer → Option Answer → Type 0) (stands : Image → PlainDisk → Type 0) (first now : State) (e : Ended) : Type 0 where
+  pub all : List Reading
+  pub whole : Bool
+  pub run : List Ran
+  pub left : List Reading
+  pub due : List Answer
+  pub trace : reads all whole
+  pub lines : WasRun o all run left
+  pub may : MayTell o whole run left due
+  pub part : TookPart e (says run) (short run) due
+  pub proper : part.rest ≡ [] → due ≡ []
+  pub stops : TellsStops e part.front (cuts_in run) first now (armed_after run)
+  pub media : StandForNext o stands now.contents run left
+  pub rig : LeavesRig first now

@@ -1,0 +1,80 @@
+//! The end of a run: what was touched is read, and told to the script.
+ghost use Rattle.std.specs.Prelude.{◌≡◌, ◌<◌, ◌++◌, ◌∷◌, [], true, length, All, IfOk, IfErr};
+ghost use Rattle.ft_base.specs.PlainDisk.{PlainDisk};
+ghost use Rattle.ft_base.specs.declared.told.Ack.TheVariants as ack;
+ghost use Rattle.ft_volume.specs.Volume.{StandFor};
+ghost use Rattle.trace_model.specs.declared.answer.Answer.{Answer};
+ghost use Rattle.trace_model.specs.declared.answer.Answer.TheVariants as answer;
+ghost use Rattle.trace_model.specs.Run.{digest_of, stopped};
+ghost use Rattle.trace_replay.specs.Ends.{EndsEnd, SaysThrough};
+ghost use Rattle.trace_replay.specs.Said.{Cuts};
+ghost use Rattle.trace_replay.specs.Saying.{SaysTouched};
+ghost use Rattle.trace_replay.specs.Went.{Goes, Keeps};
+
+use crate::again::read_through;
+use crate::tally::Tally;
+use crate::{Ended, Script};
+use ft_base::{Block, zero_block};
+use ft_media::{Media, Rig};
+use ft_volume::Volume;
+use std::collections::BTreeSet;
+
+/// Reads each of these addresses, and tells it and its block. Says how often the reads were cut.
+pub(crate) fn tell_touched<P: Script, R: Rig, V: Volume<R>>(
+    script: &mut P,
+    rig: &mut R,
+    volume: &mut V,
+    touched: &BTreeSet<u64>,
+    block: &mut Block,
+) -> Result<u64, Ended>
+    requires owns { V.owns volume.old (R.state rig.old).contents }
+    requires on { (R.state rig.old).power.on ≡ true }
+    requires ack { (V.state volume.old).told.ack ≡ ack.Write }
+    requires within { All (λ a. a < (V.state volume.old).told.geometry.size) touched.now.keys }
+    ensures owns { V.owns volume.new (R.state rig.new).contents }
+    ensures told { (V.state volume.new).told ≡ (V.state volume.old).told }
+    ensures kept { Keeps (V.stands (V.state volume.old).told) (V.stands (V.state volume.new).told) (R.state rig.old).contents (R.state rig.new).contents }
+    ensures cuts { IfOk result (λ cuts. Cuts cuts 0 (R.state rig.old) (R.state rig.new)) }
+    ensures said { IfOk result (λ cuts. (d : PlainDisk) → StandFor (V.stands (V.state volume.old).told) (R.state rig.old).contents d → SaysTouched P.came script.old script.new cuts touched.now.keys d) }
+    ensures ends { IfErr result (λ e. (d : PlainDisk) → StandFor (V.stands (V.state volume.old).told) (R.state rig.old).contents d
+        → (end : Answer) → EndsEnd P.state P.came P.broke P.knows e script.old script.new (R.state rig.old) (R.state rig.new) end) }
+    ensures goes { Goes P.state P.came P.broke P.knows script.old script.new (R.state rig.old) (R.state rig.new) }
+{
+    let mut cuts = 0;
+    let _armed = rig.armed();
+    let _size = volume.size();
+    for address in touched {
+        let more = read_through(script, rig, volume, *address, block)?;
+        cuts += more;
+        script.touched(*address, block)?;
+    }
+    Ok(cuts)
+}
+
+/// Reads what was touched and tells it, and then the counts. Says how often the reads were cut.
+pub(crate) fn say_end<P: Script, R: Rig, V: Volume<R>>(
+    script: &mut P,
+    rig: &mut R,
+    volume: &mut V,
+    tally: &Tally,
+) -> Result<u64, Ended>
+    requires owns { V.owns volume.old (R.state rig.old).contents }
+    requires on { (R.state rig.old).power.on ≡ true }
+    requires ack { (V.state volume.old).told.ack ≡ ack.Write }
+    requires within { All (λ a. a < (V.state volume.old).told.geometry.size) tally.now.touched.keys }
+    ensures owns { V.owns volume.new (R.state rig.new).contents }
+    ensures told { (V.state volume.new).told ≡ (V.state volume.old).told }
+    ensures kept { Keeps (V.stands (V.state volume.old).told) (V.stands (V.state volume.new).told) (R.state rig.old).contents (R.state rig.new).contents }
+    ensures cuts { IfOk result (λ cuts. Cuts cuts 0 (R.state rig.old) (R.state rig.new)) }
+    ensures said { IfOk result (λ cuts. (d : PlainDisk) → StandFor (V.stands (V.state volume.old).told) (R.state rig.old).contents d → SaysThrough P.came script.old script.new
+        (stopped cuts ++ answer.End tally.now.writes tally.now.reads (length tally.now.touched.keys) (digest_of tally.now.touched.keys d) ∷ [])) }
+    ensures ends { IfErr result (λ e. (d : PlainDisk) → StandFor (V.stands (V.state volume.old).told) (R.state rig.old).contents d → EndsEnd P.state P.came P.broke P.knows e script.old script.new (R.state rig.old) (R.state rig.new)
+        (answer.End tally.now.writes tally.now.reads (length tally.now.touched.keys) (digest_of tally.now.touched.keys d))) }
+    ensures goes { Goes P.state P.came P.broke P.knows script.old script.new (R.state rig.old) (R.state rig.new) }
+{
+    let mut block = zero_block();
+    let cuts = tell_touched(script, rig, volume, &tally.touched, &mut block)?;
+    let touched = tally.touched.len() as u64;
+    script.end(tally.writes, tally.reads, touched)?;
+    Ok(cuts)
+}
