@@ -1,4 +1,4 @@
-pub mod GroupLemmas
 pub mod DoneLemmas
 pub mod MediaLemmas
+pub mod OpenedLemmas
 pub mod UpLemmas

@@ -1,15 +1,18 @@
 -- A call that opens the volume where it is down, and then does its work.
-use Rattle.std.proofs.Common.{◌≡◌, ℕ, Bool, true, false, List, [], ◌∷◌, Result, Ok, Err, ◌/◌, inl, inr, refl, sym, ◌∙◌, ap, subst, arith}
+use Rattle.std.proofs.Common.{◌≡◌, ℕ, Bool, true, false, List, [], ◌∷◌, Result, Ok, Err, ◌+◌, ◌≤◌, inl, inr, refl, sym, ◌∙◌, ap, subst, arith}
 use Rattle.std.specs.Prelude.{OnOk, IsErrOf}
 use Rattle.ft_base.specs.Contents.{Contents, Image}
+use Rattle.ft_base.specs.Count.{RoseBy}
+use Rattle.ft_base.specs.declared.block.Page.{Page}
+use Rattle.ft_base.specs.declared.block.Place.{Place}
+use Rattle.cache_model.specs.Records.{Entries}
 use Rattle.ft_base.specs.PlainDisk.{PlainDisk, BlockWrite}
 use Rattle.ft_base.specs.Told.{Told}
 use Rattle.ft_media.specs.Passes.{Passes}
 use Rattle.ft_media.specs.State.{Faults, State}
 use Rattle.ft_volume.specs.declared.volume.VolumeError.{VolumeError}
 use Rattle.ft_volume.specs.declared.volume.VolumeError.TheVariants.{FlashFault, DiskFault, PowerLost, OutOfMemory, OutOfVolume}
-use Rattle.ft_volume.specs.Volume.{AreAmong, Call, ComesUp, Costs, Done, Flushes, Goes, HasCause, IsAny, Programs, Reads, StandFor, VolumeState, WasDone, Writes, volume_lost, with_written}
-use Rattle.ft_volume.proofs.GroupLemmas.{among_more, among_same, among_then, among_under}
+use Rattle.ft_volume.specs.Volume.{Call, ComesUp, Costs, Done, Goes, HasCause, IsAny, IsOwn, Programs, StandFor, VolumeState, WasDone, backs_of, misses, opened_of, table_after, volume_lost}
 use Rattle.ft_media.proofs.PassesLemmas.{passes_then}
 
 pub any_map : {A : Type 0} (p q : A → Type 0) → ((x : A) → p x → q x) → (xs : List A) → IsAny p xs → IsAny q xs
@@ -51,20 +54,19 @@ lost_at S T OutOfVolume = refl
 not_both : (b : Bool) → b ≡ true → b ≡ false → ⊥
 not_both b is_true is_false = let both : true ≡ false = sym is_true ∙ is_false in cc
 
--- no group more is among these, with that of the block that is written
-pub among_written : (call : Call) (p : ℕ) (xs ys : List ℕ) → AreAmong xs ys → AreAmong xs (with_written call p ys)
-among_written (Reads lba block) p xs ys all = all
-among_written (Writes lba block) p xs ys all = among_more xs ys (lba / p) all
-among_written Flushes p xs ys all = all
-
-written_under : (call : Call) (p : ℕ) (xs ys zs : List ℕ) → AreAmong xs (with_written call p ys) → AreAmong ys zs → AreAmong xs (with_written call p zs)
-written_under (Reads lba block) p xs ys zs first then = among_then xs ys zs first then
-written_under (Writes lba block) p xs ys zs first then = among_under xs ys zs (lba / p) first then
-written_under Flushes p xs ys zs first then = among_then xs ys zs first then
+-- refused, with no block read from the disk or written to it
+pub costs_err : {T : Type 0} (call : Call) (old new : VolumeState) (before after : State) (e : VolumeError) → after.counts.disk_reads ≡ before.counts.disk_reads → after.counts.disk_writes ≡ before.counts.disk_writes → Costs {T = T} call old new before after (Err e)
+costs_err call old new before after e reads writes = record {
+  table = tt;
+  held = tt;
+  disk_writes = tt;
+  most_writes = omega (arith, writes);
+  most_reads = omega (arith, reads);
+}
 
 -- ---- it came up
 
-module _ {S T : Type 0} (stands : Told → Image → PlainDisk → Type 0) (old mid new : VolumeState) (before between after : State) (v : S) (up : ComesUp stands old mid before between (Ok v)) (result : Result T VolumeError) where
+module _ {S T : Type 0} (stands : Told → Image → PlainDisk → Type 0) (loads : Told → (Place → Page) → Entries → Type 0) (old mid new : VolumeState) (before between after : State) (v : S) (up : ComesUp stands loads old mid before between (Ok v)) (result : Result T VolumeError) where
   pub goes_through : Goes mid new between after result → Goes old new before after result
   goes_through goes = record {
     told = goes.told ∙ up.told;
@@ -84,12 +86,18 @@ module _ {S T : Type 0} (stands : Told → Image → PlainDisk → Type 0) (old 
       as_old : (base : PlainDisk) → WasDone stands call mid new after.contents result base → WasDone stands call old new after.contents result base
       as_old base is = subst (λ (ws : List BlockWrite). WasDone stands call (record old { owed = ws }) new after.contents result base) up.owed (record { images = is.images; lost = is.lost; done = is.done; found = is.found; up = is.up; memory = is.memory })
 
-  pub costs_through : (call : Call) → Costs call mid new between after → Costs call old new before after
-  costs_through call costs = record {
-    groups = written_under call old.told.geometry.p new.groups mid.groups old.groups
-        (subst (λ (t : Told). AreAmong new.groups (with_written call t.geometry.p mid.groups)) up.told costs.groups) up.groups;
-    disk_writes = costs.disk_writes ∙ up.disk_writes;
-  }
+  pub costs_through : (call : Call) (m : Entries) → loads old.told before.contents.flash.page m → Costs call mid new between after result → Costs call (opened_of old m) new before after result
+  costs_through call m has costs =
+      let there = subst (λ (v : VolumeState). Costs call v new between after result) (up.opens m has) costs in
+      let reads = up.disk_reads in
+      let writes = up.disk_writes in
+      record {
+        table = there.table;
+        held = there.held;
+        disk_writes = subst (λ (n : ℕ). OnOk result (RoseBy (backs_of call (opened_of old m).told (opened_of old m).table) n after.counts.disk_writes)) writes there.disk_writes;
+        most_writes = subst (λ (n : ℕ). after.counts.disk_writes ≤ n + backs_of call (opened_of old m).told (opened_of old m).table) writes there.most_writes;
+        most_reads = subst (λ (n : ℕ). after.counts.disk_reads ≤ n + misses call (opened_of old m).held) reads there.most_reads;
+      }
 
   pub programs_through : OnOk result (Programs between after) → OnOk result (Programs before after)
   programs_through = by_result result
@@ -107,7 +115,7 @@ module _ {S T : Type 0} (stands : Told → Image → PlainDisk → Type 0) (old 
 
 -- ---- its opening was refused
 
-module _ {S T : Type 0} (stands : Told → Image → PlainDisk → Type 0) (old new : VolumeState) (before after : State) (e : VolumeError) (up : ComesUp {T = S} stands old new before after (Err e)) where
+module _ {S T : Type 0} (stands : Told → Image → PlainDisk → Type 0) (loads : Told → (Place → Page) → Entries → Type 0) (old new : VolumeState) (before after : State) (e : VolumeError) (up : ComesUp {T = S} stands loads old new before after (Err e)) where
   pub goes_refused : Goes {T = T} old new before after (Err e)
   goes_refused = record {
     told = up.told;
@@ -120,11 +128,11 @@ module _ {S T : Type 0} (stands : Told → Image → PlainDisk → Type 0) (old 
     passes = subst (λ (l : Bool). Passes before after l) (lost_at S T e) up.passes;
   }
 
-pub costs_refused : {S : Type 0} (stands : Told → Image → PlainDisk → Type 0) (call : Call) (old new : VolumeState) (before after : State) (e : VolumeError) → ComesUp {T = S} stands old new before after (Err e) → Costs call old new before after
-costs_refused stands call old new before after e up = record { groups = among_written call old.told.geometry.p new.groups old.groups up.groups; disk_writes = up.disk_writes }
+  pub costs_refused : (call : Call) (m : Entries) → Costs {T = T} call (opened_of old m) new before after (Err e)
+  costs_refused call m = costs_err call (opened_of old m) new before after e up.disk_reads up.disk_writes
 
-pub done_refused : {S T : Type 0} (stands : Told → Image → PlainDisk → Type 0) (call : Call) (old new : VolumeState) (before after : State) (e : VolumeError) → ComesUp {T = S} stands old new before after (Err e) → Done {T = T} stands call old new before.contents after.contents (Err e)
-done_refused {T = T} stands call old new before after PowerLost up bases any = inl (any_map (StandFor (stands new.told) after.contents) (WasDone {T = T} stands call old new after.contents (Err PowerLost)) (λ base stand. record {
+pub done_refused : {S T : Type 0} (stands : Told → Image → PlainDisk → Type 0) (loads : Told → (Place → Page) → Entries → Type 0) (call : Call) (old new : VolumeState) (before after : State) (e : VolumeError) → ComesUp {T = S} stands loads old new before after (Err e) → Done {T = T} stands call old new before.contents after.contents (Err e)
+done_refused {T = T} stands loads call old new before after PowerLost up bases any = inl (any_map (StandFor (stands new.told) after.contents) (WasDone {T = T} stands call old new after.contents (Err PowerLost)) (λ base stand. record {
   images = λ x now. inl (stand x now);
   lost = λ is. inl stand;
   done = tt;
@@ -132,10 +140,10 @@ done_refused {T = T} stands call old new before after PowerLost up bases any = i
   up = λ now. absurd (not_both new.down up.refused.1 now);
   memory = λ is. absurd (cc);
 }) bases (up.fixed bases any))
-done_refused stands call old new before after FlashFault up bases any = inr (record { fixes = refl; inside = λ is. up.refused; images = up.fixed bases any })
-done_refused stands call old new before after DiskFault up bases any = inr (record { fixes = refl; inside = λ is. up.refused; images = up.fixed bases any })
-done_refused stands call old new before after OutOfMemory up bases any = inr (record { fixes = refl; inside = λ is. up.refused; images = up.fixed bases any })
-done_refused stands call old new before after OutOfVolume up bases any = inr (record { fixes = refl; inside = λ is. up.refused; images = up.fixed bases any })
+done_refused stands loads call old new before after FlashFault up bases any = inr (record { fixes = refl; inside = λ is. up.refused; images = up.fixed bases any })
+done_refused stands loads call old new before after DiskFault up bases any = inr (record { fixes = refl; inside = λ is. up.refused; images = up.fixed bases any })
+done_refused stands loads call old new before after OutOfMemory up bases any = inr (record { fixes = refl; inside = λ is. up.refused; images = up.fixed bases any })
+done_refused stands loads call old new before after OutOfVolume up bases any = inr (record { fixes = refl; inside = λ is. up.refused; images = up.fixed bases any })
 
 -- ---- an address outside, where nothing changed
 
@@ -144,5 +152,15 @@ done_outside stands call v contents bases any = inr (record { fixes = refl; insi
 
 -- ---- nothing was done
 
-pub costs_nothing : (call : Call) (v : VolumeState) (s : State) → Costs call v v s s
-costs_nothing call v s = record { groups = among_written call v.told.geometry.p v.groups v.groups (among_same v.groups); disk_writes = refl }
+pub costs_nothing : {T : Type 0} (call : Call) (v : VolumeState) (s : State) (value : T) → table_after call v.told v.table ≡ v.table → backs_of call v.told v.table ≡ 0 → ((a : ℕ) → IsOwn call a → ⊥) → Costs {T = T} call v v s s (Ok value)
+costs_nothing call v s value table none own = record {
+  table = sym table;
+  held = record { own = λ a is. absurd (own a is); only = λ a is. inl is; stays = λ groups lie a is. is };
+  disk_writes = λ below. omega (arith, none);
+  most_writes = omega arith;
+  most_reads = omega arith;
+}
+
+-- an address outside
+pub costs_outside : {T : Type 0} (call : Call) (old new : VolumeState) (s : State) (e : VolumeError) → Costs {T = T} call old new s s (Err e)
+costs_outside call old new s e = costs_err call old new s s e refl refl

@@ -1,7 +1,9 @@
 -- What an image is to a volume over a cache, and what an opening makes of the media.
-use Rattle.std.specs.Prelude.{◌≡◌, ◌<◌, ℕ, Bool, true, false, List, [], map, Some, ⊤}
+use Rattle.std.specs.Prelude.{◌≡◌, ◌<◌, ℕ, Bool, true, false, [], Some, ⊤}
 use Rattle.std.specs.FinMap.{empty, get}
+use Rattle.std.specs.Option.{is_some}
 use Rattle.ft_base.specs.Contents.{Contents, HasValue, Image, flushed}
+use Rattle.ft_base.specs.Layout.{log_pages}
 use Rattle.ft_base.specs.PlainDisk.{PlainDisk}
 use Rattle.ft_base.specs.Table.{table_of}
 use Rattle.ft_base.specs.Told.{Told}
@@ -31,16 +33,14 @@ pub record ImageIs (told : Told) (image : Image) (d : PlainDisk) : Type 0 where
 abbrev pub MayOpen : Told → Contents → Type 0
 MayOpen told contents = (s : CacheList) → StandsFor told.geometry contents.flash.page s → Agrees s contents.disk × Suits told.mode s
 
--- the groups of these addresses, ascending, as if each block was written in this order: that of the last one first
-abbrev pub groups_of : ℕ → List ℕ → List ℕ
-groups_of p lbas = map (λ w. w.group) (table_of p [] lbas)
-
 -- a volume that was made so, and opened over flash which stood for this list
 pub record IsOpened (made : Told) (s : CacheList) (v : VolumeState) : Type 0 where
   pub told : v.told ≡ made
   pub up : v.down ≡ false
   pub owed : v.owed ≡ []
-  pub groups : v.groups ≡ groups_of made.geometry.p (dirty_between 0 made.geometry.size s)
+  pub held : (a : ℕ) → v.held a ≡ is_some (get s a)
+  pub table : v.table ≡ table_of made.geometry.p [] (dirty_between 0 made.geometry.size s)
+  pub log_room : v.log_room ≡ log_pages made.geometry
 
 -- the plain disk is what the disk has, below the size
 abbrev pub IsNewest : Geometry → Contents → PlainDisk → Type 0

@@ -1,14 +1,23 @@
 -- What a volume is, and what each of its calls does.
-use Rattle.std.specs.Prelude.{◌≡◌, ◌⊎◌, ◌≤◌, ◌/◌, ℕ, Bool, true, false, List, [], ◌∷◌, ◌++◌, take, drop, ◌==◌, Result, Ok, Err, OnOk, OnErr, IsErrOf, ⊤}
-use Rattle.std.specs.List.{list_any, AllByRecursion}
+use Rattle.std.specs.Prelude.{◌≡◌, ◌⊎◌, ◌≤◌, ◌+◌, ◌*◌, ◌/◌, ℕ, Bool, true, false, List, [], ◌∷◌, ◌++◌, length, take, drop, if◌then◌else◌, nat_le, ◌==◌, map, filter, Result, Ok, Err, OnOk, OnErr, IsErrOf, ⊤}
+use Rattle.std.specs.List.{list_any}
+use Rattle.std.specs.FinMap.{entries, get}
+use Rattle.std.specs.Option.{is_some}
 use Rattle.ft_base.specs.Contents.{Contents, Image, Now}
-use Rattle.ft_base.specs.Count.{Rose}
+use Rattle.ft_base.specs.Count.{Rose, RoseBy}
+use Rattle.ft_base.specs.Layout.{log_pages}
 use Rattle.ft_base.specs.PlainDisk.{PlainDisk, BlockWrite, after_writes}
+use Rattle.ft_base.specs.Table.{Table, table_of, table_written, backs_written, table_idled, backs_idled, goes_back}
 use Rattle.ft_base.specs.Told.{Told}
 use Rattle.ft_base.specs.declared.block.Block.{Block}
+use Rattle.ft_base.specs.declared.block.Page.{Page}
+use Rattle.ft_base.specs.declared.block.Place.{Place}
 use Rattle.ft_base.specs.declared.told.Mode.{Mode}
 use Rattle.ft_base.specs.declared.told.Ack.TheVariants.{Write as AtWrite}
+use Rattle.cache_model.specs.Records.{Entries}
 use Rattle.ft_volume.specs.declared.options.Options.{Options}
+use Rattle.ft_volume.specs.declared.volume.Idled.{Idled}
+use Rattle.ft_volume.specs.declared.volume.Idled.TheVariants.{Nothing, Cleaned, Checkpointed}
 use Rattle.ft_volume.specs.declared.volume.VolumeError.{VolumeError}
 use Rattle.ft_volume.specs.declared.volume.VolumeError.TheVariants.{FlashFault, DiskFault, PowerLost, OutOfMemory, OutOfVolume}
 use Rattle.ft_media.specs.Media.{KeepsReady}
@@ -19,26 +28,32 @@ use Rattle.ft_media.specs.State.{State, Faults}
 abbrev pub told_for : Mode → Options → Told
 told_for mode options = record { geometry = options.geometry; dirty = options.dirty; mode = mode; ack = AtWrite }
 
--- a volume at one moment
+-- a volume at one moment. While it is down nothing is said of what is held and what waits
 pub record VolumeState : Type 0 where
   pub told : Told
   -- it is to be opened again
   pub down : Bool
   -- the writes that were acknowledged and are not on the media, the oldest first
   pub owed : List BlockWrite
-  -- the groups that may have a block that the disk lacks
-  pub groups : List ℕ
+  -- the addresses whose blocks the cache has
+  pub held : ℕ → Bool
+  -- the blocks that the disk lacks
+  pub table : Table
+  -- pages left of the log
+  pub log_room : ℕ
 
 -- a call, with the block that it read or writes
 pub data Call : Type 0 where
   Reads : ℕ → Block → Call
   Writes : ℕ → Block → Call
   Flushes : Call
+  Idles : Call
 
 abbrev pub writes_of : Call → List BlockWrite
 writes_of (Reads lba block) = []
 writes_of (Writes lba block) = record { lba = lba; block = block } ∷ []
 writes_of Flushes = []
+writes_of Idles = []
 
 -- ---- what images stand for
 
@@ -79,6 +94,7 @@ abbrev pub Finds : Call → PlainDisk → Type 0
 Finds (Reads lba block) d = block ≡ d lba
 Finds (Writes lba block) d = ⊤
 Finds Flushes d = ⊤
+Finds Idles d = ⊤
 
 -- what the media may come to be in it: as they were, with what was owed, with what it writes
 abbrev pub stages : List BlockWrite → List BlockWrite → PlainDisk → List PlainDisk
@@ -164,22 +180,71 @@ pub record FaultDowns {T : Type 0} (result : Result T VolumeError) (down : Bool)
   pub flash : IsErrOf result FlashFault → down ≡ true
   pub disk : IsErrOf result DiskFault → down ≡ true
 
--- ---- what a call costs
+-- ---- what a volume is once it is up
 
--- each of these is one of those
-abbrev pub AreAmong : List ℕ → List ℕ → Type 0
-AreAmong ns others = AllByRecursion (λ n. list_any (λ k. k == n) others ≡ true) ns
+-- the dirty addresses, ascending
+abbrev pub dirty_lbas : Entries → List ℕ
+dirty_lbas m = map (λ x. x.0) (filter (λ x. x.1.dirty) (entries m))
 
--- these groups, with that of the block that is written
-abbrev pub with_written : Call → ℕ → List ℕ → List ℕ
-with_written (Reads lba block) p groups = groups
-with_written (Writes lba block) p groups = lba / p ∷ groups
-with_written Flushes p groups = groups
+-- it is opened over flash that has these entries; its log is empty then
+abbrev pub opened : VolumeState → Entries → VolumeState
+opened old m = record old { down = false; held = λ a. is_some (get m a); table = table_of old.told.geometry.p [] (dirty_lbas m); log_room = log_pages old.told.geometry }
 
--- no other group comes to lack a block, and nothing is written to the disk
-pub record Costs (call : Call) (old new : VolumeState) (before after : State) : Type 0 where
-  pub groups : AreAmong new.groups (with_written call old.told.geometry.p old.groups)
-  pub disk_writes : after.counts.disk_writes ≡ before.counts.disk_writes
+-- where it is down it is opened first
+abbrev pub opened_of : VolumeState → Entries → VolumeState
+opened_of old m = if old.down then opened old m else old
+
+-- ---- what a call costs of a volume that is up, or that was opened within it
+
+abbrev pub table_after : Call → Told → Table → Table
+table_after (Reads lba block) told t = t
+table_after (Writes lba block) told t = table_written told.mode told lba t
+table_after Flushes told t = t
+table_after Idles told t = table_idled told t
+
+-- the blocks that go to the disk in it
+abbrev pub backs_of : Call → Told → Table → ℕ
+backs_of (Reads lba block) told t = 0
+backs_of (Writes lba block) told t = backs_written told.mode told lba t
+backs_of Flushes told t = 0
+backs_of Idles told t = backs_idled told t
+
+-- the blocks that may be read from the disk in it
+abbrev pub misses : Call → (ℕ → Bool) → ℕ
+misses (Reads lba block) held = if held lba then 0 else 1
+misses (Writes lba block) held = 0
+misses Flushes held = 0
+misses Idles held = 0
+
+-- the address is the call's own
+abbrev pub IsOwn : Call → ℕ → Type 0
+IsOwn (Reads lba block) a = a ≡ lba
+IsOwn (Writes lba block) a = a ≡ lba
+IsOwn Flushes a = ⊥
+IsOwn Idles a = ⊥
+
+-- the groups of these addresses, with the call's own, are among these few
+pub record LieIn (told : Told) (call : Call) (held : ℕ → Bool) (groups : List ℕ) : Type 0 where
+  pub few : length groups ≤ told.geometry.c
+  pub all : (a : ℕ) → (held a ≡ true) ⊎ IsOwn call a → list_any (λ k. k == a / told.geometry.p) groups ≡ true
+
+-- what is held after an answer: also its own address, and no other new one; all of it, where few groups are held
+pub record Holds (told : Told) (call : Call) (old new : ℕ → Bool) : Type 0 where
+  pub own : (a : ℕ) → IsOwn call a → new a ≡ true
+  pub only : (a : ℕ) → new a ≡ true → (old a ≡ true) ⊎ IsOwn call a
+  pub stays : (groups : List ℕ) → LieIn told call old groups → (a : ℕ) → old a ≡ true → new a ≡ true
+
+pub record Costs {T : Type 0} (call : Call) (old new : VolumeState) (before after : State) (result : Result T VolumeError) : Type 0 where
+  pub table : OnOk result (new.table ≡ table_after call old.told old.table)
+  pub held : OnOk result (Holds old.told call old.held new.held)
+  pub disk_writes : OnOk result (RoseBy (backs_of call old.told old.table) before.counts.disk_writes after.counts.disk_writes)
+  pub most_writes : after.counts.disk_writes ≤ before.counts.disk_writes + backs_of call old.told old.table
+  pub most_reads : after.counts.disk_reads ≤ before.counts.disk_reads + misses call old.held
+
+-- ---- what an idle step answers, of so many dirty groups and so many pages left of the log
+
+abbrev pub idled_of : Told → ℕ → ℕ → Idled
+idled_of told groups room = if goes_back told.mode told.dirty groups then Cleaned else (if nat_le (2 * room) (log_pages told.geometry) then Checkpointed else Nothing)
 
 -- a page was programmed: the count tells it, and it is one device write less before the front stop
 pub record Programs (before after : State) : Type 0 where
@@ -194,13 +259,13 @@ IsFixed stands contents true ds = StandForOneOf stands contents ds
 IsFixed stands contents false ds = StandForAny stands contents ds
 
 -- a volume is opened where it is down, before a call does its work
-pub record ComesUp {T : Type 0} (stands : Told → Image → PlainDisk → Type 0) (old new : VolumeState) (before after : State) (result : Result T VolumeError) : Type 0 where
+pub record ComesUp {T : Type 0} (stands : Told → Image → PlainDisk → Type 0) (loads : Told → (Place → Page) → Entries → Type 0) (old new : VolumeState) (before after : State) (result : Result T VolumeError) : Type 0 where
   pub told : new.told ≡ old.told
   pub owed : new.owed ≡ old.owed
   pub same : old.down ≡ false → (new ≡ old) × (after ≡ before)
   pub up : OnOk result (new.down ≡ false)
+  pub opens : OnOk result ((m : Entries) → loads old.told before.contents.flash.page m → new ≡ opened_of old m)
   pub refused : OnErr result ((old.down ≡ true) × (new.down ≡ true))
-  pub groups : AreAmong new.groups old.groups
   -- whatever it answers, it neither reads nor writes a block of the disk
   pub disk_reads : after.counts.disk_reads ≡ before.counts.disk_reads
   pub disk_writes : after.counts.disk_writes ≡ before.counts.disk_writes

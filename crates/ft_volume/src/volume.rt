@@ -1,13 +1,15 @@
-ghost use Rattle.std.specs.Prelude.{◌≡◌, ◌↔◌, ◌≤◌, ◌/◌, [], length, true, false, OnOk, OnErr, IsErrOf};
+ghost use Rattle.std.specs.Prelude.{◌≡◌, ◌↔◌, ◌≤◌, [], length, true, false, OnOk, OnErr, IfOk, IsErrOf};
 ghost use Rattle.ft_base.specs.Contents.{Contents, Image};
 ghost use Rattle.ft_base.specs.PlainDisk.{PlainDisk};
 ghost use Rattle.ft_base.specs.Told.{Told};
 ghost use Rattle.ft_base.specs.declared.told.Ack.TheVariants as ack;
-ghost use Rattle.cache_model.specs.Cache.{with_group};
+ghost use Rattle.ft_base.specs.declared.block.Page.{Page};
+ghost use Rattle.ft_base.specs.declared.block.Place.{Place};
+ghost use Rattle.cache_model.specs.Records.{Entries};
 ghost use Rattle.ft_media.specs.Rig.{CutThrough};
-ghost use Rattle.ft_volume.specs.Volume.{Costs, Done, FaultDowns, Fixes, Flushes, Goes, Programs, Reads, VolumeState, Writes};
+ghost use Rattle.ft_volume.specs.Volume.{Costs, Done, FaultDowns, Fixes, Flushes, Goes, Idles, Programs, Reads, VolumeState, Writes, idled_of, opened_of};
 
-use ft_base::{Block, Geometry, Outcome};
+use ft_base::{Block, Outcome};
 use ft_media::{Media, Rig};
 use thiserror::Error;
 
@@ -31,6 +33,17 @@ pub enum VolumeError {
     OutOfVolume,
 }
 
+/// What an idle step did.
+#[derive(Clone, Copy, Debug, PartialEq, Eq)]
+pub enum Idled {
+    /// There was nothing to do.
+    Nothing,
+    /// The group that was written least recently was written back.
+    Cleaned,
+    /// A checkpoint was made, since half of the log was used.
+    Checkpointed,
+}
+
 /// A cache and a disk joined to one disk. The rig of each call is the one with which the volume was
 /// made, and nobody else changes its contents; turning power on is allowed.
 ///
@@ -46,6 +59,9 @@ pub trait Volume<R: Rig> {
     /// An image is this plain disk.
     ghost stands: { Told → Image → PlainDisk → Type 0 };
 
+    /// The flash has these entries.
+    ghost loads: { Told → (Place → Page) → Entries → Type 0 };
+
     /// Blocks of the volume.
     fn size(&self) -> u64
         ensures { result ≡ (state self.now).told.geometry.size };
@@ -54,10 +70,6 @@ pub trait Volume<R: Rig> {
     fn is_down(&self) -> bool
         ensures { result ≡ (state self.now).down };
 
-    /// The numbers with which it was made.
-    fn geometry(&self) -> Geometry
-        ensures { result ≡ (state self.now).told.geometry };
-
     /// Reads the block at an address. It changes no block.
     fn read(&mut self, rig: &mut R, lba: u64, block: &mut Block) -> Result<(), VolumeError>
         requires { owns self.old (R.state rig.old).contents }
@@ -65,21 +77,22 @@ pub trait Volume<R: Rig> {
         ensures disk { Done stands (Reads lba block.new) (state self.old) (state self.new)
             (R.state rig.old).contents (R.state rig.new).contents result }
         ensures goes { Goes (state self.old) (state self.new) (R.state rig.old) (R.state rig.new) result }
-        ensures costs { Costs (Reads lba block.new) (state self.old) (state self.new) (R.state rig.old) (R.state rig.new) }
+        ensures costs { (m : Entries) → loads (state self.old).told (R.state rig.old).contents.flash.page m
+            → Costs (Reads lba block.new) (opened_of (state self.old) m) (state self.new) (R.state rig.old) (R.state rig.new) result }
         ensures outside { IsErrOf result VolumeError.OutOfVolume ↔ ((state self.old).told.geometry.size ≤ lba) }
         ensures buffer { OnErr result (block.new ≡ block.old) }
         ensures unchanged { IsErrOf result VolumeError.OutOfVolume → (self.new ≡ self.old) × (R.state rig.new ≡ R.state rig.old) };
 
     /// Writes the block at an address. When it answers, the block is on the media or owed to them.
     fn write(&mut self, rig: &mut R, lba: u64, block: &Block) -> Result<(), VolumeError>
-        requires owns { owns self.old (R.state rig.old).contents }
-        requires groups { length (with_group (lba / (state self.old).told.geometry.p) (state self.old).groups) ≤ (state self.old).told.geometry.c }
+        requires { owns self.old (R.state rig.old).contents }
         ensures owns { owns self.new (R.state rig.new).contents }
         ensures disk { Done stands (Writes lba block.now) (state self.old) (state self.new)
             (R.state rig.old).contents (R.state rig.new).contents result }
         ensures goes { Goes (state self.old) (state self.new) (R.state rig.old) (R.state rig.new) result }
         ensures faulted { FaultDowns result (state self.new).down }
-        ensures costs { Costs (Writes lba block.now) (state self.old) (state self.new) (R.state rig.old) (R.state rig.new) }
+        ensures costs { (m : Entries) → loads (state self.old).told (R.state rig.old).contents.flash.page m
+            → Costs (Writes lba block.now) (opened_of (state self.old) m) (state self.new) (R.state rig.old) (R.state rig.new) result }
         ensures programs { OnOk result (Programs (R.state rig.old) (R.state rig.new)) }
         ensures outside { IsErrOf result VolumeError.OutOfVolume ↔ ((state self.old).told.geometry.size ≤ lba) }
         ensures unchanged { IsErrOf result VolumeError.OutOfVolume → (self.new ≡ self.old) × (R.state rig.new ≡ R.state rig.old) };
@@ -93,8 +106,23 @@ pub trait Volume<R: Rig> {
         ensures nothing_owed { OnOk result ((state self.new).owed ≡ []) }
         ensures goes { Goes (state self.old) (state self.new) (R.state rig.old) (R.state rig.new) result }
         ensures refused { OnErr result ((state self.new).down ≡ true) }
-        ensures costs { Costs Flushes (state self.old) (state self.new) (R.state rig.old) (R.state rig.new) }
+        ensures costs { (m : Entries) → loads (state self.old).told (R.state rig.old).contents.flash.page m
+            → Costs Flushes (opened_of (state self.old) m) (state self.new) (R.state rig.old) (R.state rig.new) result }
         ensures memory { (state self.old).down ≡ false → IsErrOf result VolumeError.OutOfMemory → ⊥ }
+        ensures within { IsErrOf result VolumeError.OutOfVolume → ⊥ };
+
+    /// One step of the work that can wait. It changes no block.
+    fn idle(&mut self, rig: &mut R) -> Result<Idled, VolumeError>
+        requires { owns self.old (R.state rig.old).contents }
+        ensures owns { owns self.new (R.state rig.new).contents }
+        ensures disk { Done stands Idles (state self.old) (state self.new)
+            (R.state rig.old).contents (R.state rig.new).contents result }
+        ensures goes { Goes (state self.old) (state self.new) (R.state rig.old) (R.state rig.new) result }
+        ensures faulted { FaultDowns result (state self.new).down }
+        ensures costs { (m : Entries) → loads (state self.old).told (R.state rig.old).contents.flash.page m
+            → Costs Idles (opened_of (state self.old) m) (state self.new) (R.state rig.old) (R.state rig.new) result }
+        ensures idled { IfOk result (λ idled. (m : Entries) → loads (state self.old).told (R.state rig.old).contents.flash.page m
+            → idled ≡ idled_of (state self.old).told (length (opened_of (state self.old) m).table) (opened_of (state self.old) m).log_room) }
         ensures within { IsErrOf result VolumeError.OutOfVolume → ⊥ };
 
     /// Turns power off between two device writes, and on again. What is owed is lost.
@@ -104,7 +132,6 @@ pub trait Volume<R: Rig> {
         ensures disk { Fixes stands (state self.old) (state self.new) (R.state rig.old).contents (R.state rig.new).contents }
         ensures told { (state self.new).told ≡ (state self.old).told }
         ensures down { (state self.new).down ≡ true }
-        ensures groups { (state self.new).groups ≡ (state self.old).groups }
         ensures through { CutThrough (R.state rig.old) (R.state rig.new) outcome };
 
     /// While it is down nothing is owed.
@@ -112,4 +139,8 @@ pub trait Volume<R: Rig> {
 
     /// Where a write is on the media when it answers, nothing is owed.
     ghost write_owes_nothing: { (v : Self) (contents : Contents) → owns v contents → (state v).told.ack ≡ ack.Write → (state v).owed ≡ [] };
+
+    /// What it left can be opened.
+    ghost can_be_loaded: { (v : Self) (contents : Contents) → owns v contents
+        → (m : Entries) × loads (state v).told contents.flash.page m };
 }
