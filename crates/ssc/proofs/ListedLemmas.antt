@@ -115,10 +115,10 @@ listed_front from end m old now i so_far = ap (take (length old)) so_far.items �
 
 -- ---- the list of the cache has the same marks
 
-abbrev marks : {X : Type 0} → (X → Bool) → List (ℕ × X) → List (ℕ × Bool)
+abbrev pub marks : {X : Type 0} → (X → Bool) → List (ℕ × X) → List (ℕ × Bool)
 marks dirty es = map (λ x. (x.0, dirty x.1)) es
 
-find_marks : {X : Type 0} (dirty : X → Bool) (q : ℕ) (es : List (ℕ × X)) → find nat_cmp q (marks dirty es) ≡ option_map dirty (find nat_cmp q es)
+pub find_marks : {X : Type 0} (dirty : X → Bool) (q : ℕ) (es : List (ℕ × X)) → find nat_cmp q (marks dirty es) ≡ option_map dirty (find nat_cmp q es)
 find_marks dirty q [] = refl
 find_marks dirty q (e ∷ es) = by (eq_by_cmp nat_cmp q e.0) (find_marks dirty q es)
   where
@@ -134,19 +134,19 @@ sorted_marks : {X : Type 0} (dirty : X → Bool) (es : List (ℕ × X)) → is_s
 sorted_marks dirty [] = refl
 sorted_marks dirty (e ∷ es) = ap (λ b. b && is_sorted nat_cmp (marks dirty es)) (below_marks dirty e.0 es) ∙ ap (λ b. below_all nat_cmp e.0 es && b) (sorted_marks dirty es)
 
-marks_sorted : {X : Type 0} (dirty : X → Bool) (m : FinMap nat_cmp X) → T (is_sorted nat_cmp (marks dirty (entries m)))
+pub marks_sorted : {X : Type 0} (dirty : X → Bool) (m : FinMap nat_cmp X) → T (is_sorted nat_cmp (marks dirty (entries m)))
 marks_sorted dirty m = subst T (sym (sorted_marks dirty (entries m))) (entries_sorted m)
 
-same_marks : (m : Entries) (s : CacheList) → ((a : ℕ) → option_map (λ (h : Held). h.dirty) (get s a) ≡ option_map (λ (e : Entry). e.dirty) (get m a)) → marks (λ (h : Held). h.dirty) (entries s) ≡ marks (λ (e : Entry). e.dirty) (entries m)
+pub same_marks : (m : Entries) (s : CacheList) → ((a : ℕ) → option_map (λ (h : Held). h.dirty) (get s a) ≡ option_map (λ (e : Entry). e.dirty) (get m a)) → marks (λ (h : Held). h.dirty) (entries s) ≡ marks (λ (e : Entry). e.dirty) (entries m)
 same_marks m s same = same_entries nat_cmp nat_cmp_total nat_cmp-IsAntisymmetric _ _ (marks_sorted (λ (h : Held). h.dirty) s) (marks_sorted (λ (e : Entry). e.dirty) m) (λ q.
     find_marks (λ (h : Held). h.dirty) q (entries s) ∙ ap (option_map (λ (h : Held). h.dirty)) (sym (get-entries s q))
     ∙ same q
     ∙ sym (find_marks (λ (e : Entry). e.dirty) q (entries m) ∙ ap (option_map (λ (e : Entry). e.dirty)) (sym (get-entries m q))))
 
-abbrev marked_between : ℕ → ℕ → List (ℕ × Bool) → List ℕ
+abbrev pub marked_between : ℕ → ℕ → List (ℕ × Bool) → List ℕ
 marked_between from end es = map (λ x. x.0) (filter (λ x. x.1 && nat_le from x.0 && nat_lt x.0 end) es)
 
-by_marks : {X : Type 0} (dirty : X → Bool) (from end : ℕ) (es : List (ℕ × X)) → map (λ x. x.0) (filter (λ x. dirty x.1 && nat_le from x.0 && nat_lt x.0 end) es) ≡ marked_between from end (marks dirty es)
+pub by_marks : {X : Type 0} (dirty : X → Bool) (from end : ℕ) (es : List (ℕ × X)) → map (λ x. x.0) (filter (λ x. dirty x.1 && nat_le from x.0 && nat_lt x.0 end) es) ≡ marked_between from end (marks dirty es)
 by_marks dirty from end [] = refl
 by_marks dirty from end (e ∷ es) = by (dirty e.1 && nat_le from e.0 && nat_lt e.0 end) (by_marks dirty from end es)
   where
@@ -155,14 +155,14 @@ by_marks dirty from end (e ∷ es) = by (dirty e.1 && nat_le from e.0 && nat_lt 
     by false rest = rest
 
 module _ (c : Ssc) (contents : Contents) (s : CacheList) (holds : Holds c contents s) where
-  dirty_alike : (a : ℕ) → option_map (λ (h : Held). h.dirty) (get s a) ≡ option_map (λ (e : Entry). e.dirty) (get (entries_of c) a)
+  pub dirty_alike : (a : ℕ) → option_map (λ (h : Held). h.dirty) (get s a) ≡ option_map (λ (e : Entry). e.dirty) (get (entries_of c) a)
   dirty_alike a = by (get (entries_of c) a) refl
     where
       by : (o : Option Entry) → get (entries_of c) a ≡ o → option_map (λ (h : Held). h.dirty) (get s a) ≡ option_map (λ (e : Entry). e.dirty) o
       by None is = ap (option_map (λ (h : Held). h.dirty)) (held_none c contents s a holds is)
       by (Some e) is = let h = held_some c contents s a e holds is in ap (option_map (λ (h : Held). h.dirty)) h.1
 
-  listed_is : (from count : ℕ) → listed from (from + count) (entries (entries_of c)) ≡ dirty_between from count s
+  pub listed_is : (from count : ℕ) → listed from (from + count) (entries (entries_of c)) ≡ dirty_between from count s
   listed_is from count =
       by_marks (λ (e : Entry). e.dirty) from (from + count) (entries (entries_of c))
       ∙ ap (marked_between from (from + count)) (sym (same_marks (entries_of c) s dirty_alike))

@@ -32,6 +32,7 @@ impl Ssc {
         ensures holds { IfOk result (λ c. (s : CacheList) → StandsFor geometry.now (M.state media.old).contents.flash.page s → Holds c (M.state media.new).contents s) }
         ensures loads { IfOk result (λ c. load geometry.now (M.state media.old).contents.flash.page ≡ Ok (entries_of c)) }
         ensures nothing_waits { IfOk result (λ c. pending c ≡ []) }
+        ensures log { IfOk result (λ c. c.parts.log.next ≡ 0) }
         ensures up { IfOk result (λ c. c.stopped ≡ false) }
         // Whatever flash it was, commands may be called.
         ensures is_up { IfOk result (λ c. IsUp c (M.state media.new).contents) }

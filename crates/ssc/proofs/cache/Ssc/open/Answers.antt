@@ -68,3 +68,6 @@ pub returns-in-Err-PowerLost-clause-drives : goal.returns-in-Err-PowerLost-claus
 returns-in-Err-PowerLost-clause-drives g c =
     drives_then (g.M.Media.state c.args.media.now) (g.M.Media.state c.load.new.media) (g.M.Media.state c.make_checkpoint.new.media) false true (reads_drives (g.M.Media.state c.args.media.now) (g.M.Media.state c.load.new.media) false false (g.met.M.Media.off_is_crashed c.args.media.now) c.in_ok-loaded.ensures.reads)
     (subst (λ (e : MediaError). DrivesFlash (g.M.Media.state c.load.new.media) (g.M.Media.state c.make_checkpoint.new.media) (failed {T = Unit {0}} (Err e)) (lost {T = Unit {0}} (Err e))) c.in-Err-PowerLost.field-0-is c.in-Err-PowerLost.ensures.drives)
+
+pub returns-in-Ok-clause-log : goal.returns-in-Ok-clause-log
+returns-in-Ok-clause-log g c = ap (λ (l : LogValue). l.next) c.in-Ok.ensures.log
