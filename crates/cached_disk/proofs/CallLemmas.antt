@@ -1,0 +1,238 @@
+-- What a call on a volume that is up did, and how it goes on.
+use Rattle.std.proofs.Common.{◌≡◌, ◌≢◌, ℕ, ◌+◌, ◌≤◌, Bool, true, false, cond, [], length, None, Result, Ok, Err, OnOk, inl, inr, refl, sym, ◌∙◌, ap, subst, arith}
+use Rattle.std.proofs.lemmas.Bool.{false≢true}
+use Rattle.ft_base.specs.declared.block.Block.{Block}
+use Rattle.ft_base.specs.Contents.{Contents, set}
+use Rattle.ft_base.specs.Count.{RoseBy, bumped}
+use Rattle.ft_base.specs.PlainDisk.{PlainDisk}
+use Rattle.ft_base.specs.Table.{Table, backs_idled, goes_back, last_size, table_idled, without_last}
+use Rattle.ft_base.specs.Told.{Told}
+use Rattle.ft_media.specs.declared.rig.Counts.{Counts}
+use Rattle.ft_media.specs.State.{State}
+use Rattle.ft_media.specs.Drives.{DrivesFlash}
+use Rattle.ft_media.specs.Media.{read_counted}
+use Rattle.ft_media.specs.Passes.{Passes}
+use Rattle.ft_media.proofs.PassesLemmas.{passes_then}
+use Rattle.ft_volume.specs.Opening.{ImageIs}
+use Rattle.ft_volume.specs.Volume.{Call, Costs, Finds, Goes, HasCause, Holds, IsOwn, Reads, StandFor, VolumeState, WasDone, WasOne, Writes, backs_of, misses, table_after, volume_lost, writes_of}
+use Rattle.ft_volume.specs.declared.volume.VolumeError.{VolumeError}
+use Rattle.ft_volume.specs.declared.volume.VolumeError.TheVariants as volume
+use Rattle.ft_volume.proofs.DoneLemmas.{answered_one, done_of_one, refused_one}
+use Rattle.ssc.specs.declared.error.SscError.{SscError}
+use Rattle.ssc.specs.declared.error.SscError.TheVariants.{Full, FlashFault, PowerLost, OutOfMemory}
+use Rattle.ssc.specs.Errors.{ssc_failed, ssc_lost, stops}
+use Rattle.cached_disk.specs.Errors.{IsOfCache}
+
+-- ---- a call that changes no block
+
+module _ (call : Call) (old new : VolumeState) (after : Contents) (d : PlainDisk) (none : old.owed ≡ []) (none_new : new.owed ≡ []) (stand : StandFor (ImageIs new.told) after d) where
+  pub answered_same : {T : Type 0} (value : T) → writes_of call ≡ [] → Finds call d → WasDone {T = T} ImageIs call old new after (Ok value) d
+  answered_same value nothing found = done_of_one ImageIs call old new after (Ok value) d none none_new (answered_one (ImageIs new.told) call after value d nothing found stand) tt
+
+  pub refused_same : {T : Type 0} (e : VolumeError) → WasDone {T = T} ImageIs call old new after (Err e) d
+  refused_same e = done_of_one ImageIs call old new after (Err e) d none none_new (refused_one (ImageIs new.told) call after e d stand) (λ up. stand)
+
+-- ---- a write
+
+module _ (lba : ℕ) (block : Block) (old new : VolumeState) (after : Contents) (d : PlainDisk) (none : old.owed ≡ []) (none_new : new.owed ≡ []) (stand : StandFor (ImageIs new.told) after (set d lba block)) where
+  one_done : WasOne {T = Unit {0}} (ImageIs new.told) (Writes lba block) after (Ok tt) d
+  one_done = record {
+    kept = λ nothing. absurd (cc);
+    found = tt;
+    done = stand;
+    images = λ x now. inr (stand x now);
+    one = λ is. absurd (cc);
+    memory = λ is. absurd (cc);
+  }
+
+  pub answered_write : WasDone {T = Unit {0}} ImageIs (Writes lba block) old new after (Ok tt) d
+  answered_write = done_of_one ImageIs (Writes lba block) old new after (Ok tt) d none none_new one_done tt
+
+  -- refused, and the block is there all the same
+  one_refused : (e : VolumeError) → (e ≡ volume.OutOfMemory → ⊥) → WasOne {T = Unit {0}} (ImageIs new.told) (Writes lba block) after (Err e) d
+  one_refused e other = record {
+    kept = λ nothing. absurd (cc);
+    found = tt;
+    done = tt;
+    images = λ x now. inr (stand x now);
+    one = λ is. inr stand;
+    memory = λ is. absurd (other (let same : e ≡ volume.OutOfMemory = cc in same));
+  }
+
+  pub refused_write : (e : VolumeError) → (e ≡ volume.OutOfMemory → ⊥) → new.down ≡ true → WasDone {T = Unit {0}} ImageIs (Writes lba block) old new after (Err e) d
+  refused_write e other down = done_of_one ImageIs (Writes lba block) old new after (Err e) d none none_new (one_refused e other) (λ up. absurd (false≢true (sym up ∙ down)))
+
+-- ---- the cache was refused
+
+-- it is given up, unless memory was wanting
+pub gives_up : (e : SscError) → ((n limit : ℕ) → e ≡ Full n limit → ⊥) → (e ≡ OutOfMemory → ⊥) → stops {T = Unit {0}} (Err e) ≡ true
+gives_up (Full n limit) full memory = absurd (full n limit refl)
+gives_up FlashFault full memory = refl
+gives_up PowerLost full memory = refl
+gives_up OutOfMemory full memory = absurd (memory refl)
+
+pub not_memory : (e : SscError) (r : VolumeError) → IsOfCache e r → (e ≡ OutOfMemory → ⊥) → r ≡ volume.OutOfMemory → ⊥
+not_memory (Full n limit) r is memory same = is
+not_memory FlashFault r is memory same = let no : volume.FlashFault ≡ volume.OutOfMemory = sym is ∙ same in cc
+not_memory PowerLost r is memory same = let no : volume.PowerLost ≡ volume.OutOfMemory = sym is ∙ same in cc
+not_memory OutOfMemory r is memory same = memory refl
+
+module _ (before after : State) where
+  abbrev pub Goes_on : VolumeError → Type 0
+  Goes_on r = HasCause {T = Unit {0}} before.faults after.faults (Err r) × Passes before after (volume_lost {T = Unit {0}} (Err r))
+
+  pub refused_goes_on : (e : SscError) (r : VolumeError) → IsOfCache e r → DrivesFlash before after (ssc_failed {T = Unit {0}} (Err e)) (ssc_lost {T = Unit {0}} (Err e)) → Goes_on r
+  refused_goes_on (Full n limit) r is drives = absurd is
+  refused_goes_on FlashFault r is drives = subst Goes_on (sym is) (
+    record {
+      flash = drives.cause.flash;
+      disk = let x = drives.cause.disk in omega (arith, x);
+      cuts = drives.cause.cuts;
+      flash_fault = λ f. drives.cause.failed refl;
+      disk_fault = λ f. absurd (cc);
+      power_lost = λ f. absurd (cc);
+    },
+    drives.passes,
+  )
+  refused_goes_on PowerLost r is drives = subst Goes_on (sym is) (
+    record {
+      flash = drives.cause.flash;
+      disk = let x = drives.cause.disk in omega (arith, x);
+      cuts = drives.cause.cuts;
+      flash_fault = λ f. absurd (cc);
+      disk_fault = λ f. absurd (cc);
+      power_lost = λ f. drives.cause.power_lost refl;
+    },
+    drives.passes,
+  )
+  refused_goes_on OutOfMemory r is drives = subst Goes_on (sym is) (
+    record {
+      flash = drives.cause.flash;
+      disk = let x = drives.cause.disk in omega (arith, x);
+      cuts = drives.cause.cuts;
+      flash_fault = λ f. absurd (cc);
+      disk_fault = λ f. absurd (cc);
+      power_lost = λ f. absurd (cc);
+    },
+    drives.passes,
+  )
+
+  -- the volume is down then
+  pub goes_down : (old new : VolumeState) (e : SscError) (r : VolumeError) → new.told ≡ old.told → new.down ≡ true → IsOfCache e r → (e ≡ OutOfMemory → ⊥) → DrivesFlash before after (ssc_failed {T = Unit {0}} (Err e)) (ssc_lost {T = Unit {0}} (Err e)) → Goes {T = Unit {0}} old new before after (Err r)
+  goes_down old new e r told down is memory drives =
+      let on = refused_goes_on e r is drives in
+      record {
+        told = told;
+        up = tt;
+        lost = λ was_on lost. down;
+        memory = λ wants was. absurd (not_memory e r is memory (let same : r ≡ volume.OutOfMemory = cc in same));
+        ready = λ up. absurd (false≢true (sym up ∙ down));
+        disk = λ fault was up. absurd (false≢true (sym up ∙ down));
+        cause = on.0;
+        passes = on.1;
+      }
+
+-- ---- the cache was driven, and answered
+
+pub goes_driven : {T : Type 0} (value : T) (before after : State) (old new : VolumeState) → new.told ≡ old.told → new.down ≡ false → DrivesFlash before after false false → Goes old new before after (Ok value)
+goes_driven value before after old new told up drives = record {
+  told = told;
+  up = up;
+  lost = λ on is. absurd (cc);
+  memory = λ is was. up;
+  ready = λ now. drives.ready refl refl;
+  disk = λ is was now. absurd (cc);
+  cause = record {
+    flash = drives.cause.flash;
+    disk = let x = drives.cause.disk in omega (arith, x);
+    cuts = drives.cause.cuts;
+    flash_fault = λ is. absurd (cc);
+    disk_fault = λ is. absurd (cc);
+    power_lost = λ is. absurd (cc);
+  };
+  passes = drives.passes;
+}
+
+-- ---- after a read, which changes no contents
+
+module _ {T : Type 0} (before mid after : State) (contents : mid.contents ≡ before.contents) (flash : before.faults.flash ≤ mid.faults.flash) (disk : before.faults.disk ≤ mid.faults.disk) (cuts : before.faults.cuts ≤ mid.faults.cuts) (passes : Passes before mid false) (old new : VolumeState) (result : Result T VolumeError) where
+  cause_after : HasCause mid.faults after.faults result → HasCause before.faults after.faults result
+  cause_after then = record {
+    flash = let y = then.flash in omega (arith, flash, y);
+    disk = let y = then.disk in omega (arith, disk, y);
+    cuts = let y = then.cuts in omega (arith, cuts, y);
+    flash_fault = λ is. let y = then.flash_fault is in omega (arith, flash, y);
+    disk_fault = λ is. let y = then.disk_fault is in omega (arith, disk, y);
+    power_lost = λ is. let y = then.power_lost is in omega (arith, cuts, y);
+  }
+
+  pub goes_after : Goes old new mid after result → Goes old new before after result
+  goes_after goes = record {
+    told = goes.told;
+    up = goes.up;
+    lost = λ on is. goes.lost (passes.stayed on refl).on is;
+    memory = goes.memory;
+    ready = λ up b there. goes.ready up b (subst (λ (x : Contents). x.flash.next b ≢ None) (sym contents) there);
+    disk = λ is was up. goes.disk is was up ∙ ap (λ (x : Contents). x.disk) contents;
+    cause = cause_after goes.cause;
+    passes = passes_then before mid after (volume_lost result) passes goes.passes;
+  }
+
+  pub costs_after : (call : Call) → mid.counts ≡ before.counts → Costs call old new mid after result → Costs call old new before after result
+  costs_after call same costs = record {
+    table = costs.table;
+    held = costs.held;
+    disk_writes = subst (λ (x : Counts). OnOk result (RoseBy (backs_of call old.told old.table) x.disk_writes after.counts.disk_writes)) same costs.disk_writes;
+    most_writes = subst (λ (x : Counts). after.counts.disk_writes ≤ x.disk_writes + backs_of call old.told old.table) same costs.most_writes;
+    most_reads = subst (λ (x : Counts). after.counts.disk_reads ≤ x.disk_reads + misses call old.held) same costs.most_reads;
+  }
+
+-- ---- what is held
+
+pub held_along : (told : Told) (call : Call) (f g f' g' : ℕ → Bool) → ((a : ℕ) → f' a ≡ f a) → ((a : ℕ) → g' a ≡ g a) → Holds told call f g → Holds told call f' g'
+held_along told call f g f' g' old new holds = record {
+  own = λ a is. new a ∙ holds.own a is;
+  only = λ a now. elim (holds.only a (sym (new a) ∙ now)) [ inl was ↦ inl (old a ∙ was) | inr is ↦ inr is ];
+  stays = λ groups lie a was. new a ∙ holds.stays groups (record { few = lie.few; all = λ x is. lie.all x (elim is [ inl had ↦ inl (old x ∙ had) | inr own ↦ inr own ]) }) a (sym (old a) ∙ was);
+}
+
+same_held : (told : Told) (call : Call) (f g : ℕ → Bool) → ((a : ℕ) → IsOwn call a → ⊥) → ((a : ℕ) → g a ≡ f a) → Holds told call f g
+same_held told call f g none same = record {
+  own = λ a is. absurd (none a is);
+  only = λ a now. inl (sym (same a) ∙ now);
+  stays = λ groups lie a was. same a ∙ was;
+}
+
+-- ---- what a call costs
+
+-- no block of the disk was asked for, and what is held and what waits is as before
+pub same_costs : {T : Type 0} (value : T) (call : Call) (old new : VolumeState) (before after : State) → ((a : ℕ) → IsOwn call a → ⊥) → backs_of call old.told old.table ≡ 0 → new.table ≡ table_after call old.told old.table → ((a : ℕ) → new.held a ≡ old.held a)
+    → after.counts.disk_reads ≡ before.counts.disk_reads → after.counts.disk_writes ≡ before.counts.disk_writes → Costs call old new before after (Ok value)
+same_costs value call old new before after none backs table held reads writes = record {
+  table = table;
+  held = same_held old.told call old.held new.held none held;
+  disk_writes = λ below. omega (arith, writes, backs);
+  most_writes = omega (arith, writes);
+  most_reads = omega (arith, reads);
+}
+
+-- one block was read from the disk
+pub missed_costs : (lba : ℕ) (block : Block) (old new : VolumeState) (before mid after : State) → old.held lba ≡ false → new.table ≡ old.table → Holds old.told (Reads lba block) old.held new.held → mid.counts ≡ read_counted before.counts
+    → after.counts.disk_reads ≡ mid.counts.disk_reads → after.counts.disk_writes ≡ mid.counts.disk_writes → Costs {T = Unit {0}} (Reads lba block) old new before after (Ok tt)
+missed_costs lba block old new before mid after absent table held counted reads writes =
+    let one : misses (Reads lba block) old.held ≡ 1 = ap (λ (t : Bool). cond t 0 1) absent in
+    let read : mid.counts.disk_reads ≡ bumped before.counts.disk_reads = ap (λ (x : Counts). x.disk_reads) counted in
+    let same : mid.counts.disk_writes ≡ before.counts.disk_writes = ap (λ (x : Counts). x.disk_writes) counted in
+    record {
+      table = table;
+      held = held;
+      disk_writes = λ below. omega (arith, writes, same);
+      most_writes = omega (arith, writes, same);
+      most_reads = omega (arith, one, reads, read);
+    }
+
+-- an idle step writes no group back
+pub idle_same : (told : Told) (t : Table) (groups : ℕ) → length t ≡ groups → goes_back told.mode told.dirty groups ≡ false → (table_idled told t ≡ t) × (backs_idled told t ≡ 0)
+idle_same told t groups is none =
+    let no : goes_back told.mode told.dirty (length t) ≡ false = ap (λ (n : ℕ). goes_back told.mode told.dirty n) is ∙ none in
+    (ap (λ (b : Bool). cond b (without_last t) t) no, ap (λ (b : Bool). cond b (last_size t) 0) no)

@@ -1,0 +1,163 @@
+-- What it leaves of its media while it is up, and once it is down.
+use Rattle.std.proofs.Common.{◌≡◌, ◌⊎◌, ℕ, ◌<◌, ◌==◌, Bool, true, false, cond, List, [], ◌∷◌, Option, Some, None, inl, inr, refl, sym, ◌∙◌, ap, subst}
+use Rattle.std.specs.List.{AllByRecursion}
+use Rattle.std.specs.FinMap.{get}
+use Rattle.std.proofs.lemmas.Bool.{false≢true, or_parts, or_right}
+use Rattle.ft_base.specs.declared.block.Block.{Block}
+use Rattle.ft_base.specs.declared.geometry.Geometry.{Geometry}
+use Rattle.ft_base.specs.declared.told.Mode.{Mode}
+use Rattle.ft_base.specs.declared.told.Mode.TheVariants.{Back, Through}
+use Rattle.ft_base.specs.Contents.{Contents, Values}
+use Rattle.ft_base.specs.PlainDisk.{PlainDisk}
+use Rattle.ft_media.specs.Media.{Crashed, DiskStays}
+use Rattle.ft_volume.specs.Opening.{ImageIs, Suits}
+use Rattle.ft_volume.specs.Volume.{StandFor, StandForAny, StandForOneOf}
+use Rattle.cache_model.specs.Cache.{Agrees, Buffered, Inserted, Cleaned, CacheList, Held, held_or, undo}
+use Rattle.cache_model.specs.Stands.{StandsFor}
+use Rattle.cache_model.proofs.UndoLemmas.{back_at, get_undo, undone_at}
+use Rattle.op_log.specs.Log.{FitsOn}
+use Rattle.ssc.specs.declared.cache.Ssc.{Ssc}
+use Rattle.ssc.specs.CacheState.{Holds, IsUp, geometry_of, pending}
+use Rattle.ssc.specs.Commands.{ReadOf}
+use Rattle.cached_disk.specs.declared.disk.CachedDisk.{CachedDisk}
+use Rattle.cached_disk.specs.Kept.{IsBeneath, IsDirtyIn, IsHeld, IsInserted, IsLeft, MayUndo, is_down, told_of}
+use Rattle.cached_disk.proofs.DiskLemmas.{Had, IsOver, agrees_fewer, one_of_any, over_fewer, over_stands, stands_over}
+use Rattle.cached_disk.proofs.StepLemmas.{over_same, same_back, undo_agrees, undo_dirty, undo_same}
+
+pub both : (b : Bool) → b ≡ true → b ≡ false → ⊥
+both b t f = false≢true (sym f ∙ t)
+
+-- ---- marks that suit the mode
+
+-- whatever is not clean was there
+pub suits_less : (mode : Mode) (s t : CacheList) → Suits mode s → ((a : ℕ) (h : Held) → get t a ≡ Some h → (h.dirty ≡ false) ⊎ (get s a ≡ Some h)) → Suits mode t
+suits_less Back s t suits from = tt
+suits_less Through s t suits from = λ a h at. elim (from a h at) [ inl clean ↦ clean | inr was ↦ suits a h was ]
+
+-- what only came clean is undone without a mark
+module _ (a : ℕ) (h : Held) where
+  back_was : (x : Buffered) → IsInserted x → (o : Option Held) → back_at x a o ≡ Some h → o ≡ Some h
+  back_was (Inserted k) is o at = by (a == k) at
+    where
+      by : (b : Bool) → cond b None o ≡ Some h → o ≡ Some h
+      by true at = absurd (cc)
+      by false at = at
+  back_was (Cleaned k) is o at = absurd is
+
+  undone_was : (q : List Buffered) → AllByRecursion IsInserted q → (o : Option Held) → undone_at q a o ≡ Some h → o ≡ Some h
+  undone_was [] all o at = at
+  undone_was (x ∷ q) all o at = back_was x all.0 o (undone_was q all.1 (back_at x a o) at)
+
+pub suits_undone : (mode : Mode) (q : List Buffered) (s : CacheList) → MayUndo mode q → Suits mode s → Suits mode (undo q s)
+suits_undone Back q s may suits = tt
+suits_undone Through q s may suits = λ a h at. suits a h (undone_was a h q may (get s a) (sym (get_undo q s a) ∙ at))
+
+-- ---- while it is up
+
+-- given up, it is down
+pub stopped_down : (v : CachedDisk) (c : Ssc) → c.stopped ≡ true → is_down (record v { cache = c }) ≡ true
+stopped_down v c stopped = or_right v.down c.stopped stopped
+
+pub goes_on : (v : CachedDisk) → is_down v ≡ false → (v.down ≡ false) × (v.cache.stopped ≡ false)
+goes_on v up = or_parts v.down v.cache.stopped up
+
+-- it holds a list: then a crash leaves that without what is buffered, and both are one plain disk
+module _ (v : CachedDisk) (contents : Contents) (s : CacheList) (own : geometry_of v.cache ≡ v.options.geometry) (is : IsHeld v contents s) where
+  abbrev pub undone : CacheList
+  undone = undo (pending v.cache) s
+
+  undone_stands : StandsFor v.options.geometry contents.flash.page undone
+  undone_stands = subst (λ (g : Geometry). StandsFor g contents.flash.page undone) own is.holds.lists.stands
+
+  pub held_beneath : IsBeneath (told_of v) contents undone
+  held_beneath = record {
+    flash = undone_stands;
+    agrees = undo_agrees contents.disk s is.agrees (pending v.cache);
+    suits = suits_undone v.mode (pending v.cache) s is.undo is.suits;
+  }
+
+  pub undone_over : (d : PlainDisk) → IsOver v.options.geometry s contents.disk d → IsOver v.options.geometry undone contents.disk d
+  undone_over d over = over_same v.options.geometry contents.disk s undone d (undo_same contents.disk s is.agrees (pending v.cache) is.holds.waits) over
+
+  undone_dirty : (a : ℕ) → IsDirtyIn s a → IsDirtyIn undone a
+  undone_dirty = undo_dirty (pending v.cache) s is.holds.waits
+
+  pub held_left : FitsOn v.options.geometry contents.shape → IsLeft v contents
+  held_left shape = record { own = own; shape = shape; list = undone; beneath = held_beneath; held = s; up = λ up. is }
+
+  -- what it holds is the plain disk that the media stand for
+  pub held_over : (d : PlainDisk) → StandFor (ImageIs (told_of v)) contents d → IsOver v.options.geometry s contents.disk d
+  held_over d stand =
+      over_same v.options.geometry contents.disk undone s d (same_back contents.disk s undone (undo_same contents.disk s is.agrees (pending v.cache) is.holds.waits))
+      (stands_over (told_of v) contents undone undone_stands d stand)
+
+  pub held_stands : (d : PlainDisk) → IsOver v.options.geometry s contents.disk d → StandFor (ImageIs (told_of v)) contents d
+  held_stands d over = over_stands (told_of v) contents undone held_beneath d (undone_over d over)
+
+  -- of several that were possible it is one
+  pub one_held : (bases : List PlainDisk) → StandForAny (ImageIs (told_of v)) contents bases → StandForOneOf (ImageIs (told_of v)) contents bases
+  one_held = one_of_any (told_of v) contents undone held_beneath (λ a. elim (is.settled a) [ inl none ↦ inl none | inr dirty ↦ inr (let d = undone_dirty a dirty in (d.0, d.1)) ])
+
+  -- ---- reads
+
+  pub found_held : (lba : ℕ) (b : Block) → lba < v.options.geometry.size → ReadOf (get s lba) true b → (d : PlainDisk) → StandFor (ImageIs (told_of v)) contents d → b ≡ d lba
+  found_held lba b within read d stand = by_held (get s lba) read ∙ held_over d stand lba within (contents.disk lba).newest (inl refl)
+    where
+      by_held : (o : Option Held) → ReadOf o true b → b ≡ held_or o (contents.disk lba).newest
+      by_held None read = absurd (false≢true (sym read))
+      by_held (Some h) read = read.1
+
+  pub found_absent : (lba : ℕ) → lba < v.options.geometry.size → get s lba ≡ None → (d : PlainDisk) → StandFor (ImageIs (told_of v)) contents d → (contents.disk lba).newest ≡ d lba
+  found_absent lba within none d stand = sym (ap (λ (o : Option Held). held_or o (contents.disk lba).newest) none) ∙ held_over d stand lba within (contents.disk lba).newest (inl refl)
+
+pub is_up : (v : CachedDisk) (contents : Contents) (s : CacheList) → is_down v ≡ false → IsHeld v contents s → IsUp v.cache contents
+is_up v contents s up is = record { list = s; holds = is.holds; up = (goes_on v up).1 }
+
+-- a read of an address that isn't held finds nothing
+pub read_absent : (o : Option Held) (b : Block) → ReadOf o false b → o ≡ None
+read_absent None b read = refl
+read_absent (Some h) b read = absurd (false≢true read.0)
+
+-- ---- once it is down
+
+-- a crash leaves this list
+pub down_left : (v : CachedDisk) (contents : Contents) (s : CacheList) → geometry_of v.cache ≡ v.options.geometry → FitsOn v.options.geometry contents.shape → is_down v ≡ true → IsBeneath (told_of v) contents s → IsLeft v contents
+down_left v contents s own shape down beneath = record { own = own; shape = shape; list = s; beneath = beneath; held = s; up = λ up. absurd (both (is_down v) down up) }
+
+-- the cache and the contents are as before
+pub left_same : (v : CachedDisk) (c : Ssc) (old new : Contents) → c ≡ v.cache → new ≡ old → IsLeft v old → IsLeft (record v { cache = c }) new
+left_same v c old new same contents left = subst (λ (k : Ssc). IsLeft (record v { cache = k }) new) (sym same) (subst (λ (x : Contents). IsLeft v x) (sym contents) left)
+
+-- ---- a step of the flash
+
+-- the disk shows nothing new, and what waited for no flush still waits for none
+pub record Stays (old new : Contents) : Type 0 where
+  pub had : Had old.disk new.disk
+  pub settled : (a : ℕ) → (old.disk a).earlier ≡ [] → (new.disk a).earlier ≡ []
+
+pub drove : (old new : Contents) (l : Bool) → DiskStays old new l → (l ≡ true → Crashed new) → Stays old new
+drove old new true stays crash = record { had = stays.values; settled = λ a none. (crash refl).alone a }
+drove old new false stays crash = record { had = stays.values; settled = λ a none. ap (λ (f : ℕ → Values). (f a).earlier) (stays.stays refl) ∙ none }
+
+module _ (v : CachedDisk) (c : Ssc) (old new : Contents) (stays : Stays old new) where
+  abbrev pub stepped : CachedDisk
+  stepped = record v { cache = c }
+
+  module _ (s t : CacheList) (agrees : Agrees t old.disk) (suits : Suits v.mode t) where
+    -- refused: the flash stands for this list
+    pub step_beneath : StandsFor v.options.geometry new.flash.page t → IsBeneath (told_of v) new t
+    step_beneath stands = record { flash = stands; agrees = agrees_fewer t old.disk new.disk stays.had agrees; suits = suits }
+
+    -- done: the cache holds this list
+    pub step_held : IsHeld v old s → Holds c new t → ((a : ℕ) → IsDirtyIn s a → IsDirtyIn t a) → MayUndo v.mode (pending c) → IsHeld stepped new t
+    step_held is holds keeps may = record {
+      holds = holds;
+      agrees = agrees_fewer t old.disk new.disk stays.had agrees;
+      settled = λ a. elim (is.settled a) [ inl none ↦ inl (stays.settled a none) | inr dirty ↦ inr (keeps a dirty) ];
+      suits = suits;
+      undo = may;
+    }
+
+  -- the plain disk over fewer values
+  pub step_over : (t : CacheList) (d : PlainDisk) → IsOver v.options.geometry t old.disk d → IsOver v.options.geometry t new.disk d
+  step_over t d over = over_fewer v.options.geometry t old.disk new.disk d stays.had over

@@ -1,0 +1,96 @@
+-- What an opening of the cache leaves of the media.
+use Rattle.std.proofs.Common.{◌≡◌, ℕ, ◌-◌, true, false, [], Result, Ok, Err, IfOk, IfErr, inl, inr, refl, sym, ◌∙◌, ap, subst, arith}
+use Rattle.std.specs.Prelude.{IsErrOf}
+use Rattle.std.proofs.lemmas.Bool.{false≢true}
+use Rattle.ft_base.specs.declared.block.Block.{Block}
+use Rattle.ft_base.specs.declared.block.Place.{Place}
+use Rattle.ft_base.specs.declared.block.Page.{Page}
+use Rattle.ft_base.specs.declared.geometry.Geometry.{Geometry}
+use Rattle.ft_base.specs.Layout.{log_pages}
+use Rattle.ft_base.specs.Contents.{Contents, Image, Now, Values, HasValue, flushed}
+use Rattle.ft_base.proofs.Images.{with_newest, newest_image}
+use Rattle.ft_media.specs.declared.media.MediaError.{MediaError}
+use Rattle.ft_media.specs.declared.media.MediaError.TheVariants as media
+use Rattle.ft_media.specs.State.{lost}
+use Rattle.ft_media.specs.Media.{Crashed, DiskStays}
+use Rattle.ft_volume.specs.Opening.{Opens}
+use Rattle.cache_model.specs.Cache.{CacheList}
+use Rattle.cache_model.specs.Loading.{load}
+use Rattle.cache_model.specs.Stands.{StandsFor}
+use Rattle.op_log.specs.declared.error.OpenError.{OpenError}
+use Rattle.op_log.specs.declared.error.OpenError.TheVariants.{NotFormatted, OtherGeometry, Damaged, FlashFault, DiskFault, PowerLost, OutOfMemory}
+use Rattle.op_log.specs.Refusals.{IsRefusal, open_lost}
+use Rattle.ssc.specs.declared.cache.Ssc.{Ssc}
+use Rattle.ssc.specs.CacheState.{Holds, IsUp, entries_of, geometry_of, pending}
+use Rattle.cached_disk.specs.Errors.{disk_failed, flush_error}
+use Rattle.cached_disk.specs.Kept.{IsOpenCache}
+
+flushed_had : (old new : Values) → new ≡ flushed old → (b : Block) → HasValue new b → HasValue old b
+flushed_had old new is b has = by_value (subst (λ (v : Values). HasValue v b) is has)
+  where
+    by_value : HasValue (flushed old) b → HasValue old b
+    by_value (inl same) = inl same
+    by_value (inr none) = absurd none
+
+less_none : (a n : ℕ) → n ≡ 0 → a - n ≡ a
+less_none a n none = omega (arith, none)
+
+-- the disk was flushed, and then only the flash was driven
+module _ (g : Geometry) (a b c : Contents) (page : b.flash.page ≡ a.flash.page) where
+  pub open_cache_of : (r : Result Ssc OpenError)
+      → IfOk r (λ v. geometry_of v ≡ g)
+      → IfOk r (λ v. (s : CacheList) → StandsFor g b.flash.page s → Holds v c s)
+      → IfOk r (λ v. load g b.flash.page ≡ Ok (entries_of v))
+      → IfOk r (λ v. pending v ≡ [])
+      → IfOk r (λ v. IsUp v c)
+      → IfOk r (λ v. v.stopped ≡ false)
+      → IfOk r (λ v. v.parts.log.next ≡ 0)
+      → IfOk r (λ v. IsOpenCache g a c v)
+  open_cache_of (Ok v) geometry holds loads nothing up goes log = record {
+    geometry = geometry;
+    holds = λ s stands. holds s (subst (λ (f : Place → Page). StandsFor g f s) (sym page) stands);
+    loads = ap (λ (f : Place → Page). load g f) (sym page) ∙ loads;
+    nothing_waits = nothing;
+    up = up;
+    goes = goes;
+    log = ap (λ (k : Geometry). log_pages k - v.parts.log.next) geometry ∙ less_none (log_pages g) v.parts.log.next log;
+  }
+  open_cache_of (Err e) geometry holds loads nothing up goes log = tt
+
+  -- a cache doesn't ask the disk
+  not_disk : {A : Type 0} (r : Result Ssc OpenError) (loads : Result A _) → IfErr r (λ e. IsRefusal g e loads) → disk_failed r ≡ true → ⊥
+  not_disk (Ok v) loads refused is = false≢true is
+  not_disk (Err NotFormatted) loads refused is = false≢true is
+  not_disk (Err (OtherGeometry found wanted)) loads refused is = false≢true is
+  not_disk (Err (Damaged block at)) loads refused is = false≢true is
+  not_disk (Err FlashFault) loads refused is = false≢true is
+  not_disk (Err DiskFault) loads refused is = refused
+  not_disk (Err PowerLost) loads refused is = false≢true is
+  not_disk (Err OutOfMemory) loads refused is = false≢true is
+
+  pub opens_after : (r : Result Ssc OpenError) → ((lba : ℕ) → b.disk lba ≡ flushed (a.disk lba)) → load g c.flash.page ≡ load g b.flash.page → ((s : CacheList) → StandsFor g b.flash.page s → (x : Image) → Now c x → StandsFor g x.page s)
+      → IfErr r (λ e. IsRefusal g e (load g b.flash.page)) → DiskStays b c (open_lost r) → (open_lost r ≡ true → Crashed c) → Opens g a c (disk_failed r) (open_lost r)
+  opens_after r flush same images refused stays crash = record {
+    loads = same ∙ ap (λ (f : Place → Page). load g f) page;
+    lists = λ s stands. images s (subst (λ (f : Place → Page). StandsFor g f s) (sym page) stands) (with_newest c) (newest_image c);
+    values = λ lba v has. flushed_had (a.disk lba) (b.disk lba) (flush lba) v (stays.values lba v has);
+    flushed = λ no not lba. ap (λ (f : ℕ → Values). f lba) (stays.stays not) ∙ flush lba;
+    unflushed = λ is. absurd (not_disk r (load g b.flash.page) refused is);
+    alone = λ is lba. (crash is).alone lba;
+  }
+
+  -- the flush was refused
+  pub opens_refused : (e : MediaError) (r : OpenError) → r ≡ flush_error e → ((lba : ℕ) (v : Block) → HasValue (b.disk lba) v → HasValue (a.disk lba) v) → (IsErrOf {T = Unit {0}} (Err e) media.Failed → b.disk ≡ a.disk) → (IsErrOf {T = Unit {0}} (Err e) media.OutOfMemory → ⊥) → (lost {T = Unit {0}} (Err e) ≡ true → Crashed b)
+      → Opens g a b (disk_failed {T = Ssc} (Err r)) (open_lost {T = Ssc} (Err r))
+  opens_refused e r is values failed memory crash = subst (λ (r : OpenError). Opens g a b (disk_failed {T = Ssc} (Err r)) (open_lost {T = Ssc} (Err r))) (sym is) (by_error e failed memory crash)
+    where
+      loads_page : load g b.flash.page ≡ load g a.flash.page
+      loads_page = ap (λ (f : Place → Page). load g f) page
+
+      lists_page : (s : CacheList) → StandsFor g a.flash.page s → StandsFor g b.flash.page s
+      lists_page s stands = subst (λ (f : Place → Page). StandsFor g f s) (sym page) stands
+
+      by_error : (e : MediaError) → (IsErrOf {T = Unit {0}} (Err e) media.Failed → b.disk ≡ a.disk) → (IsErrOf {T = Unit {0}} (Err e) media.OutOfMemory → ⊥) → (lost {T = Unit {0}} (Err e) ≡ true → Crashed b) → Opens g a b (disk_failed {T = Ssc} (Err (flush_error e))) (open_lost {T = Ssc} (Err (flush_error e)))
+      by_error media.Failed failed memory crash = record { loads = loads_page; lists = lists_page; values = values; flushed = λ no not. absurd (false≢true (sym no)); unflushed = λ yes. failed refl; alone = λ yes. absurd (false≢true yes) }
+      by_error media.PowerLost failed memory crash = record { loads = loads_page; lists = lists_page; values = values; flushed = λ no not. absurd (false≢true (sym not)); unflushed = λ yes. absurd (false≢true yes); alone = λ yes lba. (crash refl).alone lba }
+      by_error media.OutOfMemory failed memory crash = absurd (memory refl)

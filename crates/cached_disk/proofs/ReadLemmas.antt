@@ -1,0 +1,299 @@
+-- A step that keeps the plain disk: a commit, and a block that comes clean from the disk.
+use Rattle.std.proofs.Common.{◌≡◌, ℕ, ◌-◌, ◌*◌, ◌^◌, ◌<◌, ◌≤◌, ◌||◌, nat_le, Bool, true, false, cond, List, [], ◌∷◌, ◌++◌, Option, Some, None, Result, Ok, Err, inl, inr, refl, sym, ◌∙◌, ap, subst, arith}
+use Rattle.std.specs.List.{AllByRecursion}
+use Rattle.std.specs.FinMap.{get}
+use Rattle.std.specs.Option.{is_some}
+use Rattle.std.specs.Prelude.{OnOk, is_err}
+use Rattle.std.proofs.lemmas.Bool.{false≢true, le-leb, lt-leb}
+use Rattle.ft_base.specs.declared.block.Block.{Block}
+use Rattle.ft_base.specs.declared.block.Place.{Place}
+use Rattle.ft_base.specs.declared.block.Page.{Page}
+use Rattle.ft_base.specs.declared.geometry.Geometry.{Geometry}
+use Rattle.ft_base.specs.declared.told.Mode.{Mode}
+use Rattle.ft_base.specs.declared.told.Mode.TheVariants.{Back, Through}
+use Rattle.ft_base.specs.Contents.{Contents, HasValue, Shape}
+use Rattle.ft_base.specs.Layout.{log_pages}
+use Rattle.ft_base.specs.PlainDisk.{PlainDisk}
+use Rattle.ft_media.specs.State.{State}
+use Rattle.ft_media.specs.Drives.{DrivesFlash}
+use Rattle.ft_volume.specs.Opening.{ImageIs, Suits}
+use Rattle.ft_volume.specs.Volume.{Reads, StandFor}
+use Rattle.ft_volume.specs.Volume as calls
+use Rattle.ft_volume.specs.declared.volume.Idled.TheVariants.{Nothing, Checkpointed}
+use Rattle.cache_model.specs.Cache.{Agrees, Buffered, Inserted, CacheList, Held, Vanish, held, undo, written_clean}
+use Rattle.cache_model.specs.Stands.{StandsFor}
+use Rattle.op_log.specs.Log.{FitsOn}
+use Rattle.ssc.specs.declared.cache.Ssc.{Ssc}
+use Rattle.ssc.specs.CacheState.{Holds, entries_of, geometry_of, pending}
+use Rattle.ssc.specs.Commands.{HoldsWritten, PendsWith, StandsForOne, StandsForWrite, AsUndone, AsBefore, AsAfter, AsLeft, AsWritten}
+use Rattle.cached_disk.specs.declared.disk.CachedDisk.{CachedDisk}
+use Rattle.cached_disk.specs.Kept.{IsBeneath, IsDirtyIn, IsHeld, IsInserted, IsLeft, MayUndo, dirty_of, is_down, told_of}
+use Rattle.cached_disk.proofs.AddressLemmas.{holds_held, holds_lbas, lbas_same, written_held}
+use Rattle.cached_disk.proofs.CallLemmas.{held_along}
+use Rattle.cached_disk.proofs.DiskLemmas.{IsOver, one_value, over_stands}
+use Rattle.cached_disk.proofs.HeldLemmas.{Stays, down_left, drove, goes_on, held_beneath, held_left, held_over, held_stands, step_beneath, step_held, step_over, suits_less, undone_over}
+use Rattle.cached_disk.proofs.StepLemmas.{clean_agrees, clean_dirty, clean_dirty_was, clean_same, clean_was, left_there, over_same, vanish_agrees, vanish_dirty, vanish_same, vanish_was}
+
+-- ---- what a crash may undo
+
+pub may_none : (mode : Mode) (q : List Buffered) → q ≡ [] → MayUndo mode q
+may_none Back q none = tt
+may_none Through q none = subst (AllByRecursion IsInserted) (sym none) tt
+
+all_more : (q : List Buffered) (a : ℕ) → AllByRecursion IsInserted q → AllByRecursion IsInserted (q ++ Inserted a ∷ [])
+all_more [] a all = (tt, tt)
+all_more (x ∷ q) a all = (all.0, all_more q a all.1)
+
+pub may_more : (mode : Mode) (old new : List Buffered) (a : ℕ) → PendsWith old new (Inserted a) → MayUndo mode old → MayUndo mode new
+may_more Back old new a pends may = tt
+may_more Through old new a (inl more) may = subst (AllByRecursion IsInserted) (sym more) (all_more old a may)
+may_more Through old new a (inr (inl one)) may = subst (AllByRecursion IsInserted) (sym one) (tt, tt)
+may_more Through old new a (inr (inr none)) may = subst (AllByRecursion IsInserted) (sym none) tt
+
+-- ---- before a write
+
+-- what comes with Ok, where it is no error
+pub on_ok_of : {T E P : Type 0} (r : Result T E) → is_err r ≡ false → OnOk r P → P
+on_ok_of (Ok t) f p = p
+on_ok_of (Err e) f p = absurd (false≢true (sym f))
+
+-- the memory of a write was taken, or not: the cache holds what it held
+pub record IsReserved (old new : Ssc) : Type 0 where
+  pub geometry : geometry_of new ≡ geometry_of old
+  pub holds : (contents : Contents) (s : CacheList) → Holds old contents s → Holds new contents s
+  pub pending : pending new ≡ pending old
+  pub stopped : new.stopped ≡ old.stopped
+
+module _ (v : CachedDisk) (k : Ssc) (reserved : IsReserved v.cache k) where
+  pub reserved_up : is_down v ≡ false → is_down (record v { cache = k }) ≡ false
+  reserved_up up = ap (λ b. v.down || b) reserved.stopped ∙ up
+
+  reserved_held : (contents : Contents) (s : CacheList) → IsHeld v contents s → IsHeld (record v { cache = k }) contents s
+  reserved_held contents s is = record {
+    holds = reserved.holds contents s is.holds;
+    agrees = is.agrees;
+    settled = is.settled;
+    suits = is.suits;
+    undo = subst (MayUndo v.mode) (sym reserved.pending) is.undo;
+  }
+
+  -- and a read changed nothing of the media
+  pub reserved_left : (old new : Contents) → new ≡ old → IsLeft v old → IsLeft (record v { cache = k }) new
+  reserved_left old new same left = record {
+    own = reserved.geometry ∙ left.own;
+    shape = subst (λ (x : Contents). FitsOn v.options.geometry x.shape) (sym same) left.shape;
+    list = left.list;
+    beneath = subst (λ (x : Contents). IsBeneath (told_of v) x left.list) (sym same) left.beneath;
+    held = left.held;
+    up = λ up. subst (λ (x : Contents). IsHeld (record v { cache = k }) x left.held) (sym same) (reserved_held old left.held (left.up (ap (λ b. v.down || b) (sym reserved.stopped) ∙ up)));
+  }
+
+-- ---- lists that show the same
+
+-- a list that shows what is held shows
+pub record ShowsSame (v : CachedDisk) (contents : Contents) (s list : CacheList) : Type 0 where
+  pub agrees : Agrees list contents.disk
+  pub suits : Suits v.mode list
+  pub over : (d : PlainDisk) → IsOver v.options.geometry s contents.disk d → IsOver v.options.geometry list contents.disk d
+
+-- the flash stands for one
+pub record IsShown (v : CachedDisk) (contents : Contents) (s : CacheList) (page : Place → Page) : Type 0 where
+  pub list : CacheList
+  pub stands : StandsFor v.options.geometry page list
+  pub shows : ShowsSame v contents s list
+
+pub shows_itself : (v : CachedDisk) (contents : Contents) (s : CacheList) → IsHeld v contents s → ShowsSame v contents s s
+shows_itself v contents s is = record { agrees = is.agrees; suits = is.suits; over = λ d over. over }
+
+module _ (v : CachedDisk) (contents : Contents) (s : CacheList) (own : geometry_of v.cache ≡ v.options.geometry) (is : IsHeld v contents s) where
+  own_flash : (page : Place → Page) (list : CacheList) → StandsFor (geometry_of v.cache) page list → StandsFor v.options.geometry page list
+  own_flash page list stands = subst (λ (g : Geometry). StandsFor g page list) own stands
+
+  undone_shown : (page : Place → Page) → StandsFor (geometry_of v.cache) page (undo (pending v.cache) s) → IsShown v contents s page
+  undone_shown page stands =
+      let beneath = held_beneath v contents s own is in
+      record { list = undo (pending v.cache) s; stands = own_flash page (undo (pending v.cache) s) stands; shows = record { agrees = beneath.agrees; suits = beneath.suits; over = undone_over v contents s own is } }
+
+  same_shown : (page : Place → Page) → StandsFor (geometry_of v.cache) page s → IsShown v contents s page
+  same_shown page stands = record { list = s; stands = own_flash page s stands; shows = shows_itself v contents s is }
+
+  -- of a commit
+  pub commit_shows : (page : Place → Page) → StandsForOne (geometry_of v.cache) page (undo (pending v.cache) s) s s → IsShown v contents s page
+  commit_shows page (AsUndone x) = undone_shown page x
+  commit_shows page (AsBefore x) = same_shown page x
+  commit_shows page (AsAfter x) = same_shown page x
+
+  -- of a block that comes clean, where the disk has it and no other
+  module _ (lba : ℕ) (block : Block) (none : IsDirtyIn s lba → ⊥) (only : (b : Block) → HasValue (contents.disk lba) b → b ≡ block) where
+    module _ (w : CacheList) (vanish : Vanish v.options.geometry s lba w) where
+      left_shows : ShowsSame v contents s w
+      left_shows = record {
+        agrees = vanish_agrees v.options.geometry s w lba vanish contents.disk is.agrees;
+        suits = suits_less v.mode s w is.suits (λ a h at. inr (left_there v.options.geometry s w lba vanish a h at));
+        over = λ d over. over_same v.options.geometry contents.disk s w d (vanish_same v.options.geometry s w lba vanish contents.disk is.agrees) over;
+      }
+
+      none_left : IsDirtyIn w lba → ⊥
+      none_left dirty = none (vanish_was v.options.geometry s w lba vanish lba dirty)
+
+      pub clean_shows : ShowsSame v contents s (written_clean lba block w)
+      clean_shows = record {
+        agrees = clean_agrees w lba block contents.disk only left_shows.agrees;
+        suits = suits_less v.mode w (written_clean lba block w) left_shows.suits (λ a h at. elim (clean_was w lba block a h at) [ inl new ↦ inl (ap (λ (x : Held). x.dirty) new.1) | inr old ↦ inr old ]);
+        over = λ d over. over_same v.options.geometry contents.disk w (written_clean lba block w) d (clean_same w lba block contents.disk only left_shows.agrees none_left) (left_shows.over d over);
+      }
+
+      pub clean_keeps : (a : ℕ) → IsDirtyIn s a → IsDirtyIn (written_clean lba block w) a
+      clean_keeps a dirty = clean_dirty w lba block none_left a (vanish_dirty v.options.geometry s w lba vanish a dirty)
+
+      pub clean_only : (a : ℕ) → IsDirtyIn (written_clean lba block w) a → IsDirtyIn s a
+      clean_only a dirty = vanish_was v.options.geometry s w lba vanish a (clean_dirty_was w lba block a dirty)
+
+    own_vanish : (w : CacheList) → Vanish (geometry_of v.cache) s lba w → Vanish v.options.geometry s lba w
+    own_vanish w vanish = subst (λ (g : Geometry). Vanish g s lba w) own vanish
+
+    -- wherever it was cut
+    pub write_shows : (page : Place → Page) → StandsForWrite (geometry_of v.cache) page (undo (pending v.cache) s) s lba (written_clean lba block) → IsShown v contents s page
+    write_shows page (AsUndone x) = undone_shown page x
+    write_shows page (AsLeft w vanish x) = record { list = w; stands = own_flash page w x; shows = left_shows w (own_vanish w vanish) }
+    write_shows page (AsWritten w vanish x) = record { list = written_clean lba block w; stands = own_flash page (written_clean lba block w) x; shows = clean_shows w (own_vanish w vanish) }
+
+-- an address that isn't held isn't dirty, so the disk has one value there
+module _ (v : CachedDisk) (contents : Contents) (s : CacheList) (is : IsHeld v contents s) (lba : ℕ) (absent : get s lba ≡ None) where
+  pub not_dirty : IsDirtyIn s lba → ⊥
+  not_dirty dirty = let both : None ≡ Some dirty.0 = sym absent ∙ dirty.1 in cc
+
+  pub one_block : (block : Block) → block ≡ (contents.disk lba).newest → (b : Block) → HasValue (contents.disk lba) b → b ≡ block
+  one_block block newest b has = elim (is.settled lba) [ inl none ↦ one_value (contents.disk lba) b none has ∙ sym newest | inr dirty ↦ absurd (not_dirty dirty) ]
+
+-- the entries tell whether it is held
+not_some : {A : Type 0} (o : Option A) → is_some o ≡ false → o ≡ None
+not_some None is = refl
+not_some (Some x) is = absurd (false≢true (sym is))
+
+module _ (c : Ssc) (contents : Contents) (s : CacheList) (holds : Holds c contents s) (lba : ℕ) where
+  pub absent_held : get (entries_of c) lba ≡ None → get s lba ≡ None
+  absent_held absent = not_some (get s lba) (sym (holds_held c contents s holds lba) ∙ ap is_some absent)
+
+  pub absent_entry : get s lba ≡ None → get (entries_of c) lba ≡ None
+  absent_entry absent = not_some (get (entries_of c) lba) (holds_held c contents s holds lba ∙ ap is_some absent)
+
+-- ---- the flash was driven, from a list that was held
+
+pub record Drove (v : CachedDisk) (c : Ssc) (old new : Contents) (s : CacheList) : Type 0 where
+  pub own : geometry_of v.cache ≡ v.options.geometry
+  pub own_after : geometry_of c ≡ v.options.geometry
+  pub shape : FitsOn v.options.geometry new.shape
+  pub is : IsHeld v old s
+  pub stays : Stays old new
+
+pub drove_held : (v : CachedDisk) (c : Ssc) (before after : State) (f l : Bool) (left : IsLeft v before.contents) → is_down v ≡ false → geometry_of c ≡ geometry_of v.cache → DrivesFlash before after f l → Drove v c before.contents after.contents left.held
+drove_held v c before after f l left up geometry drives = record {
+  own = left.own;
+  own_after = geometry ∙ left.own;
+  shape = subst (λ (x : Shape). FitsOn v.options.geometry x) (sym drives.passes.shape) left.shape;
+  is = left.up up;
+  stays = drove before.contents after.contents l drives.disk drives.crash;
+}
+
+pub still_up : (v : CachedDisk) (c : Ssc) → is_down v ≡ false → c.stopped ≡ false → is_down (record v { cache = c }) ≡ false
+still_up v c up goes = ap (λ b. b || c.stopped) (goes_on v up).0 ∙ goes
+
+module _ (v : CachedDisk) (c : Ssc) (old new : Contents) (s : CacheList) (by : Drove v c old new s) (t : CacheList) (shows : ShowsSame v old s t) where
+  over_after : (d : PlainDisk) → StandFor (ImageIs (told_of v)) old d → IsOver v.options.geometry t new.disk d
+  over_after d stand = step_over v c old new by.stays t d (shows.over d (held_over v old s by.own by.is d stand))
+
+  -- refused: the flash stands for the list
+  module _ (stands : StandsFor v.options.geometry new.flash.page t) where
+    beneath_after : IsBeneath (told_of v) new t
+    beneath_after = step_beneath v c old new by.stays s t shows.agrees shows.suits stands
+
+    pub refused_left : is_down (record v { cache = c }) ≡ true → IsLeft (record v { cache = c }) new
+    refused_left down = down_left (record v { cache = c }) new t by.own_after by.shape down beneath_after
+
+    pub refused_stands : (d : PlainDisk) → StandFor (ImageIs (told_of v)) old d → StandFor (ImageIs (told_of v)) new d
+    refused_stands d stand = over_stands (told_of v) new t beneath_after d (over_after d stand)
+
+  -- done: the cache holds the list
+  module _ (holds : Holds c new t) (keeps : (a : ℕ) → IsDirtyIn s a → IsDirtyIn t a) where
+    module _ (may : MayUndo v.mode (pending c)) where
+      held_after : IsHeld (record v { cache = c }) new t
+      held_after = step_held v c old new by.stays s t shows.agrees shows.suits by.is holds keeps may
+
+      pub done_left : IsLeft (record v { cache = c }) new
+      done_left = held_left (record v { cache = c }) new t by.own_after held_after by.shape
+
+      pub done_stands : (d : PlainDisk) → StandFor (ImageIs (told_of v)) old d → StandFor (ImageIs (told_of v)) new d
+      done_stands d stand = held_stands (record v { cache = c }) new t by.own_after held_after d (over_after d stand)
+
+    pub done_dirty : ((a : ℕ) → IsDirtyIn t a → IsDirtyIn s a) → dirty_of (record v { cache = c }) ≡ dirty_of v
+    done_dirty was = holds_lbas c new t holds ∙ lbas_same s t keeps was ∙ sym (holds_lbas v.cache old s by.is.holds)
+
+-- ---- a block that the cache lacked came from the disk
+
+module _ (v : CachedDisk) (c : Ssc) (old new : Contents) (s : CacheList) (by : Drove v c old new s) (lba : ℕ) (block : Block) (absent : get s lba ≡ None) (newest : block ≡ (old.disk lba).newest) where
+  none_dirty : IsDirtyIn s lba → ⊥
+  none_dirty = not_dirty v old s by.is lba absent
+
+  only_block : (b : Block) → HasValue (old.disk lba) b → b ≡ block
+  only_block = one_block v old s by.is lba absent block newest
+
+  -- the cache holds it
+  module _ (h : HoldsWritten c new s lba (written_clean lba block)) where
+    vanish_own : Vanish v.options.geometry s lba h.left
+    vanish_own = subst (λ (g : Geometry). Vanish g s lba h.left) by.own_after h.vanish
+
+    put_shows : ShowsSame v old s (written_clean lba block h.left)
+    put_shows = clean_shows v old s by.own by.is lba block none_dirty only_block h.left vanish_own
+
+    put_keeps : (a : ℕ) → IsDirtyIn s a → IsDirtyIn (written_clean lba block h.left) a
+    put_keeps = clean_keeps v old s by.own by.is lba block none_dirty only_block h.left vanish_own
+
+    module _ (pends : PendsWith (pending v.cache) (pending c) (Inserted lba)) where
+      put_may : MayUndo v.mode (pending c)
+      put_may = may_more v.mode (pending v.cache) (pending c) lba pends by.is.undo
+
+      pub put_left : IsLeft (record v { cache = c }) new
+      put_left = done_left v c old new s by (written_clean lba block h.left) put_shows h.holds put_keeps put_may
+
+      pub put_stands : (d : PlainDisk) → StandFor (ImageIs (told_of v)) old d → StandFor (ImageIs (told_of v)) new d
+      put_stands = done_stands v c old new s by (written_clean lba block h.left) put_shows h.holds put_keeps put_may
+
+    pub put_dirty : dirty_of (record v { cache = c }) ≡ dirty_of v
+    put_dirty = done_dirty v c old new s by (written_clean lba block h.left) put_shows h.holds put_keeps (clean_only v old s by.own by.is lba block none_dirty only_block h.left vanish_own)
+
+    pub put_held : (b : Block) → calls.Holds (told_of v) (Reads lba b) (λ a. is_some (get (entries_of v.cache) a)) (λ a. is_some (get (entries_of c) a))
+    put_held b = held_along (told_of v) (Reads lba b) (λ a. is_some (get s a)) (λ a. is_some (get (written_clean lba block h.left) a)) (λ a. is_some (get (entries_of v.cache) a)) (λ a. is_some (get (entries_of c) a))
+        (holds_held v.cache old s by.is.holds) (holds_held c new (written_clean lba block h.left) h.holds) (written_held (told_of v) (Reads lba b) s h.left lba (held block false) vanish_own refl (λ a is. is))
+
+  -- it was refused or cut
+  module _ (stands : StandsForWrite (geometry_of v.cache) new.flash.page (undo (pending v.cache) s) s lba (written_clean lba block)) where
+    shown : IsShown v old s new.flash.page
+    shown = write_shows v old s by.own by.is lba block none_dirty only_block new.flash.page stands
+
+    pub cut_left : is_down (record v { cache = c }) ≡ true → IsLeft (record v { cache = c }) new
+    cut_left = refused_left v c old new s by shown.list shown.shows shown.stands
+
+    pub cut_stands : (d : PlainDisk) → StandFor (ImageIs (told_of v)) old d → StandFor (ImageIs (told_of v)) new d
+    cut_stands = refused_stands v c old new s by shown.list shown.shows shown.stands
+
+-- ---- what is left of the log
+
+mul_le : (a b c d : ℕ) → a ≤ b → c ≤ d → a * c ≤ b * d
+mul_le a b c d le le' = grind arith
+
+pub room_fits : (g : Geometry) (next room : ℕ) → room ≡ log_pages g - next → 2 * room < 2 ^ 32
+room_fits g next room is =
+    let most : g.j * g.p ≤ 16 * 64 = mul_le g.j 16 g.p 64 g.in_range.j_high g.in_range.p_high in
+    omega (arith, is, most)
+
+-- a checkpoint is due where no more than half is left
+module _ (g : Geometry) (room r j p : ℕ) (is : r ≡ room) (is_j : j ≡ g.j) (is_p : p ≡ g.p) where
+  pages : j * p ≡ log_pages g
+  pages = ap (λ (n : ℕ). n * p) is_j ∙ ap (λ (n : ℕ). g.j * n) is_p
+
+  pub not_due : j * p < 2 * r → Nothing ≡ cond (nat_le (2 * room) (log_pages g)) Checkpointed Nothing
+  not_due more = sym (ap (λ (b : Bool). cond b Checkpointed Nothing) (lt-leb (2 * room) (log_pages g) (let same = pages in omega (arith, more, same, is))))
+
+  pub due : 2 * r ≤ j * p → Checkpointed ≡ cond (nat_le (2 * room) (log_pages g)) Checkpointed Nothing
+  due few = sym (ap (λ (b : Bool). cond b Checkpointed Nothing) (le-leb (2 * room) (log_pages g) (let same = pages in omega (arith, few, same, is))))

@@ -1,0 +1,82 @@
+use Rattle.std.proofs.Common.{◌≡◌, refl, rules, sym, subst, false, true}
+use Rattle.ft_base.specs.Contents.{Shape}
+use Rattle.op_log.specs.Log.{FitsOn}
+use Rattle.cached_disk.specs.declared.disk.CachedDisk.{CachedDisk}
+use Rattle.cached_disk.specs.Kept.{is_down, told_of}
+use Rattle.cached_disk.proofs.DiskLemmas.{one_left}
+use Rattle.cached_disk.proofs.HeldLemmas.{both, one_held}
+use Rattle.cached_disk.proofs.OpenedLemmas.{alone_now, opened_entries, opened_left, refused_fixed, refused_left}
+use Rattle.cached_disk.proofs.disk.CachedDisk.bring_up.Goals as goal
+
+pub returns-then-not-is_down-clause-reopens : goal.returns-then-not-is_down-clause-reopens
+returns-then-not-is_down-clause-reopens g c =
+    let v = c.args.self.now in
+    let up : is_down v ≡ false = search rules in
+    record {
+      options = refl;
+      mode = refl;
+      same = λ was. (refl, refl);
+      up = up;
+      opens = λ down. absurd (both (is_down v) down up);
+      refused = tt;
+      disk_reads = refl;
+      disk_writes = refl;
+      fixed = one_held v (g.M.Media.state c.args.media.now).contents c.requires.held c.requires.own (c.requires.up up);
+      ready = λ b there. there;
+      within = search rules;
+      cause = search rules;
+      passes = search rules;
+    }
+
+pub returns-in-Ok-clause-left : goal.returns-in-Ok-clause-left
+returns-in-Ok-clause-left g c =
+    let v = c.args.self.now in
+    let w : CachedDisk = record v { cache = c.in-Ok.cache; down = false } in
+    opened_left w (g.M.Media.state c.args.media.now).contents (g.M.Media.state c.open_cache.new.media).contents c.requires.list c.in-Ok.ensures.opened c.in-Ok.ensures.opens c.requires.beneath.flash c.requires.beneath.agrees c.requires.beneath.suits
+    (subst (λ (x : Shape). FitsOn v.options.geometry x) (sym c.in-Ok.ensures.passes.shape) c.requires.shape)
+
+pub returns-in-Ok-clause-reopens : goal.returns-in-Ok-clause-reopens
+returns-in-Ok-clause-reopens g c =
+    let v = c.args.self.now in
+    let old = (g.M.Media.state c.args.media.now).contents in
+    let new = (g.M.Media.state c.open_cache.new.media).contents in
+    let w : CachedDisk = record v { cache = c.in-Ok.cache; down = false } in
+    let down : is_down v ≡ true = search rules in
+    record {
+      options = refl;
+      mode = refl;
+      same = λ up. absurd (both (is_down v) down up);
+      up = c.in-Ok.ensures.opened.goes;
+      opens = λ was. opened_entries w v.options.geometry old new c.in-Ok.ensures.opened;
+      refused = tt;
+      disk_reads = search rules;
+      disk_writes = search rules;
+      fixed = one_left (told_of v) old new c.in-Ok.ensures.opens.lists c.in-Ok.ensures.opens.values (alone_now w old new c.requires.list c.in-Ok.ensures.opened c.in-Ok.ensures.opens c.requires.beneath.flash);
+      ready = c.in-Ok.ensures.ready;
+      within = search rules;
+      cause = search rules;
+      passes = search rules;
+    }
+
+pub returns-in-Err-clause-left : goal.returns-in-Err-clause-left
+returns-in-Err-clause-left g c = refused_left c.args.self.now (g.M.Media.state c.args.media.now).contents (g.M.Media.state c.open_cache.new.media).contents _ _ c.requires (search rules) c.in-Err.ensures.opens c.in-Err.ensures.passes.shape
+
+pub returns-in-Err-clause-reopens : goal.returns-in-Err-clause-reopens
+returns-in-Err-clause-reopens g c =
+    let v = c.args.self.now in
+    let down : is_down v ≡ true = search rules in
+    record {
+      options = refl;
+      mode = refl;
+      same = λ up. absurd (both (is_down v) down up);
+      up = tt;
+      opens = tt;
+      refused = (down, down);
+      disk_reads = search rules;
+      disk_writes = search rules;
+      fixed = refused_fixed (told_of v) (g.M.Media.state c.args.media.now).contents (g.M.Media.state c.open_cache.new.media).contents c.in-Err.error c.open_error.result c.open_error.ensures c.in-Err.ensures.opens;
+      ready = tt;
+      within = search rules;
+      cause = search rules;
+      passes = search rules;
+    }

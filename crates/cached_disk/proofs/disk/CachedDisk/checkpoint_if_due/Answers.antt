@@ -1,0 +1,105 @@
+use Rattle.std.proofs.Common.{◌*◌, ◌<◌, ◌≤◌, ◌^◌, length, refl, rules, sym, ◌∙◌, ap}
+use Rattle.std.proofs.lemmas.List.{length-map}
+use Rattle.ft_base.proofs.Images.{newest_image, with_newest}
+use Rattle.ft_volume.specs.Volume.{Idles}
+use Rattle.ft_volume.specs.declared.volume.Idled.TheVariants.{Checkpointed}
+use Rattle.ssc.specs.CacheState.{geometry_of, log_room, pending}
+use Rattle.ssc.specs.Errors.{ssc_failed, ssc_lost}
+use Rattle.cached_disk.specs.declared.disk.CachedDisk.{CachedDisk}
+use Rattle.cached_disk.specs.Kept.{dirty_of, state_in, told_of, waiting_in}
+use Rattle.cached_disk.proofs.AddressLemmas.{holds_held}
+use Rattle.cached_disk.proofs.CallLemmas.{answered_same, gives_up, idle_same, refused_same, same_costs}
+use Rattle.cached_disk.proofs.HeldLemmas.{is_up, stopped_down}
+use Rattle.cached_disk.proofs.ReadLemmas.{commit_shows, done_dirty, done_left, done_stands, drove_held, due, may_none, not_due, refused_left, refused_stands, room_fits, shows_itself}
+use Rattle.cached_disk.proofs.disk.CachedDisk.checkpoint_if_due.Goals as goal
+
+pub overflow_mul-log_room : goal.overflow_mul-log_room
+overflow_mul-log_room g c =
+    let v = c.args.self.now in
+    let fits : 2 * c.log_room.result < 2 ^ 32 = room_fits (geometry_of v.cache) v.cache.parts.log.next c.log_room.result (c.log_room.ensures (g.M.Media.state c.args.media.now).contents c.requires.left.held (c.requires.left.up c.requires.up).holds) in
+    search rules
+
+pub returns-then-log_room-j-clause-idled : goal.returns-then-log_room-j-clause-idled
+returns-then-log_room-j-clause-idled g c =
+    let v = c.args.self.now in
+    let more : c.j.result * c.p.result < 2 * c.log_room.result = search rules in
+    not_due v.options.geometry (log_room v.cache) c.log_room.result c.j.result c.p.result (c.log_room.ensures (g.M.Media.state c.args.media.now).contents c.requires.left.held (c.requires.left.up c.requires.up).holds) c.j.ensures c.p.ensures more
+
+pub returns-in-Ok-clause-idled : goal.returns-in-Ok-clause-idled
+returns-in-Ok-clause-idled g c =
+    let v = c.args.self.now in
+    let few : 2 * c.log_room.result ≤ c.j.result * c.p.result = search rules in
+    due v.options.geometry (log_room v.cache) c.log_room.result c.j.result c.p.result (c.log_room.ensures (g.M.Media.state c.args.media.now).contents c.requires.left.held (c.requires.left.up c.requires.up).holds) c.j.ensures c.p.ensures few
+
+pub checkpoint-requires : goal.checkpoint-requires
+checkpoint-requires g c = record { up = is_up c.args.self.now (g.M.Media.state c.args.media.now).contents c.requires.left.held c.requires.up (c.requires.left.up c.requires.up) }
+
+pub returns-in-Ok-clause-left : goal.returns-in-Ok-clause-left
+returns-in-Ok-clause-left g c =
+    let v = c.args.self.now in
+    let old = (g.M.Media.state c.args.media.now).contents in
+    let new = (g.M.Media.state c.checkpoint.new.media).contents in
+    let s = c.requires.left.held in
+    let is = c.requires.left.up c.requires.up in
+    let by = drove_held v c.checkpoint.new.self (g.M.Media.state c.args.media.now) (g.M.Media.state c.checkpoint.new.media) (ssc_failed c.checkpoint.result) (ssc_lost c.checkpoint.result) c.requires.left c.requires.up c.checkpoint.ensures.geometry c.checkpoint.ensures.drives in
+    done_left v c.checkpoint.new.self old new s by s (shows_itself v old s is) (c.in-Ok.ensures.done s is.holds) (λ a dirty. dirty) (may_none v.mode (pending c.checkpoint.new.self) c.in-Ok.ensures.nothing_waits)
+
+pub returns-in-Ok-clause-was : goal.returns-in-Ok-clause-was
+returns-in-Ok-clause-was g c = λ order base stand.
+    let v = c.args.self.now in
+    let old = (g.M.Media.state c.args.media.now).contents in
+    let new = (g.M.Media.state c.checkpoint.new.media).contents in
+    let s = c.requires.left.held in
+    let is = c.requires.left.up c.requires.up in
+    let by = drove_held v c.checkpoint.new.self (g.M.Media.state c.args.media.now) (g.M.Media.state c.checkpoint.new.media) (ssc_failed c.checkpoint.result) (ssc_lost c.checkpoint.result) c.requires.left c.requires.up c.checkpoint.ensures.geometry c.checkpoint.ensures.drives in
+    let w : CachedDisk = record v { cache = c.checkpoint.new.self } in
+    answered_same Idles (state_in order v) (state_in order w) new base refl refl
+    (done_stands v c.checkpoint.new.self old new s by s (shows_itself v old s is) (c.in-Ok.ensures.done s is.holds) (λ a dirty. dirty) (may_none v.mode (pending c.checkpoint.new.self) c.in-Ok.ensures.nothing_waits) base stand) Checkpointed refl tt
+
+pub returns-in-Ok-clause-costs : goal.returns-in-Ok-clause-costs
+returns-in-Ok-clause-costs g c = λ order none.
+    let v = c.args.self.now in
+    let old = (g.M.Media.state c.args.media.now).contents in
+    let new = (g.M.Media.state c.checkpoint.new.media).contents in
+    let s = c.requires.left.held in
+    let is = c.requires.left.up c.requires.up in
+    let by = drove_held v c.checkpoint.new.self (g.M.Media.state c.args.media.now) (g.M.Media.state c.checkpoint.new.media) (ssc_failed c.checkpoint.result) (ssc_lost c.checkpoint.result) c.requires.left c.requires.up c.checkpoint.ensures.geometry c.checkpoint.ensures.drives in
+    let holds = c.in-Ok.ensures.done s is.holds in
+    let w : CachedDisk = record v { cache = c.checkpoint.new.self } in
+    let idle = idle_same (told_of v) (waiting_in v.options.geometry.p order (dirty_of v)) (length order) (length-map order _) none in
+    same_costs Checkpointed Idles (state_in order v) (state_in order w) (g.M.Media.state c.args.media.now) (g.M.Media.state c.checkpoint.new.media) (λ a own. own) idle.1
+    (ap (waiting_in v.options.geometry.p order) (done_dirty v c.checkpoint.new.self old new s by s (shows_itself v old s is) holds (λ a dirty. dirty) (λ a dirty. dirty)) ∙ sym idle.0)
+    (λ a. holds_held c.checkpoint.new.self new s holds a ∙ sym (holds_held v.cache old s is.holds a)) c.checkpoint.ensures.drives.disk_reads c.checkpoint.ensures.drives.disk_writes
+
+pub returns-in-Ok-clause-dirty : goal.returns-in-Ok-clause-dirty
+returns-in-Ok-clause-dirty g c = λ up.
+    let v = c.args.self.now in
+    let old = (g.M.Media.state c.args.media.now).contents in
+    let new = (g.M.Media.state c.checkpoint.new.media).contents in
+    let s = c.requires.left.held in
+    let is = c.requires.left.up c.requires.up in
+    let by = drove_held v c.checkpoint.new.self (g.M.Media.state c.args.media.now) (g.M.Media.state c.checkpoint.new.media) (ssc_failed c.checkpoint.result) (ssc_lost c.checkpoint.result) c.requires.left c.requires.up c.checkpoint.ensures.geometry c.checkpoint.ensures.drives in
+    done_dirty v c.checkpoint.new.self old new s by s (shows_itself v old s is) (c.in-Ok.ensures.done s is.holds) (λ a dirty. dirty) (λ a dirty. dirty)
+
+pub returns-in-Err-clause-left : goal.returns-in-Err-clause-left
+returns-in-Err-clause-left g c =
+    let v = c.args.self.now in
+    let old = (g.M.Media.state c.args.media.now).contents in
+    let new = (g.M.Media.state c.checkpoint.new.media).contents in
+    let s = c.requires.left.held in
+    let is = c.requires.left.up c.requires.up in
+    let by = drove_held v c.checkpoint.new.self (g.M.Media.state c.args.media.now) (g.M.Media.state c.checkpoint.new.media) (ssc_failed c.checkpoint.result) (ssc_lost c.checkpoint.result) c.requires.left c.requires.up c.checkpoint.ensures.geometry c.checkpoint.ensures.drives in
+    let shown = commit_shows v old s c.requires.left.own is new.flash.page (c.checkpoint.ensures.images s is.holds (with_newest new) (newest_image new)) in
+    refused_left v c.checkpoint.new.self old new s by shown.list shown.shows shown.stands (stopped_down v c.checkpoint.new.self (c.in-Err.ensures.stopped ∙ gives_up c.in-Err.error (search rules) (search rules)))
+
+pub returns-in-Err-clause-was : goal.returns-in-Err-clause-was
+returns-in-Err-clause-was g c = λ order base stand.
+    let v = c.args.self.now in
+    let old = (g.M.Media.state c.args.media.now).contents in
+    let new = (g.M.Media.state c.checkpoint.new.media).contents in
+    let s = c.requires.left.held in
+    let is = c.requires.left.up c.requires.up in
+    let by = drove_held v c.checkpoint.new.self (g.M.Media.state c.args.media.now) (g.M.Media.state c.checkpoint.new.media) (ssc_failed c.checkpoint.result) (ssc_lost c.checkpoint.result) c.requires.left c.requires.up c.checkpoint.ensures.geometry c.checkpoint.ensures.drives in
+    let shown = commit_shows v old s c.requires.left.own is new.flash.page (c.checkpoint.ensures.images s is.holds (with_newest new) (newest_image new)) in
+    let w : CachedDisk = record v { cache = c.checkpoint.new.self } in
+    refused_same Idles (state_in order v) (state_in order w) new base refl refl (refused_stands v c.checkpoint.new.self old new s by shown.list shown.shows shown.stands base stand) c.cache_error.result

@@ -1,0 +1,143 @@
+-- What a cache over a disk is, and what it leaves on its media.
+use Rattle.std.specs.Prelude.{◌≡◌, ◌⊎◌, ◌<◌, ◌/◌, ◌==◌, ◌||◌, ℕ, Bool, true, false, List, [], map, filter, Some, Ok, Result, OnOk, OnErr, IsErrOf, ⊤}
+use Rattle.std.specs.List.{AllByRecursion}
+use Rattle.std.specs.FinMap.{get}
+use Rattle.std.specs.Option.{is_some}
+use Rattle.ft_base.specs.Contents.{Contents}
+use Rattle.ft_base.specs.Layout.{log_pages}
+use Rattle.ft_base.specs.PlainDisk.{PlainDisk}
+use Rattle.ft_base.specs.Table.{Table, table_of}
+use Rattle.ft_base.specs.Told.{Told}
+use Rattle.ft_base.specs.declared.block.Page.{Page}
+use Rattle.ft_base.specs.declared.block.Place.{Place}
+use Rattle.ft_base.specs.declared.geometry.Geometry.{Geometry}
+use Rattle.ft_base.specs.declared.told.Mode.{Mode}
+use Rattle.ft_base.specs.declared.told.Mode.TheVariants.{Back, Through}
+use Rattle.ft_media.specs.Media.{KeepsReady}
+use Rattle.ft_media.specs.Passes.{Passes}
+use Rattle.ft_media.specs.State.{State}
+use Rattle.ft_volume.specs.Opening.{ImageIs, Suits}
+use Rattle.ft_volume.specs.Volume.{HasCause, IsFixed, StandForAny, VolumeState, dirty_lbas, fixes, told_for, volume_lost}
+use Rattle.ft_volume.specs.declared.options.Options.{Options}
+use Rattle.ft_volume.specs.declared.volume.VolumeError.{VolumeError}
+use Rattle.ft_volume.specs.declared.volume.VolumeError.TheVariants.{OutOfVolume}
+use Rattle.cache_model.specs.Loading.{load}
+use Rattle.cache_model.specs.Records.{Entries}
+use Rattle.cache_model.specs.Cache.{Agrees, Buffered, CacheList, Cleaned, Held, Inserted, dirty_between, vol}
+use Rattle.cache_model.specs.Stands.{StandsFor}
+use Rattle.op_log.specs.Log.{FitsOn}
+use Rattle.ssc.specs.declared.cache.Ssc.{Ssc}
+use Rattle.ssc.specs.CacheState.{Holds, IsUp, entries_of, geometry_of, log_room, pending}
+use Rattle.cached_disk.specs.declared.disk.CachedDisk.{CachedDisk}
+
+-- the cache or the disk was given up, so it is opened again first
+abbrev pub is_down : CachedDisk → Bool
+is_down v = v.down || v.cache.stopped
+
+abbrev pub told_of : CachedDisk → Told
+told_of v = told_for v.mode v.options
+
+-- the dirty addresses that the cache holds, ascending
+abbrev pub dirty_of : CachedDisk → List ℕ
+dirty_of v = dirty_lbas (entries_of v.cache)
+
+-- these groups in this order, each with its own of these addresses
+abbrev pub waiting_in : ℕ → List ℕ → List ℕ → Table
+waiting_in p order lbas = map (λ n. record { group = n; lbas = filter (λ a. a / p == n) lbas }) order
+
+-- what it is at this moment, where its dirty groups are told in this order: each write is on the media when it answers, so nothing is owed
+abbrev pub state_in : List ℕ → CachedDisk → VolumeState
+state_in order v = record {
+  told = told_of v;
+  down = is_down v;
+  owed = [];
+  held = λ a. is_some (get (entries_of v.cache) a);
+  table = waiting_in v.options.geometry.p order (dirty_of v);
+  log_room = log_room v.cache;
+}
+
+-- the flash has these entries
+abbrev pub Loads : Told → (Place → Page) → Entries → Type 0
+Loads told page m = load told.geometry page ≡ Ok m
+
+-- the address is held, and the disk may lack its block
+abbrev pub IsDirtyIn : CacheList → ℕ → Type 0
+IsDirtyIn s a = (h : Held) × (get s a ≡ Some h) × (h.dirty ≡ true)
+
+-- what is only buffered came clean
+abbrev pub IsInserted : Buffered → Type 0
+IsInserted (Inserted a) = ⊤
+IsInserted (Cleaned a) = ⊥
+
+-- what a crash may undo: where it writes through, that makes no block dirty
+abbrev pub MayUndo : Mode → List Buffered → Type 0
+MayUndo Back q = ⊤
+MayUndo Through q = AllByRecursion IsInserted q
+
+-- the flash stands for this list, which agrees with the disk
+pub record IsBeneath (told : Told) (contents : Contents) (list : CacheList) : Type 0 where
+  pub flash : StandsFor told.geometry contents.flash.page list
+  pub agrees : Agrees list contents.disk
+  pub suits : Suits told.mode list
+
+-- it is up and holds this list: only what is dirty may wait for a flush
+pub record IsHeld (v : CachedDisk) (contents : Contents) (list : CacheList) : Type 0 where
+  pub holds : Holds v.cache contents list
+  pub agrees : Agrees list contents.disk
+  pub settled : (a : ℕ) → ((contents.disk a).earlier ≡ []) ⊎ IsDirtyIn list a
+  pub suits : Suits v.mode list
+  pub undo : MayUndo v.mode (pending v.cache)
+
+-- the contents are those that it left: a crash leaves the list beneath, and while it is up it holds one
+pub record IsLeft (v : CachedDisk) (contents : Contents) : Type 0 where
+  pub own : geometry_of v.cache ≡ v.options.geometry
+  pub shape : FitsOn v.options.geometry contents.shape
+  pub list : CacheList
+  pub beneath : IsBeneath (told_of v) contents list
+  pub held : CacheList
+  pub up : is_down v ≡ false → IsHeld v contents held
+
+-- the plain disk that a list over a disk is, below the size
+abbrev pub IsVolume : Geometry → CacheList → Contents → PlainDisk → Type 0
+IsVolume g s contents d = (a : ℕ) → a < g.size → vol s (λ lba. (contents.disk lba).newest) a ≡ d a
+
+-- ---- what an opening leaves
+
+-- a cache that was opened over media that stood for a list: it holds that list
+pub record IsOpenCache (g : Geometry) (old new : Contents) (c : Ssc) : Type 0 where
+  pub geometry : geometry_of c ≡ g
+  pub holds : (s : CacheList) → StandsFor g old.flash.page s → Holds c new s
+  pub loads : load g old.flash.page ≡ Ok (entries_of c)
+  pub nothing_waits : pending c ≡ []
+  pub up : IsUp c new
+  pub goes : c.stopped ≡ false
+  pub log : log_room c ≡ log_pages g
+
+-- it was made of these, and opened over flash that stood for this list
+pub record IsFresh (mode : Mode) (options : Options) (s : CacheList) (v : CachedDisk) : Type 0 where
+  pub made : v.options ≡ options
+  pub written : v.mode ≡ mode
+  pub up : is_down v ≡ false
+  pub held : (a : ℕ) → is_some (get (entries_of v.cache) a) ≡ is_some (get s a)
+  pub dirty : dirty_of v ≡ dirty_between 0 options.geometry.size s
+  pub log : log_room v.cache ≡ log_pages options.geometry
+
+-- in this order the dirty groups are told as if each dirty block had been written, ascending
+abbrev pub IsOrderOf : List ℕ → CachedDisk → Type 0
+IsOrderOf order v = waiting_in v.options.geometry.p order (dirty_of v) ≡ table_of v.options.geometry.p [] (dirty_of v)
+
+-- it was opened again where it was down
+pub record Reopens {T : Type 0} (old new : CachedDisk) (before after : State) (result : Result T VolumeError) : Type 0 where
+  pub options : new.options ≡ old.options
+  pub mode : new.mode ≡ old.mode
+  pub same : is_down old ≡ false → (new ≡ old) × (after ≡ before)
+  pub up : OnOk result (is_down new ≡ false)
+  pub opens : OnOk result (is_down old ≡ true → (m : Entries) → Loads (told_of old) before.contents.flash.page m → (entries_of new.cache ≡ m) × (log_room new.cache ≡ log_pages old.options.geometry))
+  pub refused : OnErr result ((is_down old ≡ true) × (is_down new ≡ true))
+  pub disk_reads : after.counts.disk_reads ≡ before.counts.disk_reads
+  pub disk_writes : after.counts.disk_writes ≡ before.counts.disk_writes
+  pub fixed : (bases : List PlainDisk) → StandForAny (ImageIs (told_of old)) before.contents bases → IsFixed (ImageIs (told_of old)) after.contents (fixes result) bases
+  pub ready : OnOk result (KeepsReady before after)
+  pub within : IsErrOf result OutOfVolume → ⊥
+  pub cause : HasCause before.faults after.faults result
+  pub passes : Passes before after (volume_lost result)

@@ -1,0 +1,58 @@
+ghost use Rattle.std.specs.Prelude.{◌≡◌, ℕ};
+ghost use Rattle.cached_disk.specs.Errors as errors;
+
+use ft_media::MediaError;
+use ft_volume::VolumeError;
+use op_log::OpenError;
+use ssc::SscError;
+
+/// What a volume answers where the disk answered this.
+pub fn disk_error(error: MediaError) -> VolumeError
+    ensures { result ≡ errors.disk_error error }
+{
+    match error {
+        MediaError::Failed => VolumeError::DiskFault,
+        MediaError::PowerLost => VolumeError::PowerLost,
+        MediaError::OutOfMemory => VolumeError::OutOfMemory,
+    }
+}
+
+/// What an opening answers where the flush of the disk answered this.
+pub fn flush_error(error: MediaError) -> OpenError
+    ensures { result ≡ errors.flush_error error }
+{
+    match error {
+        MediaError::Failed => OpenError::DiskFault,
+        MediaError::PowerLost => OpenError::PowerLost,
+        MediaError::OutOfMemory => OpenError::OutOfMemory,
+    }
+}
+
+/// What a volume answers where the cache answered this. It has asked before whether the cache is full.
+pub fn cache_error(error: SscError) -> VolumeError
+    requires { (n limit : ℕ) → error ≡ SscError.Full n limit → ⊥ }
+    ensures { errors.IsOfCache error result }
+{
+    match error {
+        SscError::Full { .. } => unreachable!(),
+        SscError::FlashFault => VolumeError::FlashFault,
+        SscError::PowerLost => VolumeError::PowerLost,
+        SscError::OutOfMemory => VolumeError::OutOfMemory,
+    }
+}
+
+/// What a volume answers where its cache was to be opened again. The flash is one that it left.
+pub fn open_error(error: OpenError) -> VolumeError
+    requires { errors.IsFault error }
+    ensures { errors.IsOfOpening error result }
+{
+    match error {
+        OpenError::NotFormatted | OpenError::OtherGeometry { .. } | OpenError::Damaged { .. } => {
+            unreachable!()
+        }
+        OpenError::FlashFault => VolumeError::FlashFault,
+        OpenError::DiskFault => VolumeError::DiskFault,
+        OpenError::PowerLost => VolumeError::PowerLost,
+        OpenError::OutOfMemory => VolumeError::OutOfMemory,
+    }
+}

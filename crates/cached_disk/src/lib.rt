@@ -1,0 +1,16 @@
+//! A cache over flash before a disk: what a volume does alike whether it writes through or back.
+//!
+//! The layer above relies on this: what is left on the media stands for one plain disk, and the cache
+//! agrees with the disk at each clean address, wherever power stops (`specs/Kept`). Opening again, reads
+//! that keep what they brought from the disk, flushes, checkpoints and cuts keep that, and say what they
+//! leave of the dirty addresses.
+#![tactic(auto)]
+
+mod disk;
+mod errors;
+mod opening;
+mod reading;
+mod resting;
+
+pub use disk::CachedDisk;
+pub use errors::{cache_error, disk_error};

@@ -1,0 +1,137 @@
+ghost use Rattle.std.specs.Prelude.{◌≡◌, ℕ, false, Ok, OnOk, IfOk, IfErr, IsErrOf};
+ghost use Rattle.ft_base.specs.Contents.{HasValue};
+ghost use Rattle.ft_base.specs.PlainDisk.{PlainDisk};
+ghost use Rattle.ft_base.specs.declared.block.Block.{Block};
+ghost use Rattle.ft_media.specs.Media.{KeepsReady};
+ghost use Rattle.ft_media.specs.Passes.{Passes};
+ghost use Rattle.ft_volume.specs.Opening.{ImageIs, IsNewest, MayOpen, Opens, nothing_held};
+ghost use Rattle.ft_volume.specs.Volume.{HasCause, StandFor, told_for, volume_lost};
+ghost use Rattle.cache_model.specs.Cache.{CacheList};
+ghost use Rattle.cache_model.specs.Loading.{load};
+ghost use Rattle.cache_model.specs.Stands.{StandsFor};
+ghost use Rattle.op_log.specs.Log.{FitsOn};
+ghost use Rattle.op_log.specs.Refusals.{open_failed, open_lost};
+ghost use Rattle.ssc.specs.CacheState.{entries_of};
+ghost use Rattle.cached_disk.specs.Errors.{CausedBy, IsOpenRefusal, disk_failed};
+ghost use Rattle.cached_disk.specs.Kept.{IsFresh, IsLeft, IsOpenCache, IsVolume, Reopens};
+ghost use Rattle.cached_disk.specs.Kept as kept;
+
+use crate::CachedDisk;
+use crate::errors::{cache_error, flush_error, open_error};
+use ft_base::Geometry;
+use ft_media::Media;
+use ft_volume::{Mode, Options, VolumeError};
+use op_log::OpenError;
+use ssc::Ssc;
+use std::alloc::Global;
+
+impl CachedDisk {
+    /// Formats the flash and opens it, whatever it was before. The plain disk is then what the disk has.
+    pub fn create<M: Media>(
+        alloc: Global,
+        media: &mut M,
+        options: &Options,
+        mode: Mode,
+    ) -> Result<CachedDisk, VolumeError>
+        requires shape { FitsOn options.now.geometry (M.state media.old).contents.shape }
+        ensures owns { IfOk result (λ v. IsLeft v (M.state media.new).contents) }
+        ensures opened { IfOk result (λ v. IsFresh mode options.now nothing_held v) }
+        ensures stands { OnOk result ((d : PlainDisk) → IsNewest options.now.geometry (M.state media.old).contents d
+            → StandFor (ImageIs (told_for mode options.now)) (M.state media.new).contents d) }
+        ensures values { (lba : ℕ) (b : Block) → HasValue ((M.state media.new).contents.disk lba) b → HasValue ((M.state media.old).contents.disk lba) b }
+        ensures ready { OnOk result (KeepsReady (M.state media.old) (M.state media.new)) }
+        ensures within { IsErrOf result VolumeError.OutOfVolume → ⊥ }
+        ensures disk_reads { (M.state media.new).counts.disk_reads ≡ (M.state media.old).counts.disk_reads }
+        ensures disk_writes { (M.state media.new).counts.disk_writes ≡ (M.state media.old).counts.disk_writes }
+        ensures cause { HasCause (M.state media.old).faults (M.state media.new).faults result }
+        ensures passes { Passes (M.state media.old) (M.state media.new) (volume_lost result) }
+    {
+        if let Err(error) = Ssc::format(media, &options.geometry) {
+            return Err(cache_error(error));
+        }
+        match open_cache(alloc, media, &options.geometry) {
+            Ok(cache) => Ok(CachedDisk {
+                alloc,
+                options: *options,
+                mode,
+                cache,
+                down: false,
+            }),
+            Err(error) => Err(open_error(error)),
+        }
+    }
+
+    /// Opens the flash that it left, after a flush of the disk. Clean blocks that it holds are those of
+    /// the disk.
+    pub fn open<M: Media>(
+        alloc: Global,
+        media: &mut M,
+        options: &Options,
+        mode: Mode,
+    ) -> Result<CachedDisk, OpenError>
+        requires shape { FitsOn options.now.geometry (M.state media.old).contents.shape }
+        requires agrees { MayOpen (told_for mode options.now) (M.state media.old).contents }
+        ensures owns { IfOk result (λ v. IsLeft v (M.state media.new).contents) }
+        ensures opened { IfOk result (λ v. (s : CacheList) → StandsFor options.now.geometry (M.state media.old).contents.flash.page s → IsFresh mode options.now s v) }
+        ensures up { IfOk result (λ v. (v.options ≡ options.now) × (v.mode ≡ mode) × (kept.is_down v ≡ false)) }
+        // Whatever is answered, and wherever power went off.
+        ensures opens { Opens options.now.geometry (M.state media.old).contents (M.state media.new).contents (disk_failed result) (open_lost result) }
+        ensures stands { IfOk result (λ v. (s : CacheList) → StandsFor options.now.geometry (M.state media.old).contents.flash.page s
+            → (d : PlainDisk) → IsVolume options.now.geometry s (M.state media.old).contents d → StandFor (ImageIs (told_for mode options.now)) (M.state media.new).contents d) }
+        // Ok comes only where the flash stands for a list.
+        ensures loads { IfOk result (λ v. load options.now.geometry (M.state media.old).contents.flash.page ≡ Ok (entries_of v.cache)) }
+        ensures refused { IfErr result (λ e. IsOpenRefusal options.now.geometry e (load options.now.geometry (M.state media.old).contents.flash.page)) }
+        ensures ready { OnOk result (KeepsReady (M.state media.old) (M.state media.new)) }
+        ensures disk_reads { (M.state media.new).counts.disk_reads ≡ (M.state media.old).counts.disk_reads }
+        ensures disk_writes { (M.state media.new).counts.disk_writes ≡ (M.state media.old).counts.disk_writes }
+        ensures cause { CausedBy (M.state media.old).faults (M.state media.new).faults (open_failed result) (disk_failed result) (open_lost result) }
+        ensures passes { Passes (M.state media.old) (M.state media.new) (open_lost result) }
+    {
+        let cache = open_cache(alloc, media, &options.geometry)?;
+        Ok(CachedDisk {
+            alloc,
+            options: *options,
+            mode,
+            cache,
+            down: false,
+        })
+    }
+
+    /// Opens the cache again where it was cut off or given up.
+    pub fn bring_up<M: Media>(&mut self, media: &mut M) -> Result<(), VolumeError>
+        requires { IsLeft self.old (M.state media.old).contents }
+        ensures left { IsLeft self.new (M.state media.new).contents }
+        ensures reopens { Reopens self.old self.new (M.state media.old) (M.state media.new) result }
+    {
+        if !self.is_down() {
+            return Ok(());
+        }
+        match open_cache(self.alloc, media, &self.options.geometry) {
+            Ok(cache) => {
+                self.cache = cache;
+                self.down = false;
+                Ok(())
+            }
+            Err(error) => Err(open_error(error)),
+        }
+    }
+}
+
+/// Opens a cache after a flush of the disk, so that no value of the disk waits while the cache is used.
+/// Refused or cut, the media stand for what they stood for.
+fn open_cache<M: Media>(alloc: Global, media: &mut M, geometry: &Geometry) -> Result<Ssc, OpenError>
+    requires shape { FitsOn geometry.now (M.state media.old).contents.shape }
+    ensures opened { IfOk result (λ c. IsOpenCache geometry.now (M.state media.old).contents (M.state media.new).contents c) }
+    ensures opens { Opens geometry.now (M.state media.old).contents (M.state media.new).contents (disk_failed result) (open_lost result) }
+    ensures refused { IfErr result (λ e. IsOpenRefusal geometry.now e (load geometry.now (M.state media.old).contents.flash.page)) }
+    ensures disk_reads { (M.state media.new).counts.disk_reads ≡ (M.state media.old).counts.disk_reads }
+    ensures disk_writes { (M.state media.new).counts.disk_writes ≡ (M.state media.old).counts.disk_writes }
+    ensures ready { OnOk result (KeepsReady (M.state media.old) (M.state media.new)) }
+    ensures cause { CausedBy (M.state media.old).faults (M.state media.new).faults (open_failed result) (disk_failed result) (open_lost result) }
+    ensures passes { Passes (M.state media.old) (M.state media.new) (open_lost result) }
+{
+    match media.flush_disk() {
+        Ok(()) => Ssc::open(alloc, media, geometry),
+        Err(error) => Err(flush_error(error)),
+    }
+}

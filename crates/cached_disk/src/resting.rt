@@ -1,0 +1,68 @@
+ghost use Rattle.std.specs.Prelude.{◌≡◌, ◌*◌, ℕ, List, [], true, false, nat_le, length, if◌then◌else◌, IfOk, OnErr, OnOk, IsErrOf};
+ghost use Rattle.ft_base.specs.Layout.{log_pages};
+ghost use Rattle.ft_base.specs.PlainDisk.{PlainDisk};
+ghost use Rattle.ft_base.specs.Table.{goes_back};
+ghost use Rattle.ft_volume.specs.Opening.{ImageIs};
+ghost use Rattle.ft_volume.specs.Volume.{Costs, Flushes, Goes, Idles, StandFor, WasDone};
+ghost use Rattle.ssc.specs.CacheState.{log_room, pending};
+ghost use Rattle.cached_disk.specs.Kept.{IsLeft, dirty_of, state_in, told_of};
+ghost use Rattle.cached_disk.specs.Kept as kept;
+
+use crate::CachedDisk;
+use crate::errors::cache_error;
+use ft_media::Media;
+use ft_volume::{Idled, VolumeError};
+
+impl CachedDisk {
+    /// Puts all that the cache buffers on the flash.
+    pub fn flush<M: Media>(&mut self, media: &mut M) -> Result<(), VolumeError>
+        requires left { IsLeft self.old (M.state media.old).contents }
+        requires up { kept.is_down self.old ≡ false }
+        ensures left { IsLeft self.new (M.state media.new).contents }
+        ensures was { (order : List ℕ) (base : PlainDisk) → StandFor (ImageIs (told_of self.old)) (M.state media.old).contents base
+            → WasDone ImageIs Flushes (state_in order self.old) (state_in order self.new) (M.state media.new).contents result base }
+        ensures goes { (order : List ℕ) → Goes (state_in order self.old) (state_in order self.new) (M.state media.old) (M.state media.new) result }
+        ensures costs { (order : List ℕ) → Costs Flushes (state_in order self.old) (state_in order self.new) (M.state media.old) (M.state media.new) result }
+        ensures dirty { kept.is_down self.new ≡ false → dirty_of self.new ≡ dirty_of self.old }
+        ensures options { (self.new.options ≡ self.old.options) × (self.new.mode ≡ self.old.mode) }
+        ensures nothing_waits { OnOk result (pending self.new.cache ≡ []) }
+        ensures refused { OnErr result (kept.is_down self.new ≡ true) }
+        ensures memory { IsErrOf result VolumeError.OutOfMemory → ⊥ }
+        ensures within { IsErrOf result VolumeError.OutOfVolume → ⊥ }
+    {
+        match self.cache.commit(media) {
+            Ok(()) => Ok(()),
+            Err(error) => Err(cache_error(error)),
+        }
+    }
+
+    /// Makes a checkpoint where no more than half of the log is left. An idle step does this where no group
+    /// is to be written back.
+    pub fn checkpoint_if_due<M: Media>(&mut self, media: &mut M) -> Result<Idled, VolumeError>
+        requires left { IsLeft self.old (M.state media.old).contents }
+        requires up { kept.is_down self.old ≡ false }
+        ensures left { IsLeft self.new (M.state media.new).contents }
+        ensures was { (order : List ℕ) (base : PlainDisk) → StandFor (ImageIs (told_of self.old)) (M.state media.old).contents base
+            → WasDone ImageIs Idles (state_in order self.old) (state_in order self.new) (M.state media.new).contents result base }
+        ensures goes { (order : List ℕ) → Goes (state_in order self.old) (state_in order self.new) (M.state media.old) (M.state media.new) result }
+        ensures costs { (order : List ℕ) → goes_back self.old.mode self.old.options.dirty (length order) ≡ false
+            → Costs Idles (state_in order self.old) (state_in order self.new) (M.state media.old) (M.state media.new) result }
+        ensures idled { IfOk result (λ idled. idled ≡ (if nat_le (2 * log_room self.old.cache) (log_pages self.old.options.geometry) then Idled.Checkpointed else Idled.Nothing)) }
+        // A checkpoint leaves nothing buffered, and the log empty.
+        ensures checkpoint { IfOk result (λ idled. idled ≡ Idled.Checkpointed → (pending self.new.cache ≡ []) × (self.new.cache.parts.log.next ≡ 0)) }
+        ensures dirty { kept.is_down self.new ≡ false → dirty_of self.new ≡ dirty_of self.old }
+        ensures options { (self.new.options ≡ self.old.options) × (self.new.mode ≡ self.old.mode) }
+        ensures refused { OnErr result (kept.is_down self.new ≡ true) }
+        ensures memory { IsErrOf result VolumeError.OutOfMemory → ⊥ }
+        ensures within { IsErrOf result VolumeError.OutOfVolume → ⊥ }
+    {
+        let geometry = self.options.geometry;
+        if 2 * self.cache.log_room() > geometry.j() * geometry.p() {
+            return Ok(Idled::Nothing);
+        }
+        match self.cache.checkpoint(media) {
+            Ok(()) => Ok(Idled::Checkpointed),
+            Err(error) => Err(cache_error(error)),
+        }
+    }
+}
