@@ -1,0 +1,5 @@
+pub mod TakeLemmas
+pub mod PutLemmas
+pub mod WriteLemmas
+pub mod VolumeLemmas
+pub mod TestLemmas

@@ -1,0 +1,98 @@
+-- An address that is taken out of the cache of a volume that writes through.
+use Rattle.std.proofs.Common.{◌≡◌, ℕ, ◌==◌, Bool, true, false, cond, [], Option, Some, None, inl, inr, refl, sym, ◌∙◌, ap, subst, eqb-true, eq-eqb}
+use Rattle.std.specs.FinMap.{get}
+use Rattle.std.specs.Option.{is_some}
+use Rattle.std.proofs.lemmas.Bool.{cases_Bool, false≢true}
+use Rattle.ft_base.specs.declared.block.Place.{Place}
+use Rattle.ft_base.specs.declared.block.Page.{Page}
+use Rattle.ft_base.specs.declared.geometry.Geometry.{Geometry}
+use Rattle.ft_base.specs.declared.told.Mode.{Mode}
+use Rattle.ft_base.specs.declared.told.Mode.TheVariants.{Through}
+use Rattle.ft_base.specs.Contents.{Contents, Values}
+use Rattle.ft_volume.specs.Opening.{Suits}
+use Rattle.cache_model.specs.Cache.{Agrees, CacheList, Held, evicted, held_or, undo}
+use Rattle.cache_model.specs.Stands.{StandsFor}
+use Rattle.cache_model.proofs.MapLemmas.{get_remove}
+use Rattle.ssc.specs.declared.cache.Ssc.{Ssc}
+use Rattle.ssc.specs.CacheState.{Holds, entries_of, geometry_of, pending}
+use Rattle.ssc.specs.Commands.{IsHeldIn, StandsForOne, AsUndone, AsBefore, AsAfter}
+use Rattle.cached_disk.specs.declared.disk.CachedDisk.{CachedDisk}
+use Rattle.cached_disk.specs.Kept.{IsDirtyIn, IsHeld, MayUndo}
+use Rattle.cached_disk.proofs.AddressLemmas.{holds_held}
+use Rattle.cached_disk.proofs.HeldLemmas.{suits_less}
+use Rattle.cached_disk.proofs.ReadLemmas.{IsShown, ShowsSame, commit_shows, may_none}
+use Rattle.cached_disk.proofs.StepLemmas.{IsSameOver, over_same}
+
+module _ (s : CacheList) (lba : ℕ) where
+  -- what is left was there
+  evicted_was : (a : ℕ) (h : Held) → get (evicted lba s) a ≡ Some h → get s a ≡ Some h
+  evicted_was a h at = by (a == lba) (sym (get_remove s lba a) ∙ at)
+    where
+      by : (t : Bool) → cond t None (get s a) ≡ Some h → get s a ≡ Some h
+      by true is = absurd (cc)
+      by false is = is
+
+  -- a clean block gives way to the disk's own
+  evicted_same : (disk : ℕ → Values) → Agrees s disk → (IsDirtyIn s lba → ⊥) → IsSameOver disk s (evicted lba s)
+  evicted_same disk agrees none a b has = ap (λ (o : Option Held). held_or o b) (get_remove s lba a) ∙ elim (cases_Bool (a == lba)) [
+    | inl t ↦ ap (λ c. held_or (cond c None (get s a)) b) t ∙ beneath (eqb-true a lba t) (get s a) refl
+    | inr f ↦ ap (λ c. held_or (cond c None (get s a)) b) f
+  ]
+    where
+      beneath : a ≡ lba → (o : Option Held) → get s a ≡ o → b ≡ held_or o b
+      beneath here None at = refl
+      beneath here (Some h) at = elim (cases_Bool h.dirty) [
+        | inl t ↦ absurd (none (subst (IsDirtyIn s) here (h, at, t)))
+        | inr f ↦ agrees a h b at f has
+      ]
+
+-- ---- what is held then
+
+module _ (old new : Ssc) (before after : Contents) (s : CacheList) (lba : ℕ) (holds_now : Holds new after (evicted lba s)) where
+  pub evicted_held : Holds old before s → (a : ℕ) → is_some (get (entries_of new) a) ≡ cond (a == lba) false (is_some (get (entries_of old) a))
+  evicted_held holds a =
+      holds_held new after (evicted lba s) holds_now a
+      ∙ ap is_some (get_remove s lba a)
+      ∙ by (a == lba) (get s a)
+      ∙ ap (λ o. cond (a == lba) false o) (sym (holds_held old before s holds a))
+    where
+      by : (t : Bool) (o : Option Held) → is_some (cond t None o) ≡ cond t false (is_some o)
+      by true o = refl
+      by false o = refl
+
+  pub evicted_absent : is_some (get (entries_of new) lba) ≡ false
+  evicted_absent = holds_held new after (evicted lba s) holds_now lba ∙ ap is_some (get_remove s lba lba ∙ ap (λ t. cond t None (get s lba)) (eq-eqb lba lba refl))
+
+-- ---- the plain disk is the same
+
+module _ (v : CachedDisk) (contents : Contents) (s : CacheList) (own : geometry_of v.cache ≡ v.options.geometry) (is : IsHeld v contents s) (through : v.mode ≡ Through) where
+  all_clean : Suits Through s
+  all_clean = subst (λ (mode : Mode). Suits mode s) through is.suits
+
+  none_dirty : (a : ℕ) → IsDirtyIn s a → ⊥
+  none_dirty a dirty = false≢true (sym (all_clean a dirty.0 dirty.1) ∙ dirty.2)
+
+  module _ (lba : ℕ) where
+    pub evicted_shows : ShowsSame v contents s (evicted lba s)
+    evicted_shows = record {
+      agrees = λ a h b at clean has. is.agrees a h b (evicted_was s lba a h at) clean has;
+      suits = suits_less v.mode s (evicted lba s) is.suits (λ a h at. inr (evicted_was s lba a h at));
+      over = λ d over. over_same v.options.geometry contents.disk s (evicted lba s) d (evicted_same s lba contents.disk is.agrees (none_dirty lba)) over;
+    }
+
+    pub evicted_keeps : (a : ℕ) → IsDirtyIn s a → IsDirtyIn (evicted lba s) a
+    evicted_keeps a dirty = absurd (none_dirty a dirty)
+
+    -- wherever it was cut
+    pub evict_shows : (page : Place → Page) → StandsForOne (geometry_of v.cache) page (undo (pending v.cache) s) s (evicted lba s) → IsShown v contents s page
+    evict_shows page (AsUndone x) = commit_shows v contents s own is page (AsUndone x)
+    evict_shows page (AsBefore x) = commit_shows v contents s own is page (AsBefore x)
+    evict_shows page (AsAfter x) = record { list = evicted lba s; stands = subst (λ (g : Geometry). StandsFor g page (evicted lba s)) own x; shows = evicted_shows }
+
+    -- nothing is buffered then, or what was before
+    pub evicted_may : (c : Ssc) → (IsHeldIn s lba → pending c ≡ []) → (get s lba ≡ None → c ≡ v.cache) → MayUndo v.mode (pending c)
+    evicted_may c nothing same = by (get s lba) refl
+      where
+        by : (o : Option Held) → get s lba ≡ o → MayUndo v.mode (pending c)
+        by None at = subst (λ (k : Ssc). MayUndo v.mode (pending k)) (sym (same at)) is.undo
+        by (Some h) at = may_none v.mode (pending c) (nothing (h, at))

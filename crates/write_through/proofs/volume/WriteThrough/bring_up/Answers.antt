@@ -1,0 +1,5 @@
+use Rattle.write_through.proofs.VolumeLemmas.{through_comes}
+use Rattle.write_through.proofs.volume.WriteThrough.bring_up.Goals as goal
+
+pub returns-clause-comes : goal.returns-clause-comes
+returns-clause-comes g c = through_comes c.args.self.now.disk c.bring_up.new.self (g.M.Media.state c.args.media.now) (g.M.Media.state c.bring_up.new.media) c.bring_up.result c.requires.mode c.bring_up.ensures.left c.bring_up.ensures.reopens

@@ -1,0 +1,89 @@
+use Rattle.std.proofs.Common.{Err, ap, ◌∙◌}
+use Rattle.ft_base.proofs.Images.{newest_image, with_newest}
+use Rattle.cache_model.specs.Cache.{evicted}
+use Rattle.ssc.specs.Errors.{ssc_failed, ssc_lost}
+use Rattle.cached_disk.proofs.CallLemmas.{gives_up}
+use Rattle.cached_disk.proofs.HeldLemmas.{is_up, stopped_down}
+use Rattle.cached_disk.proofs.ReadLemmas.{done_left, done_stands, drove_held, refused_left, refused_stands}
+use Rattle.write_through.proofs.TakeLemmas.{evict_shows, evicted_absent, evicted_held, evicted_keeps, evicted_may, evicted_shows}
+use Rattle.write_through.proofs.volume.WriteThrough.take_out.Goals as goal
+
+pub evict-requires-clause-up : goal.evict-requires-clause-up
+evict-requires-clause-up g c =
+    let left = c.requires.left.disk in
+    is_up c.args.self.now.disk (g.M.Media.state c.args.media.now).contents left.held c.requires.up (left.up c.requires.up)
+
+pub returns-in-Ok-clause-left : goal.returns-in-Ok-clause-left
+returns-in-Ok-clause-left g c =
+    let v = c.args.self.now.disk in
+    let k = c.evict.new.self in
+    let lba = c.args.lba in
+    let before = g.M.Media.state c.args.media.now in
+    let after = g.M.Media.state c.evict.new.media in
+    let left = c.requires.left.disk in
+    let s = left.held in
+    let is = left.up c.requires.up in
+    let through = c.requires.left.mode in
+    let by = drove_held v k before after (ssc_failed c.evict.result) (ssc_lost c.evict.result) left c.requires.up c.evict.ensures.geometry c.evict.ensures.drives in
+    let may = evicted_may v before.contents s left.own is through lba k (c.in-Ok.ensures.held s is.holds) (λ none. (c.in-Ok.ensures.absent s is.holds none).0) in
+    record {
+      disk = done_left v k before.contents after.contents s by (evicted lba s) (evicted_shows v before.contents s left.own is through lba) (c.in-Ok.ensures.done s is.holds) (evicted_keeps v before.contents s left.own is through lba) may;
+      mode = through;
+    }
+
+pub returns-in-Ok-clause-stands : goal.returns-in-Ok-clause-stands
+returns-in-Ok-clause-stands g c =
+    let v = c.args.self.now.disk in
+    let k = c.evict.new.self in
+    let lba = c.args.lba in
+    let before = g.M.Media.state c.args.media.now in
+    let after = g.M.Media.state c.evict.new.media in
+    let left = c.requires.left.disk in
+    let s = left.held in
+    let is = left.up c.requires.up in
+    let through = c.requires.left.mode in
+    let by = drove_held v k before after (ssc_failed c.evict.result) (ssc_lost c.evict.result) left c.requires.up c.evict.ensures.geometry c.evict.ensures.drives in
+    let may = evicted_may v before.contents s left.own is through lba k (c.in-Ok.ensures.held s is.holds) (λ none. (c.in-Ok.ensures.absent s is.holds none).0) in
+    done_stands v k before.contents after.contents s by (evicted lba s) (evicted_shows v before.contents s left.own is through lba) (c.in-Ok.ensures.done s is.holds) (evicted_keeps v before.contents s left.own is through lba) may
+
+pub returns-in-Ok-clause-absent : goal.returns-in-Ok-clause-absent
+returns-in-Ok-clause-absent g c =
+    let left = c.requires.left.disk in
+    evicted_absent c.args.self.now.disk.cache c.evict.new.self (g.M.Media.state c.args.media.now).contents (g.M.Media.state c.evict.new.media).contents left.held c.args.lba (c.in-Ok.ensures.done left.held (left.up c.requires.up).holds)
+
+pub returns-in-Ok-clause-held : goal.returns-in-Ok-clause-held
+returns-in-Ok-clause-held g c =
+    let left = c.requires.left.disk in
+    let holds = (left.up c.requires.up).holds in
+    evicted_held c.args.self.now.disk.cache c.evict.new.self (g.M.Media.state c.args.media.now).contents (g.M.Media.state c.evict.new.media).contents left.held c.args.lba (c.in-Ok.ensures.done left.held holds) holds
+
+pub returns-in-Err-clause-left : goal.returns-in-Err-clause-left
+returns-in-Err-clause-left g c =
+    let v = c.args.self.now.disk in
+    let k = c.evict.new.self in
+    let before = g.M.Media.state c.args.media.now in
+    let after = g.M.Media.state c.evict.new.media in
+    let left = c.requires.left.disk in
+    let s = left.held in
+    let is = left.up c.requires.up in
+    let through = c.requires.left.mode in
+    let by = drove_held v k before after (ssc_failed c.evict.result) (ssc_lost c.evict.result) left c.requires.up c.evict.ensures.geometry c.evict.ensures.drives in
+    let shown = evict_shows v before.contents s left.own is through c.args.lba after.contents.flash.page (c.evict.ensures.images s is.holds (with_newest after.contents) (newest_image after.contents)) in
+    record {
+      disk = refused_left v k before.contents after.contents s by shown.list shown.shows shown.stands
+          (stopped_down v k (c.in-Err.ensures.stopped ∙ gives_up c.in-Err.error (λ n limit full. c.in-Err.ensures.full n limit (ap Err full)) (λ none. c.in-Err.ensures.memory (ap Err none))));
+      mode = through;
+    }
+
+pub returns-in-Err-clause-stands : goal.returns-in-Err-clause-stands
+returns-in-Err-clause-stands g c =
+    let v = c.args.self.now.disk in
+    let k = c.evict.new.self in
+    let before = g.M.Media.state c.args.media.now in
+    let after = g.M.Media.state c.evict.new.media in
+    let left = c.requires.left.disk in
+    let s = left.held in
+    let is = left.up c.requires.up in
+    let by = drove_held v k before after (ssc_failed c.evict.result) (ssc_lost c.evict.result) left c.requires.up c.evict.ensures.geometry c.evict.ensures.drives in
+    let shown = evict_shows v before.contents s left.own is c.requires.left.mode c.args.lba after.contents.flash.page (c.evict.ensures.images s is.holds (with_newest after.contents) (newest_image after.contents)) in
+    refused_stands v k before.contents after.contents s by shown.list shown.shows shown.stands

@@ -1,0 +1,13 @@
+//! A volume that writes each block to the disk before it answers, and keeps it in its cache, clean.
+//!
+//! The layer above relies on the clauses of `Volume`, and on those of `create` and `open`. No block ever
+//! waits to be written back: the table is empty at every moment, and wherever power stops each block that
+//! the flash holds is the disk's own.
+#![tactic(auto)]
+
+#[cfg(test)]
+mod tests;
+mod volume;
+mod writing;
+
+pub use volume::WriteThrough;

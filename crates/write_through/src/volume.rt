@@ -1,0 +1,165 @@
+ghost use Rattle.std.specs.Prelude.{◌≡◌, ◌<◌, false, OnOk, Ok, IfOk, IfErr, IsErrOf, ℕ};
+ghost use Rattle.ft_base.specs.declared.block.Block.{Block};
+ghost use Rattle.ft_base.specs.declared.told.Mode.TheVariants.{Through};
+ghost use Rattle.ft_base.specs.Contents.{HasValue};
+ghost use Rattle.ft_base.specs.PlainDisk.{PlainDisk};
+ghost use Rattle.ft_media.specs.Media.{KeepsReady};
+ghost use Rattle.ft_media.specs.Passes.{Passes};
+ghost use Rattle.ft_volume.specs.Opening.{ImageIs, IsNewest, IsOpened, MayOpen, Opens, nothing_held};
+ghost use Rattle.ft_volume.specs.Volume.{ComesUp, HasCause, StandFor, told_for, volume_lost};
+ghost use Rattle.cache_model.specs.Cache.{CacheList};
+ghost use Rattle.cache_model.specs.Loading.{load};
+ghost use Rattle.cache_model.specs.Stands.{StandsFor};
+ghost use Rattle.op_log.specs.Log.{FitsOn};
+ghost use Rattle.op_log.specs.Refusals.{open_failed, open_lost};
+ghost use Rattle.ssc.specs.CacheState.{entries_of};
+ghost use Rattle.cached_disk.specs.Errors.{CausedBy, IsOpenRefusal, disk_failed};
+ghost use Rattle.cached_disk.specs.Kept.{IsVolume, Loads};
+ghost use Rattle.cached_disk.specs.Kept as kept;
+ghost use Rattle.write_through.specs.Left.{IsLeft, state_of};
+ghost use Rattle.write_through.specs.Left as left;
+
+use cached_disk::CachedDisk;
+use ft_base::{Block, Outcome};
+use ft_media::{Media, Rig};
+use ft_volume::{Idled, Mode, Options, Volume, VolumeError};
+use op_log::OpenError;
+use std::alloc::Global;
+
+/// A cache over flash before a disk, where each write goes to the disk before it answers.
+#[derive(Drop)]
+pub struct WriteThrough {
+    pub(crate) disk: CachedDisk,
+}
+
+impl WriteThrough {
+    /// Formats the flash and opens it, whatever it was before. The plain disk is then what the disk has.
+    pub fn create<R: Rig>(
+        alloc: Global,
+        rig: &mut R,
+        options: &Options,
+    ) -> Result<WriteThrough, VolumeError>
+        requires shape { FitsOn options.now.geometry (R.state rig.old).contents.shape }
+        ensures owns { IfOk result (λ v. IsLeft v (R.state rig.new).contents) }
+        ensures opened { IfOk result (λ v. IsOpened (told_for Through options.now) nothing_held (state_of v)) }
+        ensures stands { OnOk result ((d : PlainDisk) → IsNewest options.now.geometry (R.state rig.old).contents d
+            → StandFor (ImageIs (told_for Through options.now)) (R.state rig.new).contents d) }
+        ensures values { (lba : ℕ) (b : Block) → HasValue ((R.state rig.new).contents.disk lba) b → HasValue ((R.state rig.old).contents.disk lba) b }
+        ensures ready { OnOk result (KeepsReady (R.state rig.old) (R.state rig.new)) }
+        ensures within { IsErrOf result VolumeError.OutOfVolume → ⊥ }
+        ensures disk_reads { (R.state rig.new).counts.disk_reads ≡ (R.state rig.old).counts.disk_reads }
+        ensures disk_writes { (R.state rig.new).counts.disk_writes ≡ (R.state rig.old).counts.disk_writes }
+        ensures cause { HasCause (R.state rig.old).faults (R.state rig.new).faults result }
+        ensures passes { Passes (R.state rig.old) (R.state rig.new) (volume_lost result) }
+    {
+        match CachedDisk::create(alloc, rig, options, Mode::Through) {
+            Ok(disk) => Ok(WriteThrough { disk }),
+            Err(error) => Err(error),
+        }
+    }
+
+    /// Opens the flash that a volume left, after a flush of the disk. The blocks that it holds are clean,
+    /// and those of the disk.
+    pub fn open<R: Rig>(
+        alloc: Global,
+        rig: &mut R,
+        options: &Options,
+    ) -> Result<WriteThrough, OpenError>
+        requires shape { FitsOn options.now.geometry (R.state rig.old).contents.shape }
+        requires agrees { MayOpen (told_for Through options.now) (R.state rig.old).contents }
+        ensures owns { IfOk result (λ v. IsLeft v (R.state rig.new).contents) }
+        ensures opened { IfOk result (λ v. (s : CacheList) → StandsFor options.now.geometry (R.state rig.old).contents.flash.page s
+            → IsOpened (told_for Through options.now) s (state_of v)) }
+        ensures up { IfOk result (λ v. ((state_of v).told ≡ told_for Through options.now) × ((state_of v).down ≡ false)) }
+        // Whatever is answered, and wherever power went off.
+        ensures opens { Opens options.now.geometry (R.state rig.old).contents (R.state rig.new).contents (disk_failed result) (open_lost result) }
+        ensures stands { IfOk result (λ v. (s : CacheList) → StandsFor options.now.geometry (R.state rig.old).contents.flash.page s
+            → (d : PlainDisk) → IsVolume options.now.geometry s (R.state rig.old).contents d → StandFor (ImageIs (told_for Through options.now)) (R.state rig.new).contents d) }
+        // Ok comes only where the flash stands for a list.
+        ensures loads { IfOk result (λ v. load options.now.geometry (R.state rig.old).contents.flash.page ≡ Ok (entries_of v.disk.cache)) }
+        ensures refused { IfErr result (λ e. IsOpenRefusal options.now.geometry e (load options.now.geometry (R.state rig.old).contents.flash.page)) }
+        ensures ready { OnOk result (KeepsReady (R.state rig.old) (R.state rig.new)) }
+        ensures disk_reads { (R.state rig.new).counts.disk_reads ≡ (R.state rig.old).counts.disk_reads }
+        ensures disk_writes { (R.state rig.new).counts.disk_writes ≡ (R.state rig.old).counts.disk_writes }
+        ensures cause { CausedBy (R.state rig.old).faults (R.state rig.new).faults (open_failed result) (disk_failed result) (open_lost result) }
+        ensures passes { Passes (R.state rig.old) (R.state rig.new) (open_lost result) }
+    {
+        let disk = CachedDisk::open(alloc, rig, options, Mode::Through)?;
+        Ok(WriteThrough { disk })
+    }
+
+    /// Opens the cache again where it was cut off or given up.
+    fn bring_up<M: Media>(&mut self, media: &mut M) -> Result<(), VolumeError>
+        requires { IsLeft self.old (M.state media.old).contents }
+        ensures left { IsLeft self.new (M.state media.new).contents }
+        ensures made { (self.new.disk.options ≡ self.old.disk.options) × (self.new.disk.mode ≡ self.old.disk.mode) }
+        ensures comes { ComesUp ImageIs Loads (state_of self.old) (state_of self.new) (M.state media.old) (M.state media.new) result }
+        ensures up { OnOk result (kept.is_down self.new.disk ≡ false) }
+    {
+        self.disk.bring_up(media)
+    }
+}
+
+impl<R: Rig> Volume<R> for WriteThrough {
+    ghost use Rattle.std.specs.Prelude.{refl};
+
+    ghost state = { λ v. left.state_of v };
+
+    ghost owns = { λ v contents. left.IsLeft v contents };
+
+    ghost stands = { λ told x d. ImageIs told x d };
+
+    ghost loads = { λ told page m. kept.Loads told page m };
+
+    ghost down_owes_nothing = { λ v contents owned down. refl };
+
+    ghost write_owes_nothing = { λ v contents owned at_write. refl };
+
+    ghost can_be_loaded = { λ v contents owned. (owned.disk.beneath.flash.loaded, owned.disk.beneath.flash.loads) };
+
+    fn size(&self) -> u64 {
+        self.disk.options.geometry.size()
+    }
+
+    fn is_down(&self) -> bool {
+        self.disk.is_down()
+    }
+
+    fn read(&mut self, rig: &mut R, lba: u64, block: &mut Block) -> Result<(), VolumeError> {
+        if lba >= self.disk.options.geometry.size() {
+            return Err(VolumeError::OutOfVolume);
+        }
+        match self.bring_up(rig) {
+            Ok(()) => self.disk.read(rig, lba, block),
+            Err(error) => Err(error),
+        }
+    }
+
+    fn write(&mut self, rig: &mut R, lba: u64, block: &Block) -> Result<(), VolumeError> {
+        if lba >= self.disk.options.geometry.size() {
+            return Err(VolumeError::OutOfVolume);
+        }
+        match self.bring_up(rig) {
+            Ok(()) => self.write_up(rig, lba, block),
+            Err(error) => Err(error),
+        }
+    }
+
+    fn flush(&mut self, rig: &mut R) -> Result<(), VolumeError> {
+        match self.bring_up(rig) {
+            Ok(()) => self.disk.flush(rig),
+            Err(error) => Err(error),
+        }
+    }
+
+    fn idle(&mut self, rig: &mut R) -> Result<Idled, VolumeError> {
+        match self.bring_up(rig) {
+            Ok(()) => self.disk.checkpoint_if_due(rig),
+            Err(error) => Err(error),
+        }
+    }
+
+    fn cut(&mut self, rig: &mut R, outcome: Outcome) {
+        self.disk.cut(rig, outcome);
+    }
+}
