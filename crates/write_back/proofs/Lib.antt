@@ -1,10 +1,7 @@
-pub mod DiskLemmas
-pub mod StepLemmas
-pub mod GroupLemmas
+pub mod CleaningLemmas
+pub mod CopyLemmas
+pub mod PartLemmas
 pub mod TableLemmas
-pub mod OpenLemmas
-pub mod LeftLemmas
-pub mod CallLemmas
-pub mod WriteLemmas
-pub mod OpenedLemmas
 pub mod TestLemmas
+pub mod VolumeLemmas
+pub mod WriteLemmas

@@ -1,33 +1,26 @@
--- The table of the dirty groups.
-use Rattle.std.proofs.Common.{◌≡◌, ◌⊎◌, ℕ, zero, suc, ◌+◌, ◌/◌, ◌≤◌, ◌<◌, ◌==◌, nat_le, nat_lt, not, ◌&&◌, ◌||◌, Bool, true, false, cond, List, [], ◌∷◌, length, get_or, drop, map, filter, ◌++◌, Option, Some, None, option_map, Result, Ok, Err, IfOk, inl, inr, refl, sym, ◌∙◌, ap, subst, arith, eqb-true, add-one, drop-cons}
-use Rattle.std.specs.List.{AllByRecursion}
-use Rattle.std.specs.Option.{option_and_then}
+-- The table of the dirty groups: what a write, a group that is written back, and an opening make of it.
+use Rattle.std.proofs.Common.{◌≡◌, ◌⊎◌, ℕ, zero, suc, ◌+◌, ◌-◌, ◌/◌, ◌≤◌, ◌<◌, ◌==◌, nat_le, not, ◌&&◌, ◌||◌, Bool, true, false, cond, if◌then◌else◌, List, [], ◌∷◌, ◌++◌, length, get_or, take, map, filter, slice_get, Some, Ordering, Less, Equal, Greater, inl, inr, refl, sym, ◌∙◌, ap, subst, arith, nat_cmp, eqb-true, eq-eqb, take_all}
+use Rattle.std.specs.List.{AllByRecursion, list_any}
+use Rattle.std.specs.Ordering.{match_ordering}
 use Rattle.std.specs.FinMap.{get, entries}
-use Rattle.std.proofs.lemmas.Bool.{cases_Bool, cases_lt, or_left, or_parts, or_right, or_cases}
+use Rattle.std.proofs.lemmas.Bool.{cases_Bool, false≢true, false_from_ne_true, not-true, and_from, and_parts, or_cases, or_left, or_parts, or_right}
 use Rattle.std.proofs.lemmas.Bool.Decides.{nat_tests}
+use Rattle.std.proofs.lemmas.List.{take_more}
 use Rattle.ft_base.specs.declared.geometry.Geometry.{Geometry}
-use Rattle.ft_base.specs.declared.block.Place.{Place}
-use Rattle.ft_base.specs.declared.block.Page.{Page}
-use Rattle.ft_base.specs.declared.block.Page.TheVariants.{Blank, Whole, Torn}
-use Rattle.ft_base.specs.Contents.{Contents}
-use Rattle.ft_volume.specs.Volume.{AreAmong}
+use Rattle.ft_base.specs.Table.{Table, Waiting, is_full, is_of, last_size, lbas_of, put_first, table_of, with_lba, without_last}
+use Rattle.ft_volume.specs.Volume.{dirty_lbas}
 use Rattle.cache_model.specs.declared.entry.Entry.{Entry}
-use Rattle.cache_model.specs.Cache.{AreApart, CacheList, Held, held, dirty_between, dirty_groups, with_group}
-use Rattle.cache_model.specs.Entries.{each_once, IsMap}
-use Rattle.cache_model.specs.Stands.{held_at, block_in}
-use Rattle.cache_model.proofs.CountLemmas.{member, same_number, each_once-le, count_le}
-use Rattle.cache_model.proofs.MapLemmas.{all_entries}
-use Rattle.merge_engine.proofs.TakeLemmas.{agree_map}
-use Rattle.dirty_table.specs.Groups.{Groups, groups, has, touched, without}
-use Rattle.ssc.specs.declared.cache.Ssc.{Ssc}
-use Rattle.ssc.specs.CacheState.{Holds, entries_of, geometry_of}
-use Rattle.ft_base.specs.Table.{Table, Waiting, is_of, put_first, table_of}
-use Rattle.ft_volume.specs.Opening.{groups_of}
-use Rattle.ft_volume.proofs.GroupLemmas.{among_from, among_member, among_then, among_head}
-use Rattle.write_back.specs.Left.{IsTable, IsTableFor, IsTableOf, groups_at}
-use Rattle.write_back.proofs.GroupLemmas.{member_once}
+use Rattle.cache_model.specs.Records.{Entries}
+use Rattle.cache_model.specs.Cache.{AreApart, CacheList, Held, IsFull, dirty_groups}
+use Rattle.cache_model.specs.Entries.{IsMap, each_once}
+use Rattle.cache_model.proofs.CountLemmas.{all_members, each_once-le, each_once-same, member, member_of, same_number}
+use Rattle.cache_model.proofs.MapLemmas.{all_entries, by_get}
+use Rattle.dirty_table.specs.Groups.{has, oldest_of, touched, without}
+use Rattle.cached_disk.specs.Kept.{waiting_in}
+use Rattle.cached_disk.proofs.AddressLemmas.{IsAscending, ascending_same, filter_ascending, has_lba, has_lba-filter, has_lba-with, lbas_dirty, lbas_has, lbas_in, member_once, same_test, with_ascending}
+use Rattle.write_back.specs.Left.{IsExact, in_group, out_of_group}
 
--- ---- a list of distinct groups, and one that is touched
+-- ---- a list of distinct groups, one that is touched, and one that is taken out
 
 turned : (a b : ℕ) → (a == b) ≡ (b == a)
 turned a b = grind (arith, nat_tests)
@@ -41,246 +34,371 @@ pub once_apart : (xs : List ℕ) → AreApart xs → each_once xs ≡ xs
 once_apart [] apart = refl
 once_apart (x ∷ xs) apart = ap (λ b. cond b (each_once xs) (x ∷ each_once xs)) apart.0 ∙ ap (λ l. x ∷ l) (once_apart xs apart.1)
 
--- a group that is in the list, or for which there is room
-pub touch_room : (n limit : ℕ) (xs : List ℕ) → AreApart xs → length (with_group n xs) ≤ limit → (has n xs ≡ true) ⊎ (length xs < limit)
-touch_room n limit xs apart room = elim (cases_Bool (member n xs)) [
-  | inl t ↦ inl (has_member n xs ∙ t)
-  | inr f ↦
-      let all : length (with_group n xs) ≡ suc (length xs) = ap (λ b. length (cond b (each_once xs) (n ∷ each_once xs))) f ∙ ap (λ l. suc (length l)) (once_apart xs apart) in
-      inr (omega (arith, all, room))
+has_without : (n q : ℕ) (xs : List ℕ) → (q == n) ≡ false → has q (without n xs) ≡ has q xs
+has_without n q [] other = refl
+has_without n q (x ∷ xs) other = elim (cases_Bool (n == x)) [
+  | inl here ↦ ap (λ b. has q (cond b xs (x ∷ without n xs))) here ∙ sym (ap (λ b. b || has q xs) (ap (λ k. q == k) (sym (eqb-true n x here)) ∙ other))
+  | inr later ↦ ap (λ b. has q (cond b xs (x ∷ without n xs))) later ∙ ap (λ b. (q == x) || b) (has_without n q xs other)
 ]
 
-pub member_less : (n q : ℕ) (xs : List ℕ) → member q (without n xs) ≡ true → member q xs ≡ true
-member_less n q [] there = there
-member_less n q (x ∷ xs) there = elim (cases_Bool (n == x)) [
-  | inl t ↦ or_right (x == q) (member q xs) (sym (ap (λ b. member q (cond b xs (x ∷ without n xs))) t) ∙ there)
-  | inr f ↦ elim (or_cases (x == q) (member q (without n xs)) (sym (ap (λ b. member q (cond b xs (x ∷ without n xs))) f) ∙ there)) [
-    | inl here ↦ or_left (x == q) (member q xs) here
-    | inr later ↦ or_right (x == q) (member q xs) (member_less n q xs later)
-  ]
+has_gone : (n : ℕ) (xs : List ℕ) → AreApart xs → has n (without n xs) ≡ false
+has_gone n [] apart = refl
+has_gone n (x ∷ xs) apart = elim (cases_Bool (n == x)) [
+  | inl here ↦ ap (λ b. has n (cond b xs (x ∷ without n xs))) here ∙ has_member n xs ∙ ap (λ k. member k xs) (eqb-true n x here) ∙ apart.0
+  | inr later ↦ ap (λ b. has n (cond b xs (x ∷ without n xs))) later ∙ ap (λ b. b || has n (without n xs)) later ∙ has_gone n xs apart.1
 ]
 
-no_member : (q : ℕ) (xs ys : List ℕ) → (member q xs ≡ true → member q ys ≡ true) → member q ys ≡ false → member q xs ≡ false
-no_member q xs ys less none = elim (cases_Bool (member q xs)) [
-  | inl t ↦ absurd (let no : true ≡ false = sym (less t) ∙ none in cc)
-  | inr f ↦ f
+has_other : (n q : ℕ) (xs : List ℕ) → AreApart xs → has q (without n xs) ≡ true → (q == n) ≡ false
+has_other n q xs apart there = false_from_ne_true (q == n) (λ here. false≢true (sym (has_gone n xs apart) ∙ ap (λ k. has k (without n xs)) (sym (eqb-true q n here)) ∙ there))
+
+has_touched : (n q : ℕ) (xs : List ℕ) → has q (touched n xs) ≡ ((q == n) || has q xs)
+has_touched n q xs = elim (cases_Bool (q == n)) [
+  | inl here ↦ ap (λ b. b || has q (without n xs)) here ∙ sym (ap (λ b. b || has q xs) here)
+  | inr other ↦ ap (λ b. (q == n) || b) (has_without n q xs other)
 ]
 
-without_apart : (n : ℕ) (xs : List ℕ) → AreApart xs → AreApart (without n xs)
+pub without_apart : (n : ℕ) (xs : List ℕ) → AreApart xs → AreApart (without n xs)
 without_apart n [] apart = tt
-without_apart n (x ∷ xs) apart = by_choice (n == x) (without_apart n xs apart.1)
-  where
-    by_choice : (b : Bool) → AreApart (without n xs) → AreApart (cond b xs (x ∷ without n xs))
-    by_choice true later = apart.1
-    by_choice false later = (no_member x (without n xs) xs (member_less n x xs) apart.0, later)
-
-without_gone : (n : ℕ) (xs : List ℕ) → AreApart xs → member n (without n xs) ≡ false
-without_gone n [] apart = refl
-without_gone n (x ∷ xs) apart = elim (cases_Bool (n == x)) [
-  | inl t ↦ ap (λ b. member n (cond b xs (x ∷ without n xs))) t ∙ ap (λ k. member k xs) (eqb-true n x t) ∙ apart.0
-  | inr f ↦ ap (λ b. member n (cond b xs (x ∷ without n xs))) f ∙ ap (λ b. b || member n (without n xs)) (turned x n ∙ f) ∙ without_gone n xs apart.1
+without_apart n (x ∷ xs) apart = elim (cases_Bool (n == x)) [
+  | inl here ↦ subst (λ b. AreApart (cond b xs (x ∷ without n xs))) (sym here) apart.1
+  | inr later ↦ subst (λ b. AreApart (cond b xs (x ∷ without n xs))) (sym later) (sym (has_member x (without n xs)) ∙ has_without n x xs (turned x n ∙ later) ∙ has_member x xs ∙ apart.0, without_apart n xs apart.1)
 ]
 
 pub touched_apart : (n : ℕ) (xs : List ℕ) → AreApart xs → AreApart (touched n xs)
-touched_apart n xs apart = (without_gone n xs apart, without_apart n xs apart)
+touched_apart n xs apart = (sym (has_member n (without n xs)) ∙ has_gone n xs apart, without_apart n xs apart)
 
-pub touched_more : (n : ℕ) (xs : List ℕ) → AreAmong (n ∷ xs) (touched n xs)
-touched_more n xs = among_from (n ∷ xs) (touched n xs) (more xs)
-  where
-    more : (xs : List ℕ) (q : ℕ) → ((n == q) || member q xs) ≡ true → ((n == q) || member q (without n xs)) ≡ true
-    more [] q there = there
-    more (x ∷ xs) q there = elim (cases_Bool (n == q)) [
-      | inl t ↦ or_left (n == q) (member q (without n (x ∷ xs))) t
-      | inr f ↦ or_right (n == q) (member q (without n (x ∷ xs))) (elim (cases_Bool (n == x)) [
-        | inl t ↦ ap (λ b. member q (cond b xs (x ∷ without n xs))) t ∙ (elim (or_cases (x == q) (member q xs) (rest q x xs f there)) [
-          | inl here ↦ absurd (let no : true ≡ false = sym (ap (λ k. k == q) (eqb-true n x t) ∙ here) ∙ f in cc)
-          | inr later ↦ later
-        ])
-        | inr g ↦ ap (λ b. member q (cond b xs (x ∷ without n xs))) g ∙ (elim (or_cases (x == q) (member q xs) (rest q x xs f there)) [
-          | inl here ↦ or_left (x == q) (member q (without n xs)) here
-          | inr later ↦ or_right (x == q) (member q (without n xs)) (elim (or_cases (n == q) (member q (without n xs)) (more xs q (or_right (n == q) (member q xs) later))) [
-            | inl t ↦ absurd (let no : true ≡ false = sym t ∙ f in cc)
-            | inr z ↦ z
-          ])
-        ])
-      ])
-    ]
-      where
-        rest : (q x : ℕ) (xs : List ℕ) → (n == q) ≡ false → ((n == q) || ((x == q) || member q xs)) ≡ true → ((x == q) || member q xs) ≡ true
-        rest q x xs f there = sym (ap (λ b. b || ((x == q) || member q xs)) f) ∙ there
+-- ---- the groups of a list of addresses
 
-pub touched_less : (n : ℕ) (xs : List ℕ) → AreAmong (touched n xs) (n ∷ xs)
-touched_less n xs = among_head (without n xs) xs n (among_from (without n xs) xs (λ q. member_less n q xs))
+pub exact_touched : (p : ℕ) (order lbas : List ℕ) (a : ℕ) → IsExact p order lbas → IsExact p (touched (a / p) order) (with_lba a lbas)
+exact_touched p order lbas a exact = record {
+  all = λ x there. elim (or_cases (a == x) (has_lba x lbas) (sym (has_lba-with x a lbas) ∙ there)) [
+    | inl here ↦ has_touched (a / p) (x / p) order ∙ or_left (x / p == a / p) (has (x / p) order) (ap (λ k. x / p == k / p) (eqb-true a x here) ∙ same_number (x / p))
+    | inr later ↦ has_touched (a / p) (x / p) order ∙ or_right (x / p == a / p) (has (x / p) order) (exact.all x later)
+  ];
+  only = λ n there. elim (or_cases (n == a / p) (has n order) (sym (has_touched (a / p) n order) ∙ there)) [
+    | inl here ↦ (a, has_lba-with a a lbas ∙ or_left (a == a) (has_lba a lbas) (same_number a), sym (eqb-true n (a / p) here))
+    | inr later ↦ let x = exact.only n later in (x.0, has_lba-with x.0 a lbas ∙ or_right (a == x.0) (has_lba x.0 lbas) x.1, x.2)
+  ];
+}
 
--- ---- the groups of a table of waiting blocks
+pub exact_without : (p : ℕ) (order lbas : List ℕ) (n : ℕ) → AreApart order → IsExact p order lbas → IsExact p (without n order) (out_of_group p n lbas)
+exact_without p order lbas n apart exact = record {
+  all = λ x there.
+      let parts = and_parts (has_lba x lbas) (not (x / p == n)) (sym (has_lba-filter (λ a. not (a / p == n)) x lbas) ∙ there) in
+      has_without n (x / p) order (not-true (x / p == n) parts.1) ∙ exact.all x parts.0;
+  only = λ m there.
+      let other = has_other n m order apart there in
+      let x = exact.only m (sym (has_without n m order other) ∙ there) in
+      (x.0, has_lba-filter (λ a. not (a / p == n)) x.0 lbas ∙ and_from (has_lba x.0 lbas) (not (x.0 / p == n)) x.1 (ap not (ap (λ k. k == n) x.2 ∙ other)), x.2);
+}
 
-abbrev pub order_of : Table → List ℕ
-order_of t = map (λ w. w.group) t
+-- ---- the table of groups in an order, each with its own of these addresses
 
-none_filtered : (n : ℕ) (t : Table) → member n (order_of t) ≡ false → order_of (filter (λ w. not (is_of n w)) t) ≡ order_of t
-none_filtered n [] none = refl
-none_filtered n (w ∷ t) none =
-    let parts = or_parts (w.group == n) (member n (order_of t)) none in
-    ap (λ b. order_of (cond (not b) (w ∷ filter (λ w. not (is_of n w)) t) (filter (λ w. not (is_of n w)) t))) parts.0 ∙ ap (λ l. w.group ∷ l) (none_filtered n t parts.1)
+abbrev row : ℕ → List ℕ → Waiting
+row n lbas = record { group = n; lbas = lbas }
 
-without_filtered : (n : ℕ) (t : Table) → AreApart (order_of t) → order_of (filter (λ w. not (is_of n w)) t) ≡ without n (order_of t)
-without_filtered n [] apart = refl
-without_filtered n (w ∷ t) apart = elim (cases_Bool (w.group == n)) [
-  | inl here ↦
-      ap (λ b. order_of (cond (not b) (w ∷ filter (λ w. not (is_of n w)) t) (filter (λ w. not (is_of n w)) t))) here
-      ∙ none_filtered n t (ap (λ k. member k (order_of t)) (sym (eqb-true w.group n here)) ∙ apart.0)
-      ∙ sym (ap (λ b. cond b (order_of t) (w.group ∷ without n (order_of t))) (turned n w.group ∙ here))
-  | inr other ↦
-      ap (λ b. order_of (cond (not b) (w ∷ filter (λ w. not (is_of n w)) t) (filter (λ w. not (is_of n w)) t))) other
-      ∙ ap (λ l. w.group ∷ l) (without_filtered n t apart.1)
-      ∙ sym (ap (λ b. cond b (order_of t) (w.group ∷ without n (order_of t))) (turned n w.group ∙ other))
+pub length_waiting : (p : ℕ) (order lbas : List ℕ) → length (waiting_in p order lbas) ≡ length order
+length_waiting p [] lbas = refl
+length_waiting p (n ∷ order) lbas = ap suc (length_waiting p order lbas)
+
+any_waiting : (p n : ℕ) (order lbas : List ℕ) → list_any (is_of n) (waiting_in p order lbas) ≡ has n order
+any_waiting p n [] lbas = refl
+any_waiting p n (x ∷ order) lbas = ap (λ b. b || list_any (is_of n) (waiting_in p order lbas)) (turned x n) ∙ ap (λ b. (n == x) || b) (any_waiting p n order lbas)
+
+pub full_waiting : (p c n : ℕ) (order lbas : List ℕ) → is_full c n (waiting_in p order lbas) ≡ (if has n order then false else nat_le c (length order))
+full_waiting p c n order lbas = ap (λ b. cond b false (nat_le c (length (waiting_in p order lbas)))) (any_waiting p n order lbas) ∙ ap (λ k. cond (has n order) false (nat_le c k)) (length_waiting p order lbas)
+
+-- the oldest is the last
+one_less : (k : ℕ) → suc (suc k) - 1 ≡ suc (suc k - 1)
+one_less k = omega arith
+
+oldest_next : (x y : ℕ) (order : List ℕ) → oldest_of (x ∷ y ∷ order) ≡ oldest_of (y ∷ order)
+oldest_next x y order = ap (slice_get (x ∷ y ∷ order)) (one_less (length order))
+
+oldest_one : (x n : ℕ) → oldest_of (x ∷ []) ≡ Some n → x ≡ n
+oldest_one x n is = let same : Some x ≡ Some n = is in cc
+
+oldest_has : (n : ℕ) (order : List ℕ) → oldest_of order ≡ Some n → member n order ≡ true
+oldest_has n [] is = absurd (cc)
+oldest_has n (x ∷ []) is = or_left (x == n) false (eq-eqb x n (oldest_one x n is))
+oldest_has n (x ∷ y ∷ order) is = or_right (x == n) (member n (y ∷ order)) (oldest_has n (y ∷ order) (sym (oldest_next x y order) ∙ is))
+
+pub last_length : (p : ℕ) (order lbas : List ℕ) (n : ℕ) → oldest_of order ≡ Some n → last_size (waiting_in p order lbas) ≡ length (in_group p n lbas)
+last_length p [] lbas n is = absurd (cc)
+last_length p (x ∷ []) lbas n is = ap (λ k. length (in_group p k lbas)) (oldest_one x n is)
+last_length p (x ∷ y ∷ order) lbas n is = last_length p (y ∷ order) lbas n (sym (oldest_next x y order) ∙ is)
+
+-- a filter within another
+filter_within : (t u : ℕ → Bool) → ((a : ℕ) → t a ≡ true → u a ≡ true) → (ns : List ℕ) → filter t (filter u ns) ≡ filter t ns
+filter_within t u also [] = refl
+filter_within t u also (n ∷ ns) = elim (cases_Bool (u n)) [
+  | inl pass ↦ ap (λ b. filter t (cond b (n ∷ filter u ns) (filter u ns))) pass ∙ ap (λ l. cond (t n) (n ∷ l) l) (filter_within t u also ns)
+  | inr fail ↦
+      ap (λ b. filter t (cond b (n ∷ filter u ns) (filter u ns))) fail
+      ∙ filter_within t u also ns
+      ∙ sym (ap (λ b. cond b (n ∷ filter t ns) (filter t ns)) (false_from_ne_true (t n) (λ pass. false≢true (sym fail ∙ also n pass))))
 ]
 
--- one that gets an address is touched
-put_touched : (n a : ℕ) (t : Table) → AreApart (order_of t) → order_of (put_first n a t) ≡ touched n (order_of t)
-put_touched n a t apart = ap (λ l. n ∷ l) (without_filtered n t apart)
+others_kept : (p x n : ℕ) (lbas : List ℕ) → (x == n) ≡ false → in_group p x (out_of_group p n lbas) ≡ in_group p x lbas
+others_kept p x n lbas other = filter_within (λ a. a / p == x) (λ a. not (a / p == n)) (λ a is. ap not (ap (λ k. k == n) (eqb-true (a / p) x is) ∙ other)) lbas
 
--- ---- the table of the groups of a list of addresses
+pub last_waiting : (p : ℕ) (order lbas : List ℕ) (n : ℕ) → AreApart order → oldest_of order ≡ Some n → waiting_in p (without n order) (out_of_group p n lbas) ≡ without_last (waiting_in p order lbas)
+last_waiting p [] lbas n apart is = absurd (cc)
+last_waiting p (x ∷ []) lbas n apart is = ap (λ b. waiting_in p (cond b [] (x ∷ [])) (out_of_group p n lbas)) (eq-eqb n x (sym (oldest_one x n is)))
+last_waiting p (x ∷ y ∷ order) lbas n apart is =
+    let later : oldest_of (y ∷ order) ≡ Some n = sym (oldest_next x y order) ∙ is in
+    let other : (x == n) ≡ false = false_from_ne_true (x == n) (λ here. false≢true (sym apart.0 ∙ ap (λ k. member k (y ∷ order)) (eqb-true x n here) ∙ oldest_has n (y ∷ order) later)) in
+    ap (λ b. waiting_in p (cond b (y ∷ order) (x ∷ without n (y ∷ order))) (out_of_group p n lbas)) (turned n x ∙ other)
+    ∙ ap (λ l. row x l ∷ waiting_in p (without n (y ∷ order)) (out_of_group p n lbas)) (others_kept p x n lbas other)
+    ∙ ap (λ t. row x (in_group p x lbas) ∷ t) (last_waiting p (y ∷ order) lbas n apart.1 later)
 
--- the groups of the first so many addresses are in the table, in order, and no other group than of one of all
-pub record IsTableSoFar (g : Geometry) (lbas : List ℕ) (i : ℕ) (table : Groups) : Type 0 where
-  pub is_table : IsTable g table
-  pub all : (k : ℕ) → k < i → member (get_or lbas k 0 / g.p) table.order ≡ true
-  pub only : AreAmong table.order (groups_at g lbas)
-  pub made : Table
-  pub order : order_of made ≡ table.order
-  pub rest : table_of g.p made (drop i lbas) ≡ table_of g.p [] lbas
+-- ---- a group gets an address
 
-pub so_far_none : (g : Geometry) (lbas : List ℕ) (table : Groups) → table ≡ groups [] g.c → IsTableSoFar g lbas 0 table
-so_far_none g lbas table is = subst (λ (t : Groups). IsTableSoFar g lbas 0 t) (sym is) (record {
-  is_table = record { limit = refl; apart = tt };
-  all = λ k below. absurd (omega (arith, below));
-  only = tt;
-  made = [];
-  order = refl;
-  rest = refl;
-})
+-- the groups but one, where each other one has the same of both lists of addresses
+module _ (p n : ℕ) (lbas new : List ℕ) (same : (m : ℕ) → (m == n) ≡ false → in_group p m lbas ≡ in_group p m new) where
+  abbrev others : List ℕ → Table
+  others order = filter (λ w. not (is_of n w)) (waiting_in p order lbas)
 
-group_in : (g : Geometry) (lbas : List ℕ) (i : ℕ) → i < length lbas → member (get_or lbas i 0 / g.p) (map (λ a. a / g.p) lbas) ≡ true
-group_in g [] i within = absurd (omega (arith, within))
-group_in g (lba ∷ lbas) zero within = or_left (lba / g.p == lba / g.p) (member (lba / g.p) (map (λ a. a / g.p) lbas)) (same_number (lba / g.p))
-group_in g (lba ∷ lbas) (suc i) within = or_right (lba / g.p == get_or lbas i 0 / g.p) (member (get_or lbas i 0 / g.p) (map (λ a. a / g.p) lbas)) (group_in g lbas i (omega (arith, within)))
+  none_filtered : (order : List ℕ) → member n order ≡ false → others order ≡ waiting_in p order new
+  none_filtered [] none = refl
+  none_filtered (x ∷ order) none =
+      let parts = or_parts (x == n) (member n order) none in
+      ap (λ b. cond (not b) (row x (in_group p x lbas) ∷ others order) (others order)) parts.0
+      ∙ ap (λ l. row x l ∷ others order) (same x parts.0)
+      ∙ ap (λ t. row x (in_group p x new) ∷ t) (none_filtered order parts.1)
 
-module _ (g : Geometry) (lbas : List ℕ) (i : ℕ) (table : Groups) (k : IsTableSoFar g lbas i table) (within : i < length lbas) where
-  own_group : member (get_or lbas i 0 / g.p) (groups_at g lbas) ≡ true
-  own_group = member_once (get_or lbas i 0 / g.p) (map (λ a. a / g.p) lbas) ∙ group_in g lbas i within
+  one_filtered : (order : List ℕ) → AreApart order → others order ≡ waiting_in p (without n order) new
+  one_filtered [] apart = refl
+  one_filtered (x ∷ order) apart = elim (cases_Bool (x == n)) [
+    | inl here ↦
+        ap (λ b. cond (not b) (row x (in_group p x lbas) ∷ others order) (others order)) here
+        ∙ none_filtered order (ap (λ k. member k order) (sym (eqb-true x n here)) ∙ apart.0)
+        ∙ sym (ap (λ b. waiting_in p (cond b order (x ∷ without n order)) new) (turned n x ∙ here))
+    | inr other ↦
+        ap (λ b. cond (not b) (row x (in_group p x lbas) ∷ others order) (others order)) other
+        ∙ ap (λ l. row x l ∷ others order) (same x other)
+        ∙ ap (λ t. row x (in_group p x new) ∷ t) (one_filtered order apart.1)
+        ∙ sym (ap (λ b. waiting_in p (cond b order (x ∷ without n order)) new) (turned n x ∙ other))
+  ]
 
-  with_own : AreAmong (get_or lbas i 0 / g.p ∷ table.order) (groups_at g lbas)
-  with_own = (own_group, k.only)
+-- the addresses of a group
+lbas_there : (p n : ℕ) (order lbas : List ℕ) → has n order ≡ true → lbas_of n (waiting_in p order lbas) ≡ in_group p n lbas
+lbas_there p n [] lbas there = absurd (false≢true there)
+lbas_there p n (x ∷ order) lbas there = elim (cases_Bool (x == n)) [
+  | inl here ↦ ap (λ b. cond b (in_group p x lbas) (lbas_of n (waiting_in p order lbas))) here ∙ ap (λ k. in_group p k lbas) (eqb-true x n here)
+  | inr other ↦ ap (λ b. cond b (in_group p x lbas) (lbas_of n (waiting_in p order lbas))) other ∙ lbas_there p n order lbas (sym (ap (λ b. b || has n order) (turned n x ∙ other)) ∙ there)
+]
 
-  pub touch_fits : length (groups_at g lbas) ≤ g.c → (has (get_or lbas i 0 / g.p) table.order ≡ true) ⊎ (length table.order < table.limit)
-  touch_fits few =
-      let fewer : length (with_group (get_or lbas i 0 / g.p) table.order) ≤ length (groups_at g lbas) = each_once-le (get_or lbas i 0 / g.p ∷ table.order) (map (λ a. a / g.p) lbas) (λ n t. sym (member_once n (map (λ a. a / g.p) lbas)) ∙ among_member (get_or lbas i 0 / g.p ∷ table.order) (groups_at g lbas) with_own n t) in
-      let limit = k.is_table.limit in
-      touch_room (get_or lbas i 0 / g.p) table.limit table.order k.is_table.apart (omega (arith, fewer, limit, few))
+lbas_nowhere : (p n : ℕ) (order lbas : List ℕ) → has n order ≡ false → lbas_of n (waiting_in p order lbas) ≡ []
+lbas_nowhere p n [] lbas none = refl
+lbas_nowhere p n (x ∷ order) lbas none =
+    let parts = or_parts (n == x) (has n order) none in
+    ap (λ b. cond b (in_group p x lbas) (lbas_of n (waiting_in p order lbas))) (turned x n ∙ parts.0) ∙ lbas_nowhere p n order lbas parts.1
 
-  pub so_far_more : (new : Groups) → new ≡ groups (touched (get_or lbas i 0 / g.p) table.order) table.limit → IsTableSoFar g lbas (i + 1) new
-  so_far_more new is = subst (λ (t : Groups). IsTableSoFar g lbas (i + 1) t) (sym is) (record {
-    is_table = record { limit = k.is_table.limit; apart = touched_apart (get_or lbas i 0 / g.p) table.order k.is_table.apart };
-    all = λ j below. among_member (get_or lbas i 0 / g.p ∷ table.order) (touched (get_or lbas i 0 / g.p) table.order) (touched_more (get_or lbas i 0 / g.p) table.order) (get_or lbas j 0 / g.p) (there j below);
-    only = among_then (touched (get_or lbas i 0 / g.p) table.order) (get_or lbas i 0 / g.p ∷ table.order) (groups_at g lbas) (touched_less (get_or lbas i 0 / g.p) table.order) with_own;
-    made = put_first (get_or lbas i 0 / g.p) (get_or lbas i 0) k.made;
-    order = put_touched (get_or lbas i 0 / g.p) (get_or lbas i 0) k.made (subst AreApart (sym k.order) k.is_table.apart) ∙ ap (touched (get_or lbas i 0 / g.p)) k.order;
-    rest = ap (table_of g.p k.made) (sym more) ∙ k.rest;
-  })
+filter_none : (t : ℕ → Bool) (ns : List ℕ) → ((a : ℕ) → has_lba a ns ≡ true → t a ≡ false) → filter t ns ≡ []
+filter_none t [] never = refl
+filter_none t (n ∷ ns) never = ap (λ b. cond b (n ∷ filter t ns) (filter t ns)) (never n (or_left (n == n) (has_lba n ns) (same_number n))) ∙ filter_none t ns (λ a there. never a (or_right (n == a) (has_lba a ns) there))
+
+lbas_are : (p n : ℕ) (order lbas : List ℕ) → IsExact p order lbas → lbas_of n (waiting_in p order lbas) ≡ in_group p n lbas
+lbas_are p n order lbas exact = elim (cases_Bool (has n order)) [
+  | inl there ↦ lbas_there p n order lbas there
+  | inr none ↦ lbas_nowhere p n order lbas none ∙ sym (filter_none (λ a. a / p == n) lbas (λ a there. false_from_ne_true (a / p == n) (λ is. false≢true (sym none ∙ ap (λ k. has k order) (sym (eqb-true (a / p) n is)) ∙ exact.all a there))))
+]
+
+-- an address that passes, and one that does not
+filter_with : (t : ℕ → Bool) (a : ℕ) (ns : List ℕ) → IsAscending ns → t a ≡ true → filter t (with_lba a ns) ≡ with_lba a (filter t ns)
+filter_with t a ns up pass = ascending_same (filter t (with_lba a ns)) (with_lba a (filter t ns)) (filter_ascending t (with_lba a ns) (with_ascending a ns up)) (with_ascending a (filter t ns) (filter_ascending t ns up)) (λ x.
+    has_lba-filter t x (with_lba a ns)
+    ∙ ap (λ b. b && t x) (has_lba-with x a ns)
+    ∙ by x (a == x) (λ same. ap t (sym (eqb-true a x same)) ∙ pass)
+    ∙ ap (λ b. (a == x) || b) (sym (has_lba-filter t x ns))
+    ∙ sym (has_lba-with x a (filter t ns)))
+  where
+    by : (x : ℕ) (b : Bool) → (b ≡ true → t x ≡ true) → ((b || has_lba x ns) && t x) ≡ (b || (has_lba x ns && t x))
+    by x true is = is refl
+    by x false is = refl
+
+filter_with_other : (t : ℕ → Bool) (a : ℕ) (ns : List ℕ) → t a ≡ false → filter t (with_lba a ns) ≡ filter t ns
+filter_with_other t a [] fail = ap (λ b. cond b (a ∷ []) []) fail
+filter_with_other t a (n ∷ ns) fail = by (nat_cmp a n) (filter_with_other t a ns fail)
+  where
+    by : (o : Ordering) → filter t (with_lba a ns) ≡ filter t ns → filter t (match_ordering o (a ∷ n ∷ ns) (n ∷ ns) (n ∷ with_lba a ns)) ≡ filter t (n ∷ ns)
+    by Less rest = ap (λ b. cond b (a ∷ filter t (n ∷ ns)) (filter t (n ∷ ns))) fail
+    by Equal rest = refl
+    by Greater rest = ap (λ l. cond (t n) (n ∷ l) l) rest
+
+pub put_waiting : (p : ℕ) (order lbas : List ℕ) (a : ℕ) → AreApart order → IsExact p order lbas → IsAscending lbas → put_first (a / p) a (waiting_in p order lbas) ≡ waiting_in p (touched (a / p) order) (with_lba a lbas)
+put_waiting p order lbas a apart exact up =
+    let same = λ (m : ℕ) (other : (m == a / p) ≡ false). sym (filter_with_other (λ x. x / p == m) a lbas (turned (a / p) m ∙ other)) in
+    ap (λ l. row (a / p) (with_lba a l) ∷ filter (λ w. not (is_of (a / p) w)) (waiting_in p order lbas)) (lbas_are p (a / p) order lbas exact)
+    ∙ ap (λ l. row (a / p) l ∷ filter (λ w. not (is_of (a / p) w)) (waiting_in p order lbas)) (sym (filter_with (λ x. x / p == a / p) a lbas up (same_number (a / p))))
+    ∙ ap (λ t. row (a / p) (in_group p (a / p) (with_lba a lbas)) ∷ t) (one_filtered p (a / p) lbas (with_lba a lbas) same order apart)
+
+-- ---- the dirty groups of a list of held blocks
+
+module _ (g : Geometry) (s : CacheList) (order : List ℕ) (apart : AreApart order) (exact : IsExact g.p order (lbas_in s)) where
+  abbrev all_groups : List ℕ
+  all_groups = map (λ x. x.0 / g.p) (filter (λ x. x.1.dirty) (entries s))
+
+  groups_has : (n : ℕ) → member n all_groups ≡ member n order
+  groups_has n = same_test (member n all_groups) (member n order) from into
     where
-      more : drop i lbas ≡ get_or lbas i 0 ∷ drop (i + 1) lbas
-      more = rw (add-one, drop-cons lbas i 0)
+      from : member n all_groups ≡ true → member n order ≡ true
+      from there =
+          let x = member_of (λ (x : ℕ × Held). x.0 / g.p) (λ (h : Held). h.dirty) (λ x. get s x.0 ≡ Some x.1) (entries s) n (all_entries s (λ a h. get s a ≡ Some h) (λ a h at. at)) there in
+          ap (λ k. member k order) (sym x.3) ∙ sym (has_member (x.0.0 / g.p) order) ∙ exact.all x.0.0 (lbas_has s x.0.0 (x.0.1, x.1, x.2))
 
-      there : (j : ℕ) → j < i + 1 → member (get_or lbas j 0 / g.p) (get_or lbas i 0 / g.p ∷ table.order) ≡ true
-      there j below = elim (cases_lt j i) [
-        | inl less ↦ or_right (get_or lbas i 0 / g.p == get_or lbas j 0 / g.p) (member (get_or lbas j 0 / g.p) table.order) (k.all j less)
-        | inr same ↦ or_left (get_or lbas i 0 / g.p == get_or lbas j 0 / g.p) (member (get_or lbas j 0 / g.p) table.order) (ap (λ (q : ℕ). get_or lbas q 0 / g.p == get_or lbas j 0 / g.p) (let e : i ≡ j = omega (arith, same, below) in e) ∙ same_number (get_or lbas j 0 / g.p))
-      ]
+      into : member n order ≡ true → member n all_groups ≡ true
+      into there =
+          let x = exact.only n (has_member n order ∙ there) in
+          let dirty = lbas_dirty s x.0 x.1 in
+          ap (λ k. member k all_groups) (sym x.2) ∙ by_get s (λ a h. h.dirty ≡ true → member (a / g.p) all_groups ≡ true) (all_members (λ (x : ℕ × Held). x.0 / g.p) (λ (h : Held). h.dirty) (entries s)) x.0 dirty.0 dirty.1 dirty.2
 
-pub table_all : (g : Geometry) (lbas : List ℕ) (table : Groups) → IsTableSoFar g lbas (length lbas) table → IsTableOf g lbas table
-table_all g lbas table k = record {
-  is_table = k.is_table;
-  all = among_from (groups_at g lbas) table.order (λ n t. every lbas k.all n (sym (member_once n (map (λ a. a / g.p) lbas)) ∙ t));
-  only = k.only;
-  order = sym k.order ∙ ap order_of (ap (table_of g.p k.made) (sym (drop_whole lbas)) ∙ k.rest);
+  few_are : length (dirty_groups g s) ≡ length order
+  few_are = each_once-same all_groups order groups_has ∙ ap (λ (l : List ℕ). length l) (once_apart order apart)
+
+  with_one : (n : ℕ) → length (each_once (n ∷ dirty_groups g s)) ≡ length (each_once (n ∷ order))
+  with_one n = each_once-same (n ∷ dirty_groups g s) (n ∷ order) (λ q. ap (λ b. (n == q) || b) (member_once q all_groups ∙ groups_has q))
+
+pub few_exact : (g : Geometry) (s : CacheList) (order : List ℕ) → AreApart order → IsExact g.p order (lbas_in s) → length (dirty_groups g s) ≡ length order
+few_exact g s order apart exact = few_are g s order apart exact
+
+-- one more group, which is there, or for which there is room
+one_fits : (n c : ℕ) (xs : List ℕ) → AreApart xs → (has n xs ≡ true) ⊎ (length xs < c) → length xs ≤ c → length (each_once (n ∷ xs)) ≤ c
+one_fits n c xs apart (inl there) few = subst (λ (k : ℕ). k ≤ c) (sym (ap (λ b. length (cond b (each_once xs) (n ∷ each_once xs))) (sym (has_member n xs) ∙ there) ∙ ap (λ (l : List ℕ). length l) (once_apart xs apart))) few
+one_fits n c xs apart (inr less) few = by (member n xs) (ap (λ (l : List ℕ). length l) (once_apart xs apart))
+  where
+    by : (b : Bool) → length (each_once xs) ≡ length xs → length (cond b (each_once xs) (n ∷ each_once xs)) ≤ c
+    by true same = omega (arith, same, few)
+    by false same = omega (arith, same, less)
+
+pub not_full_exact : (g : Geometry) (s : CacheList) (order : List ℕ) (lba : ℕ) → AreApart order → IsExact g.p order (lbas_in s) → (has (lba / g.p) order ≡ true) ⊎ (length order < g.c) → length order ≤ g.c → IsFull g s lba → ⊥
+not_full_exact g s order lba apart exact room few full =
+    let same = with_one g s order apart exact (lba / g.p) in
+    let fits = one_fits (lba / g.p) g.c order apart room few in
+    omega (arith, same, fits, full)
+
+-- ---- the table of a cache that was opened, along its dirty addresses
+
+-- the groups of the first so many addresses, in order
+pub record IsTableSoFar (p : ℕ) (lbas : List ℕ) (i : ℕ) (groups : List ℕ) : Type 0 where
+  pub apart : AreApart groups
+  pub exact : IsExact p groups (take i lbas)
+  pub order : waiting_in p groups (take i lbas) ≡ table_of p [] (take i lbas)
+
+none_exact : (p : ℕ) → IsExact p [] []
+none_exact p = record { all = λ a there. absurd (false≢true there); only = λ n there. absurd (false≢true there) }
+
+pub so_far_none : (p : ℕ) (lbas : List ℕ) (i : ℕ) (order : List ℕ) → i ≡ 0 → order ≡ [] → IsTableSoFar p lbas i order
+so_far_none p lbas i order start none = subst (λ (k : ℕ). IsTableSoFar p lbas k order) (sym start) (subst (λ (l : List ℕ). IsTableSoFar p lbas 0 l) (sym none) (record { apart = tt; exact = none_exact p; order = refl }))
+
+all_at : (P : ℕ → Type 0) (ns : List ℕ) (i : ℕ) → AllByRecursion P ns → i < length ns → P (get_or ns i 0)
+all_at P [] i all within = absurd (omega (arith, within))
+all_at P (n ∷ ns) zero all within = all.0
+all_at P (n ∷ ns) (suc i) all within = all_at P ns i all.1 (omega (arith, within))
+
+all_take : (P : ℕ → Type 0) (i : ℕ) (ns : List ℕ) → AllByRecursion P ns → AllByRecursion P (take i ns)
+all_take P zero ns all = tt
+all_take P (suc i) [] all = tt
+all_take P (suc i) (n ∷ ns) all = (all.0, all_take P i ns all.1)
+
+take_ascending : (i : ℕ) (ns : List ℕ) → IsAscending ns → IsAscending (take i ns)
+take_ascending zero ns up = tt
+take_ascending (suc i) [] up = tt
+take_ascending (suc i) (n ∷ ns) up = (all_take (λ k. n < k) i ns up.0, take_ascending i ns up.1)
+
+-- what stands before an address is below it
+before_below : (i : ℕ) (ns : List ℕ) → IsAscending ns → i < length ns → AllByRecursion (λ k. k < get_or ns i 0) (take i ns)
+before_below zero ns up within = tt
+before_below (suc i) [] up within = tt
+before_below (suc i) (n ∷ ns) up within = (all_at (λ k. n < k) ns i up.0 (omega (arith, within)), before_below i ns up.1 (omega (arith, within)))
+
+cmp_above : (a n : ℕ) → n < a → nat_cmp a n ≡ Greater
+cmp_above a n above = grind (arith, nat_tests)
+
+-- an address above all others comes last
+with_last : (a : ℕ) (ns : List ℕ) → AllByRecursion (λ k. k < a) ns → with_lba a ns ≡ ns ++ a ∷ []
+with_last a [] all = refl
+with_last a (n ∷ ns) all = ap (λ o. match_ordering o (a ∷ n ∷ ns) (n ∷ ns) (n ∷ with_lba a ns)) (cmp_above a n all.0) ∙ ap (λ l. n ∷ l) (with_last a ns all.1)
+
+table_of-push : (p : ℕ) (t : Table) (ns : List ℕ) (a : ℕ) → table_of p t (ns ++ a ∷ []) ≡ put_first (a / p) a (table_of p t ns)
+table_of-push p t [] a = refl
+table_of-push p t (n ∷ ns) a = table_of-push p (put_first (n / p) n t) ns a
+
+pub so_far_more : (p : ℕ) (lbas : List ℕ) (i : ℕ) (order : List ℕ) → IsAscending lbas → i < length lbas → IsTableSoFar p lbas i order → IsTableSoFar p lbas (i + 1) (touched (get_or lbas i 0 / p) order)
+so_far_more p lbas i order up within so_far = record {
+  apart = touched_apart (lba / p) order so_far.apart;
+  exact = subst (λ (l : List ℕ). IsExact p (touched (lba / p) order) l) (sym more) (exact_touched p order (take i lbas) lba so_far.exact);
+  order =
+      ap (λ (l : List ℕ). waiting_in p (touched (lba / p) order) l) more
+      ∙ sym (put_waiting p order (take i lbas) lba so_far.apart so_far.exact (take_ascending i lbas up))
+      ∙ ap (λ (t : Table). put_first (lba / p) lba t) so_far.order
+      ∙ sym (ap (λ (l : List ℕ). table_of p [] l) (take_more lbas i 0 within) ∙ table_of-push p [] (take i lbas) lba);
 }
   where
-    drop_whole : (l : List ℕ) → drop (length l) l ≡ []
-    drop_whole [] = refl
-    drop_whole (x ∷ l) = drop_whole l
+    lba : ℕ
+    lba = get_or lbas i 0
 
-    every : (lbas : List ℕ) → ((k : ℕ) → k < length lbas → member (get_or lbas k 0 / g.p) table.order ≡ true) → (n : ℕ) → member n (map (λ a. a / g.p) lbas) ≡ true → member n table.order ≡ true
-    every [] all n there = absurd (cc)
-    every (lba ∷ lbas) all n there = elim (or_cases (lba / g.p == n) (member n (map (λ a. a / g.p) lbas)) there) [
-      | inl here ↦ ap (λ k. member k table.order) (sym (eqb-true (lba / g.p) n here)) ∙ all 0 (omega arith)
-      | inr later ↦ every lbas (λ k below. all (suc k) (omega (arith, below))) n later
-    ]
+    more : take (i + 1) lbas ≡ with_lba lba (take i lbas)
+    more = take_more lbas i 0 within ∙ sym (with_last lba (take i lbas) (before_below i lbas up within))
 
--- ---- the table of a cache
+member_map : (f : ℕ → ℕ) (a : ℕ) (ns : List ℕ) → member a ns ≡ true → member (f a) (map f ns) ≡ true
+member_map f a [] there = absurd (false≢true there)
+member_map f a (n ∷ ns) there = elim (or_cases (n == a) (member a ns) there) [
+  | inl here ↦ or_left (f n == f a) (member (f a) (map f ns)) (ap (λ k. f n == f k) (sym (eqb-true n a here)) ∙ same_number (f n))
+  | inr later ↦ or_right (f n == f a) (member (f a) (map f ns)) (member_map f a ns later)
+]
 
-filter_same : {X : Type 0} (t u : X → Bool) (es : List X) → AllByRecursion (λ x. t x ≡ u x) es → filter t es ≡ filter u es
-filter_same t u [] all = refl
-filter_same t u (x ∷ es) all = ap (λ b. cond b (x ∷ filter t es) (filter t es)) all.0 ∙ ap (λ l. cond (u x) (x ∷ l) l) (filter_same t u es all.1)
+member_take : (a i : ℕ) (ns : List ℕ) → member a (take i ns) ≡ true → member a ns ≡ true
+member_take a zero ns there = absurd (false≢true there)
+member_take a (suc i) [] there = absurd (false≢true there)
+member_take a (suc i) (n ∷ ns) there = elim (or_cases (n == a) (member a (take i ns)) there) [
+  | inl here ↦ or_left (n == a) (member a ns) here
+  | inr later ↦ or_right (n == a) (member a ns) (member_take a i ns later)
+]
+
+member_at : (i : ℕ) (ns : List ℕ) → i < length ns → member (get_or ns i 0) ns ≡ true
+member_at i [] within = absurd (omega (arith, within))
+member_at zero (n ∷ ns) within = or_left (n == n) (member n ns) (same_number n)
+member_at (suc i) (n ∷ ns) within = or_right (n == get_or ns i 0) (member (get_or ns i 0) ns) (member_at i ns (omega (arith, within)))
+
+module _ (p : ℕ) (lbas : List ℕ) (i : ℕ) (order : List ℕ) (so_far : IsTableSoFar p lbas i order) where
+  among_all : (n : ℕ) → member n order ≡ true → member n (map (λ a. a / p) lbas) ≡ true
+  among_all n there =
+      let x = so_far.exact.only n (has_member n order ∙ there) in
+      ap (λ k. member k (map (λ a. a / p) lbas)) (sym x.2) ∙ member_map (λ a. a / p) x.0 lbas (member_take x.0 i lbas x.1)
+
+  -- no more groups than those of all addresses
+  pub so_far_few : length order ≤ length (each_once (map (λ a. a / p) lbas))
+  so_far_few = subst (λ (l : List ℕ). length l ≤ length (each_once (map (λ a. a / p) lbas))) (once_apart order so_far.apart) (each_once-le order (map (λ a. a / p) lbas) among_all)
+
+  -- so the next address finds room for its own
+  pub so_far_room : (c : ℕ) → i < length lbas → length (each_once (map (λ a. a / p) lbas)) ≤ c → (has (get_or lbas i 0 / p) order ≡ true) ⊎ (length order < c)
+  so_far_room c within few = elim (cases_Bool (has n order)) [
+    | inl there ↦ inl there
+    | inr none ↦
+        let fewer = each_once-le (n ∷ order) (map (λ a. a / p) lbas) (λ q there. elim (or_cases (n == q) (member q order) there) [
+          | inl here ↦ ap (λ k. member k (map (λ a. a / p) lbas)) (sym (eqb-true n q here)) ∙ member_map (λ a. a / p) (get_or lbas i 0) lbas (member_at i lbas within)
+          | inr later ↦ among_all q later
+        ]) in
+        let long = ap (λ (l : List ℕ). length l) (once_apart (n ∷ order) (sym (has_member n order) ∙ none, so_far.apart)) in
+        inr (omega (arith, fewer, long, few))
+  ]
+    where
+      n : ℕ
+      n = get_or lbas i 0 / p
+
+  -- at the end it is the table of all
+  pub so_far_exact : length lbas ≤ i → IsExact p order lbas
+  so_far_exact past = subst (λ (l : List ℕ). IsExact p order l) (take_all i lbas past) so_far.exact
+
+  pub so_far_order : length lbas ≤ i → waiting_in p order lbas ≡ table_of p [] lbas
+  so_far_order past = subst (λ (l : List ℕ). waiting_in p order l ≡ table_of p [] l) (take_all i lbas past) so_far.order
 
 map_twice : {X : Type 0} (f : X → ℕ) (g : ℕ → ℕ) (es : List X) → map g (map f es) ≡ map (λ x. g (f x)) es
 map_twice f g [] = refl
 map_twice f g (x ∷ es) = ap (λ l. g (f x) ∷ l) (map_twice f g es)
 
-below_all : (d : Bool) (a n : ℕ) → a < n → (d && nat_le 0 a && nat_lt a (0 + n)) ≡ d
-below_all true a n below = grind (arith, nat_tests)
-below_all false a n below = refl
-
--- the groups of all its dirty addresses are its dirty groups
-pub groups_of_all : (g : Geometry) (s : CacheList) → ((a : ℕ) (h : Held) → get s a ≡ Some h → a < g.size) → groups_at g (dirty_between 0 g.size s) ≡ dirty_groups g s
-groups_of_all g s within =
-    ap (λ (l : List ℕ). each_once l) (map_twice (λ (x : ℕ × Held). x.0) (λ a. a / g.p) (filter (λ (x : ℕ × Held). x.1.dirty && nat_le 0 x.0 && nat_lt x.0 (0 + g.size)) (entries s)))
-    ∙ ap (λ (l : List (ℕ × Held)). each_once (map (λ x. x.0 / g.p) l)) (filter_same (λ (x : ℕ × Held). x.1.dirty && nat_le 0 x.0 && nat_lt x.0 (0 + g.size)) (λ x. x.1.dirty) (entries s) (all_entries s (λ a h. (h.dirty && nat_le 0 a && nat_lt a (0 + g.size)) ≡ h.dirty) (λ a h is. below_all h.dirty a g.size (within a h is))))
-
--- an entry of the list is one of the map
-pub held_of : (page : Place → Page) (o : Option Entry) (h : Held) → option_and_then (held_at page) o ≡ Some h → (e : Entry) × (o ≡ Some e) × (h.dirty ≡ e.dirty)
-held_of page None h is = absurd (cc)
-held_of page (Some e) h is = (e, refl, by_page (page e.place) is)
-  where
-    by_page : (q : Page) → option_map (λ block. held block e.dirty) (block_in q) ≡ Some h → h.dirty ≡ e.dirty
-    by_page Blank is = absurd (cc)
-    by_page (Whole block spare) is = let same : held block e.dirty ≡ h = cc in ap (λ (x : Held). x.dirty) (sym same)
-    by_page Torn is = absurd (cc)
-
-module _ (g : Geometry) (c : Ssc) (contents : Contents) (s : CacheList) (own : geometry_of c ≡ g) (holds : Holds c contents s) where
-  is_map : IsMap g (entries_of c)
-  is_map = subst (λ (g : Geometry). IsMap g (entries_of c)) own (agree_map c.parts contents holds.agree)
-
-  entry_at : (a : ℕ) (h : Held) → get s a ≡ Some h → (e : Entry) × (get (entries_of c) a ≡ Some e) × (h.dirty ≡ e.dirty)
-  entry_at a h is = held_of contents.flash.page (get (entries_of c) a) h (sym (holds.lists.held a) ∙ is)
-
-  pub groups_listed : groups_at g (dirty_between 0 g.size s) ≡ dirty_groups g s
-  groups_listed = groups_of_all g s (λ a h is. let e = entry_at a h is in is_map.within a e.0 e.1)
-
-  -- they are no more than there may be
-  pub few_listed : (lbas : List ℕ) → lbas ≡ dirty_between 0 g.size s → length (groups_at g lbas) ≤ g.c
-  few_listed lbas is =
-      let all : length (groups_at g lbas) ≡ length (dirty_groups g s) = ap (λ (l : List ℕ). length (groups_at g l)) is ∙ ap (λ (l : List ℕ). length l) groups_listed in
-      let fewer = count_le (λ (x : ℕ × Held). x.0 / g.p) (λ (h : Held). h.dirty) (λ (x : ℕ × Entry). x.0 / g.p) (λ (e : Entry). e.dirty) s (entries_of c) (λ a h is dirty. let e = entry_at a h is in (e.0, e.1, sym e.2 ∙ dirty, refl)) in
-      let few = is_map.dirty_groups in
-      omega (arith, all, fewer, few)
-
--- the table of the addresses that a cache lists is for the cache
-pub table_for : (g : Geometry) (c : Ssc) (lbas : List ℕ) (table : Groups) → geometry_of c ≡ g → ((contents : Contents) (s : CacheList) → Holds c contents s → lbas ≡ dirty_between 0 g.size s) → IsTableOf g lbas table → IsTableFor g c table
-table_for g c lbas table own listed k = record {
-  is_table = k.is_table;
-  all = λ contents s holds. subst (λ (l : List ℕ). AreAmong l table.order) (as_listed contents s holds) k.all;
-  only = λ contents s holds. subst (λ (l : List ℕ). AreAmong table.order l) (as_listed contents s holds) k.only;
-  order = λ contents s holds. k.order ∙ ap (λ (l : List ℕ). groups_of g.p l) (listed contents s holds);
-}
-  where
-    as_listed : (contents : Contents) (s : CacheList) → Holds c contents s → groups_at g lbas ≡ dirty_groups g s
-    as_listed contents s holds = ap (λ (l : List ℕ). groups_at g l) (listed contents s holds) ∙ groups_listed g c contents s own holds
-
--- what is listed behind nothing is all that is listed
-pub listed_alone : (lbas before : List ℕ) (n size : ℕ) (s : CacheList) → before ≡ [] → n ≡ size → lbas ≡ before ++ dirty_between 0 n s → lbas ≡ dirty_between 0 size s
-listed_alone lbas before n size s none all is = is ∙ ap (λ (l : List ℕ). l ++ dirty_between 0 n s) none ∙ ap (λ (k : ℕ). dirty_between 0 k s) all
-
-pub if_ok_then : {T E : Type 0} {P Q : T → Type 0} (r : Result T E) → ((t : T) → P t → Q t) → IfOk r P → IfOk r Q
-if_ok_then (Ok t) f p = f t p
-if_ok_then (Err e) f p = tt
+-- a cache has no more dirty groups than it may
+pub few_lbas : (g : Geometry) (m : Entries) → IsMap g m → length (each_once (map (λ a. a / g.p) (dirty_lbas m))) ≤ g.c
+few_lbas g m map = subst (λ (l : List ℕ). length (each_once l) ≤ g.c) (sym (map_twice (λ (x : ℕ × Entry). x.0) (λ a. a / g.p) (filter (λ (x : ℕ × Entry). x.1.dirty) (entries m)))) map.dirty_groups

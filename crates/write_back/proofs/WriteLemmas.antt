@@ -1,210 +1,469 @@
--- A commit and a write that were done, refused or cut.
-use Rattle.std.proofs.Common.{◌≡◌, ◌⊎◌, ℕ, ◌/◌, ◌≤◌, ◌||◌, Bool, true, false, List, [], ◌∷◌, length, Result, Ok, Err, inl, inr, refl, sym, ◌∙◌, ap, subst, arith}
-use Rattle.std.specs.Prelude.{IsErrOf, OnErr, OnOk, is_err}
-use Rattle.std.proofs.lemmas.Bool.{false≢true, or_right}
+-- Writes to the cache of a volume that writes back, and what its table of dirty groups is then.
+use Rattle.std.proofs.Common.{◌≡◌, ◌⊎◌, ℕ, zero, suc, ◌+◌, ◌-◌, ◌*◌, ◌/◌, ◌≤◌, ◌<◌, ◌==◌, ◌||◌, nat_le, Bool, true, false, cond, List, [], ◌∷◌, length, map, filter, Some, Ok, Err, Result, inl, inr, refl, sym, ◌∙◌, ap, subst, arith}
+use Rattle.std.proofs.Math.Nat.{div-mul-le_self}
+use Rattle.std.proofs.Math.Path.{fun_ext}
+use Rattle.std.specs.Prelude.{OnOk, is_err}
+use Rattle.std.specs.FinMap.{entries, get}
+use Rattle.std.specs.List.{slice_get}
+use Rattle.std.specs.Option.{is_some}
+use Rattle.std.proofs.lemmas.Bool.{false≢true, or_left, or_right}
 use Rattle.ft_base.specs.declared.block.Block.{Block}
 use Rattle.ft_base.specs.declared.block.Place.{Place}
 use Rattle.ft_base.specs.declared.block.Page.{Page}
 use Rattle.ft_base.specs.declared.geometry.Geometry.{Geometry}
-use Rattle.ft_base.specs.Contents.{Contents, Values, set}
-use Rattle.ft_base.specs.PlainDisk.{PlainDisk}
+use Rattle.ft_base.specs.declared.told.Mode.{Mode}
 use Rattle.ft_base.specs.declared.told.Mode.TheVariants.{Back}
-use Rattle.ft_volume.specs.Opening.{ImageIs}
-use Rattle.ft_volume.specs.Volume.{AreAmong, StandFor, told_for}
-use Rattle.ft_volume.proofs.GroupLemmas.{among_more, among_then, among_under}
-use Rattle.cache_model.specs.Cache.{Agrees, Buffered, CacheList, Held, Vanish, IsFull, dirty_groups, undo, with_group, written_dirty}
+use Rattle.ft_base.specs.Contents.{Contents, Image, Shape, set}
+use Rattle.ft_base.specs.Count.{RoseBy}
+use Rattle.ft_base.specs.PlainDisk.{BlockWrite, PlainDisk}
+use Rattle.ft_base.specs.Table.{Table, Waiting, backs_written, is_full, last_size, put_first, table_written, with_lba, without_last}
+use Rattle.ft_base.specs.Told.{Told}
+use Rattle.ft_base.proofs.Images.{newest_image, with_newest}
+use Rattle.ft_media.specs.Drives.{DrivesFlash}
+use Rattle.ft_media.specs.State.{Faults, State}
+use Rattle.ft_media.proofs.PassesLemmas.{passes_then}
+use Rattle.ft_volume.specs.declared.volume.VolumeError.{VolumeError}
+use Rattle.ft_volume.specs.declared.volume.VolumeError.TheVariants as error
+use Rattle.ft_volume.specs.Opening.{ImageIs, Suits}
+use Rattle.ft_volume.specs.Volume.{Call, Costs, FaultDowns, Goes, HasCause, Programs, StandFor, VolumeState, WasDone, Writes, dirty_lbas, volume_lost}
+use Rattle.ft_volume.specs.Volume as volume
+use Rattle.cache_model.specs.Records.{Entries}
+use Rattle.cache_model.specs.Entries.{IsMap, each_once}
+use Rattle.cache_model.specs.Cache.{Agrees, Buffered, CacheList, Held, IsFull, Vanish, held, undo, written_dirty}
 use Rattle.cache_model.specs.Stands.{StandsFor}
-use Rattle.dirty_table.specs.Groups.{Groups, groups, touched}
+use Rattle.cache_model.proofs.CountLemmas.{same_number}
+use Rattle.merge_engine.proofs.TakeLemmas.{agree_map}
+use Rattle.op_log.specs.Log.{FitsOn}
+use Rattle.dirty_table.specs.Groups.{Groups, groups, has, oldest_of, touched, without}
 use Rattle.ssc.specs.declared.cache.Ssc.{Ssc}
-use Rattle.ssc.specs.CacheState.{Holds, geometry_of, pending}
+use Rattle.ssc.specs.CacheState.{Holds, entries_of, geometry_of, pending}
 use Rattle.ssc.specs.declared.error.SscError.{SscError}
-use Rattle.ssc.specs.declared.error.SscError.TheVariants.{Full, FlashFault, PowerLost, OutOfMemory}
-use Rattle.ssc.specs.Commands.{FullExactly, HoldsWritten, StandsForOne, StandsForWrite, AsUndone, AsBefore, AsAfter, AsLeft, AsWritten}
+use Rattle.ssc.specs.declared.error.SscError.TheVariants.{Full, OutOfMemory}
+use Rattle.ssc.specs.Commands.{FullExactly, HoldsWritten, ImagesOfWrite, StandsForWrite, AsUndone, AsLeft, AsWritten}
+use Rattle.ssc.specs.Errors.{stops}
+use Rattle.cached_disk.specs.declared.disk.CachedDisk.{CachedDisk}
+use Rattle.cached_disk.specs.Kept.{IsBeneath, IsDirtyIn, IsHeld, MayUndo, dirty_of, is_down, told_of, waiting_in}
+use Rattle.cached_disk.specs.Kept as kept
+use Rattle.cached_disk.proofs.AddressLemmas.{holds_held, holds_lbas, holds_within, lbas_ascending, lbas_dirty, lbas_in, lbas_with, written_held}
+use Rattle.cached_disk.proofs.CallLemmas.{answered_write, gives_up, refused_same, refused_write}
+use Rattle.cached_disk.proofs.DiskLemmas.{IsOver, over_stands}
+use Rattle.cached_disk.proofs.HeldLemmas.{Stays, both, down_left, drove, held_beneath, held_left, held_over, held_stands, step_beneath, step_held, step_over, stopped_down, undone, undone_over}
+use Rattle.cached_disk.proofs.StepLemmas.{over_same, vanish_agrees, vanish_dirty, vanish_same, vanish_was, written_agrees, written_dirty-keeps, written_here, written_over, written_was}
 use Rattle.write_back.specs.declared.volume.WriteBack.{WriteBack}
-use Rattle.write_back.specs.Left.{IsDirtyIn, IsHeld, IsLeft, IsReserved, IsTable, is_down}
-use Rattle.write_back.proofs.DiskLemmas.{IsOver}
-use Rattle.write_back.proofs.GroupLemmas.{dirty_among, not_full, written_adds, written_has}
-use Rattle.write_back.proofs.LeftLemmas.{Stays, done_stands, down_stands, held_groups, held_over, left_done, left_down, undone, undone_agrees, undone_groups, undone_over}
-use Rattle.write_back.proofs.StepLemmas.{over_same, vanish_agrees, vanish_dirty, vanish_same, vanish_was, written_agrees, written_dirty-keeps, written_over}
-use Rattle.write_back.proofs.TableLemmas.{touched_apart, touched_more, touched_less}
+use Rattle.write_back.specs.Left.{IsExact, IsLeft, IsTable, WritesDisk, out_of_group, state_of}
+use Rattle.write_back.specs.Writing.{HasRoom, backs_made, room_made}
+use Rattle.write_back.proofs.TableLemmas.{exact_touched, exact_without, few_exact, few_lbas, full_waiting, length_waiting, not_full_exact, put_waiting, touched_apart, without_apart}
 
 -- what comes with Ok, where it is no error, and else
-pub on_err_of : {T E P : Type 0} (r : Result T E) → is_err r ≡ true → OnErr r P → P
-on_err_of (Ok t) f p = absurd (false≢true f)
-on_err_of (Err e) f p = p
+on_ok_of : {T E P : Type 0} (r : Result T E) → is_err r ≡ false → OnOk r P → P
+on_ok_of (Ok t) none p = p
+on_ok_of (Err e) none p = absurd (false≢true (sym none))
 
-pub on_ok_of : {T E P : Type 0} (r : Result T E) → is_err r ≡ false → OnOk r P → P
-on_ok_of (Ok t) f p = p
-on_ok_of (Err e) f p = absurd (false≢true (sym f))
+pub ok_then : {T E P Q : Type 0} (r : Result T E) → (P → Q) → OnOk r P → OnOk r Q
+ok_then (Ok t) step p = step p
+ok_then (Err e) step p = tt
 
--- given up, it is down
-pub stopped_down : (v : WriteBack) (c : Ssc) (table : Groups) → c.stopped ≡ true → is_down (record v { cache = c; dirty = table }) ≡ true
-stopped_down v c table stopped = or_right v.cut c.stopped stopped
+-- ---- lists of groups
 
--- ---- before a write
+get_has : (xs : List ℕ) (i n : ℕ) → slice_get xs i ≡ Some n → has n xs ≡ true
+get_has [] i n is = absurd (cc)
+get_has (x ∷ xs) zero n is =
+    let same : x ≡ n = cc in
+    or_left (n == x) (has n xs) (ap (λ k. n == k) same ∙ same_number n)
+get_has (x ∷ xs) (suc i) n is = or_right (n == x) (has n xs) (get_has xs i n is)
 
-pub reserved_left : (v : WriteBack) (c : Ssc) (table : Groups) (contents : Contents) → IsReserved v.cache c → table ≡ v.dirty → IsLeft v contents → IsLeft (record v { cache = c; dirty = table }) contents
-reserved_left v c table contents reserved same left = subst (λ (t : Groups). IsLeft (record v { cache = c; dirty = t }) contents) (sym same) (record {
-  own = reserved.geometry ∙ left.own;
-  shape = left.shape;
-  table = left.table;
-  list = left.list;
-  beneath = left.beneath;
-  groups = left.groups;
-  held = left.held;
-  up = λ up.
-      let k : IsHeld v contents left.held = left.up (ap (λ b. v.cut || b) (sym reserved.stopped) ∙ up) in
-      record { holds = reserved.holds contents left.held k.holds; agrees = k.agrees; settled = k.settled; only = k.only };
-})
+-- the oldest one is there
+pub oldest_has : (order : List ℕ) (n : ℕ) → oldest_of order ≡ Some n → has n order ≡ true
+oldest_has order n is = get_has order (length order - 1) n is
 
-pub reserved_down : (v : WriteBack) (c : Ssc) (table : Groups) → IsReserved v.cache c → is_down (record v { cache = c; dirty = table }) ≡ is_down v
-reserved_down v c table reserved = ap (λ b. v.cut || b) reserved.stopped
+one_less : (w : Waiting) (t : Table) → suc (length (without_last (w ∷ t))) ≡ suc (length t)
+one_less w [] = refl
+one_less w (v ∷ t) = ap suc (one_less v t)
 
-full_is : (g : Geometry) (s : CacheList) (a : ℕ) (e : SscError) → FullExactly g s a {T = Unit {0}} (Err e) → (n limit : ℕ) → e ≡ Full n limit → IsFull g s a
-full_is g s a e exactly n limit is = (subst (λ (x : SscError). FullExactly g s a {T = Unit {0}} (Err x)) is exactly).0
+-- without its last group a table has one less
+pub fewer_last : (t : Table) (c : ℕ) → 0 < c → length t ≤ c → length (without_last t) < c
+fewer_last [] c some few = some
+fewer_last (w ∷ t) c some few = let one = one_less w t in omega (arith, one, few)
 
-module _ (v : WriteBack) (old : Contents) (left : IsLeft v old) (up : is_down v ≡ false) where
+-- a group that is there, or has room, finds the table not full
+pub full_not : (p c n : ℕ) (order lbas : List ℕ) → (has n order ≡ true) ⊎ (nat_le c (length order) ≡ false) → is_full c n (waiting_in p order lbas) ≡ false
+full_not p c n order lbas room = full_waiting p c n order lbas ∙ by_room (has n order) (nat_le c (length order)) room
+  where
+    by_room : (a b : Bool) → (a ≡ true) ⊎ (b ≡ false) → cond a false b ≡ false
+    by_room true b room = refl
+    by_room false b (inl is) = absurd (let no : false ≡ true = is in cc)
+    by_room false b (inr is) = is
+
+-- and else the table is full
+pub full_is : (p c n : ℕ) (order lbas : List ℕ) → has n order ≡ false → nat_le c (length order) ≡ true → is_full c n (waiting_in p order lbas) ≡ true
+full_is p c n order lbas none full = full_waiting p c n order lbas ∙ ap (λ b. cond b false (nat_le c (length order))) none ∙ full
+
+-- then nothing goes out of the table
+pub room_there : (p c n : ℕ) (order lbas : List ℕ) → (has n order ≡ true) ⊎ (nat_le c (length order) ≡ false) → waiting_in p order lbas ≡ room_made c n (waiting_in p order lbas)
+room_there p c n order lbas room = sym (ap (λ b. cond b (without_last (waiting_in p order lbas)) (waiting_in p order lbas)) (full_not p c n order lbas room))
+
+-- and nothing goes to the disk
+pub none_back : (p c n : ℕ) (order lbas : List ℕ) (s : State) → (has n order ≡ true) ⊎ (nat_le c (length order) ≡ false) → WritesDisk (backs_made c n (waiting_in p order lbas)) s s (Ok tt)
+none_back p c n order lbas s room = subst (λ (b : Bool). WritesDisk (cond b (last_size (waiting_in p order lbas)) 0) s s (Ok tt)) (sym (full_not p c n order lbas room)) (record { exact = λ below. omega arith; most = omega arith; reads = refl })
+
+-- ---- a volume that is up
+
+map_twice : {X : Type 0} (f : X → ℕ) (g : ℕ → ℕ) (es : List X) → map g (map f es) ≡ map (λ x. g (f x)) es
+map_twice f g [] = refl
+map_twice f g (x ∷ es) = ap (λ l. g (f x) ∷ l) (map_twice f g es)
+
+module _ (v : WriteBack) (contents : Contents) (left : IsLeft v contents) (up : is_down v.disk ≡ false) where
+  abbrev pub held_list : CacheList
+  held_list = left.disk.held
+
+  pub is_held : IsHeld v.disk contents held_list
+  is_held = left.disk.up up
+
+  pub listed : dirty_of v.disk ≡ lbas_in held_list
+  listed = holds_lbas v.disk.cache contents held_list is_held.holds
+
+  pub exact_listed : IsExact v.disk.options.geometry.p v.dirty.order (lbas_in held_list)
+  exact_listed = subst (λ (l : List ℕ). IsExact v.disk.options.geometry.p v.dirty.order l) listed (left.exact up)
+
+  -- a group of its table begins within the volume
+  pub group_within : (n : ℕ) → has n v.dirty.order ≡ true → n * v.disk.options.geometry.p < v.disk.options.geometry.size
+  group_within n there =
+      let x = exact_listed.only n there in
+      let dirty : IsDirtyIn held_list x.0 = lbas_dirty held_list x.0 x.1 in
+      let within : x.0 < v.disk.options.geometry.size = subst (λ (g : Geometry). x.0 < g.size) left.disk.own (holds_within v.disk.cache contents held_list is_held.holds x.0 dirty.0 dirty.1) in
+      let begins : n * v.disk.options.geometry.p ≤ x.0 = subst (λ (k : ℕ). k * v.disk.options.geometry.p ≤ x.0) x.2 (div-mul-le_self x.0 v.disk.options.geometry.p) in
+      omega (arith, begins, within)
+
+  -- they are no more than there may be
+  pub few_order : length v.dirty.order ≤ v.disk.options.geometry.c
+  few_order =
+      let g : Geometry = v.disk.options.geometry in
+      let is_map : IsMap g (entries_of v.disk.cache) = subst (λ (k : Geometry). IsMap k (entries_of v.disk.cache)) left.disk.own (agree_map v.disk.cache.parts contents is_held.holds.agree) in
+      let as_many = ap (λ (l : List ℕ). length (each_once l)) (sym (map_twice (λ (x : ℕ × Held). x.0) (λ a. a / g.p) (filter (λ x. x.1.dirty) (entries held_list))) ∙ ap (λ (l : List ℕ). map (λ a. a / g.p) l) (sym listed)) in
+      let all = few_exact g held_list v.dirty.order left.table.apart exact_listed in
+      let few = few_lbas g (entries_of v.disk.cache) is_map in
+      omega (arith, all, as_many, few)
+
+  -- it isn't full for a group that has room in the table
+  pub has_room : (lba : ℕ) → HasRoom v.dirty (lba / v.disk.options.geometry.p) → (e : SscError) → FullExactly (geometry_of v.disk.cache) held_list lba {T = Unit {0}} (Err e) → (n limit : ℕ) → e ≡ Full n limit → ⊥
+  has_room lba room e exactly n limit is =
+      not_full_exact v.disk.options.geometry held_list v.dirty.order lba left.table.apart exact_listed
+      (elim room [ inl there ↦ inl there | inr less ↦ inr (subst (λ (k : ℕ). length v.dirty.order < k) left.table.limit less) ])
+      few_order
+      (subst (λ (g : Geometry). IsFull g held_list lba) left.disk.own ((subst (λ (x : SscError). FullExactly (geometry_of v.disk.cache) held_list lba {T = Unit {0}} (Err x)) is exactly).0))
+
+  -- a refusal of the cache takes it down, where the memory was there
+  pub refused_down : (lba : ℕ) → HasRoom v.dirty (lba / v.disk.options.geometry.p) → v.disk.cache.ready ≡ true → (c : Ssc) (e : SscError) → FullExactly (geometry_of v.disk.cache) held_list lba {T = Unit {0}} (Err e)
+      → (e ≡ OutOfMemory → v.disk.cache.ready ≡ false) → c.stopped ≡ stops {T = Unit {0}} (Err e) → is_down (record v.disk { cache = c }) ≡ true
+  refused_down lba room ready c e exactly memory stopped = stopped_down v.disk c (stopped ∙ gives_up e (has_room lba room e exactly) (λ is. both v.disk.cache.ready ready (memory is)))
+
+-- ---- the oldest group was written back
+
+-- then there is room in the table
+pub room_left : (v w : WriteBack) (before after : Contents) (n : ℕ) → IsLeft v before → is_down v.disk ≡ false → IsLeft w after → (state_of w).told ≡ (state_of v).told → (state_of w).table ≡ without_last (state_of v).table → HasRoom w.dirty n
+room_left v w before after n left up now told table =
+    let g : Geometry = v.disk.options.geometry in
+    let few : length (state_of v).table ≤ g.c = subst (λ (k : ℕ). k ≤ g.c) (sym (length_waiting g.p v.dirty.order (dirty_of v.disk))) (few_order v before left up) in
+    let less : length (without_last (state_of v).table) < g.c = fewer_last (state_of v).table g.c (let low = g.in_range.c_low in omega (arith, low)) few in
+    let shorter : length w.dirty.order ≡ length (without_last (state_of v).table) = sym (length_waiting w.disk.options.geometry.p w.dirty.order (dirty_of w.disk)) ∙ ap (λ (t : Table). length t) table in
+    let limit : w.dirty.limit ≡ g.c = now.table.limit ∙ ap (λ (t : Told). t.geometry.c) told in
+    inr (subst (λ (k : ℕ). length w.dirty.order < k) (sym limit) (subst (λ (k : ℕ). k < g.c) (sym shorter) less))
+
+-- and its table has exactly the groups that are left
+pub cleaned_left : (v : WriteBack) (disk : CachedDisk) (table : Groups) (before after : Contents) (n : ℕ) → IsLeft v before → is_down v.disk ≡ false → kept.IsLeft disk after → (disk.options ≡ v.disk.options) × (disk.mode ≡ v.disk.mode)
+    → dirty_of disk ≡ out_of_group v.disk.options.geometry.p n (dirty_of v.disk) → table ≡ groups (without n v.dirty.order) v.dirty.limit → IsLeft (record { disk = disk; dirty = table }) after
+cleaned_left v disk table before after n left up now made cleaned less = record {
+  disk = now;
+  mode = made.1 ∙ left.mode;
+  table = subst (λ (g : Geometry). IsTable g table) (sym (ap (λ o. o.geometry) made.0)) (subst (λ (t : Groups). IsTable v.disk.options.geometry t) (sym less) (record { limit = left.table.limit; apart = without_apart n v.dirty.order left.table.apart }));
+  exact = λ is.
+      subst (λ (g : Geometry). IsExact g.p table.order (dirty_of disk)) (sym (ap (λ o. o.geometry) made.0))
+      (subst (λ (t : Groups). IsExact v.disk.options.geometry.p t.order (dirty_of disk)) (sym less)
+      (subst (λ (l : List ℕ). IsExact v.disk.options.geometry.p (without n v.dirty.order) l) (sym cleaned)
+      (exact_without v.disk.options.geometry.p v.dirty.order (dirty_of v.disk) n left.table.apart (left.exact up))));
+}
+
+-- ---- a block comes into the cache
+
+suits_back : (mode : Mode) → mode ≡ Back → (s : CacheList) → Suits mode s
+suits_back mode back s = subst (λ (m : Mode). Suits m s) (sym back) tt
+
+may_back : (mode : Mode) → mode ≡ Back → (q : List Buffered) → MayUndo mode q
+may_back mode back q = subst (λ (m : Mode). MayUndo m q) (sym back) tt
+
+module _ (v : CachedDisk) (old : Contents) (s : CacheList) (own : geometry_of v.cache ≡ v.options.geometry) (is : IsHeld v old s) where
+  own_held : (page : Place → Page) (t : CacheList) → StandsFor (geometry_of v.cache) page t → StandsFor v.options.geometry page t
+  own_held page t stands = subst (λ (g : Geometry). StandsFor g page t) own stands
+
   -- what a crash leaves: the flash stands for a list that shows what the one that is held shows
   pub record ShowsHeld (page : Place → Page) : Type 0 where
     pub list : CacheList
     pub stands : StandsFor v.options.geometry page list
     pub agrees : Agrees list old.disk
-    pub groups : AreAmong (dirty_groups v.options.geometry list) v.dirty.order
-    pub over : (d : PlainDisk) → IsOver v.options.geometry left.held old.disk d → IsOver v.options.geometry list old.disk d
+    pub over : (d : PlainDisk) → IsOver v.options.geometry s old.disk d → IsOver v.options.geometry list old.disk d
 
-  own_held : (g : Geometry) (page : Place → Page) (s : CacheList) → g ≡ v.options.geometry → StandsFor g page s → StandsFor v.options.geometry page s
-  own_held g page s is stands = subst (λ (k : Geometry). StandsFor k page s) is stands
-
-  shows_undone : (page : Place → Page) → StandsFor v.options.geometry page (undone v old left up) → ShowsHeld page
-  shows_undone page stands = record { list = undone v old left up; stands = stands; agrees = undone_agrees v old left up; groups = undone_groups v old left up; over = undone_over v old left up }
-
-  shows_held : (page : Place → Page) → StandsFor v.options.geometry page left.held → ShowsHeld page
-  shows_held page stands = record { list = left.held; stands = stands; agrees = (left.up up).agrees; groups = held_groups v old left up; over = λ d over. over }
-
-  -- of a commit
-  pub commit_shows : (page : Place → Page) → StandsForOne (geometry_of v.cache) page (undone v old left up) left.held left.held → ShowsHeld page
-  commit_shows page (AsUndone x) = shows_undone page (own_held (geometry_of v.cache) page (undone v old left up) left.own x)
-  commit_shows page (AsBefore x) = shows_held page (own_held (geometry_of v.cache) page left.held left.own x)
-  commit_shows page (AsAfter x) = shows_held page (own_held (geometry_of v.cache) page left.held left.own x)
-
-  -- ---- a write
-
-  module _ (k : Ssc) (reserved : IsReserved v.cache k) (lba : ℕ) (block : Block) where
-    own_now : geometry_of k ≡ v.options.geometry
-    own_now = reserved.geometry ∙ left.own
-
+  module _ (lba : ℕ) (block : Block) where
     -- a list with the block, of what is left of the one that is held once clean groups gave way
     pub record HasBlock (list : CacheList) : Type 0 where
       pub agrees : Agrees list old.disk
-      pub groups : AreAmong (dirty_groups v.options.geometry list) (lba / v.options.geometry.p ∷ v.dirty.order)
-      pub keeps : (a : ℕ) → IsDirtyIn left.held a → IsDirtyIn list a
-      pub only : AreAmong (lba / v.options.geometry.p ∷ v.dirty.order) (dirty_groups v.options.geometry list)
-      pub over : (d : PlainDisk) → IsOver v.options.geometry left.held old.disk d → IsOver v.options.geometry list old.disk (set d lba block)
+      pub here : IsDirtyIn list lba
+      pub keeps : (a : ℕ) → IsDirtyIn s a → IsDirtyIn list a
+      pub only : (a : ℕ) → IsDirtyIn list a → (a ≡ lba) ⊎ IsDirtyIn s a
+      pub over : (d : PlainDisk) → IsOver v.options.geometry s old.disk d → IsOver v.options.geometry list old.disk (set d lba block)
 
-    module _ (w : CacheList) (vanish : Vanish (geometry_of k) left.held lba w) where
-      own_vanish : Vanish v.options.geometry left.held lba w
-      own_vanish = subst (λ (g : Geometry). Vanish g left.held lba w) own_now vanish
+    module _ (w : CacheList) (vanish : Vanish (geometry_of v.cache) s lba w) where
+      pub own_vanish : Vanish v.options.geometry s lba w
+      own_vanish = subst (λ (g : Geometry). Vanish g s lba w) own vanish
 
-      gave_groups : AreAmong (dirty_groups v.options.geometry w) v.dirty.order
-      gave_groups = among_then (dirty_groups v.options.geometry w) (dirty_groups v.options.geometry left.held) v.dirty.order (dirty_among v.options.geometry w left.held (vanish_was v.options.geometry left.held w lba own_vanish)) (held_groups v old left up)
-
-      gave_over : (d : PlainDisk) → IsOver v.options.geometry left.held old.disk d → IsOver v.options.geometry w old.disk d
-      gave_over d over = over_same v.options.geometry old.disk left.held w d (vanish_same v.options.geometry left.held w lba own_vanish old.disk (left.up up).agrees) over
+      gave_over : (d : PlainDisk) → IsOver v.options.geometry s old.disk d → IsOver v.options.geometry w old.disk d
+      gave_over d over = over_same v.options.geometry old.disk s w d (vanish_same v.options.geometry s w lba own_vanish old.disk is.agrees) over
 
       gave_agrees : Agrees w old.disk
-      gave_agrees = vanish_agrees v.options.geometry left.held w lba own_vanish old.disk (left.up up).agrees
+      gave_agrees = vanish_agrees v.options.geometry s w lba own_vanish old.disk is.agrees
 
-      shows_left : (page : Place → Page) → StandsFor (geometry_of k) page w → ShowsHeld page
-      shows_left page stands = record { list = w; stands = own_held (geometry_of k) page w own_now stands; agrees = gave_agrees; groups = gave_groups; over = gave_over }
+      shows_left : (page : Place → Page) → StandsFor (geometry_of v.cache) page w → ShowsHeld page
+      shows_left page stands = record { list = w; stands = own_held page w stands; agrees = gave_agrees; over = gave_over }
 
       abbrev after : CacheList
       after = written_dirty lba block w
 
-      after_keeps : (a : ℕ) → IsDirtyIn left.held a → IsDirtyIn after a
-      after_keeps a dirty = written_dirty-keeps w lba block a (vanish_dirty v.options.geometry left.held w lba own_vanish a dirty)
-
-      after_only : AreAmong (lba / v.options.geometry.p ∷ v.dirty.order) (dirty_groups v.options.geometry after)
-      after_only =
-          let own = written_has v.options.geometry w lba block in
-          (own.0, among_then v.dirty.order (dirty_groups v.options.geometry left.held) (dirty_groups v.options.geometry after) (left.up up).only (dirty_among v.options.geometry left.held after after_keeps))
-
       pub has_block : HasBlock after
       has_block = record {
         agrees = written_agrees w lba block old.disk gave_agrees;
-        groups = among_under (dirty_groups v.options.geometry after) (dirty_groups v.options.geometry w) v.dirty.order (lba / v.options.geometry.p) (written_adds v.options.geometry w lba block) gave_groups;
-        keeps = after_keeps;
-        only = after_only;
+        here = (held block true, written_here w lba block, refl);
+        keeps = λ a dirty. written_dirty-keeps w lba block a (vanish_dirty v.options.geometry s w lba own_vanish a dirty);
+        only = λ a dirty. elim (written_was w lba block a dirty.0 dirty.1) [
+          | inl new ↦ inl new.0
+          | inr was ↦ inr (vanish_was v.options.geometry s w lba own_vanish a (dirty.0, was, dirty.2))
+        ];
         over = λ d over. written_over w lba block v.options.geometry old.disk d (gave_over d over);
       }
 
     -- wherever it was cut
-    pub write_shows : (page : Place → Page) → StandsForWrite (geometry_of k) page (undo (pending k) left.held) left.held lba (written_dirty lba block) → ShowsHeld page ⊎ ((s : CacheList) × StandsFor v.options.geometry page s × HasBlock s)
-    write_shows page (AsUndone x) = inl (shows_undone page (own_held (geometry_of k) page (undone v old left up) own_now (subst (λ (q : List Buffered). StandsFor (geometry_of k) page (undo q left.held)) reserved.pending x)))
+    write_shows : (page : Place → Page) → StandsForWrite (geometry_of v.cache) page (undo (pending v.cache) s) s lba (written_dirty lba block) → ShowsHeld page ⊎ ((t : CacheList) × StandsFor v.options.geometry page t × HasBlock t)
+    write_shows page (AsUndone x) = inl (record { list = undone v old s own is; stands = own_held page (undo (pending v.cache) s) x; agrees = (held_beneath v old s own is).agrees; over = undone_over v old s own is })
     write_shows page (AsLeft w vanish x) = inl (shows_left w vanish page x)
-    write_shows page (AsWritten w vanish x) = inr (after w vanish, own_held (geometry_of k) page (after w vanish) own_now x, has_block w vanish)
+    write_shows page (AsWritten w vanish x) = inr (after w vanish, own_held page (after w vanish) x, has_block w vanish)
 
-    -- it isn't full where its groups leave room
-    pub has_room : length (with_group (lba / v.options.geometry.p) v.dirty.order) ≤ v.options.geometry.c → (e : SscError) → FullExactly (geometry_of k) left.held lba {T = Unit {0}} (Err e) → (n limit : ℕ) → e ≡ Full n limit → ⊥
-    has_room room e exactly n limit is = not_full v.options.geometry left.held v.dirty.order lba (held_groups v old left up) room (subst (λ (g : Geometry). IsFull g left.held lba) own_now (full_is (geometry_of k) left.held lba e exactly n limit is))
-
--- ---- the table with the group that is written
-
-module _ (g : Geometry) (n : ℕ) (t t' : Groups) (noted : t' ≡ groups (touched n t.order) t.limit) where
-  pub noted_table : IsTable g t → IsTable g t'
-  noted_table table = subst (λ (x : Groups). IsTable g x) (sym noted) (record { limit = table.limit; apart = touched_apart n t.order table.apart })
-
-  pub noted_all : (ns : List ℕ) → AreAmong ns (n ∷ t.order) → AreAmong ns t'.order
-  noted_all ns among = subst (λ (x : Groups). AreAmong ns x.order) (sym noted) (among_then ns (n ∷ t.order) (touched n t.order) among (touched_more n t.order))
-
-  pub noted_only : (ns : List ℕ) → AreAmong (n ∷ t.order) ns → AreAmong t'.order ns
-  noted_only ns among = subst (λ (x : Groups). AreAmong x.order ns) (sym noted) (among_then (touched n t.order) (n ∷ t.order) ns (touched_less n t.order) among)
-
-  pub noted_adds : AreAmong t'.order (n ∷ t.order)
-  noted_adds = subst (λ (x : Groups). AreAmong x.order (n ∷ t.order)) (sym noted) (touched_less n t.order)
-
-  pub noted_more : (ns : List ℕ) → AreAmong ns t.order → AreAmong ns t'.order
-  noted_more ns among = noted_all ns (among_more ns t.order n among)
-
--- ---- after a write
-
-module _ (v : WriteBack) (old new : Contents) (left : IsLeft v old) (up : is_down v ≡ false) (k : Ssc) (reserved : IsReserved v.cache k) (lba : ℕ) (block : Block)
-    (c : Ssc) (table : Groups) (noted : table ≡ groups (touched (lba / v.options.geometry.p) v.dirty.order) v.dirty.limit) (geometry : geometry_of c ≡ geometry_of k) (shape : new.shape ≡ old.shape) (stays : Stays old new) where
-  abbrev own : ℕ
-  own = lba / v.options.geometry.p
-
-  table_now : IsTable v.options.geometry table
-  table_now = noted_table v.options.geometry own v.dirty table noted left.table
-
-  abbrev written : WriteBack
-  written = record v { cache = c; dirty = table }
+module _ (v : CachedDisk) (old new : Contents) (s : CacheList) (own : geometry_of v.cache ≡ v.options.geometry) (is : IsHeld v old s) (back : v.mode ≡ Back) (lba : ℕ) (block : Block)
+    (c : Ssc) (geometry : geometry_of c ≡ geometry_of v.cache) (shape : FitsOn v.options.geometry new.shape) (stays : Stays old new) where
+  abbrev with_cache : CachedDisk
+  with_cache = record v { cache = c }
 
   -- it was done
-  module _ (h : HoldsWritten c new left.held lba (written_dirty lba block)) (nothing : pending c ≡ []) where
-    own_list : HasBlock v old left up k reserved lba block (written_dirty lba block h.left)
-    own_list = has_block v old left up k reserved lba block h.left (subst (λ (g : Geometry). Vanish g left.held lba h.left) geometry h.vanish)
+  module _ (h : HoldsWritten c new s lba (written_dirty lba block)) where
+    vanish_now : Vanish (geometry_of v.cache) s lba h.left
+    vanish_now = subst (λ (g : Geometry). Vanish g s lba h.left) geometry h.vanish
 
-    pub write_left : IsLeft written new
-    write_left = left_done v c table old new left (geometry ∙ reserved.geometry) shape stays table_now (written_dirty lba block h.left) own_list.agrees
-        (noted_all v.options.geometry own v.dirty table noted (dirty_groups v.options.geometry (written_dirty lba block h.left)) own_list.groups) h.holds nothing up own_list.keeps
-        (noted_only v.options.geometry own v.dirty table noted (dirty_groups v.options.geometry (written_dirty lba block h.left)) own_list.only)
+    own_list : HasBlock v old s own is lba block (written_dirty lba block h.left)
+    own_list = has_block v old s own is lba block h.left vanish_now
 
-    pub write_stands : (d : PlainDisk) → StandFor (ImageIs (told_for Back v.options)) old d → StandFor (ImageIs (told_for Back v.options)) new (set d lba block)
-    write_stands d stand = done_stands v c table old new left (geometry ∙ reserved.geometry) shape stays table_now (written_dirty lba block h.left) own_list.agrees
-        (noted_all v.options.geometry own v.dirty table noted (dirty_groups v.options.geometry (written_dirty lba block h.left)) own_list.groups) h.holds nothing (set d lba block) (own_list.over d (held_over v old left up d stand))
+    held_now : IsHeld with_cache new (written_dirty lba block h.left)
+    held_now = step_held v c old new stays s (written_dirty lba block h.left) own_list.agrees (suits_back v.mode back (written_dirty lba block h.left)) is h.holds own_list.keeps (may_back v.mode back (pending c))
+
+    write_left : kept.IsLeft with_cache new
+    write_left = held_left with_cache new (written_dirty lba block h.left) (geometry ∙ own) held_now shape
+
+    write_stands : (d : PlainDisk) → StandFor (ImageIs (told_of v)) old d → StandFor (ImageIs (told_of v)) new (set d lba block)
+    write_stands d stand = held_stands with_cache new (written_dirty lba block h.left) (geometry ∙ own) held_now (set d lba block)
+        (step_over v c old new stays (written_dirty lba block h.left) (set d lba block) (own_list.over d (held_over v old s own is d stand)))
+
+    write_lbas : dirty_lbas (entries_of c) ≡ with_lba lba (dirty_of v)
+    write_lbas =
+        holds_lbas c new (written_dirty lba block h.left) h.holds
+        ∙ lbas_with s (written_dirty lba block h.left) lba own_list.here own_list.keeps own_list.only
+        ∙ ap (λ (l : List ℕ). with_lba lba l) (sym (holds_lbas v.cache old s is.holds))
+
+    write_holds : volume.Holds (told_of v) (Writes lba block) (λ a. is_some (get (entries_of v.cache) a)) (λ a. is_some (get (entries_of c) a))
+    write_holds =
+        let was : (λ (a : ℕ). is_some (get s a)) ≡ (λ (a : ℕ). is_some (get (entries_of v.cache) a)) = fun_ext (λ a. sym (holds_held v.cache old s is.holds a)) in
+        let now : (λ (a : ℕ). is_some (get (written_dirty lba block h.left) a)) ≡ (λ (a : ℕ). is_some (get (entries_of c) a)) = fun_ext (λ a. sym (holds_held c new (written_dirty lba block h.left) h.holds a)) in
+        subst (λ (f : ℕ → Bool). volume.Holds (told_of v) (Writes lba block) f (λ a. is_some (get (entries_of c) a))) was
+        (subst (λ (f : ℕ → Bool). volume.Holds (told_of v) (Writes lba block) (λ a. is_some (get s a)) f) now
+        (written_held (told_of v) (Writes lba block) s h.left lba (held block true) (own_vanish v old s own is lba block h.left vanish_now) refl (λ a is. is)))
 
   -- it was refused or cut
-  module _ (stands : StandsForWrite (geometry_of k) new.flash.page (undo (pending k) left.held) left.held lba (written_dirty lba block)) where
-    shows : ShowsHeld v old left up new.flash.page ⊎ ((s : CacheList) × StandsFor v.options.geometry new.flash.page s × HasBlock v old left up k reserved lba block s)
-    shows = write_shows v old left up k reserved lba block new.flash.page stands
+  module _ (stands : StandsForWrite (geometry_of v.cache) new.flash.page (undo (pending v.cache) s) s lba (written_dirty lba block)) where
+    shows : ShowsHeld v old s own is new.flash.page ⊎ ((t : CacheList) × StandsFor v.options.geometry new.flash.page t × HasBlock v old s own is lba block t)
+    shows = write_shows v old s own is lba block new.flash.page stands
 
-    pub cut_left : is_down written ≡ true → IsLeft written new
+    beneath_now : (t : CacheList) → Agrees t old.disk → StandsFor v.options.geometry new.flash.page t → IsBeneath (told_of v) new t
+    beneath_now t agrees stands = step_beneath v c old new stays s t agrees (suits_back v.mode back t) stands
+
+    cut_left : is_down with_cache ≡ true → kept.IsLeft with_cache new
     cut_left down = elim shows [
-      | inl x ↦ left_down v c table old new left (geometry ∙ reserved.geometry) shape stays table_now x.list x.agrees (noted_more v.options.geometry own v.dirty table noted (dirty_groups v.options.geometry x.list) x.groups) down x.stands
-      | inr x ↦ left_down v c table old new left (geometry ∙ reserved.geometry) shape stays table_now x.0 x.2.agrees (noted_all v.options.geometry own v.dirty table noted (dirty_groups v.options.geometry x.0) x.2.groups) down x.1
+      | inl x ↦ down_left with_cache new x.list (geometry ∙ own) shape down (beneath_now x.list x.agrees x.stands)
+      | inr x ↦ down_left with_cache new x.0 (geometry ∙ own) shape down (beneath_now x.0 x.2.agrees x.1)
     ]
 
-    pub cut_stands : (d : PlainDisk) → StandFor (ImageIs (told_for Back v.options)) old d → StandFor (ImageIs (told_for Back v.options)) new d ⊎ StandFor (ImageIs (told_for Back v.options)) new (set d lba block)
+    cut_stands : (d : PlainDisk) → StandFor (ImageIs (told_of v)) old d → StandFor (ImageIs (told_of v)) new d ⊎ StandFor (ImageIs (told_of v)) new (set d lba block)
     cut_stands d stand = elim shows [
-      | inl x ↦ inl (down_stands v c table old new left (geometry ∙ reserved.geometry) shape stays table_now x.list x.agrees (noted_more v.options.geometry own v.dirty table noted (dirty_groups v.options.geometry x.list) x.groups) x.stands d (x.over d (held_over v old left up d stand)))
-      | inr x ↦ inr (down_stands v c table old new left (geometry ∙ reserved.geometry) shape stays table_now x.0 x.2.agrees (noted_all v.options.geometry own v.dirty table noted (dirty_groups v.options.geometry x.0) x.2.groups) x.1 (set d lba block) (x.2.over d (held_over v old left up d stand)))
+      | inl x ↦ inl (over_stands (told_of v) new x.list (beneath_now x.list x.agrees x.stands) d (step_over v c old new stays x.list d (x.over d (held_over v old s own is d stand))))
+      | inr x ↦ inr (over_stands (told_of v) new x.0 (beneath_now x.0 x.2.agrees x.1) (set d lba block) (step_over v c old new stays x.0 (set d lba block) (x.2.over d (held_over v old s own is d stand))))
     ]
+
+-- ---- its group is noted
+
+-- the table, touched where memory wasn't wanting
+pub noted_as : {T E : Type 0} (order : List ℕ) (limit lba own p : ℕ) (table : Groups) (r : Result T E) → false ≡ is_err r → own ≡ p → OnOk r (table ≡ groups (touched (lba / own) order) limit) → table ≡ groups (touched (lba / p) order) limit
+noted_as order limit lba own p table r none same is = on_ok_of r (sym none) is ∙ ap (λ k. groups (touched (lba / k) order) limit) same
+
+module _ (v : WriteBack) (lba : ℕ) (c : Ssc) (table : Groups) (noted : table ≡ groups (touched (lba / v.disk.options.geometry.p) v.dirty.order) v.dirty.limit) where
+  abbrev pub written : WriteBack
+  written = record { disk = record v.disk { cache = c }; dirty = table }
+
+  noted_table : IsTable v.disk.options.geometry v.dirty → IsTable v.disk.options.geometry table
+  noted_table is = subst (λ (t : Groups). IsTable v.disk.options.geometry t) (sym noted) (record { limit = is.limit; apart = touched_apart (lba / v.disk.options.geometry.p) v.dirty.order is.apart })
+
+  noted_exact : IsExact v.disk.options.geometry.p v.dirty.order (dirty_of v.disk) → dirty_lbas (entries_of c) ≡ with_lba lba (dirty_of v.disk) → IsExact v.disk.options.geometry.p table.order (dirty_lbas (entries_of c))
+  noted_exact is lbas =
+      subst (λ (t : Groups). IsExact v.disk.options.geometry.p t.order (dirty_lbas (entries_of c))) (sym noted)
+      (subst (λ (l : List ℕ). IsExact v.disk.options.geometry.p (touched (lba / v.disk.options.geometry.p) v.dirty.order) l) (sym lbas)
+      (exact_touched v.disk.options.geometry.p v.dirty.order (dirty_of v.disk) lba is))
+
+  module _ (before after : State) (left : IsLeft v before.contents) (up : is_down v.disk ≡ false) (block : Block) (geometry : geometry_of c ≡ geometry_of v.disk.cache) {was_failed was_lost : Bool} (drives : DrivesFlash before after was_failed was_lost) where
+    shape : FitsOn v.disk.options.geometry after.contents.shape
+    shape = subst (λ (x : Shape). FitsOn v.disk.options.geometry x) (sym drives.passes.shape) left.disk.shape
+
+    stays : Stays before.contents after.contents
+    stays = drove before.contents after.contents was_lost drives.disk drives.crash
+
+    is : IsHeld v.disk before.contents left.disk.held
+    is = is_held v before.contents left up
+
+    -- done
+    module _ (h : HoldsWritten c after.contents left.disk.held lba (written_dirty lba block)) where
+      lbas : dirty_lbas (entries_of c) ≡ with_lba lba (dirty_of v.disk)
+      lbas = write_lbas v.disk before.contents after.contents left.disk.held left.disk.own is left.mode lba block c geometry shape stays h
+
+      pub put_left : IsLeft written after.contents
+      put_left = record {
+        disk = write_left v.disk before.contents after.contents left.disk.held left.disk.own is left.mode lba block c geometry shape stays h;
+        mode = left.mode;
+        table = noted_table left.table;
+        exact = λ still. noted_exact (left.exact up) lbas;
+      }
+
+      pub put_was : (d : PlainDisk) → StandFor (ImageIs (told_of v.disk)) before.contents d → WasDone {T = Unit {0}} ImageIs (Writes lba block) (state_of v) (state_of written) after.contents (Ok tt) d
+      put_was d stand = answered_write lba block (state_of v) (state_of written) after.contents d refl refl (write_stands v.disk before.contents after.contents left.disk.held left.disk.own is left.mode lba block c geometry shape stays h d stand)
+
+      pub put_table : (state_of written).table ≡ put_first (lba / v.disk.options.geometry.p) lba (state_of v).table
+      put_table =
+          ap (λ (t : Groups). waiting_in v.disk.options.geometry.p t.order (dirty_lbas (entries_of c))) noted
+          ∙ ap (λ (l : List ℕ). waiting_in v.disk.options.geometry.p (touched (lba / v.disk.options.geometry.p) v.dirty.order) l) (lbas ∙ ap (λ (l : List ℕ). with_lba lba l) (listed v before.contents left up))
+          ∙ sym (put_waiting v.disk.options.geometry.p v.dirty.order (lbas_in left.disk.held) lba left.table.apart (exact_listed v before.contents left up) (lbas_ascending left.disk.held))
+          ∙ ap (λ (l : List ℕ). put_first (lba / v.disk.options.geometry.p) lba (waiting_in v.disk.options.geometry.p v.dirty.order l)) (sym (listed v before.contents left up))
+
+      pub put_holds : volume.Holds (told_of v.disk) (Writes lba block) (state_of v).held (state_of written).held
+      put_holds = write_holds v.disk before.contents after.contents left.disk.held left.disk.own is left.mode lba block c geometry shape stays h
+
+    -- refused or cut, so it is down
+    module _ (images : ImagesOfWrite v.disk.cache after.contents left.disk.held lba (written_dirty lba block)) (down : is_down written.disk ≡ true) where
+      stands : StandsForWrite (geometry_of v.disk.cache) after.contents.flash.page (undo (pending v.disk.cache) left.disk.held) left.disk.held lba (written_dirty lba block)
+      stands = images (with_newest after.contents) (newest_image after.contents)
+
+      pub refused_left : IsLeft written after.contents
+      refused_left = record {
+        disk = cut_left v.disk before.contents after.contents left.disk.held left.disk.own is left.mode lba block c geometry shape stays stands down;
+        mode = left.mode;
+        table = noted_table left.table;
+        exact = λ still. absurd (both (is_down written.disk) down still);
+      }
+
+      pub refused_was : (e : VolumeError) → (e ≡ error.OutOfMemory → ⊥) → (d : PlainDisk) → StandFor (ImageIs (told_of v.disk)) before.contents d → WasDone {T = Unit {0}} ImageIs (Writes lba block) (state_of v) (state_of written) after.contents (Err e) d
+      refused_was e other d stand = elim (cut_stands v.disk before.contents after.contents left.disk.held left.disk.own is left.mode lba block c geometry shape stays stands d stand) [
+        | inl same ↦ refused_same (Writes lba block) (state_of v) (state_of written) after.contents d refl refl same e
+        | inr with_block ↦ refused_write lba block (state_of v) (state_of written) after.contents d refl refl with_block e other down
+      ]
+
+-- ---- the memory of a write was taken
+
+module _ (v : WriteBack) (k : Ssc) (entries : entries_of k ≡ entries_of v.disk.cache) (stopped : k.stopped ≡ v.disk.cache.stopped) where
+  abbrev pub reserved : WriteBack
+  reserved = record v { disk = record v.disk { cache = k } }
+
+  pub reserved_up : is_down reserved.disk ≡ is_down v.disk
+  reserved_up = ap (λ b. v.disk.down || b) stopped
+
+  pub reserved_left : (contents : Contents) → IsLeft v contents → ((s : CacheList) → Holds v.disk.cache contents s → Holds k contents s) → geometry_of k ≡ geometry_of v.disk.cache → pending k ≡ pending v.disk.cache → IsLeft reserved contents
+  reserved_left contents left holds geometry waits = record {
+    disk = record {
+      own = geometry ∙ left.disk.own;
+      shape = left.disk.shape;
+      list = left.disk.list;
+      beneath = left.disk.beneath;
+      held = left.disk.held;
+      up = λ up.
+          let is = left.disk.up (sym reserved_up ∙ up) in
+          record { holds = holds left.disk.held is.holds; agrees = is.agrees; settled = is.settled; suits = is.suits; undo = subst (λ (q : List Buffered). MayUndo v.disk.mode q) (sym waits) is.undo };
+    };
+    mode = left.mode;
+    table = left.table;
+    exact = λ up. subst (λ (m : Entries). IsExact v.disk.options.geometry.p v.dirty.order (dirty_lbas m)) (sym entries) (left.exact (sym reserved_up ∙ up));
+  }
+
+-- ---- a step that changes no block, and then a write
+
+cause_then : {S T : Type 0} (a b c : Faults) (value : S) (result : Result T VolumeError) → HasCause {T = S} a b (Ok value) → HasCause b c result → HasCause a c result
+cause_then a b c value result first then = record {
+  flash = let x = first.flash in let y = then.flash in omega (arith, x, y);
+  disk = let x = first.disk in let y = then.disk in omega (arith, x, y);
+  cuts = let x = first.cuts in let y = then.cuts in omega (arith, x, y);
+  flash_fault = λ is. let x = first.flash in let y = then.flash_fault is in omega (arith, x, y);
+  disk_fault = λ is. let x = first.disk in let y = then.disk_fault is in omega (arith, x, y);
+  power_lost = λ is. let x = first.cuts in let y = then.power_lost is in omega (arith, x, y);
+}
+
+-- of what was found nothing counts but what is owed
+pub was_from : {T : Type 0} (stands : Told → Image → PlainDisk → Type 0) (call : Call) (old mid new : VolumeState) (after : Contents) (result : Result T VolumeError) (base : PlainDisk) → mid.owed ≡ old.owed → WasDone stands call mid new after result base → WasDone stands call old new after result base
+was_from stands call old mid new after result base owed is = subst (λ (ws : List BlockWrite). WasDone stands call (record old { owed = ws }) new after result base) owed (record { images = is.images; lost = is.lost; done = is.done; found = is.found; up = is.up; memory = is.memory })
+
+module _ {T : Type 0} (old was mid new : VolumeState) (before between after : State) (same : was.told ≡ old.told) (first : Goes {T = Unit {0}} was mid before between (Ok tt)) (result : Result T VolumeError) where
+  -- a fault of the disk takes it down, so nothing is said of the disk after one
+  pub goes_then : Goes mid new between after result → FaultDowns result new.down → Goes old new before after result
+  goes_then goes faulted = record {
+    told = goes.told ∙ first.told ∙ same;
+    up = goes.up;
+    lost = λ on is. goes.lost (first.passes.stayed on refl).on is;
+    memory = λ is up. goes.memory is first.up;
+    ready = λ now b there. goes.ready now b (first.ready first.up b there);
+    disk = λ is up now. absurd (both new.down (faulted.disk is) now);
+    cause = cause_then before.faults between.faults after.faults tt result first.cause goes.cause;
+    passes = passes_then before between after (volume_lost result) first.passes goes.passes;
+  }
+
+  pub programs_then : OnOk result (Programs between after) → OnOk result (Programs before after)
+  programs_then = ok_then result (λ programs. record {
+    count = let x = first.passes.counts.programs in let y = programs.count in omega (arith, x, y);
+    spends = λ on some.
+        let s = first.passes.stayed on refl in
+        let falls = s.falls some in
+        let spent = programs.spends s.on (λ none. some (sym s.stops ∙ none)) in
+        omega (arith, falls, spent);
+  })
+
+-- room was made for the group of an address, and then its block was written
+module _ (lba : ℕ) (block : Block) (old mid new : VolumeState) (before between after : State) (back : old.told.mode ≡ Back) (told : mid.told ≡ old.told) where
+  own_group : lba / mid.told.geometry.p ≡ lba / old.told.geometry.p
+  own_group = ap (λ (t : Told). lba / t.geometry.p) told
+
+  table_back : put_first (lba / old.told.geometry.p) lba (room_made old.told.geometry.c (lba / old.told.geometry.p) old.table) ≡ table_written old.told.mode old.told lba old.table
+  table_back = ap (λ (m : Mode). table_written m old.told lba old.table) (sym back)
+
+  backs_back : backs_made old.told.geometry.c (lba / old.told.geometry.p) old.table ≡ backs_written old.told.mode old.told lba old.table
+  backs_back = ap (λ (m : Mode). backs_written m old.told lba old.table) (sym back)
+
+  pub costs_then : (result : Result (Unit {0}) VolumeError) → mid.table ≡ room_made old.told.geometry.c (lba / old.told.geometry.p) old.table → ((a : ℕ) → mid.held a ≡ old.held a) → WritesDisk (backs_made old.told.geometry.c (lba / old.told.geometry.p) old.table) before between (Ok tt)
+      → OnOk result (new.table ≡ put_first (lba / mid.told.geometry.p) lba mid.table) → OnOk result (volume.Holds mid.told (Writes lba block) mid.held new.held) → after.counts.disk_reads ≡ between.counts.disk_reads → after.counts.disk_writes ≡ between.counts.disk_writes
+      → Costs (Writes lba block) old new before after result
+  costs_then result room held backs put holds reads writes = record {
+    table = ok_then result (λ is. is ∙ ap (λ n. put_first n lba mid.table) own_group ∙ ap (λ (t : Table). put_first (lba / old.told.geometry.p) lba t) room ∙ table_back) put;
+    held = ok_then result (λ is. subst (λ (t : Told). volume.Holds t (Writes lba block) old.held new.held) told (subst (λ (f : ℕ → Bool). volume.Holds mid.told (Writes lba block) f new.held) (fun_ext held) is)) holds;
+    disk_writes = every_ok result (subst (λ (n : ℕ). RoseBy n before.counts.disk_writes after.counts.disk_writes) backs_back (subst (λ (n : ℕ). RoseBy (backs_made old.told.geometry.c (lba / old.told.geometry.p) old.table) before.counts.disk_writes n) (sym writes) backs.exact));
+    most_writes = subst (λ (n : ℕ). after.counts.disk_writes ≤ before.counts.disk_writes + n) backs_back (subst (λ (n : ℕ). n ≤ before.counts.disk_writes + backs_made old.told.geometry.c (lba / old.told.geometry.p) old.table) (sym writes) backs.most);
+    most_reads = let x = backs.reads in omega (arith, reads, x);
+  }
+    where
+      every_ok : {P : Type 0} (r : Result (Unit {0}) VolumeError) → P → OnOk r P
+      every_ok (Ok t) p = p
+      every_ok (Err e) p = tt

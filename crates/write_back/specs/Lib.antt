@@ -1,2 +1,3 @@
-pub mod Errors
+pub mod Cleaning
 pub mod Left
+pub mod Writing

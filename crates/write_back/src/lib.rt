@@ -1,15 +1,15 @@
-//! A volume over a cache and a disk that writes to the cache alone.
+//! A volume that writes to its cache, and writes back to the disk later.
 //!
-//! The layer above relies on the clauses of `Volume` and on those of `WriteBack::create` and
-//! `WriteBack::open`. A block that was written is on the flash when the call answers; a block that the
-//! cache doesn't hold is read from the disk. After a fault or a cut the cache is opened again first,
-//! from the media alone.
+//! The layer above relies on the clauses of `Volume`, and on those of `create` and `open`. While a volume
+//! is up its table has exactly the groups with a block that the disk lacks, in the order in which they were
+//! written; the last of them is written back where a write would make one too many, or in an idle step.
 #![tactic(auto)]
 
-mod errors;
-mod opening;
+mod cleaning;
+mod tables;
 #[cfg(test)]
 mod tests;
 mod volume;
+mod writing;
 
 pub use volume::WriteBack;

@@ -1,7 +1,7 @@
-ghost use Rattle.std.specs.Prelude.{◌≡◌, ◌<◌, ℕ, [], false, OnOk, IfOk, Some};
+ghost use Rattle.std.specs.Prelude.{◌≡◌, ◌<◌, [], ℕ, false, OnOk, IfOk, Some};
 ghost use Rattle.std.specs.FinMap.{get};
 ghost use Rattle.ft_base.specs.declared.told.Mode.TheVariants.{Back};
-ghost use Rattle.ft_volume.specs.Volume.{AreAmong, told_for};
+ghost use Rattle.ft_volume.specs.Volume.{told_for};
 ghost use Rattle.cache_model.specs.Cache.{CacheList, Held, held};
 ghost use Rattle.cache_model.specs.Stands.{StandsFor};
 ghost use Rattle.mem_rig.specs.Rig.{state_of};
@@ -12,14 +12,15 @@ ghost use Rattle.write_back.specs.Left as left;
 use crate::WriteBack;
 use ft_base::{Block, Geometry, Outcome, pattern, tag_of, zero_block};
 use ft_media::{Media, Rig};
-use ft_volume::{Options, Volume, VolumeError};
+use ft_volume::{Idled, Options, Volume, VolumeError};
 use mem_rig::MemRig;
 use op_log::OpenError;
 use ssc::Ssc;
 use std::alloc::Global;
 use std::test::Fail;
 
-/// A volume of 64 blocks on erase blocks of 4 pages, with at most two dirty groups.
+/// A volume of 64 blocks on erase blocks of 4 pages, for two dirty groups, of which an idle step leaves
+/// one. Its log has 4 pages.
 fn options() -> Result<Options, Fail>
     ensures { IfOk result (λ options. 5 < options.geometry.size) }
 {
@@ -44,7 +45,6 @@ fn created(alloc: Global, rig: &mut MemRig, options: &Options) -> Result<WriteBa
     requires { FitsOn options.now.geometry (state_of rig.old).contents.shape }
     ensures owns { IfOk result (λ v. IsLeft v (state_of rig.new).contents) }
     ensures told { IfOk result (λ v. (left.state_of v).told ≡ told_for Back options.now) }
-    ensures groups { IfOk result (λ v. AreAmong (left.state_of v).groups []) }
 {
     WriteBack::create(alloc, rig, options)
 }
@@ -60,9 +60,7 @@ fn block_of(lba: u64, tag: u64) -> Block {
 /// The tag that an address reads.
 fn read(volume: &mut WriteBack, rig: &mut MemRig, lba: u64) -> Result<Option<u64>, VolumeError>
     requires { IsLeft volume.old (state_of rig.old).contents }
-    ensures owns { IsLeft volume.new (state_of rig.new).contents }
-    ensures told { (left.state_of volume.new).told ≡ (left.state_of volume.old).told }
-    ensures groups { AreAmong (left.state_of volume.new).groups (left.state_of volume.old).groups }
+    ensures { IsLeft volume.new (state_of rig.new).contents }
 {
     let mut block = zero_block();
     match volume.read(rig, lba, &mut block) {
@@ -71,10 +69,8 @@ fn read(volume: &mut WriteBack, rig: &mut MemRig, lba: u64) -> Result<Option<u64
     }
 }
 
-/// The first write to a volume.
 fn write(volume: &mut WriteBack, rig: &mut MemRig, lba: u64, tag: u64) -> Result<(), VolumeError>
-    requires owns { IsLeft volume.old (state_of rig.old).contents }
-    requires groups { AreAmong (left.state_of volume.old).groups [] }
+    requires { IsLeft volume.old (state_of rig.old).contents }
     ensures owns { IsLeft volume.new (state_of rig.new).contents }
     ensures told { (left.state_of volume.new).told ≡ (left.state_of volume.old).told }
 {
@@ -140,20 +136,12 @@ fn over_clean(
 ) -> Result<WriteBack, Fail>
     requires shape { FitsOn options.now.geometry (state_of rig.old).contents.shape }
     requires lba { lba < options.now.geometry.size }
-    ensures owns { IfOk result (λ v. IsLeft v (state_of rig.new).contents) }
-    ensures groups { IfOk result (λ v. AreAmong (left.state_of v).groups []) }
+    ensures { IfOk result (λ v. IsLeft v (state_of rig.new).contents) }
 {
     let block = block_of(lba, tag);
     put_on_disk(rig, lba, &block)?;
     hold_clean(alloc, rig, &options.geometry, lba, &block)?;
     Ok(WriteBack::open(alloc, rig, options)?)
-}
-
-fn size_of(volume: &WriteBack) -> (u64, Geometry) {
-    (
-        <WriteBack as Volume<MemRig>>::size(volume),
-        <WriteBack as Volume<MemRig>>::geometry(volume),
-    )
 }
 
 fn is_down(volume: &WriteBack) -> bool {
@@ -166,9 +154,7 @@ fn a_volume_reads_what_was_written(rt: HostRuntime) -> Result<(), Fail> {
     let options = options()?;
     let mut rig = fitted(alloc, &options)?;
     let mut volume = created(alloc, &mut rig, &options)?;
-    assert_eq!(rt; size_of(&volume), (64, options.geometry));
-    let tag = read(&mut volume, &mut rig, 5)?;
-    assert_eq!(rt; tag, Some(0));
+    assert_eq!(rt; <WriteBack as Volume<MemRig>>::size(&volume), 64);
     assert_eq!(rt; write(&mut volume, &mut rig, 5, 7), Ok(()));
     assert_eq!(rt; read(&mut volume, &mut rig, 5), Ok(Some(7)));
     assert_eq!(rt; volume.flush(&mut rig), Ok(()));
@@ -176,26 +162,8 @@ fn a_volume_reads_what_was_written(rt: HostRuntime) -> Result<(), Fail> {
     volume.cut(&mut rig, Outcome::Torn);
     assert!(rt; is_down(&volume));
     assert_eq!(rt; read(&mut volume, &mut rig, 5), Ok(Some(7)));
-    assert_eq!(rt; read(&mut volume, &mut rig, 6), Ok(Some(0)));
     assert!(rt; !is_down(&volume));
     assert_eq!(rt; rig.counts().disk_writes, 0);
-    Ok(())
-}
-
-#[test]
-fn addresses_outside_of_the_volume_are_refused(rt: HostRuntime) -> Result<(), Fail> {
-    let alloc = rt.alloc();
-    let options = options()?;
-    let mut rig = fitted(alloc, &options)?;
-    let mut volume = created(alloc, &mut rig, &options)?;
-    let before = rig.counts();
-    let refused = write(&mut volume, &mut rig, u64::MAX, 7);
-    assert_eq!(rt; refused, Err(VolumeError::OutOfVolume));
-    assert_eq!(rt;
-        read(&mut volume, &mut rig, 64),
-        Err(VolumeError::OutOfVolume)
-    );
-    assert_eq!(rt; rig.counts(), before);
     Ok(())
 }
 
@@ -219,9 +187,53 @@ fn a_clean_block_is_read_from_the_flash_and_written_over(rt: HostRuntime) -> Res
     let mut rig = fitted(alloc, &options)?;
     let mut volume = over_clean(alloc, &mut rig, &options, 5, 7)?;
     assert_eq!(rt; read(&mut volume, &mut rig, 5), Ok(Some(7)));
-    assert_eq!(rt; read(&mut volume, &mut rig, 6), Ok(Some(0)));
-    assert_eq!(rt; rig.counts().disk_reads, 1);
+    assert_eq!(rt; rig.counts().disk_reads, 0);
     assert_eq!(rt; write(&mut volume, &mut rig, 5, 9), Ok(()));
     assert_eq!(rt; read(&mut volume, &mut rig, 5), Ok(Some(9)));
+    Ok(())
+}
+
+#[test]
+fn a_missed_block_is_read_from_the_disk_once(rt: HostRuntime) -> Result<(), Fail> {
+    let alloc = rt.alloc();
+    let options = options()?;
+    let mut rig = fitted(alloc, &options)?;
+    let mut volume = created(alloc, &mut rig, &options)?;
+    let tag = read(&mut volume, &mut rig, 6)?;
+    assert_eq!(rt; tag, Some(0));
+    assert_eq!(rt; read(&mut volume, &mut rig, 6), Ok(Some(0)));
+    assert_eq!(rt; rig.counts().disk_reads, 1);
+    Ok(())
+}
+
+#[test]
+fn a_third_group_has_the_first_written_back(rt: HostRuntime) -> Result<(), Fail> {
+    let alloc = rt.alloc();
+    let options = options()?;
+    let mut rig = fitted(alloc, &options)?;
+    let mut volume = created(alloc, &mut rig, &options)?;
+    assert_eq!(rt; write(&mut volume, &mut rig, 0, 7), Ok(()));
+    assert_eq!(rt; write(&mut volume, &mut rig, 4, 8), Ok(()));
+    assert_eq!(rt; rig.counts().disk_writes, 0);
+    assert_eq!(rt; write(&mut volume, &mut rig, 8, 9), Ok(()));
+    assert_eq!(rt; rig.counts().disk_writes, 1);
+    assert_eq!(rt; read(&mut volume, &mut rig, 0), Ok(Some(7)));
+    Ok(())
+}
+
+#[test]
+fn an_idle_step_makes_a_checkpoint_or_writes_a_group_back(rt: HostRuntime) -> Result<(), Fail> {
+    let alloc = rt.alloc();
+    let options = options()?;
+    let mut rig = fitted(alloc, &options)?;
+    let mut volume = created(alloc, &mut rig, &options)?;
+    assert_eq!(rt; volume.idle(&mut rig), Ok(Idled::Nothing));
+    assert_eq!(rt; write(&mut volume, &mut rig, 0, 7), Ok(()));
+    assert_eq!(rt; write(&mut volume, &mut rig, 1, 8), Ok(()));
+    assert_eq!(rt; volume.idle(&mut rig), Ok(Idled::Checkpointed));
+    assert_eq!(rt; volume.idle(&mut rig), Ok(Idled::Nothing));
+    assert_eq!(rt; write(&mut volume, &mut rig, 4, 9), Ok(()));
+    assert_eq!(rt; volume.idle(&mut rig), Ok(Idled::Cleaned));
+    assert_eq!(rt; rig.counts().disk_writes, 2);
     Ok(())
 }

@@ -1,43 +1,39 @@
-ghost use Rattle.std.specs.Prelude.{◌≡◌, ◌≤◌, ◌<◌, ◌/◌, ℕ, length, true, false, OnOk, OnErr, Ok, IfOk, IfErr, IsErrOf};
+ghost use Rattle.std.specs.Prelude.{◌≡◌, ◌<◌, ◌≤◌, ℕ, length, true, false, OnOk, OnErr, Ok, IfOk, IfErr, IsErrOf};
 ghost use Rattle.ft_base.specs.declared.block.Block.{Block};
 ghost use Rattle.ft_base.specs.declared.told.Mode.TheVariants.{Back};
 ghost use Rattle.ft_base.specs.Contents.{HasValue};
 ghost use Rattle.ft_base.specs.PlainDisk.{PlainDisk};
 ghost use Rattle.ft_media.specs.Media.{KeepsReady};
-ghost use Rattle.ft_volume.specs.Opening.{ImageIs, IsNewest, IsOpened, MayOpen, Opens, nothing_held};
 ghost use Rattle.ft_media.specs.Passes.{Passes};
-ghost use Rattle.ft_volume.specs.Volume.{ComesUp, Costs, FaultDowns, Flushes, Goes, HasCause, Programs, Reads, StandFor, WasDone, Writes, told_for, volume_lost};
-ghost use Rattle.cache_model.specs.Cache.{CacheList, with_group};
+ghost use Rattle.ft_volume.specs.Opening.{ImageIs, IsNewest, IsOpened, MayOpen, Opens, nothing_held};
+ghost use Rattle.ft_volume.specs.Volume.{ComesUp, Costs, FaultDowns, Goes, HasCause, Idles, StandFor, WasDone, idled_of, told_for, volume_lost};
+ghost use Rattle.cache_model.specs.Cache.{CacheList};
 ghost use Rattle.cache_model.specs.Loading.{load};
 ghost use Rattle.cache_model.specs.Stands.{StandsFor};
 ghost use Rattle.op_log.specs.Log.{FitsOn};
 ghost use Rattle.op_log.specs.Refusals.{open_failed, open_lost};
-ghost use Rattle.write_back.specs.Errors.{CausedBy, IsOpenRefusal, disk_failed};
-ghost use Rattle.dirty_table.specs.Groups.{groups, touched};
 ghost use Rattle.ssc.specs.CacheState.{entries_of};
-ghost use Rattle.write_back.specs.Left.{IsLeft, IsReserved, IsTable, IsVolume, state_of};
+ghost use Rattle.cached_disk.specs.Errors.{CausedBy, IsOpenRefusal, disk_failed};
+ghost use Rattle.cached_disk.specs.Kept.{IsVolume, Loads};
+ghost use Rattle.cached_disk.specs.Kept as kept;
+ghost use Rattle.write_back.specs.Left.{IsLeft, state_of};
 ghost use Rattle.write_back.specs.Left as left;
 
-use crate::errors::{cache_error, disk_error, open_error};
-use crate::opening::open_with_table;
+use crate::tables::dirty_table_of;
+use cached_disk::CachedDisk;
 use dirty_table::DirtyTable;
-use ft_base::{Block, Geometry, Outcome};
+use ft_base::{Block, Outcome};
 use ft_media::{Media, Rig};
-use ft_volume::{Options, Volume, VolumeError};
+use ft_volume::{Idled, Mode, Options, Volume, VolumeError};
 use op_log::OpenError;
-use ssc::Ssc;
-use std::alloc::{AllocError, Global};
+use std::alloc::Global;
 
-/// A cache over flash before a disk, which takes all writes.
+/// A cache over flash before a disk, which takes all writes and writes them back to the disk later.
 #[derive(Drop)]
 pub struct WriteBack {
-    alloc: Global,
-    options: Options,
-    cache: Ssc,
+    pub(crate) disk: CachedDisk,
     // The groups with a block that the disk lacks.
-    dirty: DirtyTable,
-    // Power was cut since the cache was used last.
-    cut: bool,
+    pub(crate) dirty: DirtyTable,
 }
 
 impl WriteBack {
@@ -60,21 +56,12 @@ impl WriteBack {
         ensures cause { HasCause (R.state rig.old).faults (R.state rig.new).faults result }
         ensures passes { Passes (R.state rig.old) (R.state rig.new) (volume_lost result) }
     {
-        if let Err(error) = Ssc::format(rig, &options.geometry) {
-            return Err(cache_error(error));
-        }
-        match open_with_table(alloc, rig, &options.geometry) {
-            Ok(opened) => {
-                let (cache, dirty) = opened;
-                Ok(WriteBack {
-                    alloc,
-                    options: *options,
-                    cache,
-                    dirty,
-                    cut: false,
-                })
-            }
-            Err(error) => Err(open_error(error)),
+        match CachedDisk::create(alloc, rig, options, Mode::Back) {
+            Ok(disk) => match dirty_table_of(&disk) {
+                Ok(dirty) => Ok(WriteBack { disk, dirty }),
+                Err(_) => Err(VolumeError::OutOfMemory),
+            },
+            Err(error) => Err(error),
         }
     }
 
@@ -96,7 +83,7 @@ impl WriteBack {
         ensures stands { IfOk result (λ v. (s : CacheList) → StandsFor options.now.geometry (R.state rig.old).contents.flash.page s
             → (d : PlainDisk) → IsVolume options.now.geometry s (R.state rig.old).contents d → StandFor (ImageIs (told_for Back options.now)) (R.state rig.new).contents d) }
         // Ok comes only where the flash stands for a list.
-        ensures loads { IfOk result (λ v. load options.now.geometry (R.state rig.old).contents.flash.page ≡ Ok (entries_of v.cache)) }
+        ensures loads { IfOk result (λ v. load options.now.geometry (R.state rig.old).contents.flash.page ≡ Ok (entries_of v.disk.cache)) }
         ensures refused { IfErr result (λ e. IsOpenRefusal options.now.geometry e (load options.now.geometry (R.state rig.old).contents.flash.page)) }
         ensures ready { OnOk result (KeepsReady (R.state rig.old) (R.state rig.new)) }
         ensures disk_reads { (R.state rig.new).counts.disk_reads ≡ (R.state rig.old).counts.disk_reads }
@@ -104,140 +91,62 @@ impl WriteBack {
         ensures cause { CausedBy (R.state rig.old).faults (R.state rig.new).faults (open_failed result) (disk_failed result) (open_lost result) }
         ensures passes { Passes (R.state rig.old) (R.state rig.new) (open_lost result) }
     {
-        let (cache, dirty) = open_with_table(alloc, rig, &options.geometry)?;
-        Ok(WriteBack {
-            alloc,
-            options: *options,
-            cache,
-            dirty,
-            cut: false,
-        })
+        let disk = CachedDisk::open(alloc, rig, options, Mode::Back)?;
+        match dirty_table_of(&disk) {
+            Ok(dirty) => Ok(WriteBack { disk, dirty }),
+            Err(_) => Err(OpenError::OutOfMemory),
+        }
     }
 
-    /// Opens the cache again where it was cut off or given up, and makes the table of its dirty groups
-    /// anew: a write that was lost may have noted its group.
+    /// Opens the cache again where it was given up, and makes the table of its dirty groups anew: a write
+    /// that was lost may have noted its group.
     fn bring_up<M: Media>(&mut self, media: &mut M) -> Result<(), VolumeError>
         requires { IsLeft self.old (M.state media.old).contents }
         ensures left { IsLeft self.new (M.state media.new).contents }
-        ensures options { self.new.options ≡ self.old.options }
-        ensures comes { ComesUp ImageIs (state_of self.old) (state_of self.new) (M.state media.old) (M.state media.new) result }
-        ensures up { OnOk result (left.is_down self.new ≡ false) }
+        ensures made { (self.new.disk.options ≡ self.old.disk.options) × (self.new.disk.mode ≡ self.old.disk.mode) }
+        ensures comes { ComesUp ImageIs Loads (state_of self.old) (state_of self.new) (M.state media.old) (M.state media.new) result }
+        ensures up { OnOk result (kept.is_down self.new.disk ≡ false) }
     {
-        if !self.is_given_up() {
+        if !self.disk.is_down() {
             return Ok(());
         }
-        match open_with_table(self.alloc, media, &self.options.geometry) {
-            Ok(opened) => {
-                let (cache, dirty) = opened;
-                self.cache = cache;
-                self.dirty = dirty;
-                self.cut = false;
-                Ok(())
-            }
-            Err(error) => Err(open_error(error)),
-        }
-    }
-
-    fn is_given_up(&self) -> bool
-        ensures { result ≡ left.is_down self.now }
-    {
-        self.cut || self.cache.is_stopped()
-    }
-
-    /// Reads a block from the cache, or from the disk where the cache doesn't hold it.
-    fn read_up<M: Media>(
-        &mut self,
-        media: &mut M,
-        lba: u64,
-        block: &mut Block,
-    ) -> Result<(), VolumeError>
-        requires left { IsLeft self.old (M.state media.old).contents }
-        requires up { left.is_down self.old ≡ false }
-        requires lba { lba < self.old.options.geometry.size }
-        ensures left { IsLeft self.new (M.state media.new).contents }
-        ensures was { (base : PlainDisk) → StandFor (ImageIs (state_of self.old).told) (M.state media.old).contents base
-            → WasDone ImageIs (Reads lba block.new) (state_of self.old) (state_of self.new) (M.state media.new).contents result base }
-        ensures goes { Goes (state_of self.old) (state_of self.new) (M.state media.old) (M.state media.new) result }
-        ensures costs { Costs (Reads lba block.new) (state_of self.old) (state_of self.new) (M.state media.old) (M.state media.new) }
-        ensures buffer { OnErr result (block.new ≡ block.old) }
-        ensures within { IsErrOf result VolumeError.OutOfVolume → ⊥ }
-    {
-        match self.cache.read(media, lba, block) {
-            Ok(true) => Ok(()),
-            Ok(false) => match media.read_block(lba, block) {
-                Ok(()) => Ok(()),
-                Err(error) => Err(disk_error(error)),
+        match self.disk.bring_up(media) {
+            Ok(()) => match dirty_table_of(&self.disk) {
+                Ok(dirty) => {
+                    self.dirty = dirty;
+                    Ok(())
+                }
+                Err(_) => {
+                    self.disk.down = true;
+                    Err(VolumeError::OutOfMemory)
+                }
             },
-            Err(error) => Err(cache_error(error)),
+            Err(error) => Err(error),
         }
     }
 
-    /// Writes a block to the cache.
-    fn write_up<M: Media>(
-        &mut self,
-        media: &mut M,
-        lba: u64,
-        block: &Block,
-    ) -> Result<(), VolumeError>
+    /// Writes the oldest group back where more are dirty than may stay so; else makes a checkpoint where
+    /// that is due.
+    fn idle_up<M: Media>(&mut self, media: &mut M) -> Result<Idled, VolumeError>
         requires left { IsLeft self.old (M.state media.old).contents }
-        requires up { left.is_down self.old ≡ false }
-        requires lba { lba < self.old.options.geometry.size }
-        requires groups { length (with_group (lba / self.old.options.geometry.p) self.old.dirty.order) ≤ self.old.options.geometry.c }
+        requires up { kept.is_down self.old.disk ≡ false }
         ensures left { IsLeft self.new (M.state media.new).contents }
         ensures was { (base : PlainDisk) → StandFor (ImageIs (state_of self.old).told) (M.state media.old).contents base
-            → WasDone ImageIs (Writes lba block.now) (state_of self.old) (state_of self.new) (M.state media.new).contents result base }
+            → WasDone ImageIs Idles (state_of self.old) (state_of self.new) (M.state media.new).contents result base }
         ensures goes { Goes (state_of self.old) (state_of self.new) (M.state media.old) (M.state media.new) result }
-        ensures faulted { FaultDowns result (left.is_down self.new) }
-        ensures costs { Costs (Writes lba block.now) (state_of self.old) (state_of self.new) (M.state media.old) (M.state media.new) }
-        ensures programs { OnOk result (Programs (M.state media.old) (M.state media.new)) }
+        ensures faulted { FaultDowns result (kept.is_down self.new.disk) }
+        ensures costs { Costs Idles (state_of self.old) (state_of self.new) (M.state media.old) (M.state media.new) result }
+        ensures idled { IfOk result (λ idled. idled ≡ idled_of (state_of self.old).told (length (state_of self.old).table) (state_of self.old).log_room) }
         ensures within { IsErrOf result VolumeError.OutOfVolume → ⊥ }
     {
-        let geometry = self.options.geometry;
-        if prepare(&mut self.cache, &mut self.dirty, &geometry, lba).is_err() {
-            return Err(VolumeError::OutOfMemory);
+        if self.dirty.len() <= self.disk.options.dirty {
+            return self.disk.checkpoint_if_due(media);
         }
-        match self.cache.write_dirty(media, lba, block) {
-            Ok(()) => Ok(()),
-            Err(error) => Err(cache_error(error)),
-        }
-    }
-
-    /// Puts all that the cache buffers on the flash.
-    fn flush_up<M: Media>(&mut self, media: &mut M) -> Result<(), VolumeError>
-        requires left { IsLeft self.old (M.state media.old).contents }
-        requires up { left.is_down self.old ≡ false }
-        ensures left { IsLeft self.new (M.state media.new).contents }
-        ensures was { (base : PlainDisk) → StandFor (ImageIs (state_of self.old).told) (M.state media.old).contents base
-            → WasDone ImageIs Flushes (state_of self.old) (state_of self.new) (M.state media.new).contents result base }
-        ensures goes { Goes (state_of self.old) (state_of self.new) (M.state media.old) (M.state media.new) result }
-        ensures refused { OnErr result (left.is_down self.new ≡ true) }
-        ensures costs { Costs Flushes (state_of self.old) (state_of self.new) (M.state media.old) (M.state media.new) }
-        ensures memory { IsErrOf result VolumeError.OutOfMemory → ⊥ }
-        ensures within { IsErrOf result VolumeError.OutOfVolume → ⊥ }
-    {
-        match self.cache.commit(media) {
-            Ok(()) => Ok(()),
-            Err(error) => Err(cache_error(error)),
+        match self.write_oldest_back(media) {
+            Ok(()) => Ok(Idled::Cleaned),
+            Err(error) => Err(error),
         }
     }
-}
-
-/// Takes the memory of the next write, and notes its group. Refused, the table is as before.
-fn prepare(
-    cache: &mut Ssc,
-    dirty: &mut DirtyTable,
-    geometry: &Geometry,
-    lba: u64,
-) -> Result<(), AllocError>
-    requires table { IsTable geometry.now dirty.old }
-    requires groups { length (with_group (lba / geometry.now.p) dirty.old.order) ≤ geometry.now.c }
-    ensures cache { IsReserved cache.old cache.new }
-    ensures ready { OnOk result (cache.new.ready ≡ true) }
-    ensures noted { OnOk result (dirty.new ≡ groups (touched (lba / geometry.now.p) dirty.old.order) dirty.old.limit) }
-    ensures refused { OnErr result (dirty.new ≡ dirty.old) }
-{
-    cache.reserve()?;
-    dirty.touch(lba / geometry.p() as u64)
 }
 
 impl<R: Rig> Volume<R> for WriteBack {
@@ -249,34 +158,34 @@ impl<R: Rig> Volume<R> for WriteBack {
 
     ghost stands = { λ told x d. ImageIs told x d };
 
+    ghost loads = { λ told page m. kept.Loads told page m };
+
     ghost down_owes_nothing = { λ v contents owned down. refl };
 
     ghost write_owes_nothing = { λ v contents owned at_write. refl };
 
+    ghost can_be_loaded = { λ v contents owned. (owned.disk.beneath.flash.loaded, owned.disk.beneath.flash.loads) };
+
     fn size(&self) -> u64 {
-        self.options.geometry.size()
+        self.disk.options.geometry.size()
     }
 
     fn is_down(&self) -> bool {
-        self.is_given_up()
-    }
-
-    fn geometry(&self) -> Geometry {
-        self.options.geometry
+        self.disk.is_down()
     }
 
     fn read(&mut self, rig: &mut R, lba: u64, block: &mut Block) -> Result<(), VolumeError> {
-        if lba >= self.options.geometry.size() {
+        if lba >= self.disk.options.geometry.size() {
             return Err(VolumeError::OutOfVolume);
         }
         match self.bring_up(rig) {
-            Ok(()) => self.read_up(rig, lba, block),
+            Ok(()) => self.disk.read(rig, lba, block),
             Err(error) => Err(error),
         }
     }
 
     fn write(&mut self, rig: &mut R, lba: u64, block: &Block) -> Result<(), VolumeError> {
-        if lba >= self.options.geometry.size() {
+        if lba >= self.disk.options.geometry.size() {
             return Err(VolumeError::OutOfVolume);
         }
         match self.bring_up(rig) {
@@ -287,14 +196,19 @@ impl<R: Rig> Volume<R> for WriteBack {
 
     fn flush(&mut self, rig: &mut R) -> Result<(), VolumeError> {
         match self.bring_up(rig) {
-            Ok(()) => self.flush_up(rig),
+            Ok(()) => self.disk.flush(rig),
+            Err(error) => Err(error),
+        }
+    }
+
+    fn idle(&mut self, rig: &mut R) -> Result<Idled, VolumeError> {
+        match self.bring_up(rig) {
+            Ok(()) => self.idle_up(rig),
             Err(error) => Err(error),
         }
     }
 
     fn cut(&mut self, rig: &mut R, outcome: Outcome) {
-        rig.cut(outcome);
-        rig.power_on();
-        self.cut = true;
+        self.disk.cut(rig, outcome);
     }
 }

@@ -1,4 +1,4 @@
-use Rattle.std.proofs.Common.{refl, rules, ◌∙◌}
+use Rattle.std.proofs.Common.{◌∙◌}
 use Rattle.std.specs.FinMap.{empty}
 use Rattle.cache_model.specs.Cache.{written_clean}
 use Rattle.mem_rig.specs.Rig.{state_of}

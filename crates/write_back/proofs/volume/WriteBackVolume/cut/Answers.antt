@@ -1,11 +1,10 @@
-use Rattle.std.proofs.Common.{refl}
-use Rattle.ft_base.specs.declared.told.Mode.TheVariants.{Back}
-use Rattle.ft_volume.specs.Volume.{told_for}
-use Rattle.write_back.proofs.OpenedLemmas.{left_off, one_off}
+use Rattle.std.proofs.Common.{sym, subst}
+use Rattle.ft_volume.specs.Opening.{ImageIs}
+use Rattle.ft_volume.specs.Volume.{StandForOneOf}
+use Rattle.cached_disk.specs.declared.disk.CachedDisk.{CachedDisk}
+use Rattle.cached_disk.specs.Kept.{told_of}
 use Rattle.write_back.proofs.volume.WriteBackVolume.cut.Goals as goal
 
-pub returns-clause-owns : goal.returns-clause-owns
-returns-clause-owns g c = left_off c.args.self.now (g.R.Media.state c.args.rig.now) (g.R.Media.state c.cut.new.self) (g.R.Media.state c.power_on.new.self) c.args.outcome c.requires c.cut.ensures c.power_on.ensures
-
 pub returns-clause-disk : goal.returns-clause-disk
-returns-clause-disk g c = one_off c.args.self.now (g.R.Media.state c.args.rig.now) (g.R.Media.state c.cut.new.self) (g.R.Media.state c.power_on.new.self) c.args.outcome c.requires c.cut.ensures c.power_on.ensures (told_for Back c.args.self.now.options)
+returns-clause-disk g c = λ bases any.
+    subst (λ (v : CachedDisk). StandForOneOf (ImageIs (told_of v)) (g.R.Media.state c.cut.new.rig).contents bases) (sym c.cut.ensures.same) (c.cut.ensures.disk bases any)

@@ -1,0 +1,142 @@
+-- A volume that comes up, with a table that is made of its cache.
+use Rattle.std.proofs.Common.{rules, arith, Ok, ◌≡◌, ◌⊎◌, ℕ, ◌+◌, ◌/◌, ◌≤◌, ◌<◌, nat_lt, lt-ltb, Some, Bool, true, false, if◌then◌else◌, List, [], ◌++◌, length, get_or, map, inl, refl, sym, ◌∙◌, ap, subst}
+use Rattle.std.specs.Prelude.{IsTrue}
+use Rattle.std.specs.FinMap.{get}
+use Rattle.ft_base.specs.declared.geometry.Geometry.{Geometry}
+use Rattle.ft_base.specs.Contents.{Contents}
+use Rattle.ft_base.specs.Count.{RoseBy}
+use Rattle.ft_base.specs.Table.{goes_back, last_size, table_of, without_last}
+use Rattle.ft_base.specs.declared.told.Mode.{Mode}
+use Rattle.ft_base.specs.declared.told.Mode.TheVariants.{Back}
+use Rattle.ft_media.specs.State.{State}
+use Rattle.ft_volume.specs.Opening.{ImageIs}
+use Rattle.ft_volume.specs.Volume.{ComesUp, Costs, Idles, VolumeState, backs_of}
+use Rattle.ft_volume.specs.declared.volume.Idled.TheVariants.{Cleaned}
+use Rattle.ft_volume.proofs.OpenedLemmas.{opened_up}
+use Rattle.cache_model.specs.Cache.{CacheList, Held, dirty_between}
+use Rattle.cache_model.specs.Entries.{IsMap, each_once}
+use Rattle.merge_engine.proofs.TakeLemmas.{agree_map}
+use Rattle.dirty_table.specs.Groups.{Groups, groups, has, touched}
+use Rattle.ssc.specs.CacheState.{Holds, entries_of}
+use Rattle.cached_disk.specs.declared.disk.CachedDisk.{CachedDisk}
+use Rattle.cached_disk.specs.Kept.{IsOrderOf, Loads, dirty_of, is_down, waiting_in}
+use Rattle.cached_disk.specs.Kept as kept
+use Rattle.cached_disk.proofs.AddressLemmas.{IsAscending, holds_lbas, holds_within, lbas_ascending, lbas_between}
+use Rattle.cached_disk.proofs.HeldLemmas.{one_held}
+use Rattle.cached_disk.proofs.OpenedLemmas.{given_up_left}
+use Rattle.write_back.specs.declared.volume.WriteBack.{WriteBack}
+use Rattle.write_back.specs.Left.{IsExact, IsLeft, IsTable, WritesDisk, state_of}
+use Rattle.write_back.proofs.TableLemmas.{IsTableSoFar, few_lbas, length_waiting, so_far_exact, so_far_more, so_far_none, so_far_order, so_far_room}
+
+-- ---- the table of a cache
+
+-- the table is that of the first so many addresses
+pub record IsMade (g : Geometry) (lbas : List ℕ) (i : ℕ) (table : Groups) : Type 0 where
+  pub limit : table.limit ≡ g.c
+  pub so_far : IsTableSoFar g.p lbas i table.order
+
+pub made_none : (g : Geometry) (lbas : List ℕ) (table : Groups) → table ≡ groups [] g.c → IsMade g lbas 0 table
+made_none g lbas table is = subst (λ (t : Groups). IsMade g lbas 0 t) (sym is) (record { limit = refl; so_far = so_far_none g.p lbas 0 [] refl refl })
+
+module _ (v : CachedDisk) (over : (contents : Contents) × kept.IsLeft v contents) (up : is_down v ≡ false) where
+  abbrev held : CacheList
+  held = over.1.held
+
+  holds : Holds v.cache over.0 held
+  holds = (over.1.up up).holds
+
+  inside : (a : ℕ) (h : Held) → get held a ≡ Some h → a < v.options.geometry.size
+  inside a h at = subst (λ (g : Geometry). a < g.size) over.1.own (holds_within v.cache over.0 held holds a h at)
+
+  -- what the cache lists behind nothing
+  pub listed : (lbas out before : List ℕ) (n : ℕ) → lbas ≡ out → before ≡ [] → n ≡ v.options.geometry.size → ((contents : Contents) (s : CacheList) → Holds v.cache contents s → out ≡ before ++ dirty_between 0 n s) → lbas ≡ dirty_of v
+  listed lbas out before n is none all done =
+      is
+      ∙ done over.0 held holds
+      ∙ ap (λ (l : List ℕ). l ++ dirty_between 0 n held) none
+      ∙ ap (λ (k : ℕ). dirty_between 0 k held) all
+      ∙ lbas_between held v.options.geometry.size inside
+      ∙ sym (holds_lbas v.cache over.0 held holds)
+
+  module _ (lbas : List ℕ) (is : lbas ≡ dirty_of v) where
+    ascends : IsAscending lbas
+    ascends = subst (λ (l : List ℕ). IsAscending l) (sym (is ∙ holds_lbas v.cache over.0 held holds)) (lbas_ascending held)
+
+    few : length (each_once (map (λ a. a / v.options.geometry.p) lbas)) ≤ v.options.geometry.c
+    few =
+        let own : IsMap v.options.geometry (entries_of v.cache) = subst (λ (g : Geometry). IsMap g (entries_of v.cache)) over.1.own (agree_map v.cache.parts over.0 holds.agree) in
+        subst (λ (l : List ℕ). length (each_once (map (λ a. a / v.options.geometry.p) l)) ≤ v.options.geometry.c) (sym is) (few_lbas v.options.geometry (entries_of v.cache) own)
+
+    module _ (i : ℕ) (table : Groups) (made : IsMade v.options.geometry lbas i table) where
+      -- there is room for the group of the next address
+      pub made_room : i < length lbas → (p : ℕ) → p ≡ v.options.geometry.p → IsTrue (has (get_or lbas i 0 / p) table.order) ⊎ (length table.order < table.limit)
+      made_room within p own =
+          subst (λ (q : ℕ). IsTrue (has (get_or lbas i 0 / q) table.order) ⊎ (length table.order < table.limit)) (sym own)
+          (subst (λ (c : ℕ). IsTrue (has (get_or lbas i 0 / v.options.geometry.p) table.order) ⊎ (length table.order < c)) (sym made.limit)
+          (so_far_room v.options.geometry.p lbas i table.order made.so_far v.options.geometry.c within few))
+
+      pub made_more : i < length lbas → (p : ℕ) → p ≡ v.options.geometry.p → (new : Groups) → new ≡ groups (touched (get_or lbas i 0 / p) table.order) table.limit → IsMade v.options.geometry lbas (i + 1) new
+      made_more within p own new is_new =
+          subst (λ (t : Groups). IsMade v.options.geometry lbas (i + 1) t) (sym (is_new ∙ ap (λ (q : ℕ). groups (touched (get_or lbas i 0 / q) table.order) table.limit) own))
+          (record { limit = made.limit; so_far = so_far_more v.options.geometry.p lbas i table.order ascends within made.so_far })
+
+      -- and at the end it is the table of the cache
+      pub made_exact : length lbas ≤ i → IsExact v.options.geometry.p table.order (dirty_of v)
+      made_exact past = subst (λ (l : List ℕ). IsExact v.options.geometry.p table.order l) is (so_far_exact v.options.geometry.p lbas i table.order made.so_far past)
+
+      pub made_order : length lbas ≤ i → IsOrderOf table.order v
+      made_order past = subst (λ (l : List ℕ). waiting_in v.options.geometry.p table.order l ≡ table_of v.options.geometry.p [] l) is (so_far_order v.options.geometry.p lbas i table.order made.so_far past)
+
+pub made_table : (g : Geometry) (lbas : List ℕ) (i : ℕ) (table : Groups) → IsMade g lbas i table → IsTable g table
+made_table g lbas i table made = record { limit = made.limit; apart = made.so_far.apart }
+
+-- ---- it comes up
+
+-- it is up already
+pub stays_up : (v : WriteBack) (state : State) → IsLeft v state.contents → kept.is_down v.disk ≡ false → ComesUp {T = Unit {0}} ImageIs Loads (state_of v) (state_of v) state state (Ok tt)
+stays_up v state left up = record {
+  told = refl;
+  owed = refl;
+  same = λ was. (refl, refl);
+  up = up;
+  opens = λ m loads. sym (opened_up (state_of v) m up);
+  refused = tt;
+  disk_reads = refl;
+  disk_writes = refl;
+  fixed = one_held v.disk state.contents left.disk.held left.disk.own (left.disk.up up);
+  ready = λ b there. there;
+  within = search rules;
+  cause = search rules;
+  passes = search rules;
+}
+
+-- the memory of its table was refused, so it is given up again
+pub given_up : (v : CachedDisk) (table : Groups) (contents : Contents) → kept.IsLeft v contents → v.mode ≡ Back → IsTable v.options.geometry table → IsLeft (record { disk = record v { down = true }; dirty = table }) contents
+given_up v table contents left back is = record {
+  disk = given_up_left v contents left;
+  mode = back;
+  table = is;
+  exact = λ up. absurd (let no : true ≡ false = up in cc);
+}
+
+-- ---- an idle step that writes a group back
+
+-- more groups are dirty than may stay so
+pub goes_over : (v : WriteBack) → v.disk.mode ≡ Back → v.disk.options.dirty < length v.dirty.order → goes_back (state_of v).told.mode (state_of v).told.dirty (length (state_of v).table) ≡ true
+goes_over v back over =
+    ap (λ (m : Mode). goes_back m v.disk.options.dirty (length (state_of v).table)) back
+    ∙ ap (λ (n : ℕ). nat_lt v.disk.options.dirty n) (length_waiting v.disk.options.geometry.p v.dirty.order (dirty_of v.disk))
+    ∙ lt-ltb v.disk.options.dirty (length v.dirty.order) over
+
+pub cleaned_costs : (old new : VolumeState) (before after : State) → goes_back old.told.mode old.told.dirty (length old.table) ≡ true → new.table ≡ without_last old.table → ((a : ℕ) → new.held a ≡ old.held a)
+    → WritesDisk (last_size old.table) before after (Ok tt) → Costs Idles old new before after (Ok Cleaned)
+cleaned_costs old new before after goes table same writes = record {
+  table = table ∙ sym (ap (λ (b : Bool). if b then without_last old.table else old.table) goes);
+  held = record { own = λ a is. absurd is; only = λ a there. inl (sym (same a) ∙ there); stays = λ groups lie a was. same a ∙ was };
+  disk_writes = subst (λ (n : ℕ). RoseBy n before.counts.disk_writes after.counts.disk_writes) (sym back) writes.exact;
+  most_writes = let most = writes.most in omega (arith, most, back);
+  most_reads = let reads = writes.reads in omega (arith, reads);
+}
+  where
+    back : backs_of Idles old.told old.table ≡ last_size old.table
+    back = ap (λ (b : Bool). if b then last_size old.table else 0) goes

@@ -1,0 +1,77 @@
+use Rattle.std.proofs.Common.{◌≡◌, ℕ, ◌<◌, true, Err, List, length, rules, sym, ◌∙◌, subst}
+use Rattle.ft_volume.specs.declared.options.Options.{Options}
+use Rattle.cached_disk.specs.Kept.{dirty_of}
+use Rattle.write_back.specs.Left.{in_group}
+use Rattle.write_back.specs.Cleaning.{is_among}
+use Rattle.write_back.proofs.PartLemmas.{Answer, goes_in, same_then}
+use Rattle.write_back.proofs.CopyLemmas.{dirty_within}
+use Rattle.write_back.proofs.CleaningLemmas.{back_cleaned, back_refused, back_whole, flush_failed, group_among}
+use Rattle.write_back.proofs.cleaning.write_group_back.Goals as goal
+
+pub copy_blocks-requires-clause-dirty : goal.copy_blocks-requires-clause-dirty
+copy_blocks-requires-clause-dirty g c =
+    let v = c.args.disk.now in
+    group_among v.options.geometry.p c.args.group (dirty_of v) c.as_slice.result.now c.in-Ok.lbas.items c.as_slice.ensures.value c.in-Ok.ensures
+
+pub returns-in_err-flush_copies : goal.returns-in_err-flush_copies
+returns-in_err-flush_copies g c =
+    let v = c.args.disk.now in
+    let w = c.flush_copies.new.disk in
+    let before = g.M.Media.state c.args.media.now in
+    let after = g.M.Media.state c.flush_copies.new.media in
+    let result : Answer = c.from_residual-in_err-flush_copies.result in
+    let is : result ≡ Err c.in_err-flush_copies.field-0.0 = search rules in
+    let whole = flush_failed v c.copy_blocks.new.disk w before (g.M.Media.state c.copy_blocks.new.media) after c.as_slice.result.now c.in-Ok.lbas.items (in_group v.options.geometry.p c.args.group (dirty_of v)) c.as_slice.ensures.value c.in-Ok.ensures
+    c.in_ok-copy_blocks.ensures.proceeds c.in_err-flush_copies.field-0.0 result is c.in_err-flush_copies.ensures.proceeds in
+    record {
+      left = whole.left;
+      stands = whole.stands;
+      made = (whole.options, whole.mode);
+      ready = whole.reserved;
+      cleaned = search rules;
+      dirty = search rules;
+      held = whole.held;
+      goes = λ was is. goes_in was is v w before after result whole.goes;
+      faulted = whole.faulted;
+      writes = whole.writes;
+      within = whole.within;
+    }
+
+pub clean_blocks-requires-clause-lbas : goal.clean_blocks-requires-clause-lbas
+clean_blocks-requires-clause-lbas g c = λ a among.
+    let v = c.args.disk.now in
+    let left = c.requires.left in
+    let dirty = group_among v.options.geometry.p c.args.group (dirty_of v) c.as_slice-2.result.now c.in-Ok.lbas.items c.as_slice-2.ensures.value c.in-Ok.ensures a among in
+    subst (λ (o : Options). a < o.geometry.size) (sym (c.in_ok-flush_copies.ensures.proceeds.options ∙ c.in_ok-copy_blocks.ensures.proceeds.options))
+    (dirty_within v (g.M.Media.state c.args.media.now).contents left.held (left.up c.requires.up) left.own a dirty)
+
+pub clean_blocks-requires-clause-copied : goal.clean_blocks-requires-clause-copied
+clean_blocks-requires-clause-copied g c = λ a among.
+    let same : c.as_slice-2.result.now ≡ c.as_slice.result.now = c.as_slice-2.ensures.value ∙ sym c.as_slice.ensures.value in
+    c.in_ok-flush_copies.ensures.copied a (c.in_ok-copy_blocks.ensures.copied a (subst (λ (l : List ℕ). is_among l a ≡ true) same among))
+
+pub returns : goal.returns
+returns g c =
+    let v = c.args.disk.now in
+    let copied = c.copy_blocks.new.disk in
+    let flushed = c.flush_copies.new.disk in
+    let w = c.clean_blocks.new.disk in
+    let before = g.M.Media.state c.args.media.now in
+    let after = g.M.Media.state c.clean_blocks.new.media in
+    let lbas = in_group v.options.geometry.p c.args.group (dirty_of v) in
+    let whole = back_whole v copied flushed before (g.M.Media.state c.copy_blocks.new.media) (g.M.Media.state c.flush_copies.new.media) c.as_slice.result.now c.in-Ok.lbas.items lbas c.as_slice.ensures.value c.in-Ok.ensures
+    c.in_ok-copy_blocks.ensures.proceeds c.in_ok-flush_copies.ensures.proceeds w after c.clean_blocks.result c.clean_blocks.ensures.proceeds in
+    record {
+      left = whole.left;
+      stands = whole.stands;
+      made = (whole.options, whole.mode);
+      ready = whole.reserved;
+      cleaned = back_cleaned (length lbas) v flushed w before after c.clean_blocks.result v.options.geometry.p c.args.group c.as_slice-2.result.now c.in-Ok.lbas.items c.requires.left c.requires.up
+          (same_then v copied flushed c.copy_blocks.ensures.same c.flush_copies.ensures.same) c.as_slice-2.ensures.value c.in-Ok.ensures whole c.clean_blocks.ensures.cleaned;
+      dirty = back_refused v w c.clean_blocks.result c.clean_blocks.ensures.refused;
+      held = whole.held;
+      goes = λ was is. goes_in was is v w before after c.clean_blocks.result whole.goes;
+      faulted = whole.faulted;
+      writes = whole.writes;
+      within = whole.within;
+    }

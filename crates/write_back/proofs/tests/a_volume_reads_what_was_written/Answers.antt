@@ -1,6 +1,0 @@
-use Rattle.std.proofs.Common.{[]}
-use Rattle.ft_volume.proofs.GroupLemmas.{among_then}
-use Rattle.write_back.proofs.tests.a_volume_reads_what_was_written.Goals as goal
-
-pub write-requires-clause-groups : goal.write-requires-clause-groups
-write-requires-clause-groups g c = among_then c.read.new.volume.dirty.order c.in_ok-volume.volume.dirty.order [] c.read.ensures.groups c.in_ok-volume.ensures.groups

@@ -1,0 +1,42 @@
+-- What the parts of a write-back leave.
+use Rattle.std.specs.Prelude.{◌≡◌, ◌==◌, ℕ, Bool, false, List, [], Some, Result, IsErrOf}
+use Rattle.std.specs.List.{list_any}
+use Rattle.std.specs.FinMap.{get}
+use Rattle.std.specs.Option.{is_some}
+use Rattle.ft_base.specs.Contents.{Contents}
+use Rattle.ft_base.specs.PlainDisk.{PlainDisk}
+use Rattle.ft_media.specs.State.{State}
+use Rattle.ft_volume.specs.Opening.{ImageIs}
+use Rattle.ft_volume.specs.Volume.{FaultDowns, Goes, StandFor}
+use Rattle.ft_volume.specs.declared.volume.VolumeError.{VolumeError}
+use Rattle.ft_volume.specs.declared.volume.VolumeError.TheVariants.{OutOfVolume}
+use Rattle.cache_model.specs.Cache.{CacheList, Held}
+use Rattle.ssc.specs.CacheState.{Holds, entries_of}
+use Rattle.cached_disk.specs.declared.disk.CachedDisk.{CachedDisk}
+use Rattle.cached_disk.specs.Kept.{IsLeft, is_down, state_in, told_of}
+use Rattle.write_back.specs.Left.{WritesDisk}
+
+-- the address is one of these
+abbrev pub is_among : List ℕ → ℕ → Bool
+is_among lbas a = list_any (λ k. k == a) lbas
+
+-- the newest block that the disk has at the address is the one that is held
+abbrev pub IsOnDisk : CachedDisk → Contents → ℕ → Type 0
+IsOnDisk v contents a = (s : CacheList) → Holds v.cache contents s → (h : Held) → get s a ≡ Some h → (contents.disk a).newest ≡ h.block
+
+-- no block of the disk waits for a flush
+abbrev pub IsFlushed : Contents → Type 0
+IsFlushed contents = (a : ℕ) → (contents.disk a).earlier ≡ []
+
+-- a part of a write-back, in which so many blocks went to the disk: the plain disk is as before, and what was held is
+pub record Proceeds (n : ℕ) (old new : CachedDisk) (before after : State) (result : Result (Unit {0}) VolumeError) : Type 0 where
+  pub left : IsLeft new after.contents
+  pub stands : (d : PlainDisk) → StandFor (ImageIs (told_of old)) before.contents d → StandFor (ImageIs (told_of old)) after.contents d
+  pub options : new.options ≡ old.options
+  pub mode : new.mode ≡ old.mode
+  pub reserved : new.cache.ready ≡ old.cache.ready
+  pub held : is_down new ≡ false → (a : ℕ) → is_some (get (entries_of new.cache) a) ≡ is_some (get (entries_of old.cache) a)
+  pub goes : Goes (state_in [] old) (state_in [] new) before after result
+  pub faulted : FaultDowns result (is_down new)
+  pub writes : WritesDisk n before after result
+  pub within : IsErrOf result OutOfVolume → ⊥

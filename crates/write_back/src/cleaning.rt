@@ -1,0 +1,181 @@
+ghost use Rattle.std.specs.Prelude.{◌≡◌, ◌<◌, ◌==◌, ◌*◌, ℕ, List, true, false, not, ◌&&◌, length, OnOk, OnErr, IfOk, IsErrOf};
+ghost use Rattle.std.specs.FinMap.{get};
+ghost use Rattle.std.specs.Option.{is_some};
+ghost use Rattle.ft_base.specs.Contents.{Contents};
+ghost use Rattle.ft_base.specs.PlainDisk.{PlainDisk};
+ghost use Rattle.ft_base.specs.declared.told.Mode.TheVariants.{Back};
+ghost use Rattle.ft_volume.specs.Opening.{ImageIs};
+ghost use Rattle.ft_volume.specs.Volume.{FaultDowns, Goes, StandFor};
+ghost use Rattle.ssc.specs.CacheState.{entries_of};
+ghost use Rattle.cached_disk.specs.Kept.{IsLeft, dirty_of, state_in, told_of};
+ghost use Rattle.cached_disk.specs.Kept as kept;
+ghost use Rattle.write_back.specs.Cleaning.{IsFlushed, IsOnDisk, Proceeds, is_among};
+ghost use Rattle.write_back.specs.Left.{WritesDisk, in_group, out_of_group};
+
+use cached_disk::{CachedDisk, cache_error, disk_error};
+use ft_base::{Block, zero_block};
+use ft_media::{Media, MediaError};
+use ft_volume::VolumeError;
+use std::alloc::AllocError;
+
+/// Writes the dirty blocks of a group to the disk, ascending, flushes the disk, and marks the blocks clean.
+/// The plain disk is as before, whatever is answered.
+pub(crate) fn write_group_back<M: Media>(
+    disk: &mut CachedDisk,
+    media: &mut M,
+    group: u64,
+) -> Result<(), VolumeError>
+    requires left { IsLeft disk.old (M.state media.old).contents }
+    requires up { kept.is_down disk.old ≡ false }
+    requires back { disk.old.mode ≡ Back }
+    requires group { group * disk.old.options.geometry.p < disk.old.options.geometry.size }
+    ensures left { IsLeft disk.new (M.state media.new).contents }
+    ensures stands { (d : PlainDisk) → StandFor (ImageIs (told_of disk.old)) (M.state media.old).contents d → StandFor (ImageIs (told_of disk.old)) (M.state media.new).contents d }
+    ensures made { (disk.new.options ≡ disk.old.options) × (disk.new.mode ≡ disk.old.mode) }
+    ensures ready { disk.new.cache.ready ≡ disk.old.cache.ready }
+    ensures cleaned { OnOk result (dirty_of disk.new ≡ out_of_group disk.old.options.geometry.p group (dirty_of disk.old)) }
+    ensures dirty { OnErr result (kept.is_down disk.new ≡ false → dirty_of disk.new ≡ dirty_of disk.old) }
+    ensures held { kept.is_down disk.new ≡ false → (a : ℕ) → is_some (get (entries_of disk.new.cache) a) ≡ is_some (get (entries_of disk.old.cache) a) }
+    ensures goes { (was is : List ℕ) → Goes (state_in was disk.old) (state_in is disk.new) (M.state media.old) (M.state media.new) result }
+    ensures faulted { FaultDowns result (kept.is_down disk.new) }
+    ensures writes { WritesDisk (length (in_group disk.old.options.geometry.p group (dirty_of disk.old))) (M.state media.old) (M.state media.new) result }
+    ensures within { IsErrOf result VolumeError.OutOfVolume → ⊥ }
+{
+    let Ok(lbas) = dirty_in_group(disk, group) else {
+        return Err(VolumeError::OutOfMemory);
+    };
+    copy_blocks(disk, media, lbas.as_slice())?;
+    flush_copies(disk, media)?;
+    clean_blocks(disk, media, lbas.as_slice())
+}
+
+/// The dirty addresses of a group, ascending.
+fn dirty_in_group(disk: &CachedDisk, group: u64) -> Result<Vec<u64>, AllocError>
+    requires left { (contents : Contents) × IsLeft disk.now contents }
+    requires up { kept.is_down disk.now ≡ false }
+    requires group { group * disk.now.options.geometry.p < disk.now.options.geometry.size }
+    ensures { IfOk result (λ lbas. lbas.items ≡ in_group disk.now.options.geometry.p group (dirty_of disk.now)) }
+{
+    let pages = disk.options.geometry.p() as u64;
+    let first = group * pages;
+    let count = pages.min(disk.options.geometry.size() - first);
+    let mut lbas = Vec::new(disk.alloc);
+    disk.cache.exists(first, count, &mut lbas)?;
+    Ok(lbas)
+}
+
+/// Writes the held blocks of these dirty addresses to the disk, in order. They stay dirty.
+fn copy_blocks<M: Media>(
+    disk: &mut CachedDisk,
+    media: &mut M,
+    lbas: &[u64],
+) -> Result<(), VolumeError>
+    requires left { IsLeft disk.old (M.state media.old).contents }
+    requires up { kept.is_down disk.old ≡ false }
+    requires dirty { (a : ℕ) → is_among lbas.now a ≡ true → is_among (dirty_of disk.old) a ≡ true }
+    ensures proceeds { Proceeds (length lbas.now) disk.old disk.new (M.state media.old) (M.state media.new) result }
+    ensures same { disk.new ≡ record disk.old { down = disk.new.down } }
+    ensures copied { OnOk result ((a : ℕ) → is_among lbas.now a ≡ true → IsOnDisk disk.new (M.state media.new).contents a) }
+{
+    let mut block = zero_block();
+    for &lba in lbas {
+        copy_block(disk, media, lba, &mut block)?;
+    }
+    Ok(())
+}
+
+/// Writes the held block of a dirty address to the disk. It goes through `block`, one for all addresses.
+///
+/// Refused, the volume is down. Want of memory alone leaves it up: the blocks written so far are dirty
+/// still, so it doesn't matter which of their values a crash leaves.
+fn copy_block<M: Media>(
+    disk: &mut CachedDisk,
+    media: &mut M,
+    lba: u64,
+    block: &mut Block,
+) -> Result<(), VolumeError>
+    requires left { IsLeft disk.old (M.state media.old).contents }
+    requires up { kept.is_down disk.old ≡ false }
+    requires dirty { is_among (dirty_of disk.old) lba ≡ true }
+    ensures proceeds { Proceeds 1 disk.old disk.new (M.state media.old) (M.state media.new) result }
+    ensures same { disk.new ≡ record disk.old { down = disk.new.down } }
+    ensures copied { OnOk result (IsOnDisk disk.new (M.state media.new).contents lba) }
+    ensures others { OnOk result ((a : ℕ) → IsOnDisk disk.old (M.state media.old).contents a → IsOnDisk disk.new (M.state media.new).contents a) }
+{
+    if let Err(error) = disk.cache.read(media, lba, block) {
+        disk.down = true;
+        return Err(cache_error(error));
+    }
+    match media.write_block(lba, block) {
+        Ok(()) => Ok(()),
+        Err(error) => match error {
+            MediaError::OutOfMemory => Err(VolumeError::OutOfMemory),
+            _ => {
+                disk.down = true;
+                Err(disk_error(error))
+            }
+        },
+    }
+}
+
+/// Flushes the disk. Until that is done a crash may leave the older block of an address, so that none may
+/// be marked clean. Refused, the volume is down.
+fn flush_copies<M: Media>(disk: &mut CachedDisk, media: &mut M) -> Result<(), VolumeError>
+    requires left { IsLeft disk.old (M.state media.old).contents }
+    requires up { kept.is_down disk.old ≡ false }
+    ensures proceeds { Proceeds 0 disk.old disk.new (M.state media.old) (M.state media.new) result }
+    ensures same { disk.new ≡ record disk.old { down = disk.new.down } }
+    ensures flushed { OnOk result (IsFlushed (M.state media.new).contents) }
+    ensures copied { OnOk result ((a : ℕ) → IsOnDisk disk.old (M.state media.old).contents a → IsOnDisk disk.new (M.state media.new).contents a) }
+    ensures refused { OnErr result (kept.is_down disk.new ≡ true) }
+{
+    match media.flush_disk() {
+        Ok(()) => Ok(()),
+        Err(error) => {
+            disk.down = true;
+            Err(disk_error(error))
+        }
+    }
+}
+
+/// Marks the blocks of these addresses clean, in order. The disk, which is flushed, has them.
+fn clean_blocks<M: Media>(
+    disk: &mut CachedDisk,
+    media: &mut M,
+    lbas: &[u64],
+) -> Result<(), VolumeError>
+    requires left { IsLeft disk.old (M.state media.old).contents }
+    requires up { kept.is_down disk.old ≡ false }
+    requires back { disk.old.mode ≡ Back }
+    requires lbas { (a : ℕ) → is_among lbas.now a ≡ true → a < disk.old.options.geometry.size }
+    requires flushed { IsFlushed (M.state media.old).contents }
+    requires copied { (a : ℕ) → is_among lbas.now a ≡ true → IsOnDisk disk.old (M.state media.old).contents a }
+    ensures proceeds { Proceeds 0 disk.old disk.new (M.state media.old) (M.state media.new) result }
+    ensures cleaned { OnOk result ((a : ℕ) → is_among (dirty_of disk.new) a ≡ (is_among (dirty_of disk.old) a && not (is_among lbas.now a))) }
+    ensures refused { OnErr result (kept.is_down disk.new ≡ true) }
+{
+    for &lba in lbas {
+        clean_block(disk, media, lba)?;
+    }
+    Ok(())
+}
+
+/// Marks the block of an address clean. Refused, the cache was given up, and the volume is down.
+fn clean_block<M: Media>(disk: &mut CachedDisk, media: &mut M, lba: u64) -> Result<(), VolumeError>
+    requires left { IsLeft disk.old (M.state media.old).contents }
+    requires up { kept.is_down disk.old ≡ false }
+    requires back { disk.old.mode ≡ Back }
+    requires lba { lba < disk.old.options.geometry.size }
+    requires flushed { IsFlushed (M.state media.old).contents }
+    requires copied { IsOnDisk disk.old (M.state media.old).contents lba }
+    ensures proceeds { Proceeds 0 disk.old disk.new (M.state media.old) (M.state media.new) result }
+    ensures cleaned { OnOk result ((a : ℕ) → is_among (dirty_of disk.new) a ≡ (is_among (dirty_of disk.old) a && not (lba == a))) }
+    ensures flushed { OnOk result (IsFlushed (M.state media.new).contents) }
+    ensures copied { OnOk result ((a : ℕ) → IsOnDisk disk.old (M.state media.old).contents a → IsOnDisk disk.new (M.state media.new).contents a) }
+    ensures refused { OnErr result (kept.is_down disk.new ≡ true) }
+{
+    match disk.cache.clean(media, lba) {
+        Ok(()) => Ok(()),
+        Err(error) => Err(cache_error(error)),
+    }
+}

@@ -1,0 +1,133 @@
+ghost use Rattle.std.specs.Prelude.{◌≡◌, ◌<◌, ◌/◌, ℕ, length, true, false, OnOk, IsErrOf};
+ghost use Rattle.ft_base.specs.PlainDisk.{PlainDisk};
+ghost use Rattle.ft_base.specs.Table.{last_size, put_first, without_last};
+ghost use Rattle.ft_volume.specs.Opening.{ImageIs};
+ghost use Rattle.ft_volume.specs.Volume.{Costs, FaultDowns, Goes, Holds, Programs, StandFor, WasDone, Writes};
+ghost use Rattle.cached_disk.specs.Kept as kept;
+ghost use Rattle.write_back.specs.Left.{IsLeft, WritesDisk, state_of};
+ghost use Rattle.write_back.specs.Writing.{HasRoom, backs_made, room_made};
+
+use crate::WriteBack;
+use crate::cleaning::write_group_back;
+use cached_disk::cache_error;
+use ft_base::Block;
+use ft_media::Media;
+use ft_volume::VolumeError;
+
+impl WriteBack {
+    /// Writes a block to the cache. Where its group would be one too many that the disk lacks, the group
+    /// written least recently is written back first.
+    pub(crate) fn write_up<M: Media>(
+        &mut self,
+        media: &mut M,
+        lba: u64,
+        block: &Block,
+    ) -> Result<(), VolumeError>
+        requires left { IsLeft self.old (M.state media.old).contents }
+        requires up { kept.is_down self.old.disk ≡ false }
+        requires lba { lba < self.old.disk.options.geometry.size }
+        ensures left { IsLeft self.new (M.state media.new).contents }
+        ensures was { (base : PlainDisk) → StandFor (ImageIs (state_of self.old).told) (M.state media.old).contents base
+            → WasDone ImageIs (Writes lba block.now) (state_of self.old) (state_of self.new) (M.state media.new).contents result base }
+        ensures goes { Goes (state_of self.old) (state_of self.new) (M.state media.old) (M.state media.new) result }
+        ensures faulted { FaultDowns result (kept.is_down self.new.disk) }
+        ensures costs { Costs (Writes lba block.now) (state_of self.old) (state_of self.new) (M.state media.old) (M.state media.new) result }
+        ensures programs { OnOk result (Programs (M.state media.old) (M.state media.new)) }
+        ensures within { IsErrOf result VolumeError.OutOfVolume → ⊥ }
+    {
+        let group = lba / self.disk.options.geometry.p() as u64;
+        if self.disk.cache.reserve().is_err() {
+            return Err(VolumeError::OutOfMemory);
+        }
+        match self.make_room(media, group) {
+            Ok(()) => self.put_dirty(media, lba, block),
+            Err(error) => Err(error),
+        }
+    }
+
+    /// Writes the oldest group back where this one is not in the table, which is full.
+    fn make_room<M: Media>(&mut self, media: &mut M, group: u64) -> Result<(), VolumeError>
+        requires left { IsLeft self.old (M.state media.old).contents }
+        requires up { kept.is_down self.old.disk ≡ false }
+        ensures left { IsLeft self.new (M.state media.new).contents }
+        ensures stands { (d : PlainDisk) → StandFor (ImageIs (state_of self.old).told) (M.state media.old).contents d → StandFor (ImageIs (state_of self.old).told) (M.state media.new).contents d }
+        ensures room { OnOk result (HasRoom self.new.dirty group) }
+        ensures table { OnOk result ((state_of self.new).table ≡ room_made self.old.disk.options.geometry.c group (state_of self.old).table) }
+        ensures held { kept.is_down self.new.disk ≡ false → (a : ℕ) → (state_of self.new).held a ≡ (state_of self.old).held a }
+        ensures ready { self.new.disk.cache.ready ≡ self.old.disk.cache.ready }
+        ensures goes { Goes (state_of self.old) (state_of self.new) (M.state media.old) (M.state media.new) result }
+        ensures faulted { FaultDowns result (kept.is_down self.new.disk) }
+        ensures writes { WritesDisk (backs_made self.old.disk.options.geometry.c group (state_of self.old).table) (M.state media.old) (M.state media.new) result }
+        ensures within { IsErrOf result VolumeError.OutOfVolume → ⊥ }
+    {
+        if self.dirty.has(group) {
+            return Ok(());
+        }
+        if self.dirty.len() < self.disk.options.geometry.c() {
+            return Ok(());
+        }
+        self.write_oldest_back(media)
+    }
+
+    /// Writes back the group that was written least recently.
+    pub(crate) fn write_oldest_back<M: Media>(&mut self, media: &mut M) -> Result<(), VolumeError>
+        requires left { IsLeft self.old (M.state media.old).contents }
+        requires up { kept.is_down self.old.disk ≡ false }
+        requires some { 0 < length self.old.dirty.order }
+        ensures left { IsLeft self.new (M.state media.new).contents }
+        ensures stands { (d : PlainDisk) → StandFor (ImageIs (state_of self.old).told) (M.state media.old).contents d → StandFor (ImageIs (state_of self.old).told) (M.state media.new).contents d }
+        ensures table { OnOk result ((state_of self.new).table ≡ without_last (state_of self.old).table) }
+        ensures held { kept.is_down self.new.disk ≡ false → (a : ℕ) → (state_of self.new).held a ≡ (state_of self.old).held a }
+        ensures ready { self.new.disk.cache.ready ≡ self.old.disk.cache.ready }
+        ensures goes { Goes (state_of self.old) (state_of self.new) (M.state media.old) (M.state media.new) result }
+        ensures faulted { FaultDowns result (kept.is_down self.new.disk) }
+        ensures writes { WritesDisk (last_size (state_of self.old).table) (M.state media.old) (M.state media.new) result }
+        ensures within { IsErrOf result VolumeError.OutOfVolume → ⊥ }
+    {
+        let Some(group) = self.dirty.oldest() else {
+            unreachable!()
+        };
+        match write_group_back(&mut self.disk, media, group) {
+            Ok(()) => {
+                let _was_there = self.dirty.remove(group);
+                Ok(())
+            }
+            Err(error) => Err(error),
+        }
+    }
+
+    /// Notes the group of an address, for which there is room, and writes the block to the cache, which has
+    /// taken the memory for it.
+    fn put_dirty<M: Media>(
+        &mut self,
+        media: &mut M,
+        lba: u64,
+        block: &Block,
+    ) -> Result<(), VolumeError>
+        requires left { IsLeft self.old (M.state media.old).contents }
+        requires up { kept.is_down self.old.disk ≡ false }
+        requires lba { lba < self.old.disk.options.geometry.size }
+        requires room { HasRoom self.old.dirty (lba / self.old.disk.options.geometry.p) }
+        requires ready { self.old.disk.cache.ready ≡ true }
+        ensures left { IsLeft self.new (M.state media.new).contents }
+        ensures was { (base : PlainDisk) → StandFor (ImageIs (state_of self.old).told) (M.state media.old).contents base
+            → WasDone ImageIs (Writes lba block.now) (state_of self.old) (state_of self.new) (M.state media.new).contents result base }
+        ensures table { OnOk result ((state_of self.new).table ≡ put_first (lba / self.old.disk.options.geometry.p) lba (state_of self.old).table) }
+        ensures held { OnOk result (Holds (state_of self.old).told (Writes lba block.now) (state_of self.old).held (state_of self.new).held) }
+        ensures goes { Goes (state_of self.old) (state_of self.new) (M.state media.old) (M.state media.new) result }
+        ensures faulted { FaultDowns result (kept.is_down self.new.disk) }
+        ensures disk_reads { (M.state media.new).counts.disk_reads ≡ (M.state media.old).counts.disk_reads }
+        ensures disk_writes { (M.state media.new).counts.disk_writes ≡ (M.state media.old).counts.disk_writes }
+        ensures programs { OnOk result (Programs (M.state media.old) (M.state media.new)) }
+        ensures within { IsErrOf result VolumeError.OutOfVolume → ⊥ }
+    {
+        let group = lba / self.disk.options.geometry.p() as u64;
+        if self.dirty.touch(group).is_err() {
+            return Err(VolumeError::OutOfMemory);
+        }
+        match self.disk.cache.write_dirty(media, lba, block) {
+            Ok(()) => Ok(()),
+            Err(error) => Err(cache_error(error)),
+        }
+    }
+}
