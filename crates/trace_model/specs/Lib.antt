@@ -1,6 +1,9 @@
+pub mod Backs
 pub mod Fits
 pub mod Lines
 pub mod Plain
+pub mod PlainTable
+pub mod Plan
 pub mod Readings
 pub mod Run
 pub mod SoFar

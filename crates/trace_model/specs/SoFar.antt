@@ -1,14 +1,12 @@
 -- How far a run came: which lines were run, and what may be told next.
-use Rattle.std.specs.Prelude.{◌≡◌, ℕ, zero, suc, ◌+◌, ◌/◌, ◌≤◌, nat_le, nat_lt, Bool, true, false, ◌&&◌, if◌then◌else◌, List, [], ◌∷◌, ◌++◌, length, map, drop, Option, Some, None, Ok, Err, ⊤}
-use Rattle.std.specs.Ordering.{nat_cmp}
-use Rattle.std.specs.BTreeSet.{insert_key}
+use Rattle.std.specs.Prelude.{◌≡◌, ℕ, ◌+◌, ◌≤◌, nat_le, Bool, true, false, ◌&&◌, if◌then◌else◌, List, [], ◌∷◌, ◌++◌, length, map, drop, Option, Some, None, Ok, Err, ⊤}
 use Rattle.ft_base.specs.PlainDisk.{BlockWrite, PlainDisk}
 use Rattle.ft_base.specs.Told.{Told}
 use Rattle.ft_base.specs.declared.told.Ack.TheVariants.{Write}
 use Rattle.trace_model.specs.declared.line.Line.{Line}
 use Rattle.trace_model.specs.declared.line.Line.TheVariants as line
 use Rattle.trace_model.specs.declared.line.LineError.{LineError}
-use Rattle.trace_model.specs.declared.line.LineError.TheVariants.{BadWord, TooLong, TooManyStops}
+use Rattle.trace_model.specs.declared.line.LineError.TheVariants.{TooManyStops}
 use Rattle.trace_model.specs.declared.answer.Answer.{Answer}
 use Rattle.trace_model.specs.declared.answer.Answer.TheVariants as answer
 use Rattle.trace_model.specs.declared.ran.Ran.{Ran}
@@ -18,50 +16,28 @@ use Rattle.trace_model.specs.Fits.{Fits, FitsEnd, FitsNext, armed_after, block_c
 
 -- ---- refusals
 
--- the groups of these blocks, each at its place in the ascending order
-abbrev pub with_groups : ℕ → ℕ → ℕ → List ℕ → List ℕ
-with_groups p lba zero groups = groups
-with_groups p lba (suc n) groups = insert_key nat_cmp (with_groups p lba n groups) ((lba + n) / p)
-
--- the groups of a line's writes join those of the lines before
-abbrev pub grouping : ℕ → Line → List ℕ → List ℕ
-grouping p (line.Write lba count tag) groups = with_groups p lba count groups
-grouping p other groups = groups
-
--- each group of the writes once, ascending
-abbrev pub groups_after : ℕ → List Ran → List ℕ
-groups_after p [] = []
-groups_after p (ran ∷ earlier) = grouping p ran.line (groups_after p earlier)
-
-abbrev pub is_idle : Line → Bool
-is_idle line.Idle = true
-is_idle other = false
-
 abbrev pub is_stop : Line → Bool
 is_stop (line.Stop after outcome) = true
 is_stop other = false
 
--- why a line is refused where so many stops are armed and these groups were written to
-abbrev pub refusal_when : Told → ℕ → List ℕ → Line → Option LineError
-refusal_when o armed groups line = if is_stop line && nat_le 16 armed then Some TooManyStops
-    else if is_idle line then Some BadWord
-    else if nat_lt o.geometry.c (length (grouping o.geometry.p line groups)) then Some TooLong
-    else None
+-- why a line is refused where so many stops are armed
+abbrev pub refusal_when : ℕ → Line → Option LineError
+refusal_when armed line = if is_stop line && nat_le 16 armed then Some TooManyStops else None
 
 -- why a line is refused after these, where it is
-abbrev pub refusal_of : Told → List Ran → Line → Option LineError
-refusal_of o run line = refusal_when o (length (armed_after run)) (groups_after o.geometry.p run) line
+abbrev pub refusal_of : List Ran → Line → Option LineError
+refusal_of run line = refusal_when (length (armed_after run)) line
 
 -- none of these lines was to be refused
-abbrev pub NoneRefused : Told → List Ran → Type 0
-NoneRefused o [] = ⊤
-NoneRefused o (ran ∷ earlier) = (refusal_of o earlier ran.line ≡ None) × NoneRefused o earlier
+abbrev pub NoneRefused : List Ran → Type 0
+NoneRefused [] = ⊤
+NoneRefused (ran ∷ earlier) = (refusal_of earlier ran.line ≡ None) × NoneRefused earlier
 
 -- why the next line is refused, where it is
-abbrev pub next_refusal : Told → List Ran → List Reading → Option LineError
-next_refusal o run [] = None
-next_refusal o run (Err cause ∷ left) = Some cause
-next_refusal o run (Ok line ∷ left) = refusal_of o run line
+abbrev pub next_refusal : List Ran → List Reading → Option LineError
+next_refusal run [] = None
+next_refusal run (Err cause ∷ left) = Some cause
+next_refusal run (Ok line ∷ left) = refusal_of run line
 
 -- what is told of a refusal
 abbrev pub refusal : List Ran → LineError → List Answer
@@ -72,7 +48,7 @@ refusal run cause = answer.Refused (length (lines_of run) + 1) cause ∷ []
 -- of all that is known of the lines, these were run, as they can be, and these are left
 pub record WasRun (o : Told) (all : List Reading) (run : List Ran) (left : List Reading) : Type 0 where
   pub lines : all ≡ map accepted (lines_of run) ++ left
-  pub accepted : NoneRefused o run
+  pub accepted : NoneRefused run
   pub fits : Fits o.ack run
 
 -- a line with what became of it
@@ -104,9 +80,20 @@ abbrev pub MayTell : Told → Bool → List Ran → List Reading → List Answer
 MayTell o true run [] answers = AnswersEnd run answers
 MayTell o false run [] answers = answers ≡ []
 MayTell o whole run (Err cause ∷ left) answers = answers ≡ refusal run cause
-MayTell o whole run (Ok line ∷ left) answers = AnswersTo o (refusal_of o run line) run line answers
+MayTell o whole run (Ok line ∷ left) answers = AnswersTo o (refusal_of run line) run line answers
 
 -- ---- the next line
+
+-- the lines that were begun, with this one where it is not refused
+abbrev pub begun_unless : Option LineError → Line → List Ran → List Ran
+begun_unless None line run = as_ran line 0 0 0 ∷ run
+begun_unless (Some cause) line run = run
+
+-- the lines that were begun: those that were run, and the next one, of which nothing counts
+abbrev pub begun : List Ran → List Reading → List Ran
+begun run [] = run
+begun run (Err cause ∷ left) = run
+begun run (Ok line ∷ left) = begun_unless (refusal_of run line) line run
 
 -- the block writes of a line that is not refused
 abbrev pub blocks_unless : Option LineError → Line → ℕ
@@ -114,10 +101,10 @@ blocks_unless None line = block_count line
 blocks_unless (Some cause) line = 0
 
 -- those of the next line
-abbrev pub next_blocks : Told → List Ran → List Reading → ℕ
-next_blocks o run [] = 0
-next_blocks o run (Err cause ∷ left) = 0
-next_blocks o run (Ok line ∷ left) = blocks_unless (refusal_of o run line) line
+abbrev pub next_blocks : List Ran → List Reading → ℕ
+next_blocks run [] = 0
+next_blocks run (Err cause ∷ left) = 0
+next_blocks run (Ok line ∷ left) = blocks_unless (refusal_of run line) line
 
 -- the block writes after these lines, without the newest so many, and then the first so many of the next line
 abbrev pub writes_within : List Ran → List Reading → ℕ → ℕ → List BlockWrite
@@ -130,7 +117,7 @@ disk_within run left lost n = disk_written (writes_within run left lost n)
 
 -- within the next line so many of its block writes can be there, and so many of those before it lost
 pub record MayRemain (o : Told) (run : List Ran) (left : List Reading) (lost n : ℕ) : Type 0 where
-  pub blocks : n ≤ next_blocks o run left
+  pub blocks : n ≤ next_blocks run left
   pub none : o.ack ≡ Write → lost ≡ 0
   pub since : lost ≤ kept_since_flush run
   pub front : 1 ≤ lost → n ≡ 0

@@ -1,7 +1,7 @@
 ghost use Rattle.std.specs.Prelude.{◌≡◌};
 
-use crate::{Answer, Line, Ran, plain_end, plain_fits, plain_told};
-use ft_base::{Ack, Outcome};
+use crate::{Answer, Line, Plan, Ran, plain_backs, plain_end, plain_fits, plain_told};
+use ft_base::{Ack, Geometry, Mode, Outcome};
 use std::test::Fail;
 
 fn ran(line: Line, cuts: u64, kept: u64) -> Ran
@@ -204,5 +204,60 @@ fn each_kind_of_line_is_cut_so_often_at_most(rt: HostRuntime) -> Result<(), Fail
     assert!(rt; plain_fits(alloc, Ack::Write, &[ran(cut, 0, 0), stop(1)])?);
     assert!(rt; !plain_fits(alloc, Ack::Write, &[ran(cut, 1, 0), stop(1)])?);
     assert!(rt; !plain_fits(alloc, Ack::Write, &[ran(Line::Nothing, 1, 0), stop(1)])?);
+    Ok(())
+}
+
+fn wrote(lba: u64, count: u64) -> Ran
+    ensures { result ≡ record { line = Line.Write lba count 1; cuts = 0; kept = count; lost = 0 } }
+{
+    ran(write(lba, count, 1), 0, count)
+}
+
+fn small_plan(dirty: u64, mode: Mode) -> Plan {
+    Plan {
+        geometry: Geometry {
+            p: 4,
+            c: 2,
+            l: 2,
+            j: 1,
+            size: 64,
+        },
+        dirty,
+        mode,
+    }
+}
+
+/// With one dirty group allowed, an idle step writes the older of two back: one block.
+#[test]
+fn an_idle_step_writes_one_group_back(rt: HostRuntime) -> Result<(), Fail> {
+    let alloc = rt.alloc();
+    let run = [ran(Line::Idle, 0, 0), wrote(4, 1), wrote(0, 1)];
+    assert_eq!(rt; plain_backs(alloc, &small_plan(1, Mode::Back), &run)?, 1);
+    assert_eq!(rt; plain_backs(alloc, &small_plan(2, Mode::Back), &run)?, 0);
+    Ok(())
+}
+
+/// The third group makes room: the first is written back, one block.
+#[test]
+fn a_third_group_makes_room(rt: HostRuntime) -> Result<(), Fail> {
+    let alloc = rt.alloc();
+    let plan = small_plan(2, Mode::Back);
+    let run = [wrote(8, 1), wrote(4, 1), wrote(0, 1)];
+    assert_eq!(rt; plain_backs(alloc, &plan, &run)?, 1);
+    let again = [wrote(5, 1), wrote(0, 3), wrote(4, 1)];
+    assert_eq!(rt; plain_backs(alloc, &plan, &again)?, 0);
+    let more = [wrote(8, 1), wrote(5, 1), wrote(0, 3), wrote(4, 1)];
+    assert_eq!(rt; plain_backs(alloc, &plan, &more)?, 3);
+    Ok(())
+}
+
+/// Through the cache each block goes to the disk, and an idle step writes none.
+#[test]
+fn through_the_cache_each_block_counts(rt: HostRuntime) -> Result<(), Fail> {
+    let alloc = rt.alloc();
+    let plan = small_plan(2, Mode::Through);
+    let run = [ran(Line::Idle, 0, 0), wrote(0, 1)];
+    assert_eq!(rt; plain_backs(alloc, &plan, &run)?, 1);
+    assert_eq!(rt; plain_backs(alloc, &plan, &[wrote(0, 3)])?, 3);
     Ok(())
 }

@@ -1,15 +1,18 @@
 -- What a call did to a volume that owes nothing, and what going on after it leaves.
-use Rattle.std.proofs.Common.{◌≡◌, ◌≢◌, inl, inr, [], ◌∷◌, Result, Ok, Err, IfOk, sym, ap, ◌∙◌}
+use Rattle.std.proofs.Common.{◌≡◌, ◌≢◌, inl, inr, Bool, true, [], ◌∷◌, Result, Ok, Err, IfOk, IsErrOf, refl, sym, ap, ◌∙◌, subst}
 use Rattle.ft_base.specs.Contents.{Contents, Image}
 use Rattle.ft_base.specs.PlainDisk.{PlainDisk}
 use Rattle.ft_base.specs.Told.{Told}
 use Rattle.ft_base.specs.declared.told.Ack.TheVariants as ack
+use Rattle.ft_media.specs.Passes.{Passes}
 use Rattle.ft_media.specs.Rig.{powered}
 use Rattle.ft_media.specs.State.{State}
-use Rattle.ft_volume.specs.Volume.{Call, Done, Fixes, StandFor, VolumeState, WasOne}
+use Rattle.ft_volume.specs.Volume.{Call, Done, Fixes, Goes, StandFor, VolumeState, WasOne, volume_lost}
 use Rattle.ft_volume.specs.declared.volume.VolumeError.{VolumeError}
 use Rattle.ft_volume.specs.declared.volume.VolumeError.TheVariants as volume
 use Rattle.ft_volume.proofs.DoneLemmas.{one_disk}
+use Rattle.trace_replay.specs.Said.{lost_by}
+use Rattle.trace_replay.proofs.WentLemmas.{WasCall, refused}
 
 -- each write is on the media when it answers
 pub one_call : {T : Type 0} (stands : Told → Image → PlainDisk → Type 0) (call : Call) (old new : VolumeState) (before after : Contents) (result : Result T VolumeError) (d : PlainDisk)
@@ -18,6 +21,31 @@ pub one_call : {T : Type 0} (stands : Told → Image → PlainDisk → Type 0) (
     → Done stands call old new before after result → StandFor (stands old.told) before d → WasOne (stands new.told) call after result d
 one_call stands call old new before after result d none none_new at_write told done stood =
     one_disk stands call old new before after result d (none at_write) (none_new (ap (λ (t : Told). t.ack) told ∙ at_write)) done stood
+
+lost_at : (T : Type 0) (e : VolumeError) → volume_lost {T = T} (Err e) ≡ lost_by e
+lost_at T volume.FlashFault = refl
+lost_at T volume.DiskFault = refl
+lost_at T volume.PowerLost = refl
+lost_at T volume.OutOfMemory = refl
+lost_at T volume.OutOfVolume = refl
+
+err_at : (T : Type 0) (e x : VolumeError) → IsErrOf (refused e) x → IsErrOf {T = T} (Err e) x
+err_at T e x is = let same : e ≡ x = cc in ap Err same
+
+-- what a call leaves that was refused
+pub was_call : {T : Type 0} (old new : VolumeState) (before after : State) (e : VolumeError) → before.power.on ≡ true → Goes {T = T} old new before after (Err e) → WasCall before after e
+was_call {T = T} old new before after e on goes = record {
+  on = on;
+  passes = subst (λ (l : Bool). Passes before after l) (lost_at T e) goes.passes;
+  cause = record {
+    flash = goes.cause.flash;
+    disk = goes.cause.disk;
+    cuts = goes.cause.cuts;
+    flash_fault = λ is. goes.cause.flash_fault (err_at T e volume.FlashFault is);
+    disk_fault = λ is. goes.cause.disk_fault (err_at T e volume.DiskFault is);
+    power_lost = λ is. goes.cause.power_lost (err_at T e volume.PowerLost is);
+  };
+}
 
 -- what is done after a call that was refused leaves the contents
 pub still_contents : {B : Type 0} (error : VolumeError) (before after : State) → (error ≡ volume.PowerLost → after ≡ powered before) → (error ≢ volume.PowerLost → (after ≡ before) × B) → before.contents ≡ after.contents

@@ -1,5 +1,5 @@
 -- What holds of the error with which a call was left.
-use Rattle.std.proofs.Common.{ℕ, ◌≤◌, arith, ◌≡◌, ◌≢◌, ◌⊎◌, inl, inr, Result, Ok, Err, IfErr, IsErrOf, refl, sym, ap, ◌∙◌, subst}
+use Rattle.std.proofs.Common.{ℕ, ◌≤◌, arith, ◌≡◌, ◌≢◌, Result, Ok, Err, IfErr, IsErrOf, refl, sym, ap, ◌∙◌, subst}
 use Rattle.std.specs.Result.{IsErrAnd}
 use Rattle.ft_base.specs.Count.{Rose}
 use Rattle.trace_replay.specs.declared.ended.Ended.{Ended}
@@ -19,10 +19,6 @@ error_in other (Err k) = k
 pub exit_is : {T : Type 0} (r : Result T Ended) (from k : Ended) → IsErrAnd r (λ e. e ≡ from) → IsErrOf r k → from ≡ k
 exit_is (Ok value) from k is same = absurd is
 exit_is (Err e) from k is same = sym is ∙ ap (error_in e) same
-
--- a refusal ends a run as such, or by the sink or by memory
-pub not_source : (e : Ended) → (e ≡ ended.Trace) ⊎ ((e ≡ ended.Sink) ⊎ (e ≡ ended.Memory)) → e ≡ ended.Source → ⊥
-not_source e only is = elim only [ inl trace ↦ cc | inr other ↦ elim other [ inl sink ↦ cc | inr memory ↦ cc ] ]
 
 -- an end that is no refusal, no fault of the source and none of a device is of the sink or for want of memory
 pub sink_or_memory : (e : Ended) (q : Ended → Type 0) → e ≢ ended.Trace → e ≢ ended.Source → (e ≡ ended.Flash → ⊥) × (e ≡ ended.Disk → ⊥) → (e ≡ ended.Sink → q ended.Sink) → (e ≡ ended.Memory → q ended.Memory) → q e

@@ -1,18 +1,17 @@
 pub mod ExitLemmas
 pub mod FromLemmas
 pub mod GivenLemmas
-pub mod GroupingLemmas
 pub mod RanLemmas
 pub mod TallyLemmas
 pub mod TheoremLemmas
-mod AmongLemmas
 mod BlocksLemmas
 mod CallLemmas
 mod CutsLemmas
 mod EndingLemmas
 mod EventsLemmas
-mod MayHoldLemmas
 mod SayingLemmas
+pub mod SpendsLemmas
+pub mod BacksLemmas
 mod WentLemmas
 mod WithinLemmas
 pub mod SaidLemmas

@@ -1,33 +1,32 @@
 -- One more line that was run, and what may become of the next one.
-use Rattle.std.proofs.Common.{◌≡◌, ◌≢◌, inl, inr, ◌≤◌, ◌<◌, ◌+◌, ◌-◌, ◌&&◌, ◌==◌, ◌∷◌, ◌++◌, [], ℕ, Bool, true, false, cond, nat_le, nat_lt, List, Option, Some, None, drop, length, refl, sym, ap, ◌∙◌, subst, eqb-true, arith}
+use Rattle.std.proofs.Common.{◌≡◌, ◌≢◌, inl, inr, ◌≤◌, ◌<◌, ◌+◌, ◌-◌, ◌==◌, ◌∷◌, ◌++◌, [], ℕ, Bool, true, false, cond, nat_le, List, Option, Some, None, drop, length, refl, sym, ap, ◌∙◌, subst, eqb-true, arith}
 use Rattle.std.proofs.lemmas.Bool.{cases_Bool}
 use Rattle.std.proofs.lemmas.Bool.Decides.{nat_tests}
 use Rattle.std.proofs.lemmas.List.{length-append}
 use Rattle.ft_base.specs.Contents.{Image}
 use Rattle.ft_base.specs.PlainDisk.{PlainDisk, empty}
 use Rattle.ft_base.specs.Told.{Told}
-use Rattle.ft_base.specs.declared.geometry.Geometry.{Geometry}
 use Rattle.ft_base.specs.declared.power.Stop.{Stop}
 use Rattle.ft_base.specs.declared.told.Ack.{Ack}
 use Rattle.ft_base.specs.declared.told.Ack.TheVariants as ack
 use Rattle.ft_media.specs.State.{State, Power}
-use Rattle.ft_volume.specs.Volume.{AreAmong, StandFor}
+use Rattle.ft_volume.specs.Volume.{StandFor, VolumeState}
 use Rattle.trace_model.specs.declared.line.Line.{Line}
 use Rattle.trace_model.specs.declared.line.Line.TheVariants as line
-use Rattle.trace_model.specs.declared.line.LineError.{LineError}
-use Rattle.trace_model.specs.declared.line.LineError.TheVariants.{BadWord, TooLong, TooManyStops}
+use Rattle.trace_model.specs.declared.line.LineError.TheVariants.{TooManyStops}
 use Rattle.trace_model.specs.declared.ran.Ran.{Ran}
+use Rattle.trace_model.specs.Backs.{IsUncut}
 use Rattle.trace_model.specs.Fits.{FitsLine, FitsNext, FitsWrite, IsWithin, armed_after, arming, block_count, may_still, may_write}
 use Rattle.trace_model.specs.Run.{after_line, cut_count, cuts_in, disk_after, disk_without, lines_of, read_count, reads_in, touching, write_count, writes_in}
-use Rattle.trace_model.specs.SoFar.{as_ran, grouping, groups_after, is_idle, is_stop, refusal_of, refusal_when}
+use Rattle.trace_model.specs.SoFar.{as_ran, is_stop, refusal_of, refusal_when}
 use Rattle.trace_model.proofs.RunLemmas.{disk_after-line, disk_without-none}
 use Rattle.trace_replay.specs.declared.tally.Tally.{Tally}
-use Rattle.trace_replay.specs.Ends.{BeginsRest, CanBecome, MayHoldLine, RunsLine}
+use Rattle.trace_replay.specs.Ends.{BeginsRest, CanBecome, RunsLine}
 use Rattle.trace_replay.specs.Events.{ScriptState}
 use Rattle.trace_replay.specs.Ran.{GoesOn, IsTallied, IsTallyOf, RanSoFar, RestWithin}
 use Rattle.trace_replay.specs.Said.{RoseAtLeast}
-use Rattle.trace_replay.specs.Theorem.{LeavesRig}
-use Rattle.trace_replay.proofs.GroupingLemmas.{line_may}
+use Rattle.trace_replay.specs.Spends.{IsQuiet, Spent, steps_of}
+use Rattle.trace_replay.proofs.SpendsLemmas.{run_more, spent_fresh}
 
 -- ---- how many device writes may still be made
 
@@ -80,25 +79,21 @@ risen_more m n a b c first next = λ below. let two = next below in let one = fi
 
 -- ---- what is refused
 
-not_less : (a b : ℕ) → nat_lt a b ≡ false → b ≤ a
-not_less a b test = grind (arith, nat_tests)
+refused_by : (many : Bool) → many ≡ false → cond many (Some TooManyStops) None ≡ None
+refused_by true is = absurd (cc)
+refused_by false is = refl
 
-refused_by : Bool → Bool → Bool → Option LineError
-refused_by stop idle many = cond stop (Some TooManyStops) (cond idle (Some BadWord) (cond many (Some TooLong) None))
-
-all_false : (stop idle many : Bool) → refused_by stop idle many ≡ None → (idle ≡ false) × (many ≡ false)
-unfolding refused_by
-all_false true idle many is = absurd (cc)
-all_false false true many is = absurd (cc)
-all_false false false true is = absurd (cc)
-all_false false false false is = (refl, refl)
-
--- a line that is not refused is not idle, and the groups are few enough
-pub admitted : (o : Told) (armed : ℕ) (groups : List ℕ) (l : Line) → refusal_when o armed groups l ≡ None → (is_idle l ≡ false) × (length (grouping o.geometry.p l groups) ≤ o.geometry.c)
-unfolding refused_by
-admitted o armed groups l none =
-    let tests = all_false (is_stop l && nat_le 16 armed) (is_idle l) (nat_lt o.geometry.c (length (grouping o.geometry.p l groups))) none in
-    (tests.0, not_less o.geometry.c (length (grouping o.geometry.p l groups)) tests.1)
+-- a stop that can be armed is not refused, and no other line is
+pub admitted : (armed : ℕ) (l : Line) → (is_stop l ≡ true → armed < 16) → refusal_when armed l ≡ None
+admitted armed (line.Stop after outcome) few =
+    let less = few refl in
+    refused_by (nat_le 16 armed) (grind (arith, nat_tests))
+admitted armed (line.Write lba count tag) few = refl
+admitted armed (line.Read lba count) few = refl
+admitted armed line.Flush few = refl
+admitted armed line.Idle few = refl
+admitted armed (line.Cut outcome) few = refl
+admitted armed line.Nothing few = refl
 
 -- ---- how many lines were counted
 
@@ -141,21 +136,23 @@ reads_few (ran ∷ run) =
 
 -- ---- the lines that were run
 
-pub so_far_none : (o : Told) (stands : Image → PlainDisk → Type 0) (s : State) (counted : Tally) (held : List ℕ) → s.power.on ≡ true → s.power.stops ≡ [] → StandFor stands s.contents empty → held ≡ [] → IsTallyOf o.geometry.p [] counted → RanSoFar o stands s s counted held []
-so_far_none o stands s counted held on unarmed stood none tally = record {
+pub so_far_none : (o : Told) (stands : Image → PlainDisk → Type 0) (s : State) (counted : Tally) (v : VolumeState) → v.told ≡ o → IsQuiet v s → v.table ≡ [] → ((a : ℕ) → v.held a ≡ false) → o.dirty ≤ o.geometry.c → StandFor stands s.contents empty → IsTallyOf [] counted → RanSoFar o stands s s counted v []
+so_far_none o stands s counted v told quiet table none dirty stood tally = record {
   accepted = tt;
   fits = tt;
-  rig = record { on = on; shape = refl; disk_writes = refl };
+  on = quiet.on;
+  shape = refl;
   disk = stood;
-  stops = unarmed;
+  stops = quiet.unarmed;
   rest = tt;
   risen = λ below. omega arith;
   ready = λ none block ready. ready;
   tally = tally;
-  groups = subst (λ (gs : List ℕ). AreAmong gs []) (sym none) tt;
+  spent = λ uncut. spent_fresh o v s told quiet table none;
+  dirty = dirty;
 }
 
-module _ (o : Told) (stands : Image → PlainDisk → Type 0) (first a : State) (counted : Tally) (held : List ℕ) (run : List Ran) (so_far : RanSoFar o stands first a counted held run) where
+module _ (o : Told) (stands : Image → PlainDisk → Type 0) (first a : State) (counted : Tally) (v : VolumeState) (run : List Ran) (so_far : RanSoFar o stands first a counted v run) where
   -- it counts the lines
   pub writes_counted : counted.writes ≤ counted.lines
   writes_counted =
@@ -171,19 +168,9 @@ module _ (o : Told) (stands : Image → PlainDisk → Type 0) (first a : State) 
       let lines = so_far.tally.lines in
       omega arith
 
-  -- what is refused by what was counted is refused after the lines
-  refusal_is : (armed : ℕ) (l : Line) → armed ≡ length a.power.stops → refusal_when o armed counted.groups.keys l ≡ refusal_of o run l
-  refusal_is armed l armed_is =
-      ap (λ n. refusal_when o n counted.groups.keys l) (armed_is ∙ ap (λ (q : List Stop). length q) so_far.stops)
-      ∙ ap (λ (gs : List ℕ). refusal_when o (length (armed_after run)) gs l) so_far.tally.groups
-
-  -- so what was said of a line by what was counted is so of the lines
-  pub refusal_counted : (k : Geometry) (armed : ℕ) (l : Line) (r said : Option LineError) → k ≡ o.geometry → armed ≡ length a.power.stops → ((j : Told) → j.geometry ≡ k → r ≡ refusal_when j armed counted.groups.keys l) → r ≡ said → refusal_of o run l ≡ said
-  refusal_counted k armed l r said same armed_is counts is = sym (refusal_is armed l armed_is) ∙ sym (counts o (sym same)) ∙ is
-
-  -- what a line needs that is run
-  pub may_hold : (l : Line) → refusal_of o run l ≡ None → MayHoldLine o.geometry held l (grouping o.geometry.p l (groups_after o.geometry.p run))
-  may_hold l none = line_may o.geometry held (groups_after o.geometry.p run) l so_far.groups (admitted o (length (armed_after run)) (groups_after o.geometry.p run) l none).1
+  -- the next line is not refused
+  pub accepts : (l : Line) → (is_stop l ≡ true → length a.power.stops < 16) → refusal_of run l ≡ None
+  accepts l few = admitted (length (armed_after run)) l (λ stop. subst (λ (q : List Stop). length q < 16) so_far.stops (few stop))
 
   within_may : (l : Line) (may : Option ℕ) → RestWithin may a.power.stops a.power.rest → (a.power.stops ≢ [] → block_count l ≤ a.power.rest) → IsWithin (block_count l) may
   within_may l None known spends = tt
@@ -202,11 +189,12 @@ module _ (o : Told) (stands : Image → PlainDisk → Type 0) (first a : State) 
   }
 
   -- one more line was run
-  pub so_far_more : (more : Image → PlainDisk → Type 0) (l : Line) (cuts kept : ℕ) (b : State) (new : Tally) (holds : List ℕ) → o.ack ≡ ack.Write → refusal_of o run l ≡ None → IsTallied o.geometry.p l counted new → LeavesRig a b → RunsLine l cuts a b → FitsLine ack.Write l cuts kept 0 (disk_after run) → StandFor more b.contents (after_line l kept (disk_after run)) → AreAmong holds (grouping o.geometry.p l (groups_after o.geometry.p run)) → RanSoFar o more first b new holds (as_ran l cuts kept 0 ∷ run)
-  so_far_more more l cuts kept b new holds acked none one rig runs fits stood groups = record {
+  pub so_far_more : (more : Image → PlainDisk → Type 0) (l : Line) (cuts kept : ℕ) (b : State) (new : Tally) (w : VolumeState) → o.ack ≡ ack.Write → refusal_of run l ≡ None → IsTallied l counted new → b.power.on ≡ true → b.contents.shape ≡ a.contents.shape → (IsQuiet v a → IsUncut l → Spent (steps_of l) v w a b) → RunsLine l cuts a b → FitsLine ack.Write l cuts kept 0 (disk_after run) → StandFor more b.contents (after_line l kept (disk_after run)) → RanSoFar o more first b new w (as_ran l cuts kept 0 ∷ run)
+  so_far_more more l cuts kept b new w acked none one on shape spent runs fits stood = record {
     accepted = (none, so_far.accepted);
     fits = (can_next l cuts kept acked (record { few = runs.few; spends = λ none some. let rest = runs.rest none some in omega arith; fits = fits }), so_far.fits);
-    rig = record { on = rig.on; shape = rig.shape ∙ so_far.rig.shape; disk_writes = rig.disk_writes ∙ so_far.rig.disk_writes };
+    on = on;
+    shape = shape ∙ so_far.shape;
     disk = subst (λ (d : PlainDisk). StandFor more b.contents d) (sym (disk_after-line (as_ran l cuts kept 0) run refl)) stood;
     stops = runs.stops ∙ ap (λ (q : List Stop). arming l (drop cuts q)) so_far.stops;
     rest = rest_more run l cuts kept a b so_far.stops runs so_far.rest;
@@ -216,15 +204,15 @@ module _ (o : Told) (stands : Image → PlainDisk → Type 0) (first a : State) 
       lines = one.lines ∙ ap (λ n. n + 1) so_far.tally.lines ∙ sym (one_line (lines_of run) l);
       writes = one.writes ∙ ap (λ n. n + write_count l) so_far.tally.writes;
       reads = one.reads ∙ ap (λ n. n + read_count l) so_far.tally.reads;
-      groups = one.groups ∙ ap (λ (gs : List ℕ). grouping o.geometry.p l gs) so_far.tally.groups;
       touched = one.touched ∙ ap (λ (xs : List ℕ). touching l xs) so_far.tally.touched;
     };
-    groups = groups;
+    spent = run_more o first a v run so_far.spent (as_ran l cuts kept 0) w b spent;
+    dirty = so_far.dirty;
   }
 
 -- of a volume that tells the same
-pub so_far_told : (o k : Told) (stands : Image → PlainDisk → Type 0) (first a : State) (counted : Tally) (held : List ℕ) (run : List Ran) → o ≡ k → RanSoFar o stands first a counted held run → RanSoFar k stands first a counted held run
-so_far_told o k stands first a counted held run same so_far = subst (λ (j : Told). RanSoFar j stands first a counted held run) same so_far
+pub so_far_told : (o k : Told) (stands : Image → PlainDisk → Type 0) (first a : State) (counted : Tally) (v : VolumeState) (run : List Ran) → o ≡ k → RanSoFar o stands first a counted v run → RanSoFar k stands first a counted v run
+so_far_told o k stands first a counted v run same so_far = subst (λ (j : Told). RanSoFar j stands first a counted v run) same so_far
 
 -- the lines that were counted, after one more
 pub lines_more : (run : List Ran) (one : Ran) (before after : ℕ) → before ≡ length (lines_of run) → after ≡ length (lines_of (one ∷ run)) → after ≡ before + 1
@@ -244,7 +232,6 @@ module _ {P : Type 0} (tells : P → ScriptState) where
         on = next.on;
         shape = next.shape ∙ first.shape;
         lent = next.lent ∙ first.lent;
-        disk_writes = next.disk_writes ∙ first.disk_writes;
         flash = omega arith;
         disk = omega arith;
         source = omega arith;
@@ -256,7 +243,7 @@ module _ {P : Type 0} (tells : P → ScriptState) where
 
   -- a call of the script alone
   pub on_script : (x y : P) (a : State) → a.power.on ≡ true → (tells x).source_faults ≤ (tells y).source_faults → (tells x).sink_faults ≤ (tells y).sink_faults → (tells y).lent ≡ (tells x).lent → (tells y).size ≡ (tells x).size → (tells y).turns ≤ (tells x).turns → GoesOn tells x y a a
-  on_script x y a on source sink lent size turns = record { on = on; shape = refl; lent = refl; disk_writes = refl; flash = omega arith; disk = omega arith; source = source; sink = sink; script_lent = lent; size = size; turns = turns }
+  on_script x y a on source sink lent size turns = record { on = on; shape = refl; lent = refl; flash = omega arith; disk = omega arith; source = source; sink = sink; script_lent = lent; size = size; turns = turns }
 
 -- ---- what may become of the next line
 

@@ -1,13 +1,9 @@
 -- One more line that is counted.
-use Rattle.std.proofs.Common.{◌≡◌, ℕ, zero, suc, ◌+◌, ◌/◌, ◌<◌, ◌≤◌, All, List, [], Result, Ok, Err, OnOk, ap, sym, add-one, subst, arith}
+use Rattle.std.proofs.Common.{◌≡◌, ℕ, zero, suc, ◌+◌, ◌<◌, ◌≤◌, All, List, [], Result, Ok, Err, OnOk, ap, sym, add-one, subst, arith}
 use Rattle.std.specs.Ordering.{nat_cmp}
 use Rattle.std.specs.BTreeSet.{insert_key}
 use Rattle.std.proofs.lemmas.Map.Views.{All-insert_key}
 use Rattle.trace_model.specs.Run.{with_each}
-use Rattle.trace_model.specs.SoFar.{with_groups}
-
-pub with_one_group : (p lba i : ℕ) (groups : List ℕ) → with_groups p lba (i + 1) groups ≡ insert_key nat_cmp (with_groups p lba i groups) ((lba + i) / p)
-with_one_group p lba i groups = ap (λ n. with_groups p lba n groups) (add-one i)
 
 pub with_one_address : (lba i : ℕ) (addresses : List ℕ) → with_each lba (i + 1) addresses ≡ insert_key nat_cmp (with_each lba i addresses) (lba + i)
 with_one_address lba i addresses = ap (λ n. with_each lba n addresses) (add-one i)

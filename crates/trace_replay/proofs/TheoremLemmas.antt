@@ -1,5 +1,5 @@
 -- How a run ends: the records of the theorem from what the lines left.
-use Rattle.std.proofs.Common.{◌≡◌, ◌≢◌, ◌≤◌, ◌+◌, ◌&&◌, ◌∷◌, ◌++◌, [], ℕ, Bool, true, false, cond, nat_le, List, Option, Some, None, Ok, Err, map, drop, length, refl, sym, ap, ◌∙◌, subst, append_assoc, arith}
+use Rattle.std.proofs.Common.{◌≡◌, ◌≤◌, ◌+◌, ◌∷◌, ◌++◌, [], ℕ, Bool, true, false, List, Option, Some, None, Ok, Err, map, drop, length, refl, sym, ap, ◌∙◌, subst, append_assoc, arith}
 use Rattle.std.proofs.lemmas.List.{append-nil}
 use Rattle.ft_base.specs.Contents.{Contents, Image}
 use Rattle.ft_base.specs.PlainDisk.{PlainDisk}
@@ -8,18 +8,18 @@ use Rattle.ft_base.specs.Told.{Told}
 use Rattle.ft_base.specs.declared.power.Stop.{Stop}
 use Rattle.ft_base.specs.declared.told.Ack.TheVariants as ack
 use Rattle.ft_media.specs.State.{State}
-use Rattle.ft_volume.specs.Volume.{StandFor}
+use Rattle.ft_volume.specs.Volume.{StandFor, VolumeState}
 use Rattle.trace_model.specs.declared.answer.Answer.{Answer}
 use Rattle.trace_model.specs.declared.answer.Answer.TheVariants as answer
 use Rattle.trace_model.specs.declared.line.Line.{Line}
 use Rattle.trace_model.specs.declared.line.Line.TheVariants as line
 use Rattle.trace_model.specs.declared.line.LineError.{LineError}
-use Rattle.trace_model.specs.declared.line.LineError.TheVariants.{TooManyStops}
 use Rattle.trace_model.specs.declared.ran.Ran.{Ran}
+use Rattle.trace_model.specs.Backs.{AreUncut}
 use Rattle.trace_model.specs.Fits.{armed_after}
 use Rattle.trace_model.specs.Readings.{Reading, accepted}
 use Rattle.trace_model.specs.Run.{after_line, answers_of, cuts_in, digest_of, disk_after, disk_without, end_answers, end_of, lines_of, reads_in, stopped, touched_after, writes_after, writes_in}
-use Rattle.trace_model.specs.SoFar.{AnswersTo, MayTell, WasRun, as_ran, blocks_unless, disk_within, is_stop, next_refusal, refusal, refusal_of}
+use Rattle.trace_model.specs.SoFar.{AnswersTo, MayTell, WasRun, as_ran, begun, begun_unless, blocks_unless, disk_within, next_refusal, refusal, refusal_of}
 use Rattle.trace_model.proofs.RunLemmas.{disk_line, disk_without-none}
 use Rattle.trace_replay.specs.declared.ended.Ended.{Ended}
 use Rattle.trace_replay.specs.declared.ended.Ended.TheVariants as ended
@@ -29,10 +29,13 @@ use Rattle.trace_replay.specs.Events.{Breaks, BreaksBy, CameBy, Event, KnowsGive
 use Rattle.trace_replay.specs.Events.Event.{Gave, Took}
 use Rattle.trace_replay.specs.Ran.{EndsRun, RanSoFar}
 use Rattle.trace_replay.specs.Said.{Cuts, Takes, TellsStops}
+use Rattle.trace_replay.specs.Spends.{IsQuiet, SpendsAtMost, Spent, fresh, steps_after, steps_of, touches_each}
 use Rattle.trace_replay.specs.Theorem.{EndsPart, EndsRefused, EndsUnread, LeavesLines, LeavesRig, RunsWhole, StandForNext}
+use Rattle.trace_replay.proofs.BacksLemmas.{end_reads_few, end_writes_back, end_writes_none, reads_few, writes_none}
 use Rattle.trace_replay.proofs.FromLemmas.{takes_from}
 use Rattle.trace_replay.proofs.GivenLemmas.{answers_in-taking, given_left, lines_given-run, next_left, told_bytes-run}
 use Rattle.trace_replay.proofs.RanLemmas.{can_next, can_some}
+use Rattle.trace_replay.proofs.SpendsLemmas.{run_begun, run_end, run_most, run_then}
 
 -- ---- the media
 
@@ -55,7 +58,7 @@ pub media_none : (o : Told) (stands : Image → PlainDisk → Type 0) (contents 
 media_none o stands contents run left stood x now = (0, 0, record { blocks = omega arith; none = λ _. refl; since = omega arith; front = λ _. refl }, subst (λ (d : PlainDisk). stands x d) (sym (none_within run left)) (stood x now))
 
 -- some first blocks of it were
-media_line : (o : Told) (stands : Image → PlainDisk → Type 0) (contents : Contents) (run : List Ran) (l : Line) (left : List Reading) → refusal_of o run l ≡ None → StandForPart stands contents l (disk_after run) → StandForNext o stands contents run (Ok l ∷ left)
+media_line : (o : Told) (stands : Image → PlainDisk → Type 0) (contents : Contents) (run : List Ran) (l : Line) (left : List Reading) → refusal_of run l ≡ None → StandForPart stands contents l (disk_after run) → StandForNext o stands contents run (Ok l ∷ left)
 media_line o stands contents run l left none part x now =
     let is = part x now in
     let disk : disk_within run (Ok l ∷ left) 0 is.0 ≡ after_line l is.0 (disk_after run) = disk_line l is.0 (drop 0 (writes_after run)) ∙ ap (after_line l is.0) (disk_without-none 0 run refl) in (
@@ -71,7 +74,7 @@ some_is : (x y : LineError) → ◌≡◌ {A = Option LineError} (Some x) (Some 
 some_is x y same = cc
 
 -- a refusal, where the next line is refused
-may_refuse : (o : Told) (run : List Ran) (whole : Bool) (left : List Reading) (cause : LineError) → next_refusal o run left ≡ Some cause → MayTell o whole run left (refusal run cause)
+may_refuse : (o : Told) (run : List Ran) (whole : Bool) (left : List Reading) (cause : LineError) → next_refusal run left ≡ Some cause → MayTell o whole run left (refusal run cause)
 may_refuse o run true [] cause is = absurd (cc)
 may_refuse o run false [] cause is = absurd (cc)
 may_refuse o run true (Err e ∷ left) cause is = ap (refusal run) (some_is cause e (sym is))
@@ -80,44 +83,56 @@ may_refuse o run true (Ok l ∷ left) cause is = subst (λ (r : Option LineError
 may_refuse o run false (Ok l ∷ left) cause is = subst (λ (r : Option LineError). AnswersTo o r run l (refusal run cause)) (sym is) refl
 
 -- its answers, where it is not
-may_answer : (o : Told) (run : List Ran) (whole : Bool) (l : Line) (left : List Reading) (answers : List Answer) → AnswersTo o (refusal_of o run l) run l answers → MayTell o whole run (Ok l ∷ left) answers
+may_answer : (o : Told) (run : List Ran) (whole : Bool) (l : Line) (left : List Reading) (answers : List Answer) → AnswersTo o (refusal_of run l) run l answers → MayTell o whole run (Ok l ∷ left) answers
 may_answer o run true l left answers tells = tells
 may_answer o run false l left answers tells = tells
 
 -- what is refused where so many stops are armed
-refused_next : (o : Told) (run : List Ran) (armed : ℕ) (next : Reading) (left : List Reading) (cause : LineError) → armed ≡ length (armed_after run) → refused_for armed next ≡ Some cause → next_refusal o run (next ∷ left) ≡ Some cause
-refused_next o run armed (Err e) left cause same is = is
-refused_next o run armed (Ok l) left cause same is =
-    refused_by (is_stop l && nat_le 16 (length (armed_after run))) _ cause (subst (λ n. refused_for n (Ok l) ≡ Some cause) same is)
-  where
-    refused_by : (many : Bool) (other : Option LineError) (cause : LineError) → cond many (Some TooManyStops) None ≡ Some cause → cond many (Some TooManyStops) other ≡ Some cause
-    refused_by true other cause is = is
-    refused_by false other cause is = absurd (cc)
+refused_next : (run : List Ran) (armed : ℕ) (next : Reading) (left : List Reading) (cause : LineError) → armed ≡ length (armed_after run) → refused_for armed next ≡ Some cause → next_refusal run (next ∷ left) ≡ Some cause
+refused_next run armed (Err e) left cause same is = is
+refused_next run armed (Ok l) left cause same is = subst (λ n. refused_for n (Ok l) ≡ Some cause) same is
 
 -- ---- an end
 
 run_part : (o : Told) (reads : List Reading → Bool → Type 0) (says : List Ran → List Answer → Type 0) (short : List Ran → List Answer → Option Answer → Type 0) (stands : Image → PlainDisk → Type 0) (first now : State) (e : Ended) → (e ≡ ended.Trace → ⊥) → (e ≡ ended.Source → ⊥) → EndsPart o reads says short stands first now e → EndsRun o reads says short stands first now e
 run_part o reads says short stands first now e not_trace not_source ends = record { refused = λ is. absurd (not_trace is); unread = λ is. absurd (not_source is); part = λ _ _. ends }
 
-module _ (o : Told) (stands : Image → PlainDisk → Type 0) (first a : State) (counted : Tally) (held : List ℕ) (run : List Ran) (so_far : RanSoFar o stands first a counted held run) where
+module _ (o : Told) (stands : Image → PlainDisk → Type 0) (first a : State) (counted : Tally) (v : VolumeState) (run : List Ran) (so_far : RanSoFar o stands first a counted v run) where
   lines_left : (all left : List Reading) → all ≡ map accepted (lines_of run) ++ left → WasRun o all run left
   lines_left all left front = record { lines = front; accepted = so_far.accepted; fits = so_far.fits }
 
+  -- what lines that were begun leave by then
+  rig_of : (lines : List Ran) (b : State) → b.power.on ≡ true → b.contents.shape ≡ first.contents.shape → (AreUncut run → SpendsAtMost (steps_after lines) (fresh o) first b) → LeavesRig o first b run lines
+  rig_of lines b on shape most = record { on = on; shape = shape; reads = reads_few o run lines first b most; writes = writes_none o run lines first b most so_far.dirty }
+
+  rig_here : LeavesRig o first a run run
+  rig_here = rig_of run a so_far.on so_far.shape (run_most o first a v run so_far.spent)
+
+  -- before a step of the next line was made
+  rig_before : (left : List Reading) → LeavesRig o first a run (begun run left)
+  rig_before [] = rig_here
+  rig_before (Err cause ∷ left) = rig_here
+  rig_before (Ok l ∷ left) = rig_unless (refusal_of run l)
+    where
+      rig_unless : (why : Option LineError) → LeavesRig o first a run (begun_unless why l run)
+      rig_unless None = rig_of (as_ran l 0 0 0 ∷ run) a so_far.on so_far.shape (run_begun o first a v run so_far.spent (steps_of l))
+      rig_unless (Some cause) = rig_here
+
   leaves_lines : (left : List Reading) → LeavesLines o stands first a run left
-  leaves_lines left = record { rig = so_far.rig; media = media_none o stands a.contents run left so_far.disk; stops = so_far.stops; risen = so_far.risen; ready = so_far.ready }
+  leaves_lines left = record { rig = rig_here; media = media_none o stands a.contents run left so_far.disk; stops = so_far.stops; risen = so_far.risen; ready = so_far.ready }
 
   -- something may be told of whatever comes next
   tells_some : o.ack ≡ ack.Write → (whole : Bool) (left : List Reading) → (due : List Answer) × MayTell o whole run left due
   tells_some acked true [] = (end_answers run 0 0, record { cuts = 0; lost = 0; fits = record { few = omega arith; none = refl }; told = refl })
   tells_some acked false [] = ([], refl)
   tells_some acked whole (Err cause ∷ left) = (refusal run cause, may_refuse o run whole (Err cause ∷ left) cause refl)
-  tells_some acked whole (Ok l ∷ left) = let some = tells_line (refusal_of o run l) in (some.0, may_answer o run whole l left some.0 some.1)
+  tells_some acked whole (Ok l ∷ left) = let some = tells_line (refusal_of run l) in (some.0, may_answer o run whole l left some.0 some.1)
     where
       tells_line : (r : Option LineError) → (due : List Answer) × AnswersTo o r run l due
       tells_line (Some cause) = (refusal run cause, refl)
       tells_line None =
           let can = can_some a.power (disk_after run) l a.power.stops refl in
-          (answers_of (as_ran l can.0 can.1 0) (disk_without 0 run), record { cuts = can.0; kept = can.1; lost = 0; fits = can_next o stands first a counted held run so_far l can.0 can.1 acked can.2; told = refl })
+          (answers_of (as_ran l can.0 can.1 0) (disk_without 0 run), record { cuts = can.0; kept = can.1; lost = 0; fits = can_next o stands first a counted v run so_far l can.0 can.1 acked can.2; told = refl })
 
   -- before any answer of the next line was taken
   ends_before : (reads : List Reading → Bool → Type 0) (says : List Ran → List Answer → Type 0) (short : List Ran → List Answer → Option Answer → Type 0) (e : Ended) (all : List Reading) (whole : Bool) (left : List Reading) (due : List Answer) → reads all whole → all ≡ map accepted (lines_of run) ++ left → MayTell o whole run left due → Takes e (says run) (short run) [] due → EndsPart o reads says short stands first a e
@@ -139,11 +154,8 @@ module _ (o : Told) (stands : Image → PlainDisk → Type 0) (first a : State) 
       fell = (0, omega arith, omega arith, so_far.stops);
     };
     media = media_none o stands a.contents run left so_far.disk;
-    rig = so_far.rig;
+    rig = rig_before left;
   }
-
-  rig_then : (b : State) → LeavesRig a b → LeavesRig first b
-  rig_then b rig = record { on = rig.on; shape = rig.shape ∙ so_far.rig.shape; disk_writes = rig.disk_writes ∙ so_far.rig.disk_writes }
 
   stops_then : (e : Ended) (front : List Answer) (b : State) → TellsStops e front 0 a b a.power.stops → TellsStops e front (cuts_in run) first b (armed_after run)
   stops_then e front b tells = record {
@@ -177,8 +189,8 @@ module _ (o : Told) (stands : Image → PlainDisk → Type 0) (first a : State) 
       left_next = next_left run l given.all given.left given.front
 
       -- it ended within it
-      pub ends_within : (more : Image → PlainDisk → Type 0) (c : State) (e : Ended) → o.ack ≡ ack.Write → refusal_of o run l ≡ None → LeavesRig a c → EndsWithin tells came broke knows e x y a c l (disk_after run) → StandForPart more c.contents l (disk_after run) → EndsRun o (knows s y) (CameBy came s b y) (BreaksBy broke s b y) more first c e
-      ends_within more c e acked none rig within part = run_part o _ _ _ more first c e within.blamed.not_trace within.blamed.not_source (record {
+      pub ends_within : (more : Image → PlainDisk → Type 0) (c : State) (e : Ended) → o.ack ≡ ack.Write → refusal_of run l ≡ None → c.power.on ≡ true → c.contents.shape ≡ a.contents.shape → (IsQuiet v a → SpendsAtMost (steps_of l) v a c) → EndsWithin tells came broke knows e x y a c l (disk_after run) → StandForPart more c.contents l (disk_after run) → EndsRun o (knows s y) (CameBy came s b y) (BreaksBy broke s b y) more first c e
+      ends_within more c e acked none on shape most within part = run_part o _ _ _ more first c e within.blamed.not_trace within.blamed.not_source (record {
         all = given.all;
         whole = given.whole;
         run = run;
@@ -187,7 +199,7 @@ module _ (o : Told) (stands : Image → PlainDisk → Type 0) (first a : State) 
         trace = knew given.all given.whole given.known;
         lines = lines_left given.all (Ok l ∷ given.left) left_next;
         may = may_answer o run given.whole l given.left _ (subst (λ (r : Option LineError). AnswersTo o r run l (answers_of (as_ran l within.cuts within.kept 0) (disk_after run))) (sym none)
-            (record { cuts = within.cuts; kept = within.kept; lost = 0; fits = can_next o stands first a counted held run so_far l within.cuts within.kept acked within.can; told = ap (answers_of (as_ran l within.cuts within.kept 0)) (sym (disk_without-none 0 run refl)) }));
+            (record { cuts = within.cuts; kept = within.kept; lost = 0; fits = can_next o stands first a counted v run so_far l within.cuts within.kept acked within.can; told = ap (answers_of (as_ran l within.cuts within.kept 0)) (sym (disk_without-none 0 run refl)) }));
         part = record {
           front = within.part.front;
           rest = within.part.rest;
@@ -197,7 +209,7 @@ module _ (o : Told) (stands : Image → PlainDisk → Type 0) (first a : State) 
         proper = within.proper;
         stops = stops_then e within.part.front c within.stops;
         media = media_line o more c.contents run l given.left none part;
-        rig = rig_then c rig;
+        rig = subst (λ (why : Option LineError). LeavesRig o first c run (begun_unless why l run)) (sym none) (rig_of (as_ran l 0 0 0 ∷ run) c on (shape ∙ so_far.shape) (run_end o first a v run so_far.spent (steps_of l) c most));
       })
 
       -- memory was refused before it was counted
@@ -206,28 +218,6 @@ module _ (o : Told) (stands : Image → PlainDisk → Type 0) (first a : State) 
           let some = tells_some acked given.whole (Ok l ∷ given.left) in
           run_part o _ _ _ stands first a ended.Memory (λ is. cc) (λ is. cc)
           (ends_before (knows s y) (CameBy came s b y) (BreaksBy broke s b y) ended.Memory given.all given.whole (Ok l ∷ given.left) some.0 (knew given.all given.whole given.known) left_next some.1 (Gave l ∷ [], refl, now))
-
-      -- it was refused
-      pub ends_refusing : (number : ℕ) (cause : LineError) (e : Ended) → refusal_of o run l ≡ Some cause → number ≡ length (lines_of run) + 1 → (e ≡ ended.Trace → Says came x y (answer.Refused number cause ∷ [])) → (e ≢ ended.Trace → Takes e (Says came x y) (Breaks came broke x y) [] (answer.Refused number cause ∷ [])) → (e ≡ ended.Source → ⊥) → EndsRun o (knows s y) (CameBy came s b y) (BreaksBy broke s b y) stands first a e
-      ends_refusing number cause e refused number_is said part not_source =
-          let same : answer.Refused number cause ∷ [] ≡ refusal run cause = ap (λ n. answer.Refused n cause ∷ []) number_is in
-          record {
-            refused = λ is. record {
-              all = given.all;
-              whole = given.whole;
-              run = run;
-              left = Ok l ∷ given.left;
-              cause = cause;
-              trace = knew given.all given.whole given.known;
-              lines = lines_left given.all (Ok l ∷ given.left) left_next;
-              why = refused;
-              printed = says_next (refusal run cause) (subst (λ (r : List Answer). Says came x y r) same (said is));
-              leaves = leaves_lines (Ok l ∷ given.left);
-            };
-            unread = λ is. absurd (not_source is);
-            part = λ not_trace _. ends_before (knows s y) (CameBy came s b y) (BreaksBy broke s b y) e given.all given.whole (Ok l ∷ given.left) (refusal run cause) (knew given.all given.whole given.known) left_next (may_refuse o run given.whole (Ok l ∷ given.left) cause refused)
-                (takes_from e (Says came x y) (CameBy came s b y run) (Breaks came broke x y) (BreaksBy broke s b y run) says_next breaks_next [] (refusal run cause) (subst (λ (r : List Answer). Takes e (Says came x y) (Breaks came broke x y) [] r) same (part not_trace)));
-          }
 
     -- ---- where no line was given
 
@@ -250,7 +240,7 @@ module _ (o : Told) (stands : Image → PlainDisk → Type 0) (first a : State) 
       cause = cause;
       trace = next.known;
       lines = lines_left next.all (next.next ∷ next.left) (left_here (events_of run) next.all (next.next ∷ next.left) refl next.front);
-      why = refused_next o run armed next.next next.left cause (armed_is ∙ ap (λ (q : List Stop). length q) so_far.stops) next.why;
+      why = refused_next run armed next.next next.left cause (armed_is ∙ ap (λ (q : List Stop). length q) so_far.stops) next.why;
       printed = (taking (refusal_after (events_of run) cause ∷ []), said_is cause, now);
       leaves = leaves_lines (next.next ∷ next.left);
     }
@@ -269,7 +259,7 @@ module _ (o : Told) (stands : Image → PlainDisk → Type 0) (first a : State) 
     -- the sink failed while a refusal was said
     pub ends_sink : (armed : ℕ) (cause : LineError) → armed ≡ length a.power.stops → NextRefused knows s y (events_of run) armed cause → broke s b (events_of run) (Took (refusal_after (events_of run) cause)) y → EndsPart o (knows s y) (CameBy came s b y) (BreaksBy broke s b y) stands first a ended.Sink
     ends_sink armed cause armed_is next broken =
-        let why = refused_next o run armed next.next next.left cause (armed_is ∙ ap (λ (q : List Stop). length q) so_far.stops) next.why in
+        let why = refused_next run armed next.next next.left cause (armed_is ∙ ap (λ (q : List Stop). length q) so_far.stops) next.why in
         ends_before (knows s y) (CameBy came s b y) (BreaksBy broke s b y) ended.Sink next.all next.whole (next.next ∷ next.left) (refusal run cause) next.known (left_here (events_of run) next.all (next.next ∷ next.left) refl next.front) (may_refuse o run next.whole (next.next ∷ next.left) cause why) (
           [],
           refl,
@@ -285,7 +275,7 @@ module _ (o : Told) (stands : Image → PlainDisk → Type 0) (first a : State) 
 
     -- ---- the end line
 
-    module _ (come : came s b (events_of run) x) (known : KnowsLines knows s x (events_of run) true) (knew : (all : List Reading) (whole : Bool) → knows s x all whole → knows s y all whole) (more : Image → PlainDisk → Type 0) (c : State) (stood : StandFor more c.contents (disk_after run)) (rig : LeavesRig a c) where
+    module _ (come : came s b (events_of run) x) (known : KnowsLines knows s x (events_of run) true) (knew : (all : List Reading) (whole : Bool) → knows s x all whole → knows s y all whole) (more : Image → PlainDisk → Type 0) (c : State) (stood : StandFor more c.contents (disk_after run)) (on : c.power.on ≡ true) (shape : c.contents.shape ≡ a.contents.shape) where
       through : (answers : List Answer) → SaysThrough came x y answers → CameBy came s b y run answers
       through answers says = says s b (events_of run) come (told_bytes-run run)
 
@@ -293,29 +283,35 @@ module _ (o : Told) (stands : Image → PlainDisk → Type 0) (first a : State) 
       broken_through answers None breaks = absurd breaks
       broken_through answers (Some next) breaks = breaks s b (events_of run) come (told_bytes-run run)
 
+      rig_end : (AreUncut run → SpendsAtMost (touches_each (touched_after run) ++ steps_after run) (fresh o) first c) → LeavesRig o first c run run
+      rig_end most = record { on = on; shape = shape ∙ so_far.shape; reads = end_reads_few o run first c most; writes = end_writes_none o run first c most so_far.dirty }
+
       -- it was said
-      pub ends_whole : (cuts : ℕ) → Cuts cuts 0 a c → SaysThrough came x y (stopped cuts ++ answer.End counted.writes counted.reads (length counted.touched.keys) (digest_of counted.touched.keys (disk_after run)) ∷ []) → RunsWhole o (knows s y) (CameBy came s b y) more first c
-      ends_whole cuts cut said = record {
-        all = map accepted (lines_given (events_of run));
-        run = run;
-        cuts = cuts;
-        lost = 0;
-        trace = knew _ true known;
-        lines = lines_left _ [] (all_given _ refl);
-        printed = through (end_answers run cuts 0) (subst (λ (z : Answer). SaysThrough came x y (stopped cuts ++ z ∷ [])) end_is said);
-        leaves = record {
-          rig = rig_then c rig;
-          fits = record { few = subst (λ (q : List Stop). cuts ≤ length q) so_far.stops cut.few; none = refl };
-          disk = subst (λ (d : PlainDisk). StandFor more c.contents d) (sym (disk_without-none 0 run refl)) stood;
-          stops = cut.stops ∙ ap (drop cuts) so_far.stops;
-          risen = λ below. let two = cut.risen below in let one = so_far.risen (omega arith) in omega arith;
-          ready = λ none block ready. cut.ready (omega arith) block (so_far.ready (omega arith) block ready);
-        };
-      }
+      pub ends_whole : (w : VolumeState) (cuts : ℕ) → (IsQuiet v a → Spent (touches_each counted.touched.keys) v w a c) → Cuts cuts 0 a c → SaysThrough came x y (stopped cuts ++ answer.End counted.writes counted.reads (length counted.touched.keys) (digest_of counted.touched.keys (disk_after run)) ∷ []) → RunsWhole o (knows s y) (CameBy came s b y) more first c
+      ends_whole w cuts again cut said =
+          let spent = run_then o first a v run so_far.spent (touches_each (touched_after run)) w c (λ quiet. subst (λ (keys : List ℕ). Spent (touches_each keys) v w a c) so_far.tally.touched (again quiet)) in
+          record {
+            all = map accepted (lines_given (events_of run));
+            run = run;
+            cuts = cuts;
+            lost = 0;
+            trace = knew _ true known;
+            lines = lines_left _ [] (all_given _ refl);
+            printed = through (end_answers run cuts 0) (subst (λ (z : Answer). SaysThrough came x y (stopped cuts ++ z ∷ [])) end_is said);
+            leaves = record {
+              rig = rig_end (λ uncut. (spent uncut).most);
+              fits = record { few = subst (λ (q : List Stop). cuts ≤ length q) so_far.stops cut.few; none = refl };
+              disk = subst (λ (d : PlainDisk). StandFor more c.contents d) (sym (disk_without-none 0 run refl)) stood;
+              stops = cut.stops ∙ ap (drop cuts) so_far.stops;
+              risen = λ below. let two = cut.risen below in let one = so_far.risen (omega arith) in omega arith;
+              ready = λ none block ready. cut.ready (omega arith) block (so_far.ready (omega arith) block ready);
+            };
+            backs = end_writes_back o run first c w spent;
+          }
 
       -- the run ended within it
-      pub ends_end : (e : Ended) → EndsEnd tells came broke knows e x y a c (answer.End counted.writes counted.reads (length counted.touched.keys) (digest_of counted.touched.keys (disk_after run))) → EndsPart o (knows s y) (CameBy came s b y) (BreaksBy broke s b y) more first c e
-      ends_end e ends = record {
+      pub ends_end : (e : Ended) → (IsQuiet v a → SpendsAtMost (touches_each counted.touched.keys) v a c) → EndsEnd tells came broke knows e x y a c (answer.End counted.writes counted.reads (length counted.touched.keys) (digest_of counted.touched.keys (disk_after run))) → EndsPart o (knows s y) (CameBy came s b y) (BreaksBy broke s b y) more first c e
+      ends_end e again ends = record {
         all = map accepted (lines_given (events_of run));
         whole = true;
         run = run;
@@ -333,5 +329,5 @@ module _ (o : Told) (stands : Image → PlainDisk → Type 0) (first a : State) 
         proper = λ none. absurd (ends.proper none);
         stops = stops_then e ends.part.front c ends.stops;
         media = media_none o more c.contents run [] stood;
-        rig = rig_then c rig;
+        rig = rig_end (run_end o first a v run so_far.spent (touches_each (touched_after run)) c (λ quiet. subst (λ (keys : List ℕ). SpendsAtMost (touches_each keys) v a c) so_far.tally.touched (again quiet)));
       }

@@ -48,8 +48,8 @@ tells_any o true [] = (end_answers [] 0 0, record { cuts = 0; lost = 0; fits = r
 tells_any o false [] = ([], refl)
 tells_any o true (Err cause ∷ left) = (refusal [] cause, refl)
 tells_any o false (Err cause ∷ left) = (refusal [] cause, refl)
-tells_any o true (Ok l ∷ left) = tells_some o l (refusal_of o [] l)
-tells_any o false (Ok l ∷ left) = tells_some o l (refusal_of o [] l)
+tells_any o true (Ok l ∷ left) = tells_some o l (refusal_of [] l)
+tells_any o false (Ok l ∷ left) = tells_some o l (refusal_of [] l)
 
 -- no block was written
 disk_none : (left : List Reading) → disk_within [] left 0 0 ≡ empty
@@ -81,7 +81,7 @@ module _ (o : Told) (reads : List Reading → Bool → Type 0) (says : List Ran 
         proper = λ nothing. nothing;
         stops = record { risen = λ below. omega arith; only = λ device. absurd device; queue = λ device. absurd device; fell = (0, omega arith, omega arith, unarmed) };
         media = λ x now. (0, 0, record { blocks = omega arith; none = λ _. refl; since = omega arith; front = λ _. refl }, subst (λ (d : PlainDisk). stands x d) (sym (disk_none all)) (disk x now));
-        rig = record { on = on; shape = refl; disk_writes = refl };
+        rig = record { on = on; shape = refl; reads = record { few = λ uncut few. omega arith }; writes = record { none = λ uncut back few. refl } };
       }
 
   pub ends_refused_memory : (all : List Reading) (whole : Bool) → reads all whole → says [] [] → s.power.on ≡ true → s.power.stops ≡ [] → StandFor stands s.contents empty → (e : Ended) → e ≡ ended.Memory → EndsPart o reads says short stands s s e

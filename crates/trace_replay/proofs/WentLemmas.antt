@@ -32,12 +32,11 @@ at_exit (Err e) from q is holds = subst q (sym is) holds
 abbrev pub refused : VolumeError → Result (Unit {0}) VolumeError
 refused error = Err error
 
--- what a call of a volume leaves that was refused, whatever it is for
+-- what a call of a volume leaves that was refused, whatever it is for and whatever it would have answered
 pub record WasCall (a b : State) (error : VolumeError) : Type 0 where
   pub on : a.power.on ≡ true
   pub passes : Passes a b (lost_by error)
   pub cause : HasCause a.faults b.faults (refused error)
-  pub disk_writes : b.counts.disk_writes ≡ a.counts.disk_writes
 
 module _ {P : Type 0} (tells : P → ScriptState) (came : SourceState → SinkState → List Event → P → Type 0) (broke : SourceState → SinkState → List Event → Event → P → Type 0) (knows : SourceState → P → List Reading → Bool → Type 0) where
   abbrev Said : P → P → List Answer → Type 0
@@ -51,6 +50,9 @@ module _ {P : Type 0} (tells : P → ScriptState) (came : SourceState → SinkSt
 
   abbrev EndsCut : Ended → P → P → State → State → Type 0
   EndsCut e x y a b = went.EndsCut tells came broke knows e x y a b
+
+  abbrev EndsOnce : Ended → P → P → State → State → Type 0
+  EndsOnce e x y a b = went.EndsOnce tells came broke knows e x y a b
 
   abbrev Goes : P → P → State → State → Type 0
   Goes x y a b = went.Goes tells came broke knows x y a b
@@ -70,7 +72,7 @@ module _ {P : Type 0} (tells : P → ScriptState) (came : SourceState → SinkSt
   -- ---- cuts
 
   pub goes_none : (x : P) (a : State) → a.power.on ≡ true → Goes x x a a
-  goes_none x a on = record { on = on; shape = refl; lent = refl; disk_writes = refl; flash = omega arith; disk = omega arith; cuts = omega arith; source = omega arith; sink = omega arith; script_lent = refl; size = refl; turns = omega arith; knew = λ s all whole known. known }
+  goes_none x a on = record { on = on; shape = refl; lent = refl; flash = omega arith; disk = omega arith; cuts = omega arith; source = omega arith; sink = omega arith; script_lent = refl; size = refl; turns = omega arith; knew = λ s all whole known. known }
 
   pub goes_then : (x y z : P) (a b c : State) → Goes x y a b → Goes y z b c → Goes x z a c
   goes_then x y z a b c first next =
@@ -84,7 +86,6 @@ module _ {P : Type 0} (tells : P → ScriptState) (came : SourceState → SinkSt
         on = next.on;
         shape = next.shape ∙ first.shape;
         lent = next.lent ∙ first.lent;
-        disk_writes = next.disk_writes ∙ first.disk_writes;
         flash = omega arith;
         disk = omega arith;
         cuts = omega arith;
@@ -189,31 +190,36 @@ module _ {P : Type 0} (tells : P → ScriptState) (came : SourceState → SinkSt
   }
 
   -- power was lost, and telling that ended the run
-  ends_saying : (e : Ended) (x y : P) (a after : State) → 1 ≤ length a.power.stops → after.power.stops ≡ drop 1 a.power.stops → a.faults.cuts ≤ after.faults.cuts → EndsSaying e x y (stopped 1) → EndsCut e x y a after
-  ends_saying e x y a after some gone later ends = record {
-    blamed = blamed_saying e x y a after (stopped 1) ends;
-    cuts = 1;
-    few = some;
-    part = ends.part;
-    stops = stops_untold e a after ends.part.front ends.only (front_none ends.part.front ends.part.rest answer.Stopped ends.part.both ends.proper) gone later;
-  }
+  ends_saying : (e : Ended) (x y : P) (a after : State) → 1 ≤ length a.power.stops → after.power.stops ≡ drop 1 a.power.stops → a.faults.cuts ≤ after.faults.cuts → EndsSaying e x y (stopped 1) → EndsOnce e x y a after
+  ends_saying e x y a after some gone later ends = (
+    record {
+      blamed = blamed_saying e x y a after (stopped 1) ends;
+      cuts = 1;
+      few = some;
+      part = ends.part;
+      stops = stops_untold e a after ends.part.front ends.only (front_none ends.part.front ends.part.rest answer.Stopped ends.part.both ends.proper) gone later;
+    },
+    omega arith,
+  )
 
   -- power stayed on, and nothing was told
-  ends_still : (e : Ended) (x : P) (a after : State) → Blamed e x x a after → Takes e (Said x x) (SaidPart x x) [] [] → after.power.stops ≡ a.power.stops → a.faults.cuts ≤ after.faults.cuts → EndsCut e x x a after
-  ends_still e x a after blamed taken same later = record {
-    blamed = blamed;
-    cuts = 0;
-    few = omega arith;
-    part = record { front = []; rest = []; both = refl; taken = taken };
-    stops = record { risen = λ below. omega arith; only = λ device. refl; queue = λ device. same; fell = (0, omega arith, omega arith, same) };
-  }
+  ends_still : (e : Ended) (x : P) (a after : State) → Blamed e x x a after → Takes e (Said x x) (SaidPart x x) [] [] → after.power.stops ≡ a.power.stops → a.faults.cuts ≤ after.faults.cuts → EndsOnce e x x a after
+  ends_still e x a after blamed taken same later = (
+    record {
+      blamed = blamed;
+      cuts = 0;
+      few = omega arith;
+      part = record { front = []; rest = []; both = refl; taken = taken };
+      stops = record { risen = λ below. omega arith; only = λ device. refl; queue = λ device. same; fell = (0, omega arith, omega arith, same) };
+    },
+    omega arith,
+  )
 
   goes_lost : (x y : P) (a before after : State) → WasCall a before volume.PowerLost → GoesScript x y → after ≡ powered before → Goes x y a after
   goes_lost x y a before after call script is = subst (λ (s : State). Goes x y a s) (sym is) (record {
     on = refl;
     shape = call.passes.shape;
     lent = call.passes.lent;
-    disk_writes = call.disk_writes;
     flash = call.cause.flash;
     disk = call.cause.disk;
     cuts = call.cause.cuts;
@@ -226,7 +232,7 @@ module _ {P : Type 0} (tells : P → ScriptState) (came : SourceState → SinkSt
   })
 
   -- power was lost, and telling that ended the run
-  went_lost : (e : Ended) (x y : P) (a before after : State) → WasCall a before volume.PowerLost → GoesScript x y → after ≡ powered before → EndsSaying e x y (stopped 1) → Goes x y a after × EndsCut e x y a after
+  went_lost : (e : Ended) (x y : P) (a before after : State) → WasCall a before volume.PowerLost → GoesScript x y → after ≡ powered before → EndsSaying e x y (stopped 1) → Goes x y a after × EndsOnce e x y a after
   went_lost e x y a before after call script is ends =
       let goes = goes_lost x y a before after call script is in
       let cut = call.passes.cut call.on refl in
@@ -234,19 +240,19 @@ module _ {P : Type 0} (tells : P → ScriptState) (came : SourceState → SinkSt
       (goes, ends_saying e x y a after (first_stop cut.front a.power.stops before.power.stops cut.stops) gone goes.cuts ends)
 
   -- power stayed on, and the call was refused
-  went_still : (e : Ended) (error : VolumeError) (x : P) (a b : State) → WasCall a b error → lost_by error ≡ false → Blamed e x x a b → Takes e (Said x x) (SaidPart x x) [] [] → Goes x x a b × EndsCut e x x a b
+  went_still : (e : Ended) (error : VolumeError) (x : P) (a b : State) → WasCall a b error → lost_by error ≡ false → Blamed e x x a b → Takes e (Said x x) (SaidPart x x) [] [] → Goes x x a b × EndsOnce e x x a b
   went_still e error x a b call not_lost blamed taken =
       let stayed = call.passes.stayed call.on not_lost in (
-        record { on = stayed.on; shape = call.passes.shape; lent = call.passes.lent; disk_writes = call.disk_writes; flash = call.cause.flash; disk = call.cause.disk; cuts = call.cause.cuts; source = omega arith; sink = omega arith; script_lent = refl; size = refl; turns = omega arith; knew = λ s all whole known. known },
+        record { on = stayed.on; shape = call.passes.shape; lent = call.passes.lent; flash = call.cause.flash; disk = call.cause.disk; cuts = call.cause.cuts; source = omega arith; sink = omega arith; script_lent = refl; size = refl; turns = omega arith; knew = λ s all whole known. known },
         ends_still e x a b blamed taken stayed.stops call.cause.cuts,
       )
 
   -- the same, where nothing else was done after it
-  went_same : (e f : Ended) (x y : P) (a before after : State) → e ≡ f → after ≡ before → y ≡ x → Goes x x a before × EndsCut f x x a before → Goes x y a after × EndsCut e x y a after
+  went_same : (e f : Ended) (x y : P) (a before after : State) → e ≡ f → after ≡ before → y ≡ x → Goes x x a before × EndsOnce f x x a before → Goes x y a after × EndsOnce e x y a after
   went_same e f x y a before after e_is after_is y_is went =
-      subst (λ (k : Ended). Goes x y a after × EndsCut k x y a after) (sym e_is)
-      (subst (λ (s : State). Goes x y a s × EndsCut f x y a s) (sym after_is)
-      (subst (λ (z : P). Goes x z a before × EndsCut f x z a before) (sym y_is) went))
+      subst (λ (k : Ended). Goes x y a after × EndsOnce k x y a after) (sym e_is)
+      (subst (λ (s : State). Goes x y a s × EndsOnce f x y a s) (sym after_is)
+      (subst (λ (z : P). Goes x z a before × EndsOnce f x z a before) (sym y_is) went))
 
   -- a call of a volume was refused, and what was done then ended the run
   pub went_call : (e : Ended) (error : VolumeError) (x y : P) (a before after : State)
@@ -254,7 +260,7 @@ module _ {P : Type 0} (tells : P → ScriptState) (came : SourceState → SinkSt
       → (error ≡ volume.PowerLost → (after ≡ powered before) × GoesScript x y × EndsSaying e x y (stopped 1))
       → (error ≢ volume.PowerLost → (after ≡ before) × (y ≡ x))
       → (error ≢ volume.PowerLost → e ≡ ended_of error)
-      → Goes x y a after × EndsCut e x y a after
+      → Goes x y a after × EndsOnce e x y a after
   went_call e volume.PowerLost x y a before after call inside lost same by = let was = lost refl in went_lost e x y a before after call was.1 was.0 was.2
   went_call e volume.FlashFault x y a before after call inside lost same by =
       let not : volume.FlashFault ≢ volume.PowerLost = λ lost. cc in

@@ -12,7 +12,6 @@ use Rattle.ft_base.specs.declared.told.Ack.TheVariants as ack
 use Rattle.ft_media.specs.Media.{IsSmall}
 use Rattle.ft_media.specs.Rig.{CutThrough}
 use Rattle.ft_media.specs.State.{Power, State}
-use Rattle.ft_media.specs.declared.rig.Counts.{Counts}
 use Rattle.trace_model.specs.declared.answer.Answer.{Answer}
 use Rattle.trace_model.specs.declared.answer.Answer.TheVariants as answer
 use Rattle.trace_model.specs.declared.line.Line.{Line}
@@ -101,7 +100,6 @@ module _ {P : Type 0} (tells : P → ScriptState) (came : SourceState → SinkSt
         on = goes.on;
         shape = goes.shape;
         lent = goes.lent;
-        disk_writes = goes.disk_writes;
         flash = goes.flash;
         disk = goes.disk;
         cuts = goes.cuts;
@@ -124,7 +122,6 @@ module _ {P : Type 0} (tells : P → ScriptState) (came : SourceState → SinkSt
         on = ap (λ (p : Power). p.on) through.power;
         shape = through.shape;
         lent = through.lent;
-        disk_writes = ap (λ (c : Counts). c.disk_writes) through.counts;
         flash = omega arith;
         disk = omega arith;
         cuts = omega arith;
@@ -137,14 +134,14 @@ module _ {P : Type 0} (tells : P → ScriptState) (came : SourceState → SinkSt
       }
 
   -- while only cuts were told of a line that writes nothing
-  pub within_cut : (e : Ended) (x y : P) (a b : State) (l : Line) (kept : ℕ) (d : PlainDisk) → block_count l ≡ 0 → ((cuts : ℕ) → FitsLine ack.Write l cuts kept 0 d) → ((cuts : ℕ) → own_answers l cuts kept d ≡ [] → ⊥) → EndsCut e x y a b → EndsWithin e x y a b l d
-  within_cut e x y a b l kept d none fits some ends =
+  pub within_cut : (e : Ended) (x y : P) (a b : State) (l : Line) (kept : ℕ) (d : PlainDisk) → block_count l ≡ 0 → ((cuts : ℕ) → own_answers l cuts kept d ≡ [] → ⊥) → (ends : EndsCut e x y a b) → FitsLine ack.Write l ends.cuts kept 0 d → EndsWithin e x y a b l d
+  within_cut e x y a b l kept d none some ends fits =
       let own = own_answers l ends.cuts kept d in
       record {
         blamed = ends.blamed;
         cuts = ends.cuts;
         kept = kept;
-        can = record { few = ends.few; spends = λ _ _. omega arith; fits = fits ends.cuts };
+        can = record { few = ends.few; spends = λ _ _. omega arith; fits = fits };
         part = record {
           front = ends.part.front;
           rest = ends.part.rest ++ own;

@@ -3,9 +3,10 @@ use Rattle.std.specs.Prelude.{◌≡◌, ◌≤◌}
 use Rattle.ft_media.specs.Media.{KeepsReady}
 use Rattle.ft_media.specs.State.{State}
 
--- an earlier state of the same shape, since which no block was written to the disk, no count of cuts fell, and what was ready is ready
+-- an earlier state of the same shape, since which no block of the disk was read or written, no count of cuts fell, and what was ready is ready
 pub record IsBefore (earlier first : State) : Type 0 where
   pub shape : first.contents.shape ≡ earlier.contents.shape
+  pub disk_reads : first.counts.disk_reads ≡ earlier.counts.disk_reads
   pub disk_writes : first.counts.disk_writes ≡ earlier.counts.disk_writes
   pub cuts : earlier.faults.cuts ≤ first.faults.cuts
   pub ready : KeepsReady earlier first

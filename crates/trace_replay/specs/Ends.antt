@@ -1,16 +1,13 @@
 -- What becomes of one line, and of the reads of the end.
-use Rattle.std.specs.Prelude.{◌≡◌, ◌≢◌, ◌≤◌, ◌<◌, ◌+◌, ◌/◌, ◌==◌, ℕ, true, List, [], ◌∷◌, ◌++◌, length, drop, Option, Some, None, Bool, ⊤}
-use Rattle.std.specs.List.{list_any}
+use Rattle.std.specs.Prelude.{◌≡◌, ◌≢◌, ◌≤◌, ◌<◌, ◌+◌, ℕ, List, [], ◌∷◌, ◌++◌, length, drop, Option, Some, None, Bool, ⊤}
 use Rattle.ft_base.specs.Contents.{Contents, Image, Now}
 use Rattle.ft_base.specs.Pattern.{pat}
 use Rattle.ft_base.specs.PlainDisk.{PlainDisk}
 use Rattle.ft_base.specs.StreamState.{SinkState, SourceState}
-use Rattle.ft_base.specs.declared.geometry.Geometry.{Geometry}
 use Rattle.ft_base.specs.declared.power.Stop.{Stop}
 use Rattle.ft_base.specs.declared.told.Ack.TheVariants as ack
 use Rattle.ft_media.specs.Media.{KeepsReady}
 use Rattle.ft_media.specs.State.{Power, State}
-use Rattle.ft_volume.specs.Volume.{AreAmong}
 use Rattle.trace_model.specs.Fits.{FitsLine, arming, block_count}
 use Rattle.trace_model.specs.Readings.{Reading}
 use Rattle.trace_model.specs.Run.{after_blocks, after_line, answers_of, cut_count, stopped}
@@ -90,29 +87,3 @@ module _ {P : Type 0} (tells : P → ScriptState) (came : SourceState → SinkSt
     pub part : TookPart e (SaysThrough came x y) (BreaksThrough came broke x y) (stopped cuts ++ end ∷ [])
     pub proper : part.rest ≡ [] → ⊥
     pub stops : TellsStops e part.front 0 old new old.power.stops
-
--- ---- the groups with a block that the disk lacks
-
--- the group is one of these
-abbrev pub IsAmong : ℕ → List ℕ → Type 0
-IsAmong group groups = list_any (λ k. k == group) groups ≡ true
-
--- the groups of these blocks are among these
-abbrev pub HasGroups : ℕ → ℕ → ℕ → List ℕ → Type 0
-HasGroups p lba count groups = (i : ℕ) → i < count → IsAmong ((lba + i) / p) groups
-
--- and those of a line's writes
-abbrev pub HasGroupsOf : ℕ → Line → List ℕ → Type 0
-HasGroupsOf p (line.Write lba count tag) groups = HasGroups p lba count groups
-HasGroupsOf p other groups = ⊤
-
--- no more groups than these can have a block that the disk lacks, once these blocks are written, and they are few enough
-pub record MayHold (g : Geometry) (held : List ℕ) (lba count : ℕ) (groups : List ℕ) : Type 0 where
-  pub few : length groups ≤ g.c
-  pub had : AreAmong held groups
-  pub joined : HasGroups g.p lba count groups
-
-pub record MayHoldLine (g : Geometry) (held : List ℕ) (line : Line) (groups : List ℕ) : Type 0 where
-  pub few : length groups ≤ g.c
-  pub had : AreAmong held groups
-  pub joined : HasGroupsOf g.p line groups

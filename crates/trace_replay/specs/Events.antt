@@ -1,5 +1,5 @@
 -- What a script gave and took, in order.
-use Rattle.std.specs.Prelude.{◌≡◌, ℕ, ◌+◌, nat_le, Bool, ◌&&◌, if◌then◌else◌, List, [], ◌∷◌, ◌++◌, length, map, Option, Some, None, Ok, Err}
+use Rattle.std.specs.Prelude.{◌≡◌, ℕ, ◌+◌, Bool, List, [], ◌∷◌, ◌++◌, length, map, Option, Some, None, Ok, Err}
 use Rattle.std.specs.Int.{w64, to_be_bytes}
 use Rattle.ft_base.specs.StreamState.{SinkState, SourceState}
 use Rattle.ft_base.specs.PlainDisk.{PlainDisk}
@@ -8,11 +8,10 @@ use Rattle.trace_model.specs.declared.answer.Answer.{Answer}
 use Rattle.trace_model.specs.declared.answer.Answer.TheVariants as answer
 use Rattle.trace_model.specs.declared.line.Line.{Line}
 use Rattle.trace_model.specs.declared.line.LineError.{LineError}
-use Rattle.trace_model.specs.declared.line.LineError.TheVariants.{TooManyStops}
 use Rattle.trace_model.specs.declared.ran.Ran.{Ran}
 use Rattle.trace_model.specs.Readings.{Reading, accepted}
 use Rattle.trace_model.specs.Run.{answers_of, disk_without}
-use Rattle.trace_model.specs.SoFar.{is_stop}
+use Rattle.trace_model.specs.SoFar.{refusal_when}
 
 -- a line was given, an answer was taken, or an address and its block were told
 pub data Event : Type 0 where
@@ -96,7 +95,7 @@ KnowsLines knows s now e whole = knows s now (map accepted (lines_given e)) whol
 -- why a line is refused before it is run, where so many stops are armed
 abbrev pub refused_for : ℕ → Reading → Option LineError
 refused_for armed (Err cause) = Some cause
-refused_for armed (Ok line) = if is_stop line && nat_le 16 armed then Some TooManyStops else None
+refused_for armed (Ok line) = refusal_when armed line
 
 -- the line after those that were given is refused for this cause
 pub record NextRefused {P : Type 0} (knows : SourceState → P → List Reading → Bool → Type 0) (s : SourceState) (now : P) (e : List Event) (armed : ℕ) (cause : LineError) : Type 0 where

@@ -3,6 +3,7 @@ pub mod Said
 pub mod Went
 pub mod Ends
 pub mod Theorem
+pub mod Spends
 pub mod Before
 pub mod Ran
 pub mod Saying

@@ -7,35 +7,34 @@ use Rattle.ft_base.specs.Told.{Told}
 use Rattle.ft_base.specs.declared.power.Stop.{Stop}
 use Rattle.ft_media.specs.Media.{KeepsReady}
 use Rattle.ft_media.specs.State.{State}
-use Rattle.ft_volume.specs.Volume.{AreAmong, StandFor}
+use Rattle.ft_volume.specs.Volume.{StandFor, VolumeState}
 use Rattle.trace_model.specs.declared.answer.Answer.{Answer}
 use Rattle.trace_model.specs.declared.line.Line.{Line}
 use Rattle.trace_model.specs.declared.ran.Ran.{Ran}
 use Rattle.trace_model.specs.Fits.{Fits, armed_after, may_write}
 use Rattle.trace_model.specs.Readings.{Reading}
 use Rattle.trace_model.specs.Run.{cuts_in, disk_after, lines_of, read_count, reads_in, touched_after, touching, write_count, writes_in}
-use Rattle.trace_model.specs.SoFar.{NoneRefused, grouping, groups_after}
+use Rattle.trace_model.specs.SoFar.{NoneRefused}
 use Rattle.trace_replay.specs.declared.ended.Ended.{Ended}
 use Rattle.trace_replay.specs.declared.ended.Ended.TheVariants as ended
 use Rattle.trace_replay.specs.declared.tally.Tally.{Tally}
 use Rattle.trace_replay.specs.Events.{ScriptState}
 use Rattle.trace_replay.specs.Said.{RoseAtLeast}
-use Rattle.trace_replay.specs.Theorem.{EndsPart, EndsRefused, EndsUnread, LeavesRig}
+use Rattle.trace_replay.specs.Spends.{SpentSoFar}
+use Rattle.trace_replay.specs.Theorem.{EndsPart, EndsRefused, EndsUnread}
 
 -- one more line was counted
-pub record IsTallied (p : ℕ) (line : Line) (old new : Tally) : Type 0 where
+pub record IsTallied (line : Line) (old new : Tally) : Type 0 where
   pub lines : new.lines ≡ old.lines + 1
   pub writes : new.writes ≡ old.writes + write_count line
   pub reads : new.reads ≡ old.reads + read_count line
-  pub groups : new.groups.keys ≡ grouping p line old.groups.keys
   pub touched : new.touched.keys ≡ touching line old.touched.keys
 
 -- the lines of a run were counted
-pub record IsTallyOf (p : ℕ) (run : List Ran) (tally : Tally) : Type 0 where
+pub record IsTallyOf (run : List Ran) (tally : Tally) : Type 0 where
   pub lines : tally.lines ≡ length (lines_of run)
   pub writes : tally.writes ≡ writes_in run
   pub reads : tally.reads ≡ reads_in run
-  pub groups : tally.groups.keys ≡ groups_after p run
   pub touched : tally.touched.keys ≡ touched_after run
 
 -- so many device writes may still answer Ok before the front one of these stops, where it is known how many
@@ -43,18 +42,21 @@ abbrev pub RestWithin : Option ℕ → List Stop → ℕ → Type 0
 RestWithin None stops rest = ⊤
 RestWithin (Some most) stops rest = (stops ≢ []) × (rest ≤ most)
 
--- these lines were run so far and none was refused: whatever a crash leaves now stands for their plain disk, the stops are those that did not cut, each cut was counted, without a cut what was ready is ready, and no other groups have a block that the disk lacks than those of the lines
-pub record RanSoFar (o : Told) (stands : Image → PlainDisk → Type 0) (first now : State) (counted : Tally) (held : List ℕ) (run : List Ran) : Type 0 where
-  pub accepted : NoneRefused o run
+-- these lines were run so far and none was refused: whatever a crash leaves now stands for their plain disk, the stops are those that did not cut, each cut was counted, without a cut what was ready is ready, and this volume spent what they cost
+pub record RanSoFar (o : Told) (stands : Image → PlainDisk → Type 0) (first now : State) (counted : Tally) (v : VolumeState) (run : List Ran) : Type 0 where
+  pub accepted : NoneRefused run
   pub fits : Fits o.ack run
-  pub rig : LeavesRig first now
+  pub on : now.power.on ≡ true
+  pub shape : now.contents.shape ≡ first.contents.shape
   pub disk : StandFor stands now.contents (disk_after run)
   pub stops : now.power.stops ≡ armed_after run
   pub rest : RestWithin (may_write run) now.power.stops now.power.rest
   pub risen : RoseAtLeast (cuts_in run) first.faults.cuts now.faults.cuts
   pub ready : cuts_in run ≡ 0 → KeepsReady first now
-  pub tally : IsTallyOf o.geometry.p run counted
-  pub groups : AreAmong held (groups_after o.geometry.p run)
+  pub tally : IsTallyOf run counted
+  pub spent : SpentSoFar o first now v run
+  -- no more groups may stay dirty than the cache has
+  pub dirty : o.dirty ≤ o.geometry.c
 
 -- ---- an end before the end line
 
@@ -72,12 +74,11 @@ module _ {P : Type 0} (tells : P → ScriptState) where
     pub flash : e ≡ ended.Flash → Rose old.faults.flash new.faults.flash
     pub disk : e ≡ ended.Disk → Rose old.faults.disk new.faults.disk
 
-  -- whatever a part of a run answers: power is on, what lies beneath stays, no block is written to the disk, and no count of faults falls
+  -- whatever a part of a run answers: power is on, what lies beneath stays, and no count of faults falls
   pub record GoesOn (x y : P) (old new : State) : Type 0 where
     pub on : new.power.on ≡ true
     pub shape : new.contents.shape ≡ old.contents.shape
     pub lent : new.lent ≡ old.lent
-    pub disk_writes : new.counts.disk_writes ≡ old.counts.disk_writes
     pub flash : old.faults.flash ≤ new.faults.flash
     pub disk : old.faults.disk ≤ new.faults.disk
     pub source : (tells x).source_faults ≤ (tells y).source_faults

@@ -9,22 +9,24 @@ use Rattle.ft_volume.specs.Volume.{StandFor}
 use Rattle.trace_model.specs.declared.answer.Answer.{Answer}
 use Rattle.trace_model.specs.declared.line.LineError.{LineError}
 use Rattle.trace_model.specs.declared.ran.Ran.{Ran}
+use Rattle.trace_model.specs.Backs.{ReadsFew, WritesBack, WritesNone}
 use Rattle.trace_model.specs.Fits.{FitsEnd, armed_after}
 use Rattle.trace_model.specs.Readings.{Reading}
 use Rattle.trace_model.specs.Run.{cuts_in, disk_without, end_answers}
-use Rattle.trace_model.specs.SoFar.{MayRemain, MayTell, WasRun, disk_within, next_refusal, refusal}
+use Rattle.trace_model.specs.SoFar.{MayRemain, MayTell, WasRun, begun, disk_within, next_refusal, refusal}
 use Rattle.trace_replay.specs.declared.ended.Ended.{Ended}
 use Rattle.trace_replay.specs.Said.{RoseAtLeast, TellsStops, TookPart}
 
--- what every run leaves: power on, the shape to which the rig was fitted, and no block written to the disk
-pub record LeavesRig (first now : State) : Type 0 where
+-- what every run leaves, of these lines that were run and these that were begun: power on, the shape to which the rig was fitted, and few calls of the disk where power was not cut
+pub record LeavesRig (o : Told) (first now : State) (run lines : List Ran) : Type 0 where
   pub on : now.power.on ≡ true
   pub shape : now.contents.shape ≡ first.contents.shape
-  pub disk_writes : now.counts.disk_writes ≡ first.counts.disk_writes
+  pub reads : ReadsFew o run lines first.counts.disk_reads now.counts.disk_reads
+  pub writes : WritesNone o run lines first.counts.disk_writes now.counts.disk_writes
 
 -- what is left after these lines, and so many cuts and lost block writes: whatever a crash leaves stands for the plain disk, the stops are those that did not cut, and where none was told power was not cut
-pub record Leaves (stands : Image → PlainDisk → Type 0) (first now : State) (run : List Ran) (cuts lost : ℕ) : Type 0 where
-  pub rig : LeavesRig first now
+pub record Leaves (o : Told) (stands : Image → PlainDisk → Type 0) (first now : State) (run : List Ran) (cuts lost : ℕ) : Type 0 where
+  pub rig : LeavesRig o first now run run
   pub fits : FitsEnd run cuts lost
   pub disk : StandFor stands now.contents (disk_without lost run)
   pub stops : now.power.stops ≡ drop cuts (armed_after run)
@@ -37,7 +39,7 @@ StandForNext o stands contents run left = (x : Image) → Now contents x → (lo
 
 -- what is left after these lines where the next one was not begun: whatever a crash leaves stands for their plain disk, no stop is gone that did not cut one of them, and where none was told power was not cut
 pub record LeavesLines (o : Told) (stands : Image → PlainDisk → Type 0) (first now : State) (run : List Ran) (left : List Reading) : Type 0 where
-  pub rig : LeavesRig first now
+  pub rig : LeavesRig o first now run run
   pub media : StandForNext o stands now.contents run left
   pub stops : now.power.stops ≡ armed_after run
   pub risen : RoseAtLeast (cuts_in run) first.faults.cuts now.faults.cuts
@@ -54,7 +56,8 @@ module _ (o : Told) (reads : List Reading → Bool → Type 0) (says : List Ran 
     pub trace : reads all true
     pub lines : WasRun o all run []
     pub printed : says run (end_answers run cuts lost)
-    pub leaves : Leaves stands first now run cuts lost
+    pub leaves : Leaves o stands first now run cuts lost
+    pub backs : WritesBack o run first.counts.disk_writes now.counts.disk_writes
 
   -- the line after those that were run is refused for a cause, and that was said
   pub record EndsRefused : Type 0 where
@@ -65,7 +68,7 @@ module _ (o : Told) (reads : List Reading → Bool → Type 0) (says : List Ran 
     pub cause : LineError
     pub trace : reads all whole
     pub lines : WasRun o all run left
-    pub why : next_refusal o run left ≡ Some cause
+    pub why : next_refusal run left ≡ Some cause
     pub printed : says run (refusal run cause)
     pub leaves : LeavesLines o stands first now run left
 
@@ -92,4 +95,4 @@ pub record EndsPart (o : Told) (reads : List Reading → Bool → Type 0) (says 
   pub proper : part.rest ≡ [] → due ≡ []
   pub stops : TellsStops e part.front (cuts_in run) first now (armed_after run)
   pub media : StandForNext o stands now.contents run left
-  pub rig : LeavesRig first now
+  pub rig : LeavesRig o first now run (begun run left)

@@ -36,12 +36,15 @@ module _ {P : Type 0} (tells : P → ScriptState) (came : SourceState → SinkSt
     pub part : TookPart e (Says came x y) (Breaks came broke x y) (stopped cuts)
     pub stops : TellsStops e part.front 0 old new old.power.stops
 
-  -- power is on, what lies beneath stays, no block is written to the disk, no count of faults falls, and what was known is known
+  -- and one cut was told at most
+  abbrev pub EndsOnce : Ended → P → P → State → State → Type 0
+  EndsOnce e x y old new = (ends : EndsCut e x y old new) × (ends.cuts ≤ 1)
+
+  -- power is on, what lies beneath stays, no count of faults falls, and what was known is known
   pub record Goes (x y : P) (old new : State) : Type 0 where
     pub on : new.power.on ≡ true
     pub shape : new.contents.shape ≡ old.contents.shape
     pub lent : new.lent ≡ old.lent
-    pub disk_writes : new.counts.disk_writes ≡ old.counts.disk_writes
     pub flash : old.faults.flash ≤ new.faults.flash
     pub disk : old.faults.disk ≤ new.faults.disk
     pub cuts : old.faults.cuts ≤ new.faults.cuts

@@ -1,16 +1,17 @@
 //! Calls of a volume that go on after a stop cut them.
-ghost use Rattle.std.specs.Prelude.{◌≡◌, ◌≢◌, ◌/◌, ◌≤◌, ◌<◌, ◌∷◌, [], true, false, length, OnOk, OnErr, IfOk, IfErr};
+ghost use Rattle.std.specs.Prelude.{◌≡◌, ◌≢◌, ◌≤◌, ◌<◌, ◌∷◌, [], true, false, OnOk, OnErr, IfOk, IfErr};
 ghost use Rattle.ft_base.specs.Contents.{set};
 ghost use Rattle.ft_base.specs.PlainDisk.{PlainDisk};
 ghost use Rattle.ft_base.specs.declared.told.Ack.TheVariants as ack;
-ghost use Rattle.cache_model.specs.Cache.{with_group};
 ghost use Rattle.ft_volume.specs.declared.volume.VolumeError.TheVariants as volume_error;
 ghost use Rattle.ft_media.specs.Rig.{powered};
-ghost use Rattle.ft_volume.specs.Volume.{AreAmong, StandFor, StandForEither, StandForOne};
+ghost use Rattle.ft_volume.specs.Volume.{StandFor, StandForEither, StandForOne};
 ghost use Rattle.trace_model.specs.Run.{stopped};
 ghost use Rattle.trace_replay.specs.Said.{ended_of};
 ghost use Rattle.trace_replay.specs.Saying.{SaysSo};
-ghost use Rattle.trace_replay.specs.Went.{Keeps, Went, count_of};
+ghost use Rattle.trace_replay.specs.Spends.{Spends};
+ghost use Rattle.trace_replay.specs.Spends.Step.{Puts, Rests, Touches};
+ghost use Rattle.trace_replay.specs.Went.{EndsOnce, Keeps, Went, count_of};
 
 use crate::ended::end_at;
 use crate::saying::say;
@@ -58,8 +59,8 @@ pub(crate) fn read_once<P: Script, R: Rig, V: Volume<R>>(
     ensures told { (V.state volume.new).told ≡ (V.state volume.old).told }
     ensures found { IfOk result (λ cut. cut ≡ false → (d : PlainDisk) → StandFor (V.stands (V.state volume.old).told) (R.state rig.old).contents d → block.new ≡ d lba) }
     ensures kept { Keeps (V.stands (V.state volume.old).told) (V.stands (V.state volume.new).told) (R.state rig.old).contents (R.state rig.new).contents }
-    ensures groups { AreAmong (V.state volume.new).groups (V.state volume.old).groups }
     ensures went { Went P.state P.came P.broke P.knows count_of 0 script.old script.new (R.state rig.old) (R.state rig.new) result }
+    ensures spends { Spends (Touches lba ∷ []) (V.state volume.old) (V.state volume.new) (R.state rig.old) (R.state rig.new) result }
 {
     match volume.read(rig, lba, block) {
         Ok(()) => Ok(false),
@@ -82,14 +83,13 @@ pub(crate) fn write_once<P: Script, R: Rig, V: Volume<R>>(
     requires on { (R.state rig.old).power.on ≡ true }
     requires ack { (V.state volume.old).told.ack ≡ ack.Write }
     requires within { lba < (V.state volume.old).told.geometry.size }
-    requires groups { length (with_group (lba / (V.state volume.old).told.geometry.p) (V.state volume.old).groups) ≤ (V.state volume.old).told.geometry.c }
     ensures owns { V.owns volume.new (R.state rig.new).contents }
     ensures told { (V.state volume.new).told ≡ (V.state volume.old).told }
     ensures done { IfOk result (λ cut. cut ≡ false → (d : PlainDisk) → StandFor (V.stands (V.state volume.old).told) (R.state rig.old).contents d → StandFor (V.stands (V.state volume.new).told) (R.state rig.new).contents (set d lba block.now)) }
     ensures one { IfOk result (λ cut. cut ≡ true → (d : PlainDisk) → StandFor (V.stands (V.state volume.old).told) (R.state rig.old).contents d → StandForOne (V.stands (V.state volume.new).told) (R.state rig.new).contents d (set d lba block.now)) }
     ensures images { (d : PlainDisk) → StandFor (V.stands (V.state volume.old).told) (R.state rig.old).contents d → StandForEither (V.stands (V.state volume.new).told) (R.state rig.new).contents d (set d lba block.now) }
-    ensures groups { AreAmong (V.state volume.new).groups (lba / (V.state volume.old).told.geometry.p ∷ (V.state volume.old).groups) }
     ensures went { Went P.state P.came P.broke P.knows count_of 1 script.old script.new (R.state rig.old) (R.state rig.new) result }
+    ensures spends { Spends (Puts lba ∷ []) (V.state volume.old) (V.state volume.new) (R.state rig.old) (R.state rig.new) result }
 {
     match volume.write(rig, lba, block) {
         Ok(()) => Ok(false),
@@ -112,14 +112,41 @@ pub(crate) fn flush_once<P: Script, R: Rig, V: Volume<R>>(
     ensures owns { V.owns volume.new (R.state rig.new).contents }
     ensures told { (V.state volume.new).told ≡ (V.state volume.old).told }
     ensures kept { Keeps (V.stands (V.state volume.old).told) (V.stands (V.state volume.new).told) (R.state rig.old).contents (R.state rig.new).contents }
-    ensures groups { AreAmong (V.state volume.new).groups (V.state volume.old).groups }
     ensures went { Went P.state P.came P.broke P.knows count_of 0 script.old script.new (R.state rig.old) (R.state rig.new) result }
+    ensures spends { Spends [] (V.state volume.old) (V.state volume.new) (R.state rig.old) (R.state rig.new) result }
 {
     match volume.flush(rig) {
         Ok(()) => Ok(false),
         Err(error) => {
             go_on(script, rig, error)?;
             Ok(true)
+        }
+    }
+}
+
+/// Runs one idle step. Says how often a stop cut it, which is once at most: then that is told, power is on
+/// again, and the step isn't asked again.
+pub(crate) fn idle_once<P: Script, R: Rig, V: Volume<R>>(
+    script: &mut P,
+    rig: &mut R,
+    volume: &mut V,
+) -> Result<u64, Ended>
+    requires owns { V.owns volume.old (R.state rig.old).contents }
+    requires on { (R.state rig.old).power.on ≡ true }
+    requires ack { (V.state volume.old).told.ack ≡ ack.Write }
+    ensures owns { V.owns volume.new (R.state rig.new).contents }
+    ensures told { (V.state volume.new).told ≡ (V.state volume.old).told }
+    ensures kept { Keeps (V.stands (V.state volume.old).told) (V.stands (V.state volume.new).told) (R.state rig.old).contents (R.state rig.new).contents }
+    ensures once { IfOk result (λ cuts. cuts ≤ 1) }
+    ensures ended { IfErr result (λ e. EndsOnce P.state P.came P.broke P.knows e script.old script.new (R.state rig.old) (R.state rig.new)) }
+    ensures went { Went P.state P.came P.broke P.knows (λ cuts. cuts) 0 script.old script.new (R.state rig.old) (R.state rig.new) result }
+    ensures spends { Spends (Rests ∷ []) (V.state volume.old) (V.state volume.new) (R.state rig.old) (R.state rig.new) result }
+{
+    match volume.idle(rig) {
+        Ok(_idled) => Ok(0),
+        Err(error) => {
+            go_on(script, rig, error)?;
+            Ok(1)
         }
     }
 }
@@ -140,8 +167,8 @@ pub(crate) fn read_through<P: Script, R: Rig, V: Volume<R>>(
     ensures told { (V.state volume.new).told ≡ (V.state volume.old).told }
     ensures found { OnOk result ((d : PlainDisk) → StandFor (V.stands (V.state volume.old).told) (R.state rig.old).contents d → block.new ≡ d lba) }
     ensures kept { Keeps (V.stands (V.state volume.old).told) (V.stands (V.state volume.new).told) (R.state rig.old).contents (R.state rig.new).contents }
-    ensures groups { AreAmong (V.state volume.new).groups (V.state volume.old).groups }
     ensures went { Went P.state P.came P.broke P.knows (λ cuts. cuts) 0 script.old script.new (R.state rig.old) (R.state rig.new) result }
+    ensures spends { Spends (Touches lba ∷ []) (V.state volume.old) (V.state volume.new) (R.state rig.old) (R.state rig.new) result }
 {
     let mut cuts = 0;
     let _armed = rig.armed();
@@ -166,8 +193,8 @@ pub(crate) fn flush_through<P: Script, R: Rig, V: Volume<R>>(
     ensures owns { V.owns volume.new (R.state rig.new).contents }
     ensures told { (V.state volume.new).told ≡ (V.state volume.old).told }
     ensures kept { Keeps (V.stands (V.state volume.old).told) (V.stands (V.state volume.new).told) (R.state rig.old).contents (R.state rig.new).contents }
-    ensures groups { AreAmong (V.state volume.new).groups (V.state volume.old).groups }
     ensures went { Went P.state P.came P.broke P.knows (λ cuts. cuts) 0 script.old script.new (R.state rig.old) (R.state rig.new) result }
+    ensures spends { Spends [] (V.state volume.old) (V.state volume.new) (R.state rig.old) (R.state rig.new) result }
 {
     let mut cuts = 0;
     let _armed = rig.armed();

@@ -1,8 +1,9 @@
 //! Runs a trace over any volume, and tells what a plain disk answers, wherever power stops.
 //!
 //! The layer above relies on the clauses of `replay` and `replay_script`: the text, each end with its cause,
-//! what the media stand for then, and which stops are still armed. They rest on those of `Volume`, `Rig`,
-//! `Source`, `Sink` and `Script` and on the definitions of `trace_model` alone.
+//! what the media stand for then, which stops are still armed, and how many blocks were read from the disk
+//! and written to it where power was not cut. They rest on those of `Volume`, `Rig`, `Source`, `Sink` and
+//! `Script` and on the definitions of `trace_model` alone.
 #![tactic(auto)]
 
 mod again;

@@ -1,5 +1,5 @@
 //! A trace that is read from a source.
-ghost use Rattle.std.specs.Prelude.{◌≡◌, ◌≢◌, ◌≤◌, ◌<◌, [], true, length, OnOk, IfErr, IsErrOf};
+ghost use Rattle.std.specs.Prelude.{◌≡◌, ◌≢◌, ◌≤◌, ◌<◌, [], ℕ, true, false, length, OnOk, IfErr, IsErrOf};
 ghost use Rattle.ft_base.specs.Count.{Rose};
 ghost use Rattle.ft_base.specs.PlainDisk.{empty};
 ghost use Rattle.ft_base.specs.declared.told.Ack.TheVariants as ack;
@@ -8,7 +8,7 @@ ghost use Rattle.trace_model.specs.Readings.{Reads};
 ghost use Rattle.trace_replay.specs.declared.input.InputEnd.TheVariants as input_end;
 ghost use Rattle.trace_replay.specs.Input.{ReadsBytes};
 ghost use Rattle.trace_replay.specs.Said.{Tells, TellsPart};
-ghost use Rattle.trace_replay.specs.Theorem.{EndsPart, EndsRefused, EndsUnread, LeavesRig, RunsWhole};
+ghost use Rattle.trace_replay.specs.Theorem.{EndsPart, EndsRefused, EndsUnread, RunsWhole};
 
 use crate::Ended;
 use crate::bytes::BytesScript;
@@ -25,6 +25,10 @@ const TRACE_LIMIT: usize = 1 << 32;
 
 /// Runs a trace, and prints what a plain disk answers, wherever power stops. The source is read to its
 /// end or its first fault before the first line is run.
+///
+/// The volume is as it was made: its plain disk is empty, its cache has no address, and no block waits to
+/// be written back. No more groups may stay dirty than the cache has, else it would have to write some back
+/// before that.
 pub fn replay<I: Source, O: Sink, R: Rig, V: Volume<R>>(
     alloc: Global,
     source: &mut I,
@@ -36,8 +40,11 @@ pub fn replay<I: Source, O: Sink, R: Rig, V: Volume<R>>(
     requires ack { (V.state volume.old).told.ack ≡ ack.Write }
     requires on { (R.state rig.old).power.on ≡ true }
     requires unarmed { (R.state rig.old).power.stops ≡ [] }
+    requires dirty { (V.state volume.old).told.dirty ≤ (V.state volume.old).told.geometry.c }
+    requires up { (V.state volume.old).down ≡ false }
+    requires table { (V.state volume.old).table ≡ [] }
+    requires held { (a : ℕ) → (V.state volume.old).held a ≡ false }
     requires empty { StandFor (V.stands (V.state volume.old).told) (R.state rig.old).contents empty }
-    requires groups { (V.state volume.old).groups ≡ [] }
     ensures owns { V.owns volume.new (R.state rig.new).contents }
     ensures told { (V.state volume.new).told ≡ (V.state volume.old).told }
     ensures whole { OnOk result (RunsWhole (V.state volume.old).told (Reads (V.state volume.old).told.geometry.size (I.state source.old) (I.state source.new)) (Tells (O.state sink.old) (O.state sink.new))
@@ -55,7 +62,6 @@ pub fn replay<I: Source, O: Sink, R: Rig, V: Volume<R>>(
     ensures source_lent { (I.state source.new).lent ≡ (I.state source.old).lent }
     ensures sink_lent { (O.state sink.new).lent ≡ (O.state sink.old).lent }
     ensures rig_lent { (R.state rig.new).lent ≡ (R.state rig.old).lent }
-    ensures rig { LeavesRig (R.state rig.old) (R.state rig.new) }
 {
     match read_whole(alloc, source, TRACE_LIMIT) {
         Ok(trace) => replay_bytes(alloc, &trace, sink, rig, volume),
@@ -75,8 +81,11 @@ fn replay_bytes<O: Sink, R: Rig, V: Volume<R>>(
     requires ack { (V.state volume.old).told.ack ≡ ack.Write }
     requires on { (R.state rig.old).power.on ≡ true }
     requires unarmed { (R.state rig.old).power.stops ≡ [] }
+    requires dirty { (V.state volume.old).told.dirty ≤ (V.state volume.old).told.geometry.c }
+    requires up { (V.state volume.old).down ≡ false }
+    requires table { (V.state volume.old).table ≡ [] }
+    requires held { (a : ℕ) → (V.state volume.old).held a ≡ false }
     requires empty { StandFor (V.stands (V.state volume.old).told) (R.state rig.old).contents empty }
-    requires groups { (V.state volume.old).groups ≡ [] }
     requires limit { length trace.now.bytes.items ≤ 4294967296 }
     requires cut { trace.now.end ≡ input_end.AtLimit → length trace.now.bytes.items ≡ 4294967296 }
     requires failed { trace.now.end ≡ input_end.Faulted → length trace.now.bytes.items < 4294967296 }
@@ -96,7 +105,6 @@ fn replay_bytes<O: Sink, R: Rig, V: Volume<R>>(
     ensures disk { IsErrOf result Ended.Disk → Rose (R.state rig.old).faults.disk (R.state rig.new).faults.disk }
     ensures sink_lent { (O.state sink.new).lent ≡ (O.state sink.old).lent }
     ensures rig_lent { (R.state rig.new).lent ≡ (R.state rig.old).lent }
-    ensures rig { LeavesRig (R.state rig.old) (R.state rig.new) }
 {
     let mut script = BytesScript {
         alloc,

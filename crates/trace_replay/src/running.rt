@@ -1,31 +1,28 @@
 //! The lines of a script, run one after the other.
-ghost use Rattle.std.specs.Prelude.{◌≡◌, ◌≢◌, ◌⊎◌, ◌+◌, ◌≤◌, ◌<◌, ◌^◌, ◌++◌, ◌∷◌, [], ℕ, Bool, List, true, false, length, All, OnOk, IfErr, IsErrOf};
+ghost use Rattle.std.specs.Prelude.{◌≡◌, ◌≢◌, ◌+◌, ◌≤◌, ◌<◌, ◌^◌, ◌++◌, ◌∷◌, [], ℕ, List, true, false, length, All, OnOk, IfErr, IsErrOf};
 ghost use Rattle.ft_base.specs.Count.{Rose};
 ghost use Rattle.ft_base.specs.PlainDisk.{empty};
 ghost use Rattle.ft_base.specs.StreamState.{SinkState, SourceState};
 ghost use Rattle.ft_base.specs.declared.told.Ack.TheVariants as ack;
 ghost use Rattle.ft_media.specs.State.{State};
 ghost use Rattle.ft_volume.specs.Volume.{StandFor};
-ghost use Rattle.trace_model.specs.declared.answer.Answer.TheVariants as answer;
 ghost use Rattle.trace_model.specs.declared.ran.Ran.{Ran};
 ghost use Rattle.trace_model.specs.Lines.{IsRunnable};
-ghost use Rattle.trace_model.specs.Readings.{Reading};
 ghost use Rattle.trace_model.specs.SoFar.{is_stop};
-ghost use Rattle.trace_replay.specs.Events.{Breaks, BreaksBy, CameBy, KnowsLines, Says, events_of};
+ghost use Rattle.trace_replay.specs.Events.{BreaksBy, CameBy, KnowsLines, events_of};
 ghost use Rattle.trace_replay.specs.Events.Event.{Gave};
 ghost use Rattle.trace_replay.specs.Ran.{BlamesRun, EndsRun, GoesOn, IsTallyOf, RanSoFar};
-ghost use Rattle.trace_replay.specs.Said.{Takes};
-ghost use Rattle.trace_replay.specs.Theorem.{EndsPart, EndsRefused, EndsUnread, LeavesRig, RunsWhole};
+ghost use Rattle.trace_replay.specs.Theorem.{EndsPart, EndsRefused, EndsUnread, RunsWhole};
 
 use crate::lines::run_line;
 use crate::scratch::Scratch;
-use crate::tally::{Tally, admit};
+use crate::tally::{Tally, count};
 use crate::touched::say_end;
 use crate::{Ended, Script};
 use ft_media::{Media, Rig};
 use ft_volume::Volume;
 use std::alloc::Global;
-use trace_model::{Answer, Line, LineError};
+use trace_model::Line;
 
 /// Runs the lines that a script gives, one after the other up to the first that is refused, and gives it
 /// what a plain disk answers, wherever power stops.
@@ -40,8 +37,11 @@ pub fn replay_script<P: Script, R: Rig, V: Volume<R>>(
     requires size { (P.state script.old).size ≡ (V.state volume.old).told.geometry.size }
     requires on { (R.state rig.old).power.on ≡ true }
     requires unarmed { (R.state rig.old).power.stops ≡ [] }
+    requires dirty { (V.state volume.old).told.dirty ≤ (V.state volume.old).told.geometry.c }
+    requires up { (V.state volume.old).down ≡ false }
+    requires table { (V.state volume.old).table ≡ [] }
+    requires held { (a : ℕ) → (V.state volume.old).held a ≡ false }
     requires empty { StandFor (V.stands (V.state volume.old).told) (R.state rig.old).contents empty }
-    requires groups { (V.state volume.old).groups ≡ [] }
     ensures owns { V.owns volume.new (R.state rig.new).contents }
     ensures told { (V.state volume.new).told ≡ (V.state volume.old).told }
     ensures whole { OnOk result ((s : SourceState) → (b : SinkState) → P.came s b [] script.old → RunsWhole (V.state volume.old).told
@@ -58,7 +58,6 @@ pub fn replay_script<P: Script, R: Rig, V: Volume<R>>(
     ensures disk { IsErrOf result Ended.Disk → Rose (R.state rig.old).faults.disk (R.state rig.new).faults.disk }
     ensures lent { (R.state rig.new).lent ≡ (R.state rig.old).lent }
     ensures script_lent { (P.state script.new).lent ≡ (P.state script.old).lent }
-    ensures rig { LeavesRig (R.state rig.old) (R.state rig.new) }
 {
     let mut tally = Tally::new(alloc);
     run_lines(alloc, script, rig, volume, &mut tally)?;
@@ -79,13 +78,16 @@ fn run_lines<P: Script, R: Rig, V: Volume<R>>(
     requires size { (P.state script.old).size ≡ (V.state volume.old).told.geometry.size }
     requires on { (R.state rig.old).power.on ≡ true }
     requires unarmed { (R.state rig.old).power.stops ≡ [] }
+    requires dirty { (V.state volume.old).told.dirty ≤ (V.state volume.old).told.geometry.c }
+    requires up { (V.state volume.old).down ≡ false }
+    requires table { (V.state volume.old).table ≡ [] }
+    requires held { (a : ℕ) → (V.state volume.old).held a ≡ false }
     requires empty { StandFor (V.stands (V.state volume.old).told) (R.state rig.old).contents empty }
-    requires groups { (V.state volume.old).groups ≡ [] }
-    requires tally { (p : ℕ) → IsTallyOf p [] tally.old }
+    requires tally { IsTallyOf [] tally.old }
     ensures owns { V.owns volume.new (R.state rig.new).contents }
     ensures told { (V.state volume.new).told ≡ (V.state volume.old).told }
     ensures whole { OnOk result ((run : List Ran)
-        × RanSoFar (V.state volume.old).told (V.stands (V.state volume.new).told) (R.state rig.old) (R.state rig.new) tally.new (V.state volume.new).groups run
+        × RanSoFar (V.state volume.old).told (V.stands (V.state volume.new).told) (R.state rig.old) (R.state rig.new) tally.new (V.state volume.new) run
         × ((s : SourceState) → (b : SinkState) → P.came s b [] script.old → P.came s b (events_of run) script.new × KnowsLines P.knows s script.new (events_of run) true)) }
     ensures within { OnOk result (All (λ a. a < (V.state volume.new).told.geometry.size) tally.new.touched.keys) }
     ensures ends { IfErr result (λ e. (s : SourceState) → (b : SinkState) → P.came s b [] script.old
@@ -101,7 +103,7 @@ fn run_lines<P: Script, R: Rig, V: Volume<R>>(
     Ok(())
 }
 
-/// Runs the line that was given, unless it is refused.
+/// Counts the line that was given, and runs it.
 fn run_given<P: Script, R: Rig, V: Volume<R>>(
     script: &mut P,
     rig: &mut R,
@@ -117,49 +119,26 @@ fn run_given<P: Script, R: Rig, V: Volume<R>>(
     requires stops { is_stop line.now ≡ true → length (R.state rig.old).power.stops < 16 }
     requires lines { tally.old.lines + 1 < 2 ^ 64 }
     requires so_far { (first : State) × (run : List Ran)
-        × RanSoFar (V.state volume.old).told (V.stands (V.state volume.old).told) first (R.state rig.old) tally.old (V.state volume.old).groups run }
+        × RanSoFar (V.state volume.old).told (V.stands (V.state volume.old).told) first (R.state rig.old) tally.old (V.state volume.old) run }
     requires within { All (λ a. a < (V.state volume.old).told.geometry.size) tally.old.touched.keys }
     ensures owns { V.owns volume.new (R.state rig.new).contents }
     ensures told { (V.state volume.new).told ≡ (V.state volume.old).told }
     ensures ran { OnOk result ((first : State) → (run : List Ran)
-        → RanSoFar (V.state volume.old).told (V.stands (V.state volume.old).told) first (R.state rig.old) tally.old (V.state volume.old).groups run
-        → (one : Ran) × RanSoFar (V.state volume.old).told (V.stands (V.state volume.new).told) first (R.state rig.new) tally.new (V.state volume.new).groups (one ∷ run)
+        → RanSoFar (V.state volume.old).told (V.stands (V.state volume.old).told) first (R.state rig.old) tally.old (V.state volume.old) run
+        → (one : Ran) × RanSoFar (V.state volume.old).told (V.stands (V.state volume.new).told) first (R.state rig.new) tally.new (V.state volume.new) (one ∷ run)
         × ((s : SourceState) → (b : SinkState) → P.came s b (events_of run ++ Gave line.now ∷ []) script.old → P.came s b (events_of (one ∷ run)) script.new)) }
     ensures within { OnOk result (All (λ a. a < (V.state volume.old).told.geometry.size) tally.new.touched.keys) }
     ensures ends { IfErr result (λ e. (first : State) → (run : List Ran)
-        → RanSoFar (V.state volume.old).told (V.stands (V.state volume.old).told) first (R.state rig.old) tally.old (V.state volume.old).groups run
+        → RanSoFar (V.state volume.old).told (V.stands (V.state volume.old).told) first (R.state rig.old) tally.old (V.state volume.old) run
         → (s : SourceState) → (b : SinkState) → P.came s b (events_of run ++ Gave line.now ∷ []) script.old
         → EndsRun (V.state volume.old).told (P.knows s script.new) (CameBy P.came s b script.new) (BreaksBy P.broke s b script.new) (V.stands (V.state volume.new).told) first (R.state rig.new) e) }
     ensures not_source { IsErrOf result Ended.Source → ⊥ }
     ensures blames { IfErr result (λ e. BlamesRun P.state e script.old script.new (R.state rig.old) (R.state rig.new)) }
     ensures goes { GoesOn P.state script.old script.new (R.state rig.old) (R.state rig.new) }
 {
-    let number = tally.lines + 1;
-    let Ok(refused) = admit(tally, line, &volume.geometry(), rig.armed()) else {
+    let Ok(()) = count(tally, line, volume.size()) else {
         return Err(Ended::Memory);
     };
-    if let Some(cause) = refused {
-        return Err(refuse(script, number, cause));
-    }
     let _became = run_line(script, rig, volume, line, scratch)?;
     Ok(())
-}
-
-/// Says a refusal, which ends the run.
-fn refuse<P: Script>(script: &mut P, line: u64, cause: LineError) -> Ended
-    ensures said { result ≡ Ended.Trace → Says P.came script.old script.new (answer.Refused line cause ∷ []) }
-    ensures part { result ≢ Ended.Trace → Takes result (Says P.came script.old script.new) (Breaks P.came P.broke script.old script.new) [] (answer.Refused line cause ∷ []) }
-    ensures only { (result ≡ Ended.Trace) ⊎ ((result ≡ Ended.Sink) ⊎ (result ≡ Ended.Memory)) }
-    ensures sink { result ≡ Ended.Sink → Rose (P.state script.old).sink_faults (P.state script.new).sink_faults }
-    ensures knew { (s : SourceState) → (all : List Reading) → (whole : Bool) → P.knows s script.old all whole → P.knows s script.new all whole }
-    ensures source_later { (P.state script.old).source_faults ≤ (P.state script.new).source_faults }
-    ensures later { (P.state script.old).sink_faults ≤ (P.state script.new).sink_faults }
-    ensures turns { (P.state script.new).turns ≤ (P.state script.old).turns }
-    ensures size { (P.state script.new).size ≡ (P.state script.old).size }
-    ensures lent { (P.state script.new).lent ≡ (P.state script.old).lent }
-{
-    match script.answer(&Answer::Refused { line, cause }) {
-        Ok(()) => Ended::Trace,
-        Err(ended) => ended,
-    }
 }

@@ -9,6 +9,7 @@ ghost use Rattle.trace_model.specs.Run.{digest_of, stopped};
 ghost use Rattle.trace_replay.specs.Ends.{EndsEnd, SaysThrough};
 ghost use Rattle.trace_replay.specs.Said.{Cuts};
 ghost use Rattle.trace_replay.specs.Saying.{SaysTouched};
+ghost use Rattle.trace_replay.specs.Spends.{Spends, touches_each};
 ghost use Rattle.trace_replay.specs.Went.{Goes, Keeps};
 
 use crate::again::read_through;
@@ -39,6 +40,7 @@ pub(crate) fn tell_touched<P: Script, R: Rig, V: Volume<R>>(
     ensures ends { IfErr result (λ e. (d : PlainDisk) → StandFor (V.stands (V.state volume.old).told) (R.state rig.old).contents d
         → (end : Answer) → EndsEnd P.state P.came P.broke P.knows e script.old script.new (R.state rig.old) (R.state rig.new) end) }
     ensures goes { Goes P.state P.came P.broke P.knows script.old script.new (R.state rig.old) (R.state rig.new) }
+    ensures spends { Spends (touches_each touched.now.keys) (V.state volume.old) (V.state volume.new) (R.state rig.old) (R.state rig.new) result }
 {
     let mut cuts = 0;
     let _armed = rig.armed();
@@ -71,6 +73,7 @@ pub(crate) fn say_end<P: Script, R: Rig, V: Volume<R>>(
     ensures ends { IfErr result (λ e. (d : PlainDisk) → StandFor (V.stands (V.state volume.old).told) (R.state rig.old).contents d → EndsEnd P.state P.came P.broke P.knows e script.old script.new (R.state rig.old) (R.state rig.new)
         (answer.End tally.now.writes tally.now.reads (length tally.now.touched.keys) (digest_of tally.now.touched.keys d))) }
     ensures goes { Goes P.state P.came P.broke P.knows script.old script.new (R.state rig.old) (R.state rig.new) }
+    ensures spends { Spends (touches_each tally.now.touched.keys) (V.state volume.old) (V.state volume.new) (R.state rig.old) (R.state rig.new) result }
 {
     let mut block = zero_block();
     let cuts = tell_touched(script, rig, volume, &tally.touched, &mut block)?;

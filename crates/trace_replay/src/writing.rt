@@ -1,15 +1,16 @@
 //! Writes, and what became of those that a stop cut.
-ghost use Rattle.std.specs.Prelude.{◌≡◌, ◌+◌, ◌≤◌, ℕ, List, true, false, IfOk, IfErr, IfSome};
+ghost use Rattle.std.specs.Prelude.{◌≡◌, ◌+◌, ◌≤◌, ℕ, true, false, IfOk, IfErr, IfSome};
 ghost use Rattle.ft_base.specs.PlainDisk.{PlainDisk};
 ghost use Rattle.ft_base.specs.declared.told.Ack.TheVariants as ack;
-ghost use Rattle.ft_volume.specs.Volume.{AreAmong, StandFor};
+ghost use Rattle.ft_volume.specs.Volume.{StandFor};
 ghost use Rattle.trace_model.specs.declared.line.Line.TheVariants as line_kind;
 ghost use Rattle.trace_model.specs.Fits.{FitsLine};
 ghost use Rattle.trace_model.specs.Run.{after_blocks, after_line, answers_of};
 ghost use Rattle.trace_model.specs.SoFar.{as_ran};
-ghost use Rattle.trace_replay.specs.Ends.{EndsWithin, IsKept, MayHold, RunsLine, StandForFront, StandForPart};
+ghost use Rattle.trace_replay.specs.Ends.{EndsWithin, IsKept, RunsLine, StandForFront, StandForPart};
 ghost use Rattle.trace_replay.specs.Events.{Says};
 ghost use Rattle.trace_replay.specs.Saying.{count_unless};
+ghost use Rattle.trace_replay.specs.Spends.{Spends, SpendsLine, puts_of};
 ghost use Rattle.trace_replay.specs.Went.{Goes, Keeps, Went, count_of};
 
 use crate::again::{read_once, write_once};
@@ -41,15 +42,14 @@ pub(crate) fn write_blocks<P: Script, R: Rig, V: Volume<R>>(
     requires on { (R.state rig.old).power.on ≡ true }
     requires ack { (V.state volume.old).told.ack ≡ ack.Write }
     requires within { request.lba + request.count ≤ (V.state volume.old).told.geometry.size }
-    requires groups { (groups : List ℕ) × MayHold (V.state volume.old).told.geometry (V.state volume.old).groups request.lba request.count groups }
     ensures owns { V.owns volume.new (R.state rig.new).contents }
     ensures told { (V.state volume.new).told ≡ (V.state volume.old).told }
     ensures whole { IfOk result (λ cut. cut ≡ false → (d : PlainDisk) → StandFor (V.stands (V.state volume.old).told) (R.state rig.old).contents d → StandFor (V.stands (V.state volume.new).told) (R.state rig.new).contents (after_blocks request.lba request.tag request.count d)) }
     ensures front { IfOk result (λ cut. cut ≡ true → (d : PlainDisk) → StandFor (V.stands (V.state volume.old).told) (R.state rig.old).contents d
         → (n : ℕ) × (n ≤ request.count) × StandFor (V.stands (V.state volume.new).told) (R.state rig.new).contents (after_blocks request.lba request.tag n d)) }
     ensures images { (d : PlainDisk) → StandFor (V.stands (V.state volume.old).told) (R.state rig.old).contents d → StandForFront (V.stands (V.state volume.new).told) (R.state rig.new).contents request.lba request.tag request.count d }
-    ensures groups { (groups : List ℕ) → MayHold (V.state volume.old).told.geometry (V.state volume.old).groups request.lba request.count groups → AreAmong (V.state volume.new).groups groups }
     ensures went { Went P.state P.came P.broke P.knows count_of request.count script.old script.new (R.state rig.old) (R.state rig.new) result }
+    ensures spends { Spends (puts_of request.lba request.count) (V.state volume.old) (V.state volume.new) (R.state rig.old) (R.state rig.new) result }
 {
     let _size = volume.size();
     for i in 0..request.count {
@@ -79,7 +79,6 @@ pub(crate) fn kept_once<P: Script, R: Rig, V: Volume<R>>(
     ensures told { (V.state volume.new).told ≡ (V.state volume.old).told }
     ensures found { IfOk result (λ o. IfSome o (λ kept. (d : PlainDisk) → StandFor (V.stands (V.state volume.old).told) (R.state rig.old).contents d → IsKept request.lba request.count request.tag kept d)) }
     ensures kept { Keeps (V.stands (V.state volume.old).told) (V.stands (V.state volume.new).told) (R.state rig.old).contents (R.state rig.new).contents }
-    ensures groups { AreAmong (V.state volume.new).groups (V.state volume.old).groups }
     ensures went { Went P.state P.came P.broke P.knows count_unless 0 script.old script.new (R.state rig.old) (R.state rig.new) result }
 {
     let _size = volume.size();
@@ -113,7 +112,6 @@ pub(crate) fn kept_blocks<P: Script, R: Rig, V: Volume<R>>(
     ensures told { (V.state volume.new).told ≡ (V.state volume.old).told }
     ensures found { IfOk result (λ b. (d : PlainDisk) → StandFor (V.stands (V.state volume.old).told) (R.state rig.old).contents d → IsKept request.lba request.count request.tag b.kept d) }
     ensures kept { Keeps (V.stands (V.state volume.old).told) (V.stands (V.state volume.new).told) (R.state rig.old).contents (R.state rig.new).contents }
-    ensures groups { AreAmong (V.state volume.new).groups (V.state volume.old).groups }
     ensures went { Went P.state P.came P.broke P.knows (λ b. b.cuts) 0 script.old script.new (R.state rig.old) (R.state rig.new) result }
 {
     let mut cuts = 0;
@@ -139,18 +137,17 @@ pub(crate) fn run_write<P: Script, R: Rig, V: Volume<R>>(
     requires on { (R.state rig.old).power.on ≡ true }
     requires ack { (V.state volume.old).told.ack ≡ ack.Write }
     requires within { request.lba + request.count ≤ (V.state volume.old).told.geometry.size }
-    requires groups { (groups : List ℕ) × MayHold (V.state volume.old).told.geometry (V.state volume.old).groups request.lba request.count groups }
     ensures owns { V.owns volume.new (R.state rig.new).contents }
     ensures told { (V.state volume.new).told ≡ (V.state volume.old).told }
     ensures fits { IfOk result (λ b. (d : PlainDisk) → StandFor (V.stands (V.state volume.old).told) (R.state rig.old).contents d → FitsLine ack.Write (line_kind.Write request.lba request.count request.tag) b.cuts b.kept 0 d) }
     ensures disk { IfOk result (λ b. (d : PlainDisk) → StandFor (V.stands (V.state volume.old).told) (R.state rig.old).contents d → StandFor (V.stands (V.state volume.new).told) (R.state rig.new).contents (after_line (line_kind.Write request.lba request.count request.tag) b.kept d)) }
     ensures images { (d : PlainDisk) → StandFor (V.stands (V.state volume.old).told) (R.state rig.old).contents d → StandForPart (V.stands (V.state volume.new).told) (R.state rig.new).contents (line_kind.Write request.lba request.count request.tag) d }
-    ensures groups { (groups : List ℕ) → MayHold (V.state volume.old).told.geometry (V.state volume.old).groups request.lba request.count groups → AreAmong (V.state volume.new).groups groups }
     ensures said { IfOk result (λ b. (d : PlainDisk) → StandFor (V.stands (V.state volume.old).told) (R.state rig.old).contents d → Says P.came script.old script.new (answers_of (as_ran (line_kind.Write request.lba request.count request.tag) b.cuts b.kept 0) d)) }
     ensures runs { IfOk result (λ b. RunsLine (line_kind.Write request.lba request.count request.tag) b.cuts (R.state rig.old) (R.state rig.new)) }
     ensures ends { IfErr result (λ e. (d : PlainDisk) → StandFor (V.stands (V.state volume.old).told) (R.state rig.old).contents d
         → EndsWithin P.state P.came P.broke P.knows e script.old script.new (R.state rig.old) (R.state rig.new) (line_kind.Write request.lba request.count request.tag) d) }
     ensures goes { Goes P.state P.came P.broke P.knows script.old script.new (R.state rig.old) (R.state rig.new) }
+    ensures spends { SpendsLine (line_kind.Write request.lba request.count request.tag) (V.state volume.old) (V.state volume.new) (R.state rig.old) (R.state rig.new) result }
 {
     let count = request.count;
     let cut = write_blocks(script, rig, volume, request, &mut scratch.block)?;

@@ -1,8 +1,8 @@
-use Rattle.std.proofs.Common.{◌≡◌, ap, refl, ◌∙◌, arith}
+use Rattle.std.proofs.Common.{[], ◌≡◌, ap, refl, ◌∙◌, arith}
 use Rattle.ft_base.specs.Told.{Told}
 use Rattle.trace_replay.specs.Went.{count_of}
-use Rattle.trace_replay.proofs.AmongLemmas.{among_same, among_then}
 use Rattle.trace_replay.proofs.WentLemmas.{ends_after, goes_then, went_ends, went_none, went_then}
+use Rattle.trace_replay.proofs.SpendsLemmas.{at_most_then, never_cut, spends_ends, spent_none, spent_then}
 use Rattle.trace_replay.proofs.again.flush_through.Goals as goal
 
 pub again-init : goal.again-init
@@ -14,8 +14,8 @@ again-init g c =
       told = refl;
       ack = c.requires.ack;
       kept = λ d stood. stood;
-      groups = among_same _;
       went = went_none g.P.Script.state g.P.Script.came g.P.Script.broke g.P.Script.knows _ _ c.requires.on;
+      spent = λ quiet. spent_none _ _ quiet;
       few = omega arith;
     }
 
@@ -27,8 +27,8 @@ again-preserved g c =
       told = c.flush_once.ensures.told ∙ c.again.invariant.told;
       ack = ap (λ (t : Told). t.ack) c.flush_once.ensures.told ∙ c.again.invariant.ack;
       kept = λ d stood. c.flush_once.ensures.kept d (c.again.invariant.kept d stood);
-      groups = among_then _ _ _ c.flush_once.ensures.groups c.again.invariant.groups;
       went = went_then g.P.Script.state g.P.Script.came g.P.Script.broke g.P.Script.knows c.again.cuts (count_of c.in_ok-cut.cut) 0 0 _ 0 _ _ _ _ _ _ c.again.invariant.went c.in_ok-cut.ensures.went.done (omega (arith, one)) refl;
+      spent = λ quiet. absurd (never_cut (count_of c.in_ok-cut.cut) _ _ c.in_ok-cut.ensures.went.done.cut.few (omega (arith, one)) (c.again.invariant.spent quiet).quiet);
       few = c.again.invariant.few;
     }
 
@@ -38,8 +38,13 @@ returns-in_err-cut-clause-went g c =
     (goes_then g.P.Script.state g.P.Script.came g.P.Script.broke g.P.Script.knows _ _ _ _ _ _ c.again.invariant.went.goes c.flush_once.ensures.went.goes)
     (ends_after g.P.Script.state g.P.Script.came g.P.Script.broke g.P.Script.knows _ c.again.cuts 0 _ _ _ _ _ _ c.again.invariant.went c.in_err-cut.ensures.went.ended)
 
-pub returns-in_err-cut-clause-groups : goal.returns-in_err-cut-clause-groups
-returns-in_err-cut-clause-groups g c = among_then _ _ _ c.flush_once.ensures.groups c.again.invariant.groups
+pub returns-in_err-cut-clause-spends : goal.returns-in_err-cut-clause-spends
+returns-in_err-cut-clause-spends g c =
+    spends_ends [] _ _ _ _ c.from_residual.result _ c.from_residual.ensures.1
+    (λ quiet. let spent = c.again.invariant.spent quiet in at_most_then [] _ _ _ _ spent [] _ (c.in_err-cut.ensures.spends.ended spent.quiet))
 
-pub returns-then-not-cut-clause-groups : goal.returns-then-not-cut-clause-groups
-returns-then-not-cut-clause-groups g c = among_then _ _ _ c.flush_once.ensures.groups c.again.invariant.groups
+pub returns-then-not-cut-clause-spends : goal.returns-then-not-cut-clause-spends
+returns-then-not-cut-clause-spends g c = record {
+  done = λ quiet. let spent = c.again.invariant.spent quiet in spent_then [] _ _ _ _ spent [] _ _ (c.in_ok-cut.ensures.spends.done spent.quiet);
+  ended = tt;
+}

@@ -1,20 +1,22 @@
-use Rattle.std.proofs.Common.{Err, ap, subst, arith}
+use Rattle.std.proofs.Common.{◌∷◌, [], Err, ap, subst, arith}
 use Rattle.ft_base.specs.Contents.{Contents, set}
 use Rattle.ft_volume.specs.Volume.{StandForEither, StandForOne}
 use Rattle.ft_volume.specs.Volume.Call.{Writes}
 use Rattle.trace_replay.specs.Went.{count_of}
-use Rattle.trace_replay.proofs.CallLemmas.{one_call, still_contents}
+use Rattle.trace_replay.proofs.CallLemmas.{one_call, still_contents, was_call}
 use Rattle.trace_replay.proofs.WentLemmas.{refused, went_call, went_ends}
+use Rattle.trace_replay.proofs.SpendsLemmas.{call_most, call_never_lost, call_spent, spends_ends}
+use Rattle.trace_replay.specs.Spends.Step.{Puts}
 use Rattle.trace_replay.proofs.again.write_once.Goals as goal
 
 pub returns-in_err-go_on-in-Err-clause-went : goal.returns-in_err-go_on-in-Err-clause-went
 returns-in_err-go_on-in-Err-clause-went g c =
     let went = went_call g.P.Script.state g.P.Script.came g.P.Script.broke g.P.Script.knows _ c.in-Err.error c.args.script.now _ (g.R.Media.state c.args.rig.now) (g.R.Media.state c.write.new.rig) _
-    (record { on = c.requires.on; passes = c.in-Err.ensures.goes.passes; cause = c.in-Err.ensures.goes.cause; disk_writes = c.write.ensures.costs.disk_writes })
+    (was_call _ _ _ _ c.in-Err.error c.requires.on c.in-Err.ensures.goes)
     (λ is. let over = c.in-Err.ensures.outside.0 (ap refused is) in absurd (omega (arith, over, c.requires.within)))
     (λ lost. let said = c.in_err-go_on-in-Err.ensures.said lost in (c.go_on.ensures.powered lost, said.goes, said.ended))
     c.go_on.ensures.same c.in_err-go_on-in-Err.ensures.ended in
-    went_ends g.P.Script.state g.P.Script.came g.P.Script.broke g.P.Script.knows count_of 1 _ _ _ _ c.from_residual.result _ c.from_residual.ensures.1 went.0 went.1
+    went_ends g.P.Script.state g.P.Script.came g.P.Script.broke g.P.Script.knows count_of 1 _ _ _ _ c.from_residual.result _ c.from_residual.ensures.1 went.0 went.1.0
 
 pub returns-in_err-go_on-in-Err-clause-images : goal.returns-in_err-go_on-in-Err-clause-images
 returns-in_err-go_on-in-Err-clause-images g c = λ d stood.
@@ -36,3 +38,20 @@ returns-in-Ok-clause-done g c = λ _ d stood. (one_call g.V.Volume.stands (Write
 
 pub returns-in-Ok-clause-images : goal.returns-in-Ok-clause-images
 returns-in-Ok-clause-images g c = λ d stood. (one_call g.V.Volume.stands (Writes c.args.lba c.args.block.now) (g.V.Volume.state c.args.volume.now) (g.V.Volume.state c.write.new.self) _ _ _ d (g.met.V.Volume.write_owes_nothing c.args.volume.now _ c.requires.owns) (g.met.V.Volume.write_owes_nothing c.write.new.self _ c.write.ensures.owns) c.requires.ack c.write.ensures.goes.told c.in-Ok.ensures.disk stood).images
+
+pub returns-in_err-go_on-in-Err-clause-spends : goal.returns-in_err-go_on-in-Err-clause-spends
+returns-in_err-go_on-in-Err-clause-spends g c =
+    spends_ends (Puts c.args.lba ∷ []) _ _ _ _ c.from_residual.result _ c.from_residual.ensures.1
+    (λ quiet. call_most (Unit {0}) g.V.Volume.loads (Writes c.args.lba c.args.block.now) (g.V.Volume.state c.args.volume.now) (g.V.Volume.state c.write.new.self) (g.R.Media.state c.args.rig.now) (g.R.Media.state c.write.new.rig) c.in-Err.error _ quiet (g.met.V.Volume.can_be_loaded c.args.volume.now _ c.requires.owns) c.in-Err.ensures.costs c.in-Err.ensures.goes c.go_on.ensures.same)
+
+pub returns-in_ok-go_on-in-Err-clause-spends : goal.returns-in_ok-go_on-in-Err-clause-spends
+returns-in_ok-go_on-in-Err-clause-spends g c = record {
+  done = λ quiet. absurd (call_never_lost (Unit {0}) g.V.Volume.loads (Writes c.args.lba c.args.block.now) (g.V.Volume.state c.args.volume.now) (g.V.Volume.state c.write.new.self) (g.R.Media.state c.args.rig.now) (g.R.Media.state c.write.new.rig) c.in-Err.error c.in_ok-go_on-in-Err.ensures.lost quiet c.in-Err.ensures.goes);
+  ended = tt;
+}
+
+pub returns-in-Ok-clause-spends : goal.returns-in-Ok-clause-spends
+returns-in-Ok-clause-spends g c = record {
+  done = λ quiet. call_spent (Unit {0}) g.V.Volume.loads (Writes c.args.lba c.args.block.now) (g.V.Volume.state c.args.volume.now) (g.V.Volume.state c.write.new.self) (g.R.Media.state c.args.rig.now) (g.R.Media.state c.write.new.rig) tt quiet (g.met.V.Volume.can_be_loaded c.args.volume.now _ c.requires.owns) c.in-Ok.ensures.costs c.in-Ok.ensures.goes;
+  ended = tt;
+}

@@ -5,6 +5,7 @@ use Rattle.trace_replay.proofs.CallLemmas.{fixes_one}
 use Rattle.trace_replay.proofs.EventsLemmas.{says_none}
 use Rattle.trace_replay.proofs.WentLemmas.{at_exit}
 use Rattle.trace_replay.proofs.WithinLemmas.{goes_through, within_said}
+use Rattle.trace_replay.proofs.SpendsLemmas.{at_most_still, spends_line_ends}
 use Rattle.trace_replay.proofs.lines.run_cut.Goals as goal
 
 pub returns-in_err-say-clause-kept : goal.returns-in_err-say-clause-kept
@@ -20,3 +21,9 @@ returns-in_err-say-clause-ends g c =
 
 pub returns-clause-kept : goal.returns-clause-kept
 returns-clause-kept g c = λ d stood. fixes_one g.V.Volume.stands (g.V.Volume.state c.args.volume.now) (g.V.Volume.state c.cut.new.self) _ _ d c.cut.ensures.disk stood
+
+pub returns-in_err-say-clause-spends : goal.returns-in_err-say-clause-spends
+returns-in_err-say-clause-spends g c = spends_line_ends (line.Cut c.args.outcome) _ _ _ _ c.from_residual.result _ c.from_residual.ensures.1 (λ quiet. at_most_still _ _ _ c.cut.ensures.through.counts)
+
+pub returns-clause-spends : goal.returns-clause-spends
+returns-clause-spends g c = record { done = λ quiet uncut. absurd uncut; ended = tt }

@@ -2,12 +2,13 @@ use Rattle.std.proofs.Common.{refl, arith}
 use Rattle.trace_model.specs.declared.line.Line.TheVariants as line
 use Rattle.trace_replay.proofs.WentLemmas.{at_exit}
 use Rattle.trace_replay.proofs.WithinLemmas.{within_cut, within_said}
+use Rattle.trace_replay.proofs.SpendsLemmas.{spends_line_ends}
 use Rattle.trace_replay.proofs.lines.run_flush.Goals as goal
 
 pub returns-in_err-cuts-clause-ends : goal.returns-in_err-cuts-clause-ends
 returns-in_err-cuts-clause-ends g c =
     at_exit c.from_residual.result _ _ c.from_residual.ensures.1
-    (λ d. within_cut g.P.Script.state g.P.Script.came g.P.Script.broke g.P.Script.knows _ _ _ _ _ line.Flush 0 d refl (λ cuts. tt) (λ cuts none. cc) c.in_err-cuts.ensures.went.ended)
+    (λ d. within_cut g.P.Script.state g.P.Script.came g.P.Script.broke g.P.Script.knows _ _ _ _ _ line.Flush 0 d refl (λ cuts none. cc) c.in_err-cuts.ensures.went.ended tt)
 
 pub returns-in_err-say-clause-ends : goal.returns-in_err-say-clause-ends
 returns-in_err-say-clause-ends g c =
@@ -16,3 +17,9 @@ returns-in_err-say-clause-ends g c =
     (λ d. within_said g.P.Script.state g.P.Script.came g.P.Script.broke g.P.Script.knows _ _ _ c.say.new.script (g.R.Media.state c.args.rig.now) (g.R.Media.state c.flush_through.new.rig) line.Flush c.in_ok-cuts.cuts 0 d
     (record { few = went.cut.few; spends = λ _ _. omega arith; fits = tt })
     went.goes went.said went.cut.risen went.cut.stops c.in_err-say.ensures.ended)
+
+pub returns-in_err-cuts-clause-spends : goal.returns-in_err-cuts-clause-spends
+returns-in_err-cuts-clause-spends g c = spends_line_ends line.Flush _ _ _ _ c.from_residual.result _ c.from_residual.ensures.1 (λ quiet. c.in_err-cuts.ensures.spends.ended quiet)
+
+pub returns-in_err-say-clause-spends : goal.returns-in_err-say-clause-spends
+returns-in_err-say-clause-spends g c = spends_line_ends line.Flush _ _ _ _ c.from_residual-in_err-say.result _ c.from_residual-in_err-say.ensures.1 (λ quiet. (c.in_ok-cuts.ensures.spends.done quiet).most)

@@ -1,8 +1,9 @@
 use Rattle.std.proofs.Common.{◌≡◌, ◌≤◌, length}
 use Rattle.ft_base.specs.PlainDisk.{PlainDisk}
 use Rattle.ft_base.specs.declared.told.Ack.TheVariants as ack
-use Rattle.ft_volume.specs.Volume.{AreAmong, StandFor}
+use Rattle.ft_volume.specs.Volume.{StandFor}
 use Rattle.trace_model.specs.Run.{read_backs}
+use Rattle.trace_replay.specs.Spends.{IsQuiet, Spent, touches_of}
 use Rattle.trace_replay.specs.Went.{GoesCut, Keeps}
 use Rattle.trace_replay.proofs.reading.read_blocks.Given as goal
 
@@ -18,7 +19,7 @@ invariant-loop-i g l =
       ack : is.told.ack ≡ ack.Write;
       found : (d : PlainDisk) → StandFor (g.V.Volume.stands was.told) first.contents d → l.scratch.answers.items ≡ read_backs l.lba l.i d;
       kept : Keeps (g.V.Volume.stands was.told) (g.V.Volume.stands is.told) first.contents now.contents;
-      groups : AreAmong is.groups was.groups;
       went : GoesCut g.P.Script.state g.P.Script.came g.P.Script.broke g.P.Script.knows l.cuts 0 l.fn.script l.script first now;
+      spent : IsQuiet was first → Spent (touches_of l.lba l.i) was is first now;
       few : length first.power.stops ≤ 16;
     }

@@ -10,13 +10,13 @@ use Rattle.trace_replay.proofs.running.run_lines.Goals as goal
 pub lines-init : goal.lines-init
 lines-init g c =
     let o = (g.V.Volume.state c.args.volume.now).told in
-    let tally = c.requires.tally o.geometry.p in
+    let tally = c.requires.tally in
     let lines = tally.lines in
     record {
       owns = c.requires.owns;
       same = refl;
       run = [];
-      so_far = so_far_none o (g.V.Volume.stands o) (g.R.Media.state c.args.rig.now) c.args.tally.now (g.V.Volume.state c.args.volume.now).groups c.requires.on c.requires.unarmed c.requires.empty c.requires.groups tally;
+      so_far = so_far_none o (g.V.Volume.stands o) (g.R.Media.state c.args.rig.now) c.args.tally.now (g.V.Volume.state c.args.volume.now) refl (record { up = c.requires.up; on = c.requires.on; unarmed = c.requires.unarmed }) c.requires.table c.requires.held c.requires.dirty c.requires.empty tally;
       came = λ s b come. come;
       within = within_none o.geometry.size c.args.tally.now.touched.keys tally.touched;
       few = omega arith;

@@ -14,7 +14,7 @@ invariant-lines g l =
       owns : g.V.Volume.owns l.volume now.contents;
       same : (g.V.Volume.state l.volume).told ≡ o;
       run : List Ran;
-      so_far : RanSoFar o (g.V.Volume.stands (g.V.Volume.state l.volume).told) first now l.tally (g.V.Volume.state l.volume).groups run;
+      so_far : RanSoFar o (g.V.Volume.stands (g.V.Volume.state l.volume).told) first now l.tally (g.V.Volume.state l.volume) run;
       came : (s : SourceState) → (b : SinkState) → g.P.Script.came s b [] l.fn.script → g.P.Script.came s b (events_of run) l.script;
       within : All (λ a. a < o.geometry.size) l.tally.touched.keys;
       few : l.tally.lines + (g.P.Script.state l.script).turns ≤ (g.P.Script.state l.fn.script).turns;

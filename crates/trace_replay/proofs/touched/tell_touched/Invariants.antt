@@ -4,6 +4,7 @@ use Rattle.ft_base.specs.declared.told.Ack.TheVariants as ack
 use Rattle.ft_volume.specs.Volume.{StandFor}
 use Rattle.trace_replay.specs.Said.{Cuts}
 use Rattle.trace_replay.specs.Saying.{SaysTouched}
+use Rattle.trace_replay.specs.Spends.{IsQuiet, Spent, touches_each}
 use Rattle.trace_replay.specs.Went.{Goes, Keeps}
 use Rattle.trace_replay.proofs.touched.tell_touched.Given as goal
 
@@ -19,7 +20,8 @@ invariant-loop-address g l =
       ack : is.told.ack ≡ ack.Write;
       kept : Keeps (g.V.Volume.stands was.told) (g.V.Volume.stands is.told) first.contents now.contents;
       said : (front : List ℕ) × (front ++ l.address-iterator ≡ l.touched.keys)
-          × ((d : PlainDisk) → StandFor (g.V.Volume.stands was.told) first.contents d → SaysTouched g.P.Script.came l.fn.script l.script l.cuts front d);
+          × ((d : PlainDisk) → StandFor (g.V.Volume.stands was.told) first.contents d → SaysTouched g.P.Script.came l.fn.script l.script l.cuts front d)
+          × (IsQuiet was first → Spent (touches_each front) was is first now);
       cuts : Cuts l.cuts 0 first now;
       goes : Goes g.P.Script.state g.P.Script.came g.P.Script.broke g.P.Script.knows l.fn.script l.script first now;
       few : length first.power.stops ≤ 16;

@@ -1,7 +1,6 @@
 use Rattle.std.proofs.Common.{◌≡◌, ap, refl, ◌∙◌, arith}
 use Rattle.ft_base.specs.Told.{Told}
 use Rattle.trace_replay.specs.Saying.{count_unless}
-use Rattle.trace_replay.proofs.AmongLemmas.{among_same, among_then}
 use Rattle.trace_replay.proofs.CutsLemmas.{left_after}
 use Rattle.trace_replay.proofs.WentLemmas.{ends_after, goes_then, went_ends, went_none, went_then}
 use Rattle.trace_replay.proofs.writing.kept_blocks.Goals as goal
@@ -15,7 +14,6 @@ again-init g c =
       told = refl;
       ack = c.requires.ack;
       kept = λ d stood. stood;
-      groups = among_same _;
       went = went_none g.P.Script.state g.P.Script.came g.P.Script.broke g.P.Script.knows _ _ c.requires.on;
       few = omega arith;
     }
@@ -28,7 +26,6 @@ again-preserved g c =
       told = c.kept_once.ensures.told ∙ c.again.invariant.told;
       ack = ap (λ (t : Told). t.ack) c.kept_once.ensures.told ∙ c.again.invariant.ack;
       kept = λ d stood. c.kept_once.ensures.kept d (c.again.invariant.kept d stood);
-      groups = among_then _ _ _ c.kept_once.ensures.groups c.again.invariant.groups;
       went = went_then g.P.Script.state g.P.Script.came g.P.Script.broke g.P.Script.knows c.again.cuts (count_unless c.in_ok-back.back) 0 0 _ 0 _ _ _ _ _ _ c.again.invariant.went c.in_ok-back.ensures.went.done (omega (arith, one)) refl;
       few = c.again.invariant.few;
     }
@@ -39,9 +36,6 @@ again-smaller g c =
     let left = left_after (count_unless c.in_ok-back.back) 0 _ _ c.in_ok-back.ensures.went.done.cut in
     omega (arith, one, left)
 
-pub returns-in_err-back-clause-groups : goal.returns-in_err-back-clause-groups
-returns-in_err-back-clause-groups g c = among_then _ _ _ c.kept_once.ensures.groups c.again.invariant.groups
-
 pub returns-in_err-back-clause-went : goal.returns-in_err-back-clause-went
 returns-in_err-back-clause-went g c =
     went_ends g.P.Script.state g.P.Script.came g.P.Script.broke g.P.Script.knows (λ b. b.cuts) 0 _ _ _ _ c.from_residual.result _ c.from_residual.ensures.1
@@ -50,6 +44,3 @@ returns-in_err-back-clause-went g c =
 
 pub returns-in-Some-clause-found : goal.returns-in-Some-clause-found
 returns-in-Some-clause-found g c = λ d stood. (rw c.in-Some.is at c.in_ok-back.ensures.found) d (c.again.invariant.kept d stood)
-
-pub returns-in-Some-clause-groups : goal.returns-in-Some-clause-groups
-returns-in-Some-clause-groups g c = among_then _ _ _ c.kept_once.ensures.groups c.again.invariant.groups

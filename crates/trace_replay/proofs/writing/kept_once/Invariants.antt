@@ -2,7 +2,7 @@ use Rattle.std.proofs.Common.{◌≡◌, ◌+◌, ◌<◌, ℕ}
 use Rattle.ft_base.specs.Pattern.{pat}
 use Rattle.ft_base.specs.PlainDisk.{PlainDisk}
 use Rattle.ft_base.specs.declared.told.Ack.TheVariants as ack
-use Rattle.ft_volume.specs.Volume.{AreAmong, StandFor}
+use Rattle.ft_volume.specs.Volume.{StandFor}
 use Rattle.trace_replay.specs.Went.{GoesCut, Keeps}
 use Rattle.trace_replay.proofs.writing.kept_once.Given as goal
 
@@ -18,6 +18,5 @@ invariant-loop-i g l =
       ack : is.told.ack ≡ ack.Write;
       found : (d : PlainDisk) → StandFor (g.V.Volume.stands was.told) first.contents d → (k : ℕ) → k < l.i → d (l.request.lba + k) ≡ pat (l.request.lba + k) l.request.tag;
       kept : Keeps (g.V.Volume.stands was.told) (g.V.Volume.stands is.told) first.contents now.contents;
-      groups : AreAmong is.groups was.groups;
       went : GoesCut g.P.Script.state g.P.Script.came g.P.Script.broke g.P.Script.knows 0 0 l.fn.script l.script first now;
     }

@@ -6,10 +6,10 @@ use Rattle.trace_model.specs.declared.line.Line.TheVariants as line
 use Rattle.trace_model.specs.Run.{after_blocks}
 use Rattle.trace_replay.specs.Saying.{EndsSaying}
 use Rattle.trace_replay.specs.Went.{GoesCut, count_of}
-use Rattle.trace_replay.proofs.AmongLemmas.{among_then}
 use Rattle.trace_replay.proofs.BlocksLemmas.{front_whole, kept_fits, kept_front, whole_fits}
 use Rattle.trace_replay.proofs.WentLemmas.{at_exit, ends_after, went_then}
 use Rattle.trace_replay.proofs.WithinLemmas.{kept_answers, within_said, within_write}
+use Rattle.trace_replay.proofs.SpendsLemmas.{never_cut, spends_line_ends}
 use Rattle.trace_replay.proofs.writing.run_write.Goals as goal
 
 pub returns-in_err-cut-clause-ends : goal.returns-in_err-cut-clause-ends
@@ -30,9 +30,6 @@ returns-in_err-back-clause-images g c = λ d stood.
     let front = c.in_ok-cut.ensures.front c.if-not-cut.false d stood in
     front_whole (g.V.Volume.stands (g.V.Volume.state c.kept_blocks.new.volume).told) (g.R.Media.state c.kept_blocks.new.rig).contents c.args.request.lba c.args.request.tag front.0 c.args.request.count d front.1 (c.kept_blocks.ensures.kept (after_blocks c.args.request.lba c.args.request.tag front.0 d) front.2)
 
-pub returns-in_err-back-clause-groups : goal.returns-in_err-back-clause-groups
-returns-in_err-back-clause-groups g c = λ groups may. among_then _ _ groups c.kept_blocks.ensures.groups (c.write_blocks.ensures.groups groups may)
-
 pub returns-in_err-back-clause-ends : goal.returns-in_err-back-clause-ends
 returns-in_err-back-clause-ends g c =
     at_exit c.from_residual-in_err-back.result _ _ c.from_residual-in_err-back.ensures.1
@@ -43,9 +40,6 @@ pub returns-in_err-say-2-clause-images : goal.returns-in_err-say-2-clause-images
 returns-in_err-say-2-clause-images g c = λ d stood.
     let front = c.in_ok-cut.ensures.front c.if-not-cut.false d stood in
     front_whole (g.V.Volume.stands (g.V.Volume.state c.kept_blocks.new.volume).told) (g.R.Media.state c.kept_blocks.new.rig).contents c.args.request.lba c.args.request.tag front.0 c.args.request.count d front.1 (c.kept_blocks.ensures.kept (after_blocks c.args.request.lba c.args.request.tag front.0 d) front.2)
-
-pub returns-in_err-say-2-clause-groups : goal.returns-in_err-say-2-clause-groups
-returns-in_err-say-2-clause-groups g c = λ groups may. among_then _ _ groups c.kept_blocks.ensures.groups (c.write_blocks.ensures.groups groups may)
 
 pub returns-in_err-say-2-clause-ends : goal.returns-in_err-say-2-clause-ends
 returns-in_err-say-2-clause-ends g c =
@@ -78,5 +72,28 @@ returns-clause-images g c = λ d stood.
     let front = c.in_ok-cut.ensures.front c.if-not-cut.false d stood in
     front_whole (g.V.Volume.stands (g.V.Volume.state c.kept_blocks.new.volume).told) (g.R.Media.state c.kept_blocks.new.rig).contents c.args.request.lba c.args.request.tag front.0 c.args.request.count d front.1 (c.kept_blocks.ensures.kept (after_blocks c.args.request.lba c.args.request.tag front.0 d) front.2)
 
-pub returns-clause-groups : goal.returns-clause-groups
-returns-clause-groups g c = λ groups may. among_then _ _ groups c.kept_blocks.ensures.groups (c.write_blocks.ensures.groups groups may)
+pub returns-in_err-cut-clause-spends : goal.returns-in_err-cut-clause-spends
+returns-in_err-cut-clause-spends g c = spends_line_ends (line.Write c.args.request.lba c.args.request.count c.args.request.tag) _ _ _ _ c.from_residual.result _ c.from_residual.ensures.1 (λ quiet. c.in_err-cut.ensures.spends.ended quiet)
+
+pub returns-in_err-say-clause-spends : goal.returns-in_err-say-clause-spends
+returns-in_err-say-clause-spends g c = spends_line_ends (line.Write c.args.request.lba c.args.request.count c.args.request.tag) _ _ _ _ c.from_residual-in_err-say.result _ c.from_residual-in_err-say.ensures.1 (λ quiet. (c.in_ok-cut.ensures.spends.done quiet).most)
+
+pub returns-in_err-back-clause-spends : goal.returns-in_err-back-clause-spends
+returns-in_err-back-clause-spends g c = spends_line_ends (line.Write c.args.request.lba c.args.request.count c.args.request.tag) _ _ _ _ c.from_residual-in_err-back.result _ c.from_residual-in_err-back.ensures.1
+    (λ quiet.
+    let one : count_of c.in_ok-cut.cut ≡ 1 = ap count_of c.if-not-cut.false in
+    absurd (never_cut (count_of c.in_ok-cut.cut) _ _ c.in_ok-cut.ensures.went.done.cut.few (omega (arith, one)) quiet))
+
+pub returns-in_err-say-2-clause-spends : goal.returns-in_err-say-2-clause-spends
+returns-in_err-say-2-clause-spends g c = spends_line_ends (line.Write c.args.request.lba c.args.request.count c.args.request.tag) _ _ _ _ c.from_residual-in_err-say-2.result _ c.from_residual-in_err-say-2.ensures.1
+    (λ quiet.
+    let one : count_of c.in_ok-cut.cut ≡ 1 = ap count_of c.if-not-cut.false in
+    absurd (never_cut (count_of c.in_ok-cut.cut) _ _ c.in_ok-cut.ensures.went.done.cut.few (omega (arith, one)) quiet))
+
+pub returns-clause-spends : goal.returns-clause-spends
+returns-clause-spends g c =
+    let one : count_of c.in_ok-cut.cut ≡ 1 = ap count_of c.if-not-cut.false in
+    record {
+      done = λ quiet uncut. absurd (never_cut (count_of c.in_ok-cut.cut) _ _ c.in_ok-cut.ensures.went.done.cut.few (omega (arith, one)) quiet);
+      ended = tt;
+    }

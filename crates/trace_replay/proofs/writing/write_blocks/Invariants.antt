@@ -1,9 +1,9 @@
-use Rattle.std.proofs.Common.{◌≡◌, List, ℕ}
+use Rattle.std.proofs.Common.{◌≡◌}
 use Rattle.ft_base.specs.PlainDisk.{PlainDisk}
 use Rattle.ft_base.specs.declared.told.Ack.TheVariants as ack
-use Rattle.ft_volume.specs.Volume.{AreAmong, StandFor}
+use Rattle.ft_volume.specs.Volume.{StandFor}
 use Rattle.trace_model.specs.Run.{after_blocks}
-use Rattle.trace_replay.specs.Ends.{MayHold}
+use Rattle.trace_replay.specs.Spends.{IsQuiet, Spent, puts_of}
 use Rattle.trace_replay.specs.Went.{GoesCut}
 use Rattle.trace_replay.proofs.writing.write_blocks.Given as goal
 
@@ -18,6 +18,6 @@ invariant-loop-i g l =
       told : is.told ≡ was.told;
       ack : is.told.ack ≡ ack.Write;
       disk : (d : PlainDisk) → StandFor (g.V.Volume.stands was.told) first.contents d → StandFor (g.V.Volume.stands is.told) now.contents (after_blocks l.request.lba l.request.tag l.i d);
-      groups : (groups : List ℕ) → MayHold was.told.geometry was.groups l.request.lba l.request.count groups → AreAmong is.groups groups;
       went : GoesCut g.P.Script.state g.P.Script.came g.P.Script.broke g.P.Script.knows 0 l.i l.fn.script l.script first now;
+      spent : IsQuiet was first → Spent (puts_of l.request.lba l.i) was is first now;
     }
