@@ -1,0 +1,11 @@
+pub mod Pairs
+pub mod NameLemmas
+pub mod RuleLemmas
+pub mod WalkLemmas
+pub mod AgreeLemmas
+pub mod ParseLemmas
+pub mod WordLemmas
+pub mod SettingLemmas
+pub mod FoundLemmas
+pub mod NumberLemmas
+pub mod ValueLemmas

@@ -1,0 +1,150 @@
+-- The values of the options say one thing at most.
+use Rattle.std.proofs.Common.{◌≡◌, ℕ, ◌+◌, ◌/◌, ◌^◌, ◌<◌, ◌≤◌, ◌⊎◌, List, ◌∷◌, bytes_eq, codes, Bool, true, false, not, nat_le, Option, Some, None, Result, Ok, Err, OkIff, IfErr, IfNone, decimal, inl, inr, refl, sym, ap, subst, ◌∙◌, arith}
+use Rattle.std.specs.Result.{result_ok}
+use native.Mathlib.Bridge.{le_prop}
+use mathlib.Core.HLevel.{is_prop→PathP}
+use mathlib.Core.Path.{fun_ext}
+use Rattle.std.proofs.lemmas.Bool.{and_from, both_ways, le-leb, not-false}
+use Rattle.std.proofs.lemmas.Fmt.{decimal_injective}
+use Rattle.std.proofs.lemmas.Slice.Eq.{bytes_eq-Decides}
+use Rattle.ft_base.specs.Ranges.{InRange, first_out, is_within}
+use Rattle.ft_base.specs.Told.{Told}
+use Rattle.ft_base.specs.declared.geometry.Geometry.{Geometry}
+use Rattle.ft_base.specs.declared.geometry.GeometryError.{GeometryError}
+use Rattle.ft_base.specs.declared.told.Mode.{Mode}
+use Rattle.ft_base.specs.declared.told.Mode.TheVariants.{Back, Through}
+use Rattle.command_line.specs.Command.{AreNumbers, IsCommand, IsDirty, IsGiven, Say, Setting, Spells, Text, mode_word, option_names, value_in}
+use Rattle.command_line.proofs.Pairs.{pair_value, pairs_of}
+use Rattle.command_line.proofs.SettingLemmas.{spelled_options, value_pairs}
+
+-- ---- one value
+
+pub same_number : (default : ℕ) (word : Option Text) (m n : ℕ) → m < 2 ^ 64 → n < 2 ^ 64 → IsGiven decimal default word m → IsGiven decimal default word n → m ≡ n
+same_number default None m n m_small n_small given other = given ∙ sym other
+same_number default (Some word) m n m_small n_small given other = decimal_injective m n m_small n_small (sym given ∙ other)
+
+-- a number that doesn't fit is no small one
+pub narrowed_none : {E : Type 0} (default : ℕ) (word : Option Text) (m : ℕ) (r : Result ℕ E) → m < 2 ^ 64 → IsGiven decimal default word m → OkIff r (m < 2 ^ 32) m
+    → IfNone (result_ok r) ((n : ℕ) → n < 2 ^ 32 → IsGiven decimal default word n → ⊥)
+narrowed_none default word m (Ok x) small given fits = tt
+narrowed_none default word m (Err e) small given fits = λ n n_small other. fits (let same = same_number default word m n small (omega arith) given other in omega arith)
+
+back_through : codes "back" ≡ codes "through" → ⊥
+back_through is = both_ways (bytes_eq (codes "back") (codes "through")) refl ((bytes_eq-Decides (codes "back") (codes "through")).1 is)
+
+same_word : (m n : Mode) → mode_word m ≡ mode_word n → m ≡ n
+same_word Back Back is = refl
+same_word Back Through is = absurd (back_through is)
+same_word Through Back is = absurd (back_through (sym is))
+same_word Through Through is = refl
+
+same_mode : (word : Option Text) (m n : Mode) → IsGiven mode_word Back word m → IsGiven mode_word Back word n → m ≡ n
+same_mode None m n given other = given ∙ sym other
+same_mode (Some word) m n given other = same_word m n (sym given ∙ other)
+
+pub no_mode : (word : Text) → bytes_eq word (codes "back") ≡ false → bytes_eq word (codes "through") ≡ false → (m : Mode) → word ≡ mode_word m → ⊥
+no_mode word back through Back is = both_ways _ back ((bytes_eq-Decides word (codes "back")).1 is)
+no_mode word back through Through is = both_ways _ through ((bytes_eq-Decides word (codes "through")).1 is)
+
+-- ---- one geometry
+
+InRange-prop : (p c l j size : ℕ) → IsProp (InRange p c l j size)
+InRange-prop p c l j size = hlevel le_prop
+
+same_geometry : (g h : Geometry) → g.p ≡ h.p → g.c ≡ h.c → g.l ≡ h.l → g.j ≡ h.j → g.size ≡ h.size → g ≡ h
+same_geometry g h p c l j size = λ i. record {
+  p = p i;
+  c = c i;
+  l = l i;
+  j = j i;
+  size = size i;
+  in_range = is_prop→PathP (λ k. InRange (p k) (c k) (l k) (j k) (size k)) (λ k. InRange-prop (p k) (c k) (l k) (j k) (size k)) g.in_range h.in_range i;
+}
+
+pub same_numbers : (value : Text → Option Text) (g h : Geometry) → AreNumbers value g → AreNumbers value h → g ≡ h
+same_numbers value g h given other =
+    same_geometry g h
+    (same_number 64 (value (codes "pages")) g.p h.p (omega arith) (omega arith) given.pages other.pages)
+    (same_number 128 (value (codes "data")) g.c h.c (omega arith) (omega arith) given.data_blocks other.data_blocks)
+    (same_number 16 (value (codes "log")) g.l h.l (omega arith) (omega arith) given.log_blocks other.log_blocks)
+    (same_number 2 (value (codes "journal")) g.j h.j (omega arith) (omega arith) given.journal other.journal)
+    (same_number 1048576 (value (codes "size")) g.size h.size (omega arith) (omega arith) given.size other.size)
+
+within : (low high n : ℕ) → low ≤ n → n ≤ high → is_within low high n ≡ true
+within low high n above below = and_from (nat_le low n) (nat_le n high) (le-leb low n above) (le-leb n high below)
+
+none_out : (p c l j size : ℕ) → InRange p c l j size → first_out p c l j size ≡ None
+none_out p c l j size r =
+    rw (within 4 64 p r.p_low r.p_high, within 1 512 c r.c_low r.c_high, within 2 64 l r.l_low r.l_high, within 1 16 j r.j_low r.j_high, within 1 (2 ^ 40) size r.size_low r.size_high) refl
+
+-- of numbers that are given, none is out of its range where a geometry has them
+pub out_of_none : (value : Text → Option Text) (p c l j size : ℕ) (error : GeometryError) → p < 2 ^ 32 → c < 2 ^ 32 → l < 2 ^ 32 → j < 2 ^ 32 → size < 2 ^ 64
+    → IsGiven decimal 64 (value (codes "pages")) p → IsGiven decimal 128 (value (codes "data")) c → IsGiven decimal 16 (value (codes "log")) l → IsGiven decimal 2 (value (codes "journal")) j → IsGiven decimal 1048576 (value (codes "size")) size
+    → first_out p c l j size ≡ Some error → (g : Geometry) → AreNumbers value g → ⊥
+out_of_none value p c l j size error p_small c_small l_small j_small size_small p_given c_given l_given j_given size_given out g given =
+    let p_same = same_number 64 (value (codes "pages")) p g.p (omega arith) (omega arith) p_given given.pages in
+    let c_same = same_number 128 (value (codes "data")) c g.c (omega arith) (omega arith) c_given given.data_blocks in
+    let l_same = same_number 16 (value (codes "log")) l g.l (omega arith) (omega arith) l_given given.log_blocks in
+    let j_same = same_number 2 (value (codes "journal")) j g.j (omega arith) (omega arith) j_given given.journal in
+    let size_same = same_number 1048576 (value (codes "size")) size g.size (omega arith) (omega arith) size_given given.size in
+    let range : InRange p c l j size = omega arith in
+    let bad : None ≡ Some error = sym (none_out p c l j size range) ∙ out in cc
+
+pub no_geometry : (value : Text → Option Text) (p c l j size : ℕ) (r : Result Geometry GeometryError) → p < 2 ^ 32 → c < 2 ^ 32 → l < 2 ^ 32 → j < 2 ^ 32 → size < 2 ^ 64
+    → IsGiven decimal 64 (value (codes "pages")) p → IsGiven decimal 128 (value (codes "data")) c → IsGiven decimal 16 (value (codes "log")) l → IsGiven decimal 2 (value (codes "journal")) j → IsGiven decimal 1048576 (value (codes "size")) size
+    → IfErr r (λ e. first_out p c l j size ≡ Some e) → IfNone (result_ok r) ((g : Geometry) → AreNumbers value g → ⊥)
+no_geometry value p c l j size (Ok g) p_small c_small l_small j_small size_small p_given c_given l_given j_given size_given out = tt
+no_geometry value p c l j size (Err e) p_small c_small l_small j_small size_small p_given c_given l_given j_given size_given out =
+    out_of_none value p c l j size e p_small c_small l_small j_small size_small p_given c_given l_given j_given size_given out
+
+-- ---- one command
+
+-- a number that is no count of dirty groups
+pub no_dirty : (value : Text → Option Text) (data_blocks m dirty : ℕ) → m < 2 ^ 32 → data_blocks ≤ 512 → IsGiven decimal ((data_blocks + 1) / 2) (value (codes "dirty")) m
+    → (m < 1) ⊎ (data_blocks < m) → IsDirty value data_blocks dirty → ⊥
+no_dirty value data_blocks m dirty small few given out is =
+    let same = same_number ((data_blocks + 1) / 2) (value (codes "dirty")) m dirty (omega arith) (omega (arith, is.high)) given is.given in
+    outside out (is.low) (is.high) same
+  where
+    outside : (m < 1) ⊎ (data_blocks < m) → 1 ≤ dirty → dirty ≤ data_blocks → m ≡ dirty → ⊥
+    outside (inl below) low high same = omega arith
+    outside (inr above) low high same = omega arith
+
+same_dirty : (value : Text → Option Text) (c d m n : ℕ) → c ≡ d → c ≤ 512 → IsDirty value c m → IsDirty value d n → m ≡ n
+same_dirty value c d m n same few given other =
+    let there : IsDirty value c n = subst (λ b. IsDirty value b n) (sym same) other in
+    same_number ((c + 1) / 2) (value (codes "dirty")) m n (omega (arith, few, given.high)) (omega (arith, few, there.high)) given.given there.given
+
+same_said : (value : Text → Option Text) (o other : Told) → Say value o → Say value other → o ≡ other
+same_said value o other says also =
+    let geometry = same_numbers value o.geometry other.geometry says.numbers also.numbers in
+    let dirty = same_dirty value o.geometry.c other.geometry.c o.dirty other.dirty (ap (λ (g : Geometry). g.c) geometry) (omega arith) says.dirty also.dirty in
+    let mode = same_mode (value (codes "mode")) o.mode other.mode says.mode also.mode in
+    let ack = says.ack ∙ sym also.ack in
+    λ i. record { geometry = geometry i; dirty = dirty i; mode = mode i; ack = ack i }
+
+pub say_along : (value other : Text → Option Text) (o : Told) → ((name : Text) → value name ≡ other name) → Say value o → Say other o
+say_along value other o same = subst (λ (v : Text → Option Text). Say v o) (fun_ext same)
+
+-- words spell the values of their options in one way
+pub same_values : (words : List Text) (settings other : List Setting) → Spells option_names words settings → Spells option_names words other → (name : Text) → value_in settings name ≡ value_in other name
+same_values words settings other spelled also name =
+    let pairs : pairs_of settings ≡ pairs_of other = cc (spelled_options option_names words settings refl spelled, spelled_options option_names words other refl also) in
+    sym (value_pairs settings name) ∙ ap (pair_value name) pairs ∙ value_pairs other name
+
+pub same_command : (words : List Text) (o other : Told) → IsCommand words o → IsCommand words other → o ≡ other
+same_command words o other command also =
+    let rest : command.others ≡ also.others = cc (command.first, also.first) in
+    let spelled = subst (λ (ws : List Text). Spells option_names ws command.settings) rest command.spelled in
+    same_said (value_in also.settings) o other (say_along (value_in command.settings) (value_in also.settings) o (same_values also.others command.settings also.settings spelled also.spelled) command.says) also.says
+
+pub first_word : (word text : Text) (differs : Bool) → text ≡ word → differs ≡ not (bytes_eq text (codes "replay")) → differs ≡ false → word ≡ codes "replay"
+first_word word text differs same is equal = sym same ∙ (bytes_eq-Decides text (codes "replay")).0 (not-false (bytes_eq text (codes "replay")) (sym is ∙ equal))
+
+-- words are no command where their options say nothing
+pub no_command : (words others : List Text) (settings : List Setting) (value : Text → Option Text) → words ≡ codes "replay" ∷ others → Spells option_names others settings
+    → ((name : Text) → value name ≡ value_in settings name) → ((o : Told) → Say value o → ⊥) → (o : Told) → IsCommand words o → ⊥
+no_command words others settings value first spelled values says o command =
+    let rest : command.others ≡ others = cc (command.first, first) in
+    let also = subst (λ (ws : List Text). Spells option_names ws command.settings) rest command.spelled in
+    says o (say_along (value_in command.settings) value o (λ name. same_values others command.settings settings also spelled name ∙ sym (values name)) command.says)

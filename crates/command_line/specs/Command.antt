@@ -1,0 +1,99 @@
+-- What a command is: which words it has, and what they say.
+use Rattle.std.specs.Prelude.{◌≡◌, ◌+◌, ◌/◌, ◌≤◌, ◌==◌, ℕ, Bool, true, false, if◌then◌else◌, List, [], ◌∷◌, ◌++◌, flat_map, bytes_eq, codes, decimal, Option, Some, None, ⊤}
+use Rattle.std.specs.List.{AllByRecursion, list_any}
+use Rattle.ft_base.specs.Told.{Told}
+use Rattle.ft_base.specs.declared.geometry.Geometry.{Geometry}
+use Rattle.ft_base.specs.declared.told.Ack.TheVariants.{Write}
+use Rattle.ft_base.specs.declared.told.Mode.{Mode}
+use Rattle.ft_base.specs.declared.told.Mode.TheVariants.{Back, Through}
+
+-- the bytes of a word, or of a part of it
+abbrev pub Text : Type 0
+Text = List ℕ
+
+-- ---- the words
+
+-- the options of a replay
+abbrev pub option_names : List Text
+option_names = codes "mode" ∷ codes "pages" ∷ codes "data" ∷ codes "log" ∷ codes "journal" ∷ codes "size" ∷ codes "dirty" ∷ []
+
+-- there is an option of this name
+abbrev pub is_known : Text → List Text → Bool
+is_known name names = list_any (λ known. bytes_eq known name) names
+
+-- its first byte is `-`
+abbrev pub begins_with_minus : Text → Bool
+begins_with_minus [] = false
+begins_with_minus (b ∷ bytes) = b == 45
+
+-- an option as it is given, with its value
+pub record Setting : Type 0 where
+  pub name : Text
+  pub value : Text
+  pub in_one_word : Bool
+
+-- `--name=value` in one word, or `--name value` in two
+abbrev pub words_of : Setting → List Text
+words_of s = if s.in_one_word then (codes "--" ++ (s.name ++ (codes "=" ++ s.value))) ∷ [] else (codes "--" ++ s.name) ∷ s.value ∷ []
+
+-- its name is one of these, and a value in a word by itself doesn't begin with `-`
+pub record IsSetting (names : List Text) (s : Setting) : Type 0 where
+  pub known : is_known s.name names ≡ true
+  pub plain : s.in_one_word ≡ false → begins_with_minus s.value ≡ false
+
+-- the value that a name is given
+abbrev pub value_in : List Setting → Text → Option Text
+value_in [] name = None
+value_in (s ∷ settings) name = if bytes_eq s.name name then Some s.value else value_in settings name
+
+-- no name is given twice
+abbrev pub AreOnce : List Setting → Type 0
+AreOnce [] = ⊤
+AreOnce (s ∷ settings) = (value_in settings s.name ≡ None) × AreOnce settings
+
+-- the words are those of these options in turn, and no name comes twice
+pub record Spells (names words : List Text) (settings : List Setting) : Type 0 where
+  pub spelled : words ≡ flat_map words_of settings
+  pub known : AllByRecursion (IsSetting names) settings
+  pub once : AreOnce settings
+
+-- ---- what they say
+
+-- the value is what its word spells, or the default where no word gives it
+abbrev pub IsGiven : {A : Type 0} → (A → Text) → A → Option Text → A → Type 0
+IsGiven spelling default None value = value ≡ default
+IsGiven spelling default (Some word) value = word ≡ spelling value
+
+-- how a mode is spelled
+abbrev pub mode_word : Mode → Text
+mode_word Back = codes "back"
+mode_word Through = codes "through"
+
+-- the numbers of the cache, each spelled by its decimal digits; a geometry has them in their ranges
+pub record AreNumbers (value : Text → Option Text) (g : Geometry) : Type 0 where
+  pub pages : IsGiven decimal 64 (value (codes "pages")) g.p
+  pub data_blocks : IsGiven decimal 128 (value (codes "data")) g.c
+  pub log_blocks : IsGiven decimal 16 (value (codes "log")) g.l
+  pub journal : IsGiven decimal 2 (value (codes "journal")) g.j
+  pub size : IsGiven decimal 1048576 (value (codes "size")) g.size
+
+-- how many dirty groups an idle step leaves alone: from one to the data blocks, by default half of these, rounded up
+pub record IsDirty (value : Text → Option Text) (data_blocks dirty : ℕ) : Type 0 where
+  pub given : IsGiven decimal ((data_blocks + 1) / 2) (value (codes "dirty")) dirty
+  pub low : 1 ≤ dirty
+  pub high : dirty ≤ data_blocks
+
+-- what the values say of the volume; each write is on the media when it answers
+pub record Say (value : Text → Option Text) (o : Told) : Type 0 where
+  pub mode : IsGiven mode_word Back (value (codes "mode")) o.mode
+  pub numbers : AreNumbers value o.geometry
+  pub dirty : IsDirty value o.geometry.c o.dirty
+  pub ack : o.ack ≡ Write
+
+-- the word replay, and then options that say this
+pub record IsCommand (words : List Text) (o : Told) : Type 0 where
+  pub others : List Text
+  pub first : words ≡ codes "replay" ∷ others
+  pub settings : List Setting
+  pub spelled : Spells option_names others settings
+  pub says : Say (value_in settings) o

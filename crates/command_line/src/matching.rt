@@ -1,0 +1,110 @@
+ghost use Rattle.std.specs.Prelude.{◌≡◌, ◌≢◌, List, [], map, true, false, IfOk, IfSome, IfNone, option_map};
+ghost use Rattle.std.specs.String.{string_bytes};
+ghost use Rattle.std.specs.List.{list_all};
+ghost use Rattle.clap.specs.Words.{app_of, rule_of, rows_of, found_of, matches_of, fault_of, is_simple_and_free};
+ghost use Rattle.command_line.specs.Command.{Setting, Spells, Text, option_names, value_in};
+ghost use Rattle.command_line.specs.Matching.{bare_app, is_fair_word, option_rule, options_app, value_of};
+
+use clap::error::ErrorKind;
+use clap::{Arg, ArgAction, ArgMatches, Command};
+use std::alloc::{AllocError, Global};
+
+/// The options of a replay.
+static NAMES: [&str; 7] = ["mode", "pages", "data", "log", "journal", "size", "dirty"];
+
+/// An option of this name, which takes a value.
+fn option<'a>(alloc: Global, name: &'a str) -> Arg<'a>
+    ensures rule { rule_of result ≡ option_rule name.entry.now }
+    ensures local { result.global ≡ false }
+{
+    Arg::new(alloc, name).long(name).action(ArgAction::Set)
+}
+
+/// A command that takes no word yet, and has no flag for help or a version.
+fn bare<'a>(alloc: Global) -> Command<'a>
+    ensures { app_of result ≡ bare_app }
+{
+    Command::new(alloc, "flashtier")
+        .no_binary_name(true)
+        .disable_help_flag(true)
+        .disable_version_flag(true)
+}
+
+/// A command that takes an option of each name, and nothing else.
+#[tactic(auto, using(crate::proofs::NameLemmas::one_more_name))]
+fn command<'a>(alloc: Global, names: &[&'a str]) -> Result<Command<'a>, AllocError>
+    ensures { IfOk result (λ c. app_of c ≡ options_app (map (λ s. s.now) names.now)) }
+{
+    let mut command = bare(alloc);
+    for name in names {
+        command = command.arg(option(alloc, name))?;
+    }
+    Ok(command)
+}
+
+/// What clap finds in the words, or None where it refuses them.
+fn parse<'a>(
+    alloc: Global,
+    names: &[&'a str],
+    words: &'a [String],
+) -> Result<Option<ArgMatches<'a>>, AllocError>
+    requires { is_simple_and_free (options_app (map (λ s. s.now) names.now)) ≡ true }
+    ensures some { IfOk result (λ r. IfSome r (λ m. (fault_of (options_app (map (λ s. s.now) names.now)) (map string_bytes words.entry.now) ≡ [])
+        × (rows_of (found_of m) ≡ matches_of (options_app (map (λ s. s.now) names.now)) (map string_bytes words.entry.now)))) }
+    ensures none { IfOk result (λ r. IfNone r (fault_of (options_app (map (λ s. s.now) names.now)) (map string_bytes words.entry.now) ≢ [])) }
+{
+    match command(alloc, names)?.try_get_matches_from(words) {
+        Ok(matches) => Ok(Some(matches)),
+        Err(error) => match error.kind() {
+            ErrorKind::OutOfMemory => Err(AllocError),
+            _ => Ok(None),
+        },
+    }
+}
+
+/// Whether the word begins with no `-`, or is `--` with something after it. Clap sees no other words, since it
+/// would pass over a last `--` and take `-` as a value.
+fn is_fair(word: &str) -> bool
+    ensures { result ≡ is_fair_word word.now }
+{
+    let bytes = word.as_bytes();
+    if bytes.is_empty() || bytes[0] != b'-' {
+        return true;
+    }
+    bytes.len() > 2 && bytes[1] == b'-'
+}
+
+#[tactic(auto, using(crate::proofs::ParseLemmas::fair_more, crate::proofs::ParseLemmas::fair_stops))]
+fn all_fair(words: &[String]) -> bool
+    ensures { result ≡ list_all is_fair_word (map string_bytes words.now) }
+{
+    for word in words {
+        if !is_fair(word.as_str()) {
+            return false;
+        }
+    }
+    true
+}
+
+/// The options that the words spell, or None where they spell none.
+pub(crate) fn options<'a>(
+    alloc: Global,
+    words: &'a [String],
+) -> Result<Option<ArgMatches<'a>>, AllocError>
+    ensures some { IfOk result (λ r. IfSome r (λ m. (settings : List Setting) × Spells option_names (map string_bytes words.entry.now) settings
+        × ((name : Text) → value_of m name ≡ value_in settings name))) }
+    ensures none { IfOk result (λ r. IfNone r ((settings : List Setting) → Spells option_names (map string_bytes words.entry.now) settings → ⊥)) }
+{
+    if !all_fair(words) {
+        return Ok(None);
+    }
+    parse(alloc, NAMES.as_slice(), words)
+}
+
+/// The value of the option of this name, where it is given.
+#[tactic(auto, using(crate::proofs::ParseLemmas::value_row))]
+pub(crate) fn value<'a>(matches: &ArgMatches<'a>, name: &str) -> Option<&'a str>
+    ensures { option_map (λ s. s.now) result ≡ value_of matches.now name.now }
+{
+    matches.get_str(name)
+}

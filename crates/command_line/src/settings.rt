@@ -1,0 +1,106 @@
+ghost use Rattle.std.specs.Prelude.{◌≡◌, ◌<◌, ◌≤◌, ◌^◌, ℕ, IfSome, IfNone, codes, decimal};
+ghost use Rattle.ft_base.specs.Told.{Told};
+ghost use Rattle.ft_base.specs.declared.geometry.Geometry.{Geometry};
+ghost use Rattle.ft_base.specs.declared.told.Mode.{Mode};
+ghost use Rattle.ft_base.specs.declared.told.Mode.TheVariants.{Back};
+ghost use Rattle.ft_volume.specs.Volume.{told_for};
+ghost use Rattle.command_line.specs.Command.{AreNumbers, IsDirty, IsGiven, Say, mode_word};
+ghost use Rattle.command_line.specs.Matching.{value_of};
+
+use crate::Replay;
+use crate::matching::value;
+use crate::number::number_of;
+use clap::ArgMatches;
+use ft_base::Geometry;
+use ft_volume::{Mode, Options};
+
+/// The number of the option of this name, or the default where it is not given.
+fn number(matches: &ArgMatches<'_>, name: &str, default: u64) -> Option<u64>
+    ensures some { IfSome result (IsGiven decimal default (value_of matches.now name.now)) }
+    ensures none { IfNone result ((n : ℕ) → n < 2 ^ 64 → IsGiven decimal default (value_of matches.now name.now) n → ⊥) }
+{
+    match value(matches, name) {
+        Some(word) => number_of(word),
+        None => Some(default),
+    }
+}
+
+/// The same, where it fits 32 bits.
+fn small_number(matches: &ArgMatches<'_>, name: &str, default: u32) -> Option<u32>
+    ensures some { IfSome result (IsGiven decimal default (value_of matches.now name.now)) }
+    ensures none { IfNone result ((n : ℕ) → n < 2 ^ 32 → IsGiven decimal default (value_of matches.now name.now) n → ⊥) }
+{
+    let number = number(matches, name, u64::from(default))?;
+    u32::try_from(number).ok()
+}
+
+/// The numbers of the cache, where each of them is in its range.
+fn geometry_of(matches: &ArgMatches<'_>) -> Option<Geometry>
+    ensures some { IfSome result (AreNumbers (value_of matches.now)) }
+    ensures none { IfNone result ((g : Geometry) → AreNumbers (value_of matches.now) g → ⊥) }
+{
+    let p = small_number(matches, "pages", 64)?;
+    let c = small_number(matches, "data", 128)?;
+    let l = small_number(matches, "log", 16)?;
+    let j = small_number(matches, "journal", 2)?;
+    let size = number(matches, "size", 1048576)?;
+    Geometry::new(p, c, l, j, size).ok()
+}
+
+/// How many dirty groups an idle step leaves alone, where there are so many data blocks.
+fn dirty_of(matches: &ArgMatches<'_>, data_blocks: u32) -> Option<u32>
+    requires { data_blocks ≤ 512 }
+    ensures some { IfSome result (IsDirty (value_of matches.now) data_blocks) }
+    ensures none { IfNone result ((dirty : ℕ) → IsDirty (value_of matches.now) data_blocks dirty → ⊥) }
+{
+    let dirty = small_number(matches, "dirty", (data_blocks + 1) / 2)?;
+    if dirty < 1 || dirty > data_blocks {
+        return None;
+    }
+    Some(dirty)
+}
+
+/// What the volume is made with.
+fn options_of(matches: &ArgMatches<'_>) -> Option<Options>
+    ensures some { IfSome result (λ it. AreNumbers (value_of matches.now) it.geometry × IsDirty (value_of matches.now) it.geometry.c it.dirty) }
+    ensures none { IfNone result ((g : Geometry) (dirty : ℕ) → AreNumbers (value_of matches.now) g → IsDirty (value_of matches.now) g.c dirty → ⊥) }
+{
+    let geometry = geometry_of(matches)?;
+    let dirty = dirty_of(matches, geometry.c)?;
+    Some(Options { geometry, dirty })
+}
+
+/// The mode of which this is the word.
+fn mode_named(word: &str) -> Option<Mode>
+    ensures some { IfSome result (λ m. word.now ≡ mode_word m) }
+    ensures none { IfNone result ((m : Mode) → word.now ≡ mode_word m → ⊥) }
+{
+    if word == "back" {
+        return Some(Mode::Back);
+    }
+    if word == "through" {
+        return Some(Mode::Through);
+    }
+    None
+}
+
+/// The mode that is given, or write-back.
+fn mode_of(matches: &ArgMatches<'_>) -> Option<Mode>
+    ensures some { IfSome result (IsGiven mode_word Back (value_of matches.now (codes "mode"))) }
+    ensures none { IfNone result ((m : Mode) → IsGiven mode_word Back (value_of matches.now (codes "mode")) m → ⊥) }
+{
+    match value(matches, "mode") {
+        Some(word) => mode_named(word),
+        None => Some(Mode::Back),
+    }
+}
+
+/// What the options say, or None where one of them has no such value.
+pub(crate) fn replay_of(matches: &ArgMatches<'_>) -> Option<Replay>
+    ensures some { IfSome result (λ it. Say (value_of matches.now) (told_for it.mode it.options)) }
+    ensures none { IfNone result ((o : Told) → Say (value_of matches.now) o → ⊥) }
+{
+    let mode = mode_of(matches)?;
+    let options = options_of(matches)?;
+    Some(Replay { mode, options })
+}
