@@ -1,74 +1,109 @@
 -- A run over a new volume, from a run over any volume.
-use Rattle.std.proofs.Common.{◌≡◌, ◌≤◌, ◌+◌, ◌&&◌, nat_le, nat_lt, ℕ, true, false, List, [], map, filter, refl, sym, ap, ◌∙◌, subst}
-use Rattle.ft_base.specs.Layout.{blocks}
-use Rattle.ft_base.specs.PlainDisk.{empty}
+use Rattle.std.proofs.Common.{◌≡◌, ◌≤◌, ◌+◌, ◌&&◌, nat_le, nat_lt, ℕ, true, false, List, [], map, filter, Option, refl, sym, ap, ◌∙◌, subst}
+use Rattle.std.proofs.lemmas.List.{nil_from_length}
+use Rattle.std.specs.FinMap.{entries, get-empty, len-empty, len-entries}
+use Rattle.std.specs.Option.{is_some}
+use Rattle.std.specs.Ordering.{nat_cmp}
+use Rattle.ft_base.specs.Contents.{Contents}
+use Rattle.ft_base.specs.PlainDisk.{PlainDisk, empty}
 use Rattle.ft_base.specs.StreamState.{SinkState, SourceState}
+use Rattle.ft_base.specs.Table.{table_of}
 use Rattle.ft_base.specs.Told.{Told}
 use Rattle.ft_base.specs.declared.geometry.Geometry.{Geometry}
-use Rattle.ft_volume.proofs.MediaLemmas.{image_stands}
-use Rattle.ft_media.specs.Media.{KeepsReady}
-use Rattle.ft_volume.specs.Opening.{ImageIs, IsNewest, groups_of, nothing_held}
-use Rattle.ft_media.specs.Passes.{Passes}
-use Rattle.ft_media.specs.Rig.{fitted}
-use Rattle.ft_media.specs.State.{State}
-use Rattle.std.specs.FinMap.{entries, len-empty, len-entries}
-use Rattle.std.proofs.lemmas.List.{nil_from_length}
-use Rattle.std.specs.Ordering.{nat_cmp}
+use Rattle.ft_base.specs.declared.told.Mode.{Mode}
 use Rattle.cache_model.specs.Cache.{Held, dirty_between}
 use Rattle.cache_model.specs.Stands.{ImageStandsFor}
+use Rattle.ft_media.specs.Media.{KeepsReady}
+use Rattle.ft_media.specs.Passes.{Passes}
+use Rattle.ft_media.specs.State.{State}
+use Rattle.ft_volume.proofs.MediaLemmas.{image_stands}
+use Rattle.ft_volume.specs.Opening.{ImageIs, IsNewest, IsOpened, nothing_held}
+use Rattle.ft_volume.specs.Volume.{StandFor, VolumeState, told_for}
+use Rattle.ft_volume.specs.declared.options.Options.{Options}
 use Rattle.trace_model.specs.Readings.{Reads}
 use Rattle.trace_replay.proofs.FromLemmas.{part_from, refused_from, unread_from, whole_from}
 use Rattle.trace_replay.specs.Before.{IsBefore}
 use Rattle.trace_replay.specs.Said.{Tells, TellsPart}
 use Rattle.trace_replay.specs.Theorem.{EndsPart, EndsRefused, EndsUnread, RunsWhole}
 use Rattle.trace_replay.specs.declared.ended.Ended.{Ended}
-use Rattle.flashtier_cli.specs.Begun.{fitted_for}
+use Rattle.flashtier_cli.specs.Begun.{IsNewVolume, fitted_for}
 
 -- ---- a new volume
 
 -- nothing is dirty in a cache that holds nothing
-pub groups_none : (p size : ℕ) → groups_of p (dirty_between 0 size nothing_held) ≡ []
-groups_none p size =
+pub table_none : (p size : ℕ) → table_of p [] (dirty_between 0 size nothing_held) ≡ []
+table_none p size =
     let none : entries nothing_held ≡ [] = nil_from_length (entries nothing_held) (sym (len-entries nothing_held) ∙ len-empty nat_cmp Held) in
-    ap (λ (es : List (ℕ × Held)). groups_of p (map (λ x. x.0) (filter (λ x. x.1.dirty && nat_le 0 x.0 && nat_lt x.0 (0 + size)) es))) none
+    ap (λ (es : List (ℕ × Held)). table_of p [] (map (λ x. x.0) (filter (λ x. x.1.dirty && nat_le 0 x.0 && nat_lt x.0 (0 + size)) es))) none
 
--- a rig that was fitted, and a volume made on it
-module _ (g : Geometry) (old made now : State) (b p s : ℕ) (fit : made ≡ fitted old b p s) (blocks_are : b ≡ blocks g) (pages_are : p ≡ g.p) (size_is : s ≡ g.size) where
-  as_fitted : made ≡ fitted_for g old
-  as_fitted = fit ∙ ap (λ n. fitted old n p s) blocks_are ∙ ap (λ n. fitted old (blocks g) n s) pages_are ∙ ap (λ n. fitted old (blocks g) g.p n) size_is
+-- a rig that was fitted, and what a volume that is made on it makes of it
+module _ (g : Geometry) (old made now : State) (fit : made ≡ fitted_for g old) where
+  newest_none : IsNewest g made.contents empty
+  newest_none a low = ap (λ (x : State). (x.contents.disk a).newest) fit
 
-  pub newest_none : IsNewest g made.contents empty
-  newest_none a low = ap (λ (x : State). (x.contents.disk a).newest) as_fitted
+  stays_on : Passes made now false → now.power.on ≡ true
+  stays_on passes = (passes.stayed (ap (λ (x : State). x.power.on) fit) refl).on
 
-  pub begun_before : Passes made now false → now.counts.disk_writes ≡ made.counts.disk_writes → made.faults.cuts ≤ now.faults.cuts → KeepsReady made now → IsBefore (fitted_for g old) now
-  begun_before passes disk_writes cuts ready = subst (λ (x : State). IsBefore x now) as_fitted (record { shape = passes.shape; disk_writes = disk_writes; cuts = cuts; ready = ready })
+  stays_unarmed : Passes made now false → now.power.stops ≡ []
+  stays_unarmed passes = (passes.stayed (ap (λ (x : State). x.power.on) fit) refl).stops ∙ ap (λ (x : State). x.power.stops) fit
 
-  pub begun_on : Passes made now false → now.power.on ≡ true
-  begun_on passes = (passes.stayed (ap (λ (x : State). x.power.on) fit) refl).on
+  before_new : now.counts.disk_reads ≡ made.counts.disk_reads → now.counts.disk_writes ≡ made.counts.disk_writes → made.faults.cuts ≤ now.faults.cuts → Passes made now false → KeepsReady made now → IsBefore (fitted_for g old) now
+  before_new reads writes cuts passes ready = subst (λ (x : State). IsBefore x now) fit (record { shape = passes.shape; disk_reads = reads; disk_writes = writes; cuts = cuts; ready = ready })
 
-  pub begun_unarmed : Passes made now false → now.power.stops ≡ []
-  begun_unarmed passes = (passes.stayed (ap (λ (x : State). x.power.on) fit) refl).stops ∙ ap (λ (x : State). x.power.stops) fit
+-- a volume that was opened over what it was made on
+pub new_from : (mode : Mode) (options : Options) (owns : Contents → Type 0) (v : VolumeState) (old made now : State) → made ≡ fitted_for options.geometry old
+    → owns now.contents → IsOpened (told_for mode options) nothing_held v
+    → ((d : PlainDisk) → IsNewest options.geometry made.contents d → StandFor (ImageIs (told_for mode options)) now.contents d)
+    → KeepsReady made now → now.counts.disk_reads ≡ made.counts.disk_reads → now.counts.disk_writes ≡ made.counts.disk_writes → made.faults.cuts ≤ now.faults.cuts → Passes made now false
+    → IsNewVolume (told_for mode options) owns v old now
+new_from mode options owns v old made now fit left opened stands ready reads writes cuts passes = record {
+  left = left;
+  told = opened.told;
+  up = opened.up;
+  table = opened.table ∙ table_none options.geometry.p options.geometry.size;
+  held = λ a. opened.held a ∙ ap (λ (h : Option Held). is_some h) (get-empty nat_cmp a);
+  empty = stands empty (newest_none options.geometry old made now fit);
+  on = stays_on options.geometry old made now fit passes;
+  unarmed = stays_unarmed options.geometry old made now fit passes;
+  before = before_new options.geometry old made now fit reads writes cuts passes ready;
+}
+
+-- it is a disk of zero blocks, also as the volume tells it
+pub empty_new : {o : Told} {owns : Contents → Type 0} {v : VolumeState} {old now : State} → IsNewVolume o owns v old now → StandFor (ImageIs v.told) now.contents empty
+empty_new {now = now} new = subst (λ (k : Told). StandFor (ImageIs k) now.contents empty) (sym new.told) new.empty
 
 -- ---- the records of a run over it
 
-module _ (o t u : Told) (same : t ≡ o) (stays : u ≡ t) (a z : SourceState) (x y : SinkState) (earlier begun now : State) (before : IsBefore earlier begun) where
-  pub whole_new : RunsWhole t (Reads t.geometry.size a z) (Tells x y) (ImageIs u) begun now → RunsWhole o (Reads o.geometry.size a z) (Tells x y) (ImageStandsFor o.geometry) earlier now
+module _ (mode kind : Mode) (options : Options) (is : mode ≡ kind) {owns : Contents → Type 0} {v : VolumeState} {old begun : State} (new : IsNewVolume (told_for kind options) owns v old begun)
+    (u : Told) (stays : u ≡ v.told) (a z : SourceState) (x y : SinkState) (now : State) where
+  same : v.told ≡ told_for mode options
+  same = new.told ∙ ap (λ (m : Mode). told_for m options) (sym is)
+
+  pub whole_new : RunsWhole v.told (Reads v.told.geometry.size a z) (Tells x y) (ImageIs u) begun now
+      → RunsWhole (told_for mode options) (Reads options.geometry.size a z) (Tells x y) (ImageStandsFor options.geometry) (fitted_for options.geometry old) now
   whole_new whole =
-      whole_from o (Reads o.geometry.size a z) (Reads o.geometry.size a z) (Tells x y) (Tells x y) (ImageIs o) (ImageStandsFor o.geometry) earlier begun now (λ all w reads. reads) (λ run answers says. says) (image_stands o) before
-      (subst (λ (k : Told). RunsWhole k (Reads k.geometry.size a z) (Tells x y) (ImageIs k) begun now) same (subst (λ (k : Told). RunsWhole t (Reads t.geometry.size a z) (Tells x y) (ImageIs k) begun now) stays whole))
+      whole_from (told_for mode options) (Reads options.geometry.size a z) (Reads options.geometry.size a z) (Tells x y) (Tells x y) (ImageIs (told_for mode options)) (ImageStandsFor options.geometry) (fitted_for options.geometry old) begun now
+      (λ all w reads. reads) (λ run answers says. says) (image_stands (told_for mode options)) new.before
+      (subst (λ (k : Told). RunsWhole k (Reads k.geometry.size a z) (Tells x y) (ImageIs k) begun now) same (subst (λ (k : Told). RunsWhole v.told (Reads v.told.geometry.size a z) (Tells x y) (ImageIs k) begun now) stays whole))
 
-  pub refused_new : EndsRefused t (Reads t.geometry.size a z) (Tells x y) (ImageIs u) begun now → EndsRefused o (Reads o.geometry.size a z) (Tells x y) (ImageStandsFor o.geometry) earlier now
+  pub refused_new : EndsRefused v.told (Reads v.told.geometry.size a z) (Tells x y) (ImageIs u) begun now
+      → EndsRefused (told_for mode options) (Reads options.geometry.size a z) (Tells x y) (ImageStandsFor options.geometry) (fitted_for options.geometry old) now
   refused_new ends =
-      refused_from o (Reads o.geometry.size a z) (Reads o.geometry.size a z) (Tells x y) (Tells x y) (ImageIs o) (ImageStandsFor o.geometry) earlier begun now (λ all w reads. reads) (λ run answers says. says) (image_stands o) before
-      (subst (λ (k : Told). EndsRefused k (Reads k.geometry.size a z) (Tells x y) (ImageIs k) begun now) same (subst (λ (k : Told). EndsRefused t (Reads t.geometry.size a z) (Tells x y) (ImageIs k) begun now) stays ends))
+      refused_from (told_for mode options) (Reads options.geometry.size a z) (Reads options.geometry.size a z) (Tells x y) (Tells x y) (ImageIs (told_for mode options)) (ImageStandsFor options.geometry) (fitted_for options.geometry old) begun now
+      (λ all w reads. reads) (λ run answers says. says) (image_stands (told_for mode options)) new.before
+      (subst (λ (k : Told). EndsRefused k (Reads k.geometry.size a z) (Tells x y) (ImageIs k) begun now) same (subst (λ (k : Told). EndsRefused v.told (Reads v.told.geometry.size a z) (Tells x y) (ImageIs k) begun now) stays ends))
 
-  pub unread_new : EndsUnread t (Reads t.geometry.size a z) (Tells x y) (ImageIs u) begun now → EndsUnread o (Reads o.geometry.size a z) (Tells x y) (ImageStandsFor o.geometry) earlier now
+  pub unread_new : EndsUnread v.told (Reads v.told.geometry.size a z) (Tells x y) (ImageIs u) begun now
+      → EndsUnread (told_for mode options) (Reads options.geometry.size a z) (Tells x y) (ImageStandsFor options.geometry) (fitted_for options.geometry old) now
   unread_new ends =
-      unread_from o (Reads o.geometry.size a z) (Reads o.geometry.size a z) (Tells x y) (Tells x y) (ImageIs o) (ImageStandsFor o.geometry) earlier begun now (λ all w reads. reads) (λ run answers says. says) (image_stands o) before
-      (subst (λ (k : Told). EndsUnread k (Reads k.geometry.size a z) (Tells x y) (ImageIs k) begun now) same (subst (λ (k : Told). EndsUnread t (Reads t.geometry.size a z) (Tells x y) (ImageIs k) begun now) stays ends))
+      unread_from (told_for mode options) (Reads options.geometry.size a z) (Reads options.geometry.size a z) (Tells x y) (Tells x y) (ImageIs (told_for mode options)) (ImageStandsFor options.geometry) (fitted_for options.geometry old) begun now
+      (λ all w reads. reads) (λ run answers says. says) (image_stands (told_for mode options)) new.before
+      (subst (λ (k : Told). EndsUnread k (Reads k.geometry.size a z) (Tells x y) (ImageIs k) begun now) same (subst (λ (k : Told). EndsUnread v.told (Reads v.told.geometry.size a z) (Tells x y) (ImageIs k) begun now) stays ends))
 
-  pub part_new : (e : Ended) → EndsPart t (Reads t.geometry.size a z) (Tells x y) (TellsPart x y) (ImageIs u) begun now e → EndsPart o (Reads o.geometry.size a z) (Tells x y) (TellsPart x y) (ImageStandsFor o.geometry) earlier now e
+  pub part_new : (e : Ended) → EndsPart v.told (Reads v.told.geometry.size a z) (Tells x y) (TellsPart x y) (ImageIs u) begun now e
+      → EndsPart (told_for mode options) (Reads options.geometry.size a z) (Tells x y) (TellsPart x y) (ImageStandsFor options.geometry) (fitted_for options.geometry old) now e
   part_new e ends =
-      part_from o (Reads o.geometry.size a z) (Reads o.geometry.size a z) (Tells x y) (Tells x y) (ImageIs o) (ImageStandsFor o.geometry) earlier begun now (λ all w reads. reads) (λ run answers says. says) (image_stands o) before
+      part_from (told_for mode options) (Reads options.geometry.size a z) (Reads options.geometry.size a z) (Tells x y) (Tells x y) (ImageIs (told_for mode options)) (ImageStandsFor options.geometry) (fitted_for options.geometry old) begun now
+      (λ all w reads. reads) (λ run answers says. says) (image_stands (told_for mode options)) new.before
       (TellsPart x y) (TellsPart x y) (λ run answers next shown. shown) e
-      (subst (λ (k : Told). EndsPart k (Reads k.geometry.size a z) (Tells x y) (TellsPart x y) (ImageIs k) begun now e) same (subst (λ (k : Told). EndsPart t (Reads t.geometry.size a z) (Tells x y) (TellsPart x y) (ImageIs k) begun now e) stays ends))
+      (subst (λ (k : Told). EndsPart k (Reads k.geometry.size a z) (Tells x y) (TellsPart x y) (ImageIs k) begun now e) same (subst (λ (k : Told). EndsPart v.told (Reads v.told.geometry.size a z) (Tells x y) (TellsPart x y) (ImageIs k) begun now e) stays ends))

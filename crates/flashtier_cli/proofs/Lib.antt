@@ -1,3 +1,2 @@
-pub mod WordsLemmas
 pub mod BeginLemmas
 pub mod StatusLemmas

@@ -3,10 +3,9 @@ use Rattle.std.proofs.Common.{◌≡◌, ◌≢◌, ◌≤◌, ◌⊎◌, inl, i
 use Rattle.ft_base.specs.Told.{Told}
 use Rattle.trace_replay.specs.declared.ended.Ended.{Ended}
 use Rattle.trace_replay.specs.declared.ended.Ended.TheVariants.{Trace, Source, Sink, Flash, Disk, Memory}
-use Rattle.flashtier_cli.specs.Defaults.{IsDefault}
 use Rattle.flashtier_cli.specs.Status.{status_of}
 
-pub if_ok : {A B : Type 0} (r : Result (Unit {0}) Ended) → (A → B) → OnOk r A → OnOk r B
+pub if_ok : {A B E : Type 0} (r : Result (Unit {0}) E) → (A → B) → OnOk r A → OnOk r B
 if_ok (Ok done) f a = f a
 if_ok (Err e) f a = a
 
@@ -53,14 +52,14 @@ by_device Disk n is failed = inr refl
 by_device Memory n is failed = absurd (elim failed [ inl flash ↦ omega (arith, is, flash) | inr disk ↦ omega (arith, is, disk) ])
 
 -- before anything was read or said, or within a line
-module _ (source sink reads writes unarmed : Type 0) (P : Told → Ended → Type 0) (o : Told) (default : IsDefault o) where
+module _ (source sink reads writes unarmed : Type 0) (Says : Told → Type 0) (P : Told → Ended → Type 0) (o : Told) (said : Says o) where
   ended_so : (e : Ended) (n : ℕ) → n ≡ status_of (Err e) → (source × sink × reads × writes × ((e ≡ Flash) ⊎ (e ≡ Disk) → unarmed)) ⊎ P o e
-      → (source × sink × reads × writes × ((n ≡ 5) ⊎ (n ≡ 6) → unarmed)) ⊎ ((p : Told) × (f : Ended) × IsDefault p × (n ≡ status_of (Err f)) × P p f)
+      → (source × sink × reads × writes × ((n ≡ 5) ⊎ (n ≡ 6) → unarmed)) ⊎ ((p : Told) × (f : Ended) × Says p × (n ≡ status_of (Err f)) × P p f)
   ended_so e n is (inl nothing) = inl (nothing.0, nothing.1, nothing.2, nothing.3, λ failed. nothing.4 (by_device e n is failed))
-  ended_so e n is (inr part) = inr (o, e, default, is, part)
+  ended_so e n is (inr part) = inr (o, e, said, is, part)
 
   pub at_part : (r : Result (Unit {0}) Ended) (n : ℕ) → n ≡ status_of r → IfErr r (λ e. e ≢ Trace → e ≢ Source → (source × sink × reads × writes × ((e ≡ Flash) ⊎ (e ≡ Disk) → unarmed)) ⊎ P o e) → 4 ≤ n
-      → (source × sink × reads × writes × ((n ≡ 5) ⊎ (n ≡ 6) → unarmed)) ⊎ ((p : Told) × (f : Ended) × IsDefault p × (n ≡ status_of (Err f)) × P p f)
+      → (source × sink × reads × writes × ((n ≡ 5) ⊎ (n ≡ 6) → unarmed)) ⊎ ((p : Told) × (f : Ended) × Says p × (n ≡ status_of (Err f)) × P p f)
   at_part (Ok done) n is part late = absurd (omega (arith, is, late))
   at_part (Err Trace) n is part late = absurd (omega (arith, is, late))
   at_part (Err Source) n is part late = absurd (omega (arith, is, late))

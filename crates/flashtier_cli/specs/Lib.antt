@@ -1,4 +1,2 @@
 pub mod Begun
-pub mod Command
-pub mod Defaults
 pub mod Status

@@ -4,8 +4,6 @@
 #![tactic(auto)]
 
 mod beginning;
-mod command;
-mod defaults;
 mod ending;
 mod program;
 mod replaying;

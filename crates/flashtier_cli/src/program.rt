@@ -1,4 +1,4 @@
-ghost use Rattle.std.specs.Prelude.{◌≡◌, ◌≢◌, ◌⊎◌, ◌≤◌, ◌↔◌, [], true, Err, map};
+ghost use Rattle.std.specs.Prelude.{◌≡◌, ◌≢◌, ◌⊎◌, ◌≤◌, [], true, Err, map};
 ghost use Rattle.std.specs.String.{string_bytes};
 ghost use Rattle.std.specs.Io.KnownBytes.{IsAtEnd};
 ghost use Rattle.ft_base.specs.Count.{Rose};
@@ -8,24 +8,35 @@ ghost use Rattle.trace_model.specs.Readings.{Reads};
 ghost use Rattle.trace_replay.specs.declared.ended.Ended as ended;
 ghost use Rattle.trace_replay.specs.Said.{Tells, TellsPart};
 ghost use Rattle.trace_replay.specs.Theorem.{EndsPart, EndsRefused, EndsUnread, RunsWhole};
+ghost use Rattle.command_line.specs.Command.{IsCommand};
 ghost use Rattle.flashtier_cli.specs.Begun.{fitted_for};
-ghost use Rattle.flashtier_cli.specs.Command.{IsReplay};
-ghost use Rattle.flashtier_cli.specs.Defaults.{IsDefault};
 ghost use Rattle.flashtier_cli.specs.Status as status;
 
-use crate::command::is_replay;
-use crate::defaults::default_options;
 use crate::ending::status_of;
 use crate::replaying::replay_with;
+use command_line::command_of;
 use ft_base::{Sink, Source};
 use ft_media::{Media, Rig};
 use std::alloc::Global;
 
 /// Runs the command that the words say, and answers its status.
 ///
-/// The words are those after the program's name. The only command is `replay`: it reads a trace from the
-/// source, runs it over a cache before a disk, both of them on the rig, and prints to the sink what each
-/// request answered. Power may stop within any device write; the run then goes on after recovery.
+/// The words are those after the program's name: `replay`, and after it options, in any order and each at
+/// most once, as `--name value` or `--name=value`.
+///
+/// | Option | Says | Range | Default |
+/// |---|---|---|---|
+/// | `--mode` | whether the disk gets a block later, `back`, or when it is written, `through` | | `back` |
+/// | `--pages` | pages of an erase block | 4 to 64 | 64 |
+/// | `--data` | data blocks of the cache at most | 1 to 512 | 128 |
+/// | `--log` | log blocks of the cache at most | 2 to 64 | 16 |
+/// | `--journal` | erase blocks of a log region | 1 to 16 | 2 |
+/// | `--size` | blocks of the volume | 1 to 2^40 | 1,048,576 |
+/// | `--dirty` | groups that an idle step leaves dirty | 1 to the data blocks | half of these, rounded up |
+///
+/// It reads a trace from the source, runs it over a cache of these numbers before a disk, both of them on the
+/// rig, and prints to the sink what each request answered. Power may stop within any device write; the run
+/// then goes on after recovery.
 ///
 /// | Status | Comes |
 /// |---|---|
@@ -35,7 +46,7 @@ use std::alloc::Global;
 /// | 3 | the source failed, after the lines that ended before were run |
 /// | 4 | the sink failed; what it took is a front of the text |
 /// | 5, 6 | the flash, the disk failed |
-/// | 7 | memory was refused |
+/// | 7 | memory was refused, also that in which the words are read |
 pub fn run<I: Source, O: Sink, R: Rig>(
     alloc: Global,
     words: &[String],
@@ -45,16 +56,18 @@ pub fn run<I: Source, O: Sink, R: Rig>(
 ) -> u8
     // The text is what a plain disk prints that holds, after each recovery, a prefix of the block writes
     // with every acknowledged one; and the media are that disk, wherever power stops next.
-    ensures whole { result ≡ 0 → (o : Told) × IsDefault o × RunsWhole o (Reads o.geometry.size (I.state source.old) (I.state source.new)) (Tells (O.state sink.old) (O.state sink.new))
+    ensures whole { result ≡ 0 → (o : Told) × IsCommand (map string_bytes words.now) o × RunsWhole o (Reads o.geometry.size (I.state source.old) (I.state source.new)) (Tells (O.state sink.old) (O.state sink.new))
         (ImageStandsFor o.geometry) (fitted_for o.geometry (R.state rig.old)) (R.state rig.new) }
     ensures end { result ≡ 0 → IsAtEnd (I.state source.new).left }
 
-    ensures words { (result ≡ 1) ↔ (IsReplay (map string_bytes words.now) → ⊥) }
-    ensures nothing { result ≡ 1 → (source.new ≡ source.old) × (sink.new ≡ sink.old) × (rig.new ≡ rig.old) }
+    // Words that are no command touch nothing, also where memory for reading them is refused.
+    ensures words { result ≡ 1 → (o : Told) → IsCommand (map string_bytes words.now) o → ⊥ }
+    ensures no_command { ((o : Told) → IsCommand (map string_bytes words.now) o → ⊥) → (result ≡ 1) ⊎ (result ≡ 7) }
+    ensures nothing { ((o : Told) → IsCommand (map string_bytes words.now) o → ⊥) → (source.new ≡ source.old) × (sink.new ≡ sink.old) × (rig.new ≡ rig.old) }
 
-    ensures refused { result ≡ 2 → (o : Told) × IsDefault o × EndsRefused o (Reads o.geometry.size (I.state source.old) (I.state source.new)) (Tells (O.state sink.old) (O.state sink.new))
+    ensures refused { result ≡ 2 → (o : Told) × IsCommand (map string_bytes words.now) o × EndsRefused o (Reads o.geometry.size (I.state source.old) (I.state source.new)) (Tells (O.state sink.old) (O.state sink.new))
         (ImageStandsFor o.geometry) (fitted_for o.geometry (R.state rig.old)) (R.state rig.new) }
-    ensures unread { result ≡ 3 → (o : Told) × IsDefault o × EndsUnread o (Reads o.geometry.size (I.state source.old) (I.state source.new)) (Tells (O.state sink.old) (O.state sink.new))
+    ensures unread { result ≡ 3 → (o : Told) × IsCommand (map string_bytes words.now) o × EndsUnread o (Reads o.geometry.size (I.state source.old) (I.state source.new)) (Tells (O.state sink.old) (O.state sink.new))
         (ImageStandsFor o.geometry) (fitted_for o.geometry (R.state rig.old)) (R.state rig.new) }
 
     // Another end comes before anything was read or printed, with no call of the disk that reads or writes, and
@@ -62,7 +75,7 @@ pub fn run<I: Source, O: Sink, R: Rig>(
     ensures part { 4 ≤ result → ((source.new ≡ source.old) × (sink.new ≡ sink.old)
         × ((R.state rig.new).counts.disk_reads ≡ (R.state rig.old).counts.disk_reads) × ((R.state rig.new).counts.disk_writes ≡ (R.state rig.old).counts.disk_writes)
         × ((result ≡ 5) ⊎ (result ≡ 6) → (R.state rig.new).power.stops ≡ []))
-        ⊎ ((o : Told) × (e : ended.Ended) × IsDefault o × (result ≡ status.status_of (Err e)) × EndsPart o (Reads o.geometry.size (I.state source.old) (I.state source.new)) (Tells (O.state sink.old) (O.state sink.new)) (TellsPart (O.state sink.old) (O.state sink.new))
+        ⊎ ((o : Told) × (e : ended.Ended) × IsCommand (map string_bytes words.now) o × (result ≡ status.status_of (Err e)) × EndsPart o (Reads o.geometry.size (I.state source.old) (I.state source.new)) (Tells (O.state sink.old) (O.state sink.new)) (TellsPart (O.state sink.old) (O.state sink.new))
         (ImageStandsFor o.geometry) (fitted_for o.geometry (R.state rig.old)) (R.state rig.new) e) }
     ensures known { result ≤ 7 }
 
@@ -73,18 +86,20 @@ pub fn run<I: Source, O: Sink, R: Rig>(
 
     // Also where power was off before.
     ensures on { result ≢ 1 → result ≢ 7 → (R.state rig.new).power.on ≡ true }
-    ensures disk_writes { (R.state rig.new).counts.disk_writes ≡ (R.state rig.old).counts.disk_writes }
     ensures source_lent { (I.state source.new).lent ≡ (I.state source.old).lent }
     ensures sink_lent { (O.state sink.new).lent ≡ (O.state sink.old).lent }
     ensures rig_lent { (R.state rig.new).lent ≡ (R.state rig.old).lent }
 
     // Where nothing failed, memory was there and no line is refused, every line is run.
-    ensures complete { IsReplay (map string_bytes words.now) → (Rose (I.state source.old).faults (I.state source.new).faults → ⊥) → (Rose (O.state sink.old).faults (O.state sink.new).faults → ⊥)
+    ensures complete { (o : Told) → IsCommand (map string_bytes words.now) o → (Rose (I.state source.old).faults (I.state source.new).faults → ⊥) → (Rose (O.state sink.old).faults (O.state sink.new).faults → ⊥)
         → (Rose (R.state rig.old).faults.flash (R.state rig.new).faults.flash → ⊥) → (Rose (R.state rig.old).faults.disk (R.state rig.new).faults.disk → ⊥)
         → (result ≡ 0) ⊎ (result ≡ 2) ⊎ (result ≡ 7) }
 {
-    if !is_replay(words) {
+    let Ok(command) = command_of(alloc, words) else {
+        return 7;
+    };
+    let Some(command) = command else {
         return 1;
-    }
-    status_of(replay_with(alloc, &default_options(), source, sink, rig))
+    };
+    status_of(replay_with(alloc, command.mode, &command.options, source, sink, rig))
 }

@@ -1,7 +1,6 @@
-ghost use Rattle.std.specs.Prelude.{◌≡◌, ◌≢◌, ◌⊎◌, [], true, OnOk, OnErr, IfErr, IsErrOf};
+ghost use Rattle.std.specs.Prelude.{◌≡◌, ◌≢◌, ◌⊎◌, [], true, OnOk, IfErr, IsErrOf};
 ghost use Rattle.std.specs.Io.KnownBytes.{IsAtEnd};
 ghost use Rattle.ft_base.specs.Count.{Rose};
-ghost use Rattle.ft_base.specs.declared.told.Mode.TheVariants.{Back};
 ghost use Rattle.ft_volume.specs.Volume.{told_for};
 ghost use Rattle.cache_model.specs.Stands.{ImageStandsFor};
 ghost use Rattle.trace_model.specs.Readings.{Reads};
@@ -9,48 +8,54 @@ ghost use Rattle.trace_replay.specs.Said.{Tells, TellsPart};
 ghost use Rattle.trace_replay.specs.Theorem.{EndsPart, EndsRefused, EndsUnread, RunsWhole};
 ghost use Rattle.flashtier_cli.specs.Begun.{fitted_for};
 
-use crate::beginning::begin;
+use crate::beginning::{begin_back, begin_through};
 use ft_base::{Sink, Source};
 use ft_media::{Media, Rig};
-use ft_volume::Options;
+use ft_volume::{Mode, Options};
 use std::alloc::Global;
 use trace_replay::{Ended, replay};
 
-/// Fits the rig, makes a volume of these options on it, runs the trace over it, and prints what each
-/// request answered. Power may stop within any device write; the run then goes on after recovery.
+/// Fits the rig, makes a volume of this mode and these options on it, runs the trace over it, and prints what
+/// each request answered. Power may stop within any device write; the run then goes on after recovery.
 pub fn replay_with<I: Source, O: Sink, R: Rig>(
     alloc: Global,
+    mode: Mode,
     options: &Options,
     source: &mut I,
     sink: &mut O,
     rig: &mut R,
 ) -> Result<(), Ended>
-    ensures whole { OnOk result (RunsWhole (told_for Back options.now) (Reads options.now.geometry.size (I.state source.old) (I.state source.new)) (Tells (O.state sink.old) (O.state sink.new))
+    ensures whole { OnOk result (RunsWhole (told_for mode options.now) (Reads options.now.geometry.size (I.state source.old) (I.state source.new)) (Tells (O.state sink.old) (O.state sink.new))
         (ImageStandsFor options.now.geometry) (fitted_for options.now.geometry (R.state rig.old)) (R.state rig.new)) }
     ensures end { OnOk result (IsAtEnd (I.state source.new).left) }
-    ensures refused { IsErrOf result Ended.Trace → EndsRefused (told_for Back options.now) (Reads options.now.geometry.size (I.state source.old) (I.state source.new)) (Tells (O.state sink.old) (O.state sink.new))
+    ensures refused { IsErrOf result Ended.Trace → EndsRefused (told_for mode options.now) (Reads options.now.geometry.size (I.state source.old) (I.state source.new)) (Tells (O.state sink.old) (O.state sink.new))
         (ImageStandsFor options.now.geometry) (fitted_for options.now.geometry (R.state rig.old)) (R.state rig.new) }
-    ensures unread { IsErrOf result Ended.Source → EndsUnread (told_for Back options.now) (Reads options.now.geometry.size (I.state source.old) (I.state source.new)) (Tells (O.state sink.old) (O.state sink.new))
+    ensures unread { IsErrOf result Ended.Source → EndsUnread (told_for mode options.now) (Reads options.now.geometry.size (I.state source.old) (I.state source.new)) (Tells (O.state sink.old) (O.state sink.new))
         (ImageStandsFor options.now.geometry) (fitted_for options.now.geometry (R.state rig.old)) (R.state rig.new) }
     // Another end comes before anything was read or printed, with no call of the disk that reads or writes, and
     // with nothing armed where a device failed; or within the answers of a line.
     ensures part { IfErr result (λ e. e ≢ Ended.Trace → e ≢ Ended.Source → ((source.new ≡ source.old) × (sink.new ≡ sink.old)
         × ((R.state rig.new).counts.disk_reads ≡ (R.state rig.old).counts.disk_reads) × ((R.state rig.new).counts.disk_writes ≡ (R.state rig.old).counts.disk_writes)
         × ((e ≡ Ended.Flash) ⊎ (e ≡ Ended.Disk) → (R.state rig.new).power.stops ≡ []))
-        ⊎ EndsPart (told_for Back options.now) (Reads options.now.geometry.size (I.state source.old) (I.state source.new)) (Tells (O.state sink.old) (O.state sink.new)) (TellsPart (O.state sink.old) (O.state sink.new))
+        ⊎ EndsPart (told_for mode options.now) (Reads options.now.geometry.size (I.state source.old) (I.state source.new)) (Tells (O.state sink.old) (O.state sink.new)) (TellsPart (O.state sink.old) (O.state sink.new))
         (ImageStandsFor options.now.geometry) (fitted_for options.now.geometry (R.state rig.old)) (R.state rig.new) e) }
     ensures source { IsErrOf result Ended.Source → Rose (I.state source.old).faults (I.state source.new).faults }
     ensures sink { IsErrOf result Ended.Sink → Rose (O.state sink.old).faults (O.state sink.new).faults }
     ensures flash { IsErrOf result Ended.Flash → Rose (R.state rig.old).faults.flash (R.state rig.new).faults.flash }
     ensures disk { IsErrOf result Ended.Disk → Rose (R.state rig.old).faults.disk (R.state rig.new).faults.disk }
     ensures on { (IsErrOf result Ended.Memory → ⊥) → (R.state rig.new).power.on ≡ true }
-    ensures disk_writes { (R.state rig.new).counts.disk_writes ≡ (R.state rig.old).counts.disk_writes }
     ensures source_lent { (I.state source.new).lent ≡ (I.state source.old).lent }
     ensures sink_lent { (O.state sink.new).lent ≡ (O.state sink.old).lent }
     ensures rig_lent { (R.state rig.new).lent ≡ (R.state rig.old).lent }
 {
-    match begin(alloc, rig, options) {
-        Ok(mut volume) => replay(alloc, source, sink, rig, &mut volume),
-        Err(ended) => Err(ended),
+    match mode {
+        Mode::Back => match begin_back(alloc, rig, options) {
+            Ok(mut volume) => replay(alloc, source, sink, rig, &mut volume),
+            Err(ended) => Err(ended),
+        },
+        Mode::Through => match begin_through(alloc, rig, options) {
+            Ok(mut volume) => replay(alloc, source, sink, rig, &mut volume),
+            Err(ended) => Err(ended),
+        },
     }
 }
