@@ -1,2 +1,1 @@
 pub mod PlainLemmas
-pub mod UpLemmas

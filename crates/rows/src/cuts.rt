@@ -1,9 +1,8 @@
 //! Power cuts at given device writes.
 
 use crate::plain::{cuts_told, is_plain};
-use crate::small::{options, run};
+use crate::small::{back, run};
 use std::test::Fail;
-use trace_replay::Ended;
 
 const WRITTEN: &str = "wrote 0 4\n";
 
@@ -16,11 +15,11 @@ const NEW: &str = "kept 1 of 1\nread 0 1\nread 1 1\nread 2 1\nread 3 1\nread 4 2
 #[test]
 fn a_seal_that_is_cut_counts_where_it_is_whole(rt: HostRuntime) -> Result<(), Fail> {
     let alloc = rt.alloc();
-    let options = options(2, 2)?;
+    let shape = back(2, 2);
     for (outcome, after) in [("blank", OLD), ("torn", OLD), ("whole", NEW)] {
         let trace = format!(in alloc; "w 0 4 1\nstop 6 {outcome}\nw 4 1 2\nr 0 5\n")?;
-        let run = run(alloc, &options, trace.as_bytes())?;
-        assert_eq!(rt; run.ended, Ok(()));
+        let run = run(alloc, &shape, trace.as_bytes())?;
+        assert_eq!(rt; run.status, 0);
         let wanted = format!(in alloc; "{WRITTEN}stopped\n{after}")?;
         assert!(rt; run.text.starts_with(wanted.as_bytes()));
         assert!(rt; is_plain(alloc, trace.as_bytes(), run.text.as_slice(), 64)?);
@@ -34,8 +33,8 @@ fn a_seal_that_is_cut_counts_where_it_is_whole(rt: HostRuntime) -> Result<(), Fa
 fn a_recovery_that_is_cut_loses_nothing(rt: HostRuntime) -> Result<(), Fail> {
     let alloc = rt.alloc();
     let trace = b"w 0 4 1\nstop 3 mixed\nstop 2 torn\nw 4 1 2\nr 0 5\n";
-    let run = run(alloc, &options(2, 2)?, trace)?;
-    assert_eq!(rt; run.ended, Ok(()));
+    let run = run(alloc, &back(2, 2), trace)?;
+    assert_eq!(rt; run.status, 0);
     let wanted = format!(in alloc; "{WRITTEN}stopped\nstopped\n{OLD}")?;
     assert!(rt; run.text.starts_with(wanted.as_bytes()));
     assert!(rt; is_plain(alloc, trace, run.text.as_slice(), 64)?);
@@ -49,31 +48,10 @@ fn a_write_that_is_cut_keeps_its_first_blocks(rt: HostRuntime) -> Result<(), Fai
     let whole = "stopped\nkept 2 of 3\nread 0 9\nread 1 9\nread 2 0\nend 1 1 3 ";
     for (outcome, wanted) in [("torn", torn), ("whole", whole)] {
         let trace = format!(in alloc; "stop 5 {outcome}\nw 0 3 9\nr 0 3\n")?;
-        let run = run(alloc, &options(2, 2)?, trace.as_bytes())?;
-        assert_eq!(rt; run.ended, Ok(()));
+        let run = run(alloc, &back(2, 2), trace.as_bytes())?;
+        assert_eq!(rt; run.status, 0);
         assert!(rt; run.text.starts_with(wanted.as_bytes()));
         assert!(rt; is_plain(alloc, trace.as_bytes(), run.text.as_slice(), 64)?);
-    }
-    Ok(())
-}
-
-#[test]
-fn a_line_that_makes_too_many_groups_dirty_is_refused(rt: HostRuntime) -> Result<(), Fail> {
-    let alloc = rt.alloc();
-    let options = options(2, 2)?;
-    // At most two groups of four.
-    let refused: [(&[u8], &[u8]); 3] = [
-        (b"w 3 2 1\nw 8 1 1\n", b"wrote 3 2\nline 2: TooLong\n"),
-        (b"w 3 6 1\n", b"line 1: TooLong\n"),
-        (
-            b"w 0 8 1\nw 0 8 2\nw 8 1 1\n",
-            b"wrote 0 8\nwrote 0 8\nline 3: TooLong\n",
-        ),
-    ];
-    for (trace, text) in refused {
-        let run = run(alloc, &options, trace)?;
-        assert_eq!(rt; run.ended, Err(Ended::Trace));
-        assert_eq!(rt; run.text.as_slice(), text);
     }
     Ok(())
 }
@@ -88,8 +66,8 @@ fn merges_that_are_cut_lose_nothing(rt: HostRuntime) -> Result<(), Fail> {
         let line = format!(in alloc; "stop {after} torn\nw {first} 1 {tag}\nr {first} 1\n")?;
         trace.extend_from_slice(line.as_bytes())?;
     }
-    let run = run(alloc, &options(2, 2)?, trace.as_slice())?;
-    assert_eq!(rt; run.ended, Ok(()));
+    let run = run(alloc, &back(2, 2), trace.as_slice())?;
+    assert_eq!(rt; run.status, 0);
     assert!(rt; is_plain(alloc, trace.as_slice(), run.text.as_slice(), 64)?);
     let (stops, kept) = cuts_told(run.text.as_slice());
     assert!(rt; stops > 20 && kept > 10);

@@ -1,71 +1,123 @@
 //! Each call of flash and disk fails in turn.
 
-use crate::small::{Outcome, options, run, run_on};
+use crate::random::shape_of;
+use crate::small::{Outcome, Shape, back, run, run_on};
 use mem_rig::MemRig;
+use rand_core::SeedableRng;
+use rand_pcg::Lcg64Xsh32;
 use std::alloc::Global;
+use std::process::Abort;
 use std::test::Fail;
-use trace_replay::Ended;
 
-/// Writes, reads of written and of other blocks, a write that is cut, and a cut.
-const TRACE: &[u8] = b"w 0 2 1\nr 0 3\nstop 4 torn\nw 1 2 2\ncut whole\nw 5 1 3\nf\nr 0 6\n";
+/// Writes to three groups, reads of written and of other blocks, a write that is cut, idle steps and a cut.
+const TRACE: &[u8] =
+    b"w 0 2 1\nr 0 3\ni\nstop 4 torn\nw 1 2 2\ncut whole\nw 5 1 3\nw 9 1 4\nf\ni\nr 0 6\n";
 
 /// More calls than the trace makes of a device.
 const CALLS: u64 = 150;
 
-/// The run of which this call of the flash fails.
-fn without_flash_call(alloc: Global, number: u64) -> Result<Outcome, Fail> {
-    let rig = MemRig::failing(alloc, [number].to_vec(alloc)?, Vec::new(alloc));
-    run_on(alloc, &options(2, 8)?, TRACE, rig)
+/// Which device fails.
+#[derive(Clone, Copy, PartialEq, Eq)]
+enum Device {
+    Flash,
+    Disk,
 }
 
-/// The run of which this call of the disk fails.
-fn without_disk_call(alloc: Global, number: u64) -> Result<Outcome, Fail> {
-    let rig = MemRig::failing(alloc, Vec::new(alloc), [number].to_vec(alloc)?);
-    run_on(alloc, &options(2, 8)?, TRACE, rig)
+/// The run of which this call of the device fails.
+fn without_call(
+    alloc: Global,
+    shape: &Shape,
+    trace: &[u8],
+    device: Device,
+    number: u64,
+) -> Result<Outcome, Fail> {
+    let one = [number].to_vec(alloc)?;
+    let none = Vec::new(alloc);
+    let rig = match device {
+        Device::Flash => MemRig::failing(alloc, one, none),
+        Device::Disk => MemRig::failing(alloc, none, one),
+    };
+    run_on(alloc, shape, trace, rig)
 }
 
-/// Whether it ended so, after the first lines of the whole text.
-fn ends_within(outcome: &Outcome, ended: Ended, whole: &[u8]) -> bool {
+/// Whether it ended with this status, after the first lines of the whole text.
+fn ends_within(outcome: &Outcome, status: u8, whole: &[u8]) -> bool {
     let text = outcome.text.as_slice();
     let in_lines = text.is_empty() || text.ends_with(b"\n");
-    outcome.ended == Err(ended) && in_lines && whole.starts_with(text)
+    outcome.status == status && in_lines && whole.starts_with(text)
 }
 
-#[test]
-fn each_call_of_the_flash_that_fails_ends_the_run(rt: HostRuntime) -> Result<(), Fail> {
-    let alloc = rt.alloc();
-    let whole = run(alloc, &options(2, 8)?, TRACE)?;
-    assert_eq!(rt; whole.ended, Ok(()));
+/// Lets each call of a device fail in turn: the run ends for it, within its text, or is as without a fault.
+/// Says which is the last call that the run makes.
+fn fail_each(rt: &impl Abort, alloc: Global, shape: &Shape, device: Device) -> Result<u64, Fail> {
+    let whole = run(alloc, shape, TRACE)?;
+    assert_eq!(rt; whole.status, 0);
+    let status = if device == Device::Flash { 5 } else { 6 };
     let mut failed: u64 = 0;
     for number in 1..CALLS {
-        let outcome = without_flash_call(alloc, number)?;
-        if outcome.ended.is_ok() {
+        let outcome = without_call(alloc, shape, TRACE, device, number)?;
+        if outcome.status == 0 {
             assert_eq!(rt; outcome.text.as_slice(), whole.text.as_slice());
         } else {
-            assert!(rt; ends_within(&outcome, Ended::Flash, whole.text.as_slice()));
+            assert!(rt; ends_within(&outcome, status, whole.text.as_slice()));
             failed = number;
         }
     }
-    // One is the read of a block for its line, and a later one that for the end line.
-    assert!(rt; failed > 40 && failed < CALLS - 1);
+    Ok(failed)
+}
+
+/// The same over two volumes made at random.
+fn fail_each_of_two(
+    rt: &impl Abort,
+    alloc: Global,
+    through: bool,
+    device: Device,
+) -> Result<u64, Fail> {
+    let mut words = Lcg64Xsh32::seed_from_u64(7);
+    let first = fail_each(rt, alloc, &shape_of(&mut words, through), device)?;
+    let second = fail_each(rt, alloc, &shape_of(&mut words, through), device)?;
+    Ok(first.min(second))
+}
+
+// One call of the flash is the read of a block for its line, and a later one that for the end line.
+#[test]
+fn each_call_of_the_flash_that_fails_ends_the_run(rt: HostRuntime) -> Result<(), Fail> {
+    for through in [false, true] {
+        let failed = fail_each_of_two(&rt, rt.alloc(), through, Device::Flash)?;
+        assert!(rt; failed > 30 && failed < CALLS - 1);
+    }
     Ok(())
 }
 
+// The flush of each of three openings, and the read of a block that the flash doesn't hold; and with each
+// block that is written through a block write and a flush.
 #[test]
 fn each_call_of_the_disk_that_fails_ends_the_run(rt: HostRuntime) -> Result<(), Fail> {
+    for (through, least) in [(false, 3), (true, 15)] {
+        let failed = fail_each_of_two(&rt, rt.alloc(), through, Device::Disk)?;
+        assert!(rt; failed > least && failed < CALLS - 1);
+    }
+    Ok(())
+}
+
+// A block that is held is read from its page each time: no copy of it lives beside the media.
+#[test]
+fn a_page_is_read_for_each_read(rt: HostRuntime) -> Result<(), Fail> {
     let alloc = rt.alloc();
-    let whole = run(alloc, &options(2, 8)?, TRACE)?;
-    let mut failed: u64 = 0;
-    for number in 1..CALLS {
-        let outcome = without_disk_call(alloc, number)?;
-        if outcome.ended.is_ok() {
-            assert_eq!(rt; outcome.text.as_slice(), whole.text.as_slice());
-        } else {
-            assert!(rt; ends_within(&outcome, Ended::Disk, whole.text.as_slice()));
-            failed = number;
+    let shape = Shape {
+        dirty: 2,
+        ..back(2, 2)
+    };
+    let (mut at_line, mut at_end) = (0, 0);
+    for number in 1..=200 {
+        let outcome = without_call(alloc, &shape, b"w 0 1 1\nr 0 1\n", Device::Flash, number)?;
+        if outcome.status == 5 && outcome.text.as_slice() == b"wrote 0 1\n".as_slice() {
+            at_line = number;
+        }
+        if outcome.status == 5 && outcome.text.as_slice() == b"wrote 0 1\nread 0 1\n".as_slice() {
+            at_end = number;
         }
     }
-    // The flush of each of three openings, and the reads of blocks that the flash doesn't hold.
-    assert!(rt; failed > 3 && failed < CALLS - 1);
+    assert!(rt; at_line > 0 && at_end > at_line);
     Ok(())
 }

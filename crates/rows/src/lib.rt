@@ -1,6 +1,6 @@
 //! Worked examples of the whole program, as tables: a trace, the text that it prints and its status; many
-//! small traces with power cuts, whose texts are those that the plain programs compute; and the commands of
-//! the cache over media that are cut.
+//! small traces with power cuts over volumes of both modes, whose texts are those that the plain programs
+//! compute; and a trace of which each call of flash and disk fails in turn.
 //!
 //! No layer stands on this crate; it has tests alone.
 #![tactic(auto)]
@@ -8,13 +8,9 @@
 #[cfg(test)]
 mod cuts;
 #[cfg(test)]
-mod device;
-#[cfg(test)]
 mod faults;
 #[cfg(test)]
-mod lists;
-#[cfg(test)]
-mod merges;
+mod managers;
 #[cfg(test)]
 mod plain;
 #[cfg(test)]

@@ -1,8 +1,9 @@
-//! Small traces at random, each with stops and cuts, whose texts are those of a plain disk.
+//! Small traces at random, each with stops and cuts, over volumes made at random, whose texts are those of a
+//! plain disk.
 
 use crate::plain::{cuts_told, is_plain};
-use crate::small::{options, run};
-use ft_volume::Options;
+use crate::small::{Shape, run};
+use ft_media::Rig;
 use rand_core::SeedableRng;
 use rand_core::utils::NextWord;
 use rand_pcg::Lcg64Xsh32;
@@ -14,15 +15,15 @@ use std::test::Fail;
 /// Words for what a cut leaves.
 const OUTCOMES: [&str; 4] = ["blank", "whole", "torn", "mixed"];
 
-/// A line over the first 16 blocks, which are 4 groups: a write or a read of up to 3 blocks, a flush, a stop
-/// at one of the next 16 device writes, or a cut.
+/// A line over the first 16 blocks, which are 4 groups: a write or a read of up to 3 blocks, a flush, an idle
+/// step, a stop at one of the next 16 device writes, or a cut.
 fn push_line(
     alloc: Global,
     trace: &mut Vec<u8>,
     words: &mut Lcg64Xsh32,
     tag: u64,
 ) -> Result<(), Fail> {
-    let kind = words.next_word() % 16;
+    let kind = words.next_word() % 17;
     let first = words.next_word() % 14;
     let some = 1 + words.next_word() % 3;
     let after = 1 + words.next_word() % 16;
@@ -35,6 +36,8 @@ fn push_line(
         format!(in alloc; "f\n")?
     } else if kind < 15 {
         format!(in alloc; "stop {after} {outcome}\n")?
+    } else if kind == 15 {
+        format!(in alloc; "i\n")?
     } else {
         format!(in alloc; "cut {outcome}\n")?
     };
@@ -43,57 +46,85 @@ fn push_line(
 }
 
 /// The trace of this number: 16 lines.
-fn trace_of(alloc: Global, number: u64) -> Result<Vec<u8>, Fail> {
-    let mut words = Lcg64Xsh32::seed_from_u64(number);
+fn trace_of(alloc: Global, words: &mut Lcg64Xsh32) -> Result<Vec<u8>, Fail> {
     let mut trace = Vec::new(alloc);
     for tag in 1..=16 {
-        push_line(alloc, &mut trace, &mut words, tag)?;
+        push_line(alloc, &mut trace, words, tag)?;
     }
     Ok(trace)
 }
 
-/// Runs the traces of these numbers, each of which must print what a plain disk prints. Says how many stops
-/// fell due, and how many writes were cut.
+/// A volume of two to five groups, any of which may have to give way for the four that are written.
+pub(crate) fn shape_of(words: &mut Lcg64Xsh32, through: bool) -> Shape {
+    let data = 2 + words.next_word() as u64 % 4;
+    Shape {
+        through,
+        data,
+        log: 2 + words.next_word() as u64 % 3,
+        dirty: 1 + words.next_word() as u64 % data,
+    }
+}
+
+/// How many stops fell due, how many writes were cut, and how many blocks went to the disk.
+#[derive(Clone, Copy)]
+struct Seen {
+    stops: u64,
+    writes: u64,
+    disk_writes: u64,
+}
+
+/// Runs the traces of these numbers, each of which must print what a plain disk prints.
 fn run_all(
     rt: &impl Abort,
     alloc: Global,
-    options: &Options,
+    through: bool,
     numbers: Range<u64>,
-) -> Result<(u64, u64), Fail> {
-    let mut stops: u64 = 0;
-    let mut writes: u64 = 0;
+) -> Result<Seen, Fail> {
+    let mut seen = Seen {
+        stops: 0,
+        writes: 0,
+        disk_writes: 0,
+    };
     for number in numbers {
-        let trace = trace_of(alloc, number)?;
-        let outcome = run(alloc, options, trace.as_slice())?;
-        assert_eq!(rt; outcome.ended, Ok(()));
+        let mut words = Lcg64Xsh32::seed_from_u64(number);
+        let shape = shape_of(&mut words, through);
+        let trace = trace_of(alloc, &mut words)?;
+        let outcome = run(alloc, &shape, trace.as_slice())?;
+        assert_eq!(rt; outcome.status, 0);
         assert!(rt; is_plain(alloc, trace.as_slice(), outcome.text.as_slice(), 64)?);
         let (cut, kept) = cuts_told(outcome.text.as_slice());
-        stops = stops.saturating_add(cut);
-        writes = writes.saturating_add(kept);
+        seen.stops = seen.stops.saturating_add(cut);
+        seen.writes = seen.writes.saturating_add(kept);
+        seen.disk_writes = seen
+            .disk_writes
+            .saturating_add(outcome.rig.counts().disk_writes);
     }
-    Ok((stops, writes))
-}
-
-// As many groups are written as there are data blocks, and every third page or so a merge makes room.
-#[test]
-fn traces_over_two_log_blocks_print_what_a_plain_disk_prints(rt: HostRuntime) -> Result<(), Fail> {
-    let (stops, writes) = run_all(&rt, rt.alloc(), &options(4, 2)?, 0..100)?;
-    assert!(rt; stops > 100 && writes > 30);
-    Ok(())
+    Ok(seen)
 }
 
 #[test]
-fn traces_over_four_log_blocks_print_what_a_plain_disk_prints(rt: HostRuntime) -> Result<(), Fail> {
-    let (stops, writes) = run_all(&rt, rt.alloc(), &options(4, 4)?, 100..200)?;
-    assert!(rt; stops > 100 && writes > 30);
-    Ok(())
-}
-
-#[test]
-fn traces_over_more_data_blocks_print_what_a_plain_disk_prints(
+fn traces_that_are_written_back_print_what_a_plain_disk_prints(
     rt: HostRuntime,
 ) -> Result<(), Fail> {
-    let (stops, writes) = run_all(&rt, rt.alloc(), &options(6, 3)?, 200..300)?;
-    assert!(rt; stops > 100 && writes > 30);
+    let seen = run_all(&rt, rt.alloc(), false, 0..150)?;
+    assert!(rt; seen.stops > 150 && seen.writes > 45 && seen.disk_writes > 150);
+    Ok(())
+}
+
+#[test]
+fn more_traces_that_are_written_back_print_what_a_plain_disk_prints(
+    rt: HostRuntime,
+) -> Result<(), Fail> {
+    let seen = run_all(&rt, rt.alloc(), false, 150..300)?;
+    assert!(rt; seen.stops > 150 && seen.writes > 45 && seen.disk_writes > 150);
+    Ok(())
+}
+
+#[test]
+fn traces_that_are_written_through_print_what_a_plain_disk_prints(
+    rt: HostRuntime,
+) -> Result<(), Fail> {
+    let seen = run_all(&rt, rt.alloc(), true, 300..450)?;
+    assert!(rt; seen.stops > 150 && seen.writes > 45 && seen.disk_writes > 1500);
     Ok(())
 }

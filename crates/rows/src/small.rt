@@ -1,44 +1,83 @@
-//! A volume of 64 blocks in 16 groups, on flash with erase blocks of 4 pages.
+//! The program over a volume of 64 blocks in 16 groups, on flash with erase blocks of 4 pages.
 
-use flashtier_cli::replay_with;
-use ft_base::{Geometry, MemSink, MemSource};
-use ft_volume::Options;
+use flashtier_cli::run as run_words;
+use ft_base::{MemSink, MemSource};
 use mem_rig::MemRig;
-use std::alloc::Global;
+use std::alloc::{AllocError, Global};
 use std::test::Fail;
-use trace_replay::Ended;
+
+/// What a small volume is made with.
+#[derive(Clone, Copy)]
+pub(crate) struct Shape {
+    /// It writes through, or back.
+    pub(crate) through: bool,
+    /// So many erase blocks hold whole groups, and so many take writes.
+    pub(crate) data: u64,
+    pub(crate) log: u64,
+    /// So many groups may stay dirty.
+    pub(crate) dirty: u64,
+}
+
+/// A volume that writes back, whose table is full where all its groups are dirty.
+pub(crate) fn back(data: u64, log: u64) -> Shape {
+    Shape {
+        through: false,
+        data,
+        log,
+        dirty: data,
+    }
+}
+
+/// A volume of two groups that writes through.
+pub(crate) const THROUGH: Shape = Shape {
+    through: true,
+    data: 2,
+    log: 2,
+    dirty: 1,
+};
 
 /// How a run ended, what it printed, and the rig that it left.
 #[derive(Drop)]
 pub(crate) struct Outcome {
-    pub(crate) ended: Result<(), Ended>,
+    pub(crate) status: u8,
     pub(crate) text: Vec<u8>,
     pub(crate) rig: MemRig,
 }
 
-/// At most so many groups are dirty, and so many erase blocks take writes.
-pub(crate) fn options(groups: u32, log_blocks: u32) -> Result<Options, Fail> {
-    Ok(Options {
-        geometry: Geometry::new(4, groups, log_blocks, 1, 64)?,
-        dirty: 1,
-    })
+/// The words of a replay over such a volume, some in one word and some in two.
+fn words_of(alloc: Global, shape: &Shape) -> Result<Vec<String>, AllocError> {
+    let mode = if shape.through { "through" } else { "back" };
+    let mut words = Vec::new(alloc);
+    words.push(String::from_str(alloc, "replay")?)?;
+    words.push(String::from_str(alloc, "--pages=4")?)?;
+    words.push(String::from_str(alloc, "--data")?)?;
+    words.push(format!(in alloc; "{}", shape.data)?)?;
+    words.push(format!(in alloc; "--log={}", shape.log)?)?;
+    words.push(String::from_str(alloc, "--journal")?)?;
+    words.push(String::from_str(alloc, "1")?)?;
+    words.push(String::from_str(alloc, "--size=64")?)?;
+    words.push(format!(in alloc; "--dirty={}", shape.dirty)?)?;
+    words.push(String::from_str(alloc, "--mode")?)?;
+    words.push(String::from_str(alloc, mode)?)?;
+    Ok(words)
 }
 
-/// Runs the trace over this rig.
+/// Runs the trace over this rig, in pieces of 7 bytes.
 pub(crate) fn run_on(
     alloc: Global,
-    options: &Options,
+    shape: &Shape,
     trace: &[u8],
     mut rig: MemRig,
 ) -> Result<Outcome, Fail> {
+    let words = words_of(alloc, shape)?;
     let mut source = MemSource::new(Vec::from_slice(alloc, trace)?, 7, Vec::new(alloc));
     let mut sink = MemSink::new(alloc, 100_000, 100, Vec::new(alloc))?;
-    let ended = replay_with(alloc, options, &mut source, &mut sink, &mut rig);
+    let status = run_words(alloc, words.as_slice(), &mut source, &mut sink, &mut rig);
     let text = Vec::from_slice(alloc, sink.bytes())?;
-    Ok(Outcome { ended, text, rig })
+    Ok(Outcome { status, text, rig })
 }
 
 /// The same over a rig of which no call fails.
-pub(crate) fn run(alloc: Global, options: &Options, trace: &[u8]) -> Result<Outcome, Fail> {
-    run_on(alloc, options, trace, MemRig::new(alloc))
+pub(crate) fn run(alloc: Global, shape: &Shape, trace: &[u8]) -> Result<Outcome, Fail> {
+    run_on(alloc, shape, trace, MemRig::new(alloc))
 }

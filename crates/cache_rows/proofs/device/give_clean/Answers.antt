@@ -1,0 +1,13 @@
+use Rattle.cache_model.specs.Cache.{written_clean}
+use Rattle.std.proofs.Common.{ap, ◌∙◌}
+use Rattle.ft_base.specs.declared.geometry.Geometry.{Geometry}
+use Rattle.cache_rows.proofs.UpLemmas.{up_written}
+use Rattle.cache_rows.proofs.device.give_clean.Goals as goal
+
+pub returns : goal.returns
+returns g c =
+    let ensures = c.write_clean.ensures in
+    record {
+      up = up_written c.write_clean.result c.args.cache.now c.write_clean.new.self (g.M.Media.state c.args.media.now) (g.M.Media.state c.write_clean.new.media) c.args.step.now.lba (written_clean c.args.step.now.lba c.block_of.result) c.requires.up ensures.stopped ensures.done (λ n l is. absurd (ensures.full n l is)) (λ is. ((ensures.memory is).1, (ensures.memory is).2));
+      size = ap (λ (k : Geometry). k.size) ensures.geometry ∙ c.requires.size;
+    }

@@ -1,0 +1,12 @@
+//! Worked examples of the cache's commands, over media that are cut: what it holds before a cut and after it,
+//! what it refuses, how much it writes, and which groups give way.
+//!
+//! No layer stands on this crate; it has tests alone.
+#![tactic(auto)]
+
+#[cfg(test)]
+mod device;
+#[cfg(test)]
+mod lists;
+#[cfg(test)]
+mod merges;
