@@ -16,7 +16,7 @@ mod WentLemmas
 mod WithinLemmas
 pub mod SaidLemmas
 pub mod InputLemmas
-pub mod ReadingsLemmas
-pub mod BytesLemmas
-pub mod UnreadLemmas
-pub mod TraceLemmas
+pub mod MadeLemmas
+pub mod PendingLemmas
+pub mod ReaderLemmas
+pub mod StreamLemmas

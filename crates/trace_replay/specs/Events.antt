@@ -19,10 +19,11 @@ pub data Event : Type 0 where
   Took : (answer : Answer) → Event
   Touched : (lba : ℕ) (block : Block) → Event
 
--- what is told of a script: the size for which its lines are read, how many it can still give, how often its source and its sink failed, and what lies beneath
+-- what is told of a script: the size for which its lines are read, how many it can still give, whether it takes memory for nothing else than to say a refusal when it is asked for a line, how often its source and its sink failed, and what lies beneath
 pub record ScriptState : Type 0 where
   pub size : ℕ
   pub turns : ℕ
+  pub spare : Bool
   pub source_faults : ℕ
   pub sink_faults : ℕ
   pub lent : List ℕ

@@ -7,5 +7,8 @@ pub mod Spends
 pub mod Before
 pub mod Ran
 pub mod Saying
-pub mod Input
-pub mod Bytes
+pub mod Commands
+pub mod Made
+pub mod Pending
+pub mod Reader
+pub mod Stream

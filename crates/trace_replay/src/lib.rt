@@ -7,17 +7,19 @@
 #![tactic(auto)]
 
 mod again;
-mod bytes;
 mod ended;
-mod input;
 mod lines;
+mod made;
 mod output;
+mod pending;
+mod reader;
 mod reading;
 mod replaying;
 mod running;
 mod saying;
 mod scratch;
 mod script;
+mod stream;
 mod tally;
 #[cfg(test)]
 mod tests;
@@ -25,6 +27,8 @@ mod touched;
 mod writing;
 
 pub use ended::{Ended, end_at};
+pub use made::{MadeScript, replay_made};
 pub use replaying::replay;
 pub use running::replay_script;
 pub use script::Script;
+pub use stream::StreamScript;

@@ -58,6 +58,7 @@ pub fn replay_script<P: Script, R: Rig, V: Volume<R>>(
     ensures disk { IsErrOf result Ended.Disk → Rose (R.state rig.old).faults.disk (R.state rig.new).faults.disk }
     ensures lent { (R.state rig.new).lent ≡ (R.state rig.old).lent }
     ensures script_lent { (P.state script.new).lent ≡ (P.state script.old).lent }
+    ensures script_size { (P.state script.new).size ≡ (P.state script.old).size }
 {
     let mut tally = Tally::new(alloc);
     run_lines(alloc, script, rig, volume, &mut tally)?;

@@ -33,7 +33,7 @@ pub trait Script {
     ghost knows: { SourceState → Self → List Reading → Bool → Type 0 };
 
     /// The next line, where so many stops are armed; none at the end. A line that is refused is said, and
-    /// ends the run.
+    /// ends the run. A spare script takes memory for nothing else than to say that.
     fn next(&mut self, armed: u32) -> Result<Option<Line>, Ended>
         ensures line { IfOk result (λ o. IfSome o (λ l. IsRunnable (state self.old).size l × ((state self.new).turns + 1 ≤ (state self.old).turns)
             × (is_stop l ≡ true → armed < 16) × Came came self.old self.new (Gave l ∷ []))) }
@@ -46,12 +46,14 @@ pub trait Script {
         ensures sink { IsErrOf result Ended.Sink → Rose (state self.old).sink_faults (state self.new).sink_faults
             × ((s : SourceState) → (b : SinkState) → (e : List Event) → came s b e self.old
             → (cause : LineError) × NextRefused knows s self.new e armed cause × broke s b e (Took (refusal_after e cause)) self.new) }
-        ensures memory { IsErrOf result Ended.Memory → Came came self.old self.new [] }
+        ensures memory { IsErrOf result Ended.Memory → Came came self.old self.new []
+            × ((state self.old).spare ≡ true → (s : SourceState) → (b : SinkState) → (e : List Event) → came s b e self.old → (cause : LineError) × NextRefused knows s self.new e armed cause) }
         ensures only { (IsErrOf result Ended.Flash → ⊥) × (IsErrOf result Ended.Disk → ⊥) }
         ensures later { (state self.old).sink_faults ≤ (state self.new).sink_faults }
         ensures source_later { (state self.old).source_faults ≤ (state self.new).source_faults }
         ensures turns { (state self.new).turns ≤ (state self.old).turns }
         ensures size { (state self.new).size ≡ (state self.old).size }
+        ensures spare { (state self.new).spare ≡ (state self.old).spare }
         ensures lent { (state self.new).lent ≡ (state self.old).lent };
 
     /// Takes an answer.
@@ -66,6 +68,7 @@ pub trait Script {
         ensures source_later { (state self.old).source_faults ≤ (state self.new).source_faults }
         ensures turns { (state self.new).turns ≤ (state self.old).turns }
         ensures size { (state self.new).size ≡ (state self.old).size }
+        ensures spare { (state self.new).spare ≡ (state self.old).spare }
         ensures lent { (state self.new).lent ≡ (state self.old).lent };
 
     /// Takes an address that the lines named, and its block.
@@ -77,6 +80,7 @@ pub trait Script {
         ensures source_later { (state self.old).source_faults ≤ (state self.new).source_faults }
         ensures turns { (state self.new).turns ≤ (state self.old).turns }
         ensures size { (state self.new).size ≡ (state self.old).size }
+        ensures spare { (state self.new).spare ≡ (state self.old).spare }
         ensures lent { (state self.new).lent ≡ (state self.old).lent };
 
     /// Takes the counts of the end, and says the end line, with the digest of the blocks that were told.
@@ -93,6 +97,7 @@ pub trait Script {
         ensures source_later { (state self.old).source_faults ≤ (state self.new).source_faults }
         ensures turns { (state self.new).turns ≤ (state self.old).turns }
         ensures size { (state self.new).size ≡ (state self.old).size }
+        ensures spare { (state self.new).spare ≡ (state self.old).spare }
         ensures lent { (state self.new).lent ≡ (state self.old).lent };
 
     /// What was given is known.

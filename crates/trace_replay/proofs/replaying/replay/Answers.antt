@@ -1,66 +1,91 @@
-use Rattle.std.proofs.Common.{◌≡◌, ◌<◌, length, false}
-use Rattle.trace_model.specs.Readings.{readings_in}
-use Rattle.trace_replay.specs.declared.ended.Ended.TheVariants as ended
-use Rattle.trace_replay.specs.declared.input.InputEnd.TheVariants as input_end
-use Rattle.trace_replay.proofs.BytesLemmas.{on_err, on_ok, same_error}
+use Rattle.std.proofs.Common.{◌≡◌, ◌∙◌, rules}
 use Rattle.trace_replay.proofs.FromLemmas.{before_itself, part_from, refused_from, unread_from, whole_from}
-use Rattle.trace_replay.proofs.SaidLemmas.{said_none}
-use Rattle.trace_replay.proofs.TraceLemmas.{read_so, read_some}
-use Rattle.trace_replay.proofs.UnreadLemmas.{ends_refused_memory}
+use Rattle.trace_replay.proofs.StreamLemmas.{known_to, lent_apart, on_err, on_ok, shown_by, told_by}
 use Rattle.trace_replay.proofs.replaying.replay.Goals as goal
 
-pub returns-in-Ok-clause-whole : goal.returns-in-Ok-clause-whole
-returns-in-Ok-clause-whole g c =
+pub returns-clause-whole : goal.returns-clause-whole
+returns-clause-whole g c =
     let told = (g.V.Volume.state c.args.volume.now).told in
-    let short : c.in-Ok.trace.end ≡ input_end.Faulted → length c.in-Ok.trace.bytes.items < 4294967296 = λ is. (c.in-Ok.ensures.faulted is).0 in
-    on_ok c.replay_bytes.result _ _ c.replay_bytes.ensures.whole (λ whole.
+    let a = g.I.Source.state c.args.source.now in
+    let x = g.O.Sink.state c.args.sink.now in
+    let script = c.replay_script.new.script in
+    let apart = lent_apart _ _ _ _ _ _ _ _ c.replay_script.ensures.script_lent in
+    let same_source : script.source.ghost_name ≡ c.new-script.result.source.ghost_name = apart.0 in
+    let same_sink : script.sink.ghost_name ≡ c.new-script.result.sink.ghost_name = apart.1 in
+    let size : script.reader.size ≡ told.geometry.size = c.replay_script.ensures.script_size ∙ c.new-script.ensures.size ∙ c.size.ensures in
+    on_ok c.replay_script.result _ _ c.replay_script.ensures.whole (λ whole.
     whole_from told _ _ _ _ _ _ _ _ _
-    (read_so told.geometry.size (g.I.Source.state c.args.source.now) (g.I.Source.state c.read_whole.new.source) c.in-Ok.trace.bytes.items c.in-Ok.trace.end c.in-Ok.ensures.bytes c.in-Ok.ensures.whole c.in-Ok.ensures.limit short)
-    (λ run answers says. says)
+    (known_to script.reader.size told.geometry.size a (g.I.Source.state script.source.now) _ size (search (rules, same_source)))
+    (λ run answers says. told_by x (g.O.Sink.state script.sink.now) _ (search (rules, same_sink)) run answers says.0 says.1 says.2.0.said)
     (λ y d stood. stood)
     (before_itself _)
-    whole)
+    (whole a x c.new-script.ensures.came))
 
-pub returns-in-Ok-clause-refused : goal.returns-in-Ok-clause-refused
-returns-in-Ok-clause-refused g c = λ is.
+pub returns-clause-refused : goal.returns-clause-refused
+returns-clause-refused g c = λ is.
     let told = (g.V.Volume.state c.args.volume.now).told in
-    let short : c.in-Ok.trace.end ≡ input_end.Faulted → length c.in-Ok.trace.bytes.items < 4294967296 = λ is. (c.in-Ok.ensures.faulted is).0 in
+    let a = g.I.Source.state c.args.source.now in
+    let x = g.O.Sink.state c.args.sink.now in
+    let script = c.replay_script.new.script in
+    let apart = lent_apart _ _ _ _ _ _ _ _ c.replay_script.ensures.script_lent in
+    let same_source : script.source.ghost_name ≡ c.new-script.result.source.ghost_name = apart.0 in
+    let same_sink : script.sink.ghost_name ≡ c.new-script.result.sink.ghost_name = apart.1 in
+    let size : script.reader.size ≡ told.geometry.size = c.replay_script.ensures.script_size ∙ c.new-script.ensures.size ∙ c.size.ensures in
     refused_from told _ _ _ _ _ _ _ _ _
-    (read_so told.geometry.size (g.I.Source.state c.args.source.now) (g.I.Source.state c.read_whole.new.source) c.in-Ok.trace.bytes.items c.in-Ok.trace.end c.in-Ok.ensures.bytes c.in-Ok.ensures.whole c.in-Ok.ensures.limit short)
-    (λ run answers says. says)
+    (known_to script.reader.size told.geometry.size a (g.I.Source.state script.source.now) _ size (search (rules, same_source)))
+    (λ run answers says. told_by x (g.O.Sink.state script.sink.now) _ (search (rules, same_sink)) run answers says.0 says.1 says.2.0.said)
     (λ y d stood. stood)
     (before_itself _)
-    (c.replay_bytes.ensures.refused is)
+    (c.replay_script.ensures.refused is a x c.new-script.ensures.came)
 
-pub returns-in-Ok-clause-unread : goal.returns-in-Ok-clause-unread
-returns-in-Ok-clause-unread g c = λ is.
+pub returns-clause-unread : goal.returns-clause-unread
+returns-clause-unread g c = λ is.
     let told = (g.V.Volume.state c.args.volume.now).told in
-    let short : c.in-Ok.trace.end ≡ input_end.Faulted → length c.in-Ok.trace.bytes.items < 4294967296 = λ is. (c.in-Ok.ensures.faulted is).0 in
+    let a = g.I.Source.state c.args.source.now in
+    let x = g.O.Sink.state c.args.sink.now in
+    let script = c.replay_script.new.script in
+    let apart = lent_apart _ _ _ _ _ _ _ _ c.replay_script.ensures.script_lent in
+    let same_source : script.source.ghost_name ≡ c.new-script.result.source.ghost_name = apart.0 in
+    let same_sink : script.sink.ghost_name ≡ c.new-script.result.sink.ghost_name = apart.1 in
+    let size : script.reader.size ≡ told.geometry.size = c.replay_script.ensures.script_size ∙ c.new-script.ensures.size ∙ c.size.ensures in
     unread_from told _ _ _ _ _ _ _ _ _
-    (read_so told.geometry.size (g.I.Source.state c.args.source.now) (g.I.Source.state c.read_whole.new.source) c.in-Ok.trace.bytes.items c.in-Ok.trace.end c.in-Ok.ensures.bytes c.in-Ok.ensures.whole c.in-Ok.ensures.limit short)
-    (λ run answers says. says)
+    (known_to script.reader.size told.geometry.size a (g.I.Source.state script.source.now) _ size (search (rules, same_source)))
+    (λ run answers says. told_by x (g.O.Sink.state script.sink.now) _ (search (rules, same_sink)) run answers says.0 says.1 says.2.0.said)
     (λ y d stood. stood)
     (before_itself _)
-    (c.replay_bytes.ensures.unread is)
+    (c.replay_script.ensures.unread is a x c.new-script.ensures.came)
 
-pub returns-in-Ok-clause-part : goal.returns-in-Ok-clause-part
-returns-in-Ok-clause-part g c =
+pub returns-clause-part : goal.returns-clause-part
+returns-clause-part g c =
     let told = (g.V.Volume.state c.args.volume.now).told in
-    let short : c.in-Ok.trace.end ≡ input_end.Faulted → length c.in-Ok.trace.bytes.items < 4294967296 = λ is. (c.in-Ok.ensures.faulted is).0 in
-    on_err c.replay_bytes.result _ _ c.replay_bytes.ensures.part (λ e part not_trace not_source.
+    let a = g.I.Source.state c.args.source.now in
+    let x = g.O.Sink.state c.args.sink.now in
+    let script = c.replay_script.new.script in
+    let apart = lent_apart _ _ _ _ _ _ _ _ c.replay_script.ensures.script_lent in
+    let same_source : script.source.ghost_name ≡ c.new-script.result.source.ghost_name = apart.0 in
+    let same_sink : script.sink.ghost_name ≡ c.new-script.result.sink.ghost_name = apart.1 in
+    let size : script.reader.size ≡ told.geometry.size = c.replay_script.ensures.script_size ∙ c.new-script.ensures.size ∙ c.size.ensures in
+    on_err c.replay_script.result _ _ c.replay_script.ensures.part (λ e part not_trace not_source.
     part_from told _ _ _ _ _ _ _ _ _
-    (read_so told.geometry.size (g.I.Source.state c.args.source.now) (g.I.Source.state c.read_whole.new.source) c.in-Ok.trace.bytes.items c.in-Ok.trace.end c.in-Ok.ensures.bytes c.in-Ok.ensures.whole c.in-Ok.ensures.limit short)
-    (λ run answers says. says)
+    (known_to script.reader.size told.geometry.size a (g.I.Source.state script.source.now) _ size (search (rules, same_source)))
+    (λ run answers says. told_by x (g.O.Sink.state script.sink.now) _ (search (rules, same_sink)) run answers says.0 says.1 says.2.0.said)
     (λ y d stood. stood)
     (before_itself _)
-    _ _ (λ run answers next says. says) e
-    (part not_trace not_source))
+    _ _ (shown_by x (g.O.Sink.state script.sink.now) _ (search (rules, same_sink))) e
+    (part not_trace not_source a x c.new-script.ensures.came))
 
-pub returns-in-Err-clause-part : goal.returns-in-Err-clause-part
-returns-in-Err-clause-part g c = λ not_trace not_source.
-    let told = (g.V.Volume.state c.args.volume.now).told in
-    let some = c.in-Err.ensures.some in
-    ends_refused_memory told _ _ _ _ (g.R.Media.state c.args.rig.now) (readings_in told.geometry.size false some.0) false
-    (read_some told.geometry.size (g.I.Source.state c.args.source.now) (g.I.Source.state c.read_whole.new.source) some.0 some.1 some.2)
-    (said_none (g.O.Sink.state c.args.sink.now)) c.requires.on c.requires.unarmed c.requires.empty
-    c.in-Err.ended (same_error c.in-Err.ended ended.Memory c.in-Err.ensures.memory)
+pub returns-clause-source_lent : goal.returns-clause-source_lent
+returns-clause-source_lent g c =
+    let apart = lent_apart _ _ _ _ _ _ _ _ c.replay_script.ensures.script_lent in
+    let script = c.replay_script.new.script in
+    let same_source : script.source.ghost_name ≡ c.new-script.result.source.ghost_name = apart.0 in
+    let lent : (g.I.Source.state script.source.now).lent ≡ (g.I.Source.state c.new-script.result.source.now).lent = apart.2 in
+    search (rules, same_source, lent)
+
+pub returns-clause-sink_lent : goal.returns-clause-sink_lent
+returns-clause-sink_lent g c =
+    let apart = lent_apart _ _ _ _ _ _ _ _ c.replay_script.ensures.script_lent in
+    let script = c.replay_script.new.script in
+    let same_sink : script.sink.ghost_name ≡ c.new-script.result.sink.ghost_name = apart.1 in
+    let lent : (g.O.Sink.state script.sink.now).lent ≡ (g.O.Sink.state c.new-script.result.sink.now).lent = apart.3 in
+    search (rules, same_sink, lent)

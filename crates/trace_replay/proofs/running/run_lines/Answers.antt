@@ -47,7 +47,7 @@ returns-in_err-line-clause-ends g c = at_exit c.from_residual.result _ _ c.from_
           let next = (c.next.ensures.sink (c.in_err-line.was ∙ ap Err is)).1 s b (events_of run) here in
           ends_sink _ _ _ _ _ _ run so_far g.P.Script.state g.P.Script.came g.P.Script.broke g.P.Script.knows s b x y armed next.0 c.armed.ensures.armed next.1 next.2)
           (λ is.
-          let now = c.next.ensures.memory (c.in_err-line.was ∙ ap Err is) s b (events_of run) here in
+          let now = (c.next.ensures.memory (c.in_err-line.was ∙ ap Err is)).0 s b (events_of run) here in
           ends_memory _ _ _ _ _ _ run so_far g.P.Script.state g.P.Script.came g.P.Script.broke g.P.Script.knows s b x y c.requires.ack (g.met.P.Script.known y s b _ now) now);
     })
 

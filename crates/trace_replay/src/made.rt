@@ -1,0 +1,179 @@
+//! A made trace: no source is read, and nothing is printed but the end line.
+ghost use Rattle.std.specs.Prelude.{◌≡◌, ◌≤◌, ◌<◌, ◌^◌, ◌∷◌, [], ℕ, true, false, length, OnOk, IfErr, IsErrOf};
+ghost use Rattle.ft_base.specs.Count.{Rose};
+ghost use Rattle.ft_base.specs.PlainDisk.{empty};
+ghost use Rattle.ft_base.specs.declared.told.Ack.TheVariants as ack;
+ghost use Rattle.ft_volume.specs.Volume.{StandFor};
+ghost use Rattle.trace_gen.specs.Left.{lines_left, volume_size};
+ghost use Rattle.trace_replay.specs.Commands as commands;
+ghost use Rattle.trace_replay.specs.Commands.{Gives, TellsEnd, TellsEndPart};
+ghost use Rattle.trace_replay.specs.Theorem.{EndsPart, RunsWhole};
+
+use crate::Ended;
+use crate::output::say;
+use crate::running::replay_script;
+use crate::script::Script;
+use ft_base::{Block, Sink};
+use ft_media::{Media, Rig};
+use ft_volume::Volume;
+use sha2::{Digest, Sha256};
+use std::alloc::Global;
+use trace_gen::TraceGen;
+use trace_model::{Answer, Line};
+
+/// Gives the lines of a made trace, and prints the end line alone.
+#[derive(Drop)]
+pub struct MadeScript<'a, O: Sink> {
+    alloc: Global,
+    made: TraceGen,
+    sink: &'a mut O,
+    /// Takes the blocks that are told.
+    hasher: Sha256,
+    ghost few: { length (lines_left made) < 2 ^ 64 },
+}
+
+impl<'a, O: Sink> MadeScript<'a, O> {
+    ghost use Rattle.trace_replay.specs.Made.{stand_in};
+
+    /// A script over what is left of this trace.
+    pub fn new(alloc: Global, made: TraceGen, sink: &'a mut O) -> MadeScript<'a, O>
+        requires few { length (lines_left made) < 2 ^ 64 }
+        ensures size { (⟦<MadeScript<'a, O> as Script>⟧.state result).size ≡ volume_size made }
+        ensures spare { (⟦<MadeScript<'a, O> as Script>⟧.state result).spare ≡ true }
+        ensures came { ⟦<MadeScript<'a, O> as Script>⟧.came (stand_in made) (O.state sink.old) [] result }
+        ensures sink { result.sink.now ≡ sink.old }
+        ensures same_sink { result.sink.ghost_name ≡ sink.entry.ghost_name }
+    {
+        MadeScript {
+            alloc,
+            made,
+            sink,
+            hasher: Sha256::new(),
+        }
+    }
+}
+
+fn is_end(answer: &Answer) -> bool
+    ensures { result ≡ commands.is_end answer.now }
+{
+    matches!(*answer, Answer::End { .. })
+}
+
+impl<'a, O: Sink> Script for MadeScript<'a, O> {
+    ghost use Rattle.std.proofs.Common.{refl};
+    ghost use Rattle.sha2.specs.Hashers.{Holds256};
+    ghost use Rattle.trace_replay.specs.Events.{told_bytes};
+    ghost use Rattle.trace_replay.specs.Made.{BrokeMade, CameMade, KnowsMade};
+
+    ghost state = { λ v. record { size = volume_size v.made; turns = length (lines_left v.made); spare = true; source_faults = 0; sink_faults = (O.state v.sink.now).faults; lent = v.sink.ghost_name ∷ (O.state v.sink.now).lent } };
+
+    ghost came = { λ s b e v. CameMade (lines_left v.made) (O.state v.sink.now) s b e × Holds256 v.hasher (told_bytes e) };
+
+    ghost broke = { λ s b e event v. BrokeMade b (O.state v.sink.now) e event };
+
+    ghost knows = { λ s v all whole. KnowsMade s all whole };
+
+    fn next(&mut self, _armed: u32) -> Result<Option<Line>, Ended> {
+        Ok(self.made.next())
+    }
+
+    fn answer(&mut self, answer: &Answer) -> Result<(), Ended> {
+        if is_end(answer) {
+            return say(self.alloc, &mut *self.sink, answer);
+        }
+        Ok(())
+    }
+
+    fn touched(&mut self, lba: u64, block: &Block) -> Result<(), Ended> {
+        self.hasher.update(lba.to_be_bytes());
+        self.hasher.update(block.0.as_slice());
+        Ok(())
+    }
+
+    fn end(&mut self, writes: u64, reads: u64, touched: u64) -> Result<(), Ended> {
+        let Ok(hasher) = self.hasher.clone() else {
+            return Err(Ended::Memory);
+        };
+        let digest = hasher.finalize();
+        let end = Answer::End {
+            writes,
+            reads,
+            touched,
+            digest,
+        };
+        say(self.alloc, &mut *self.sink, &end)
+    }
+
+    ghost known = { λ v s b e came. record { all = _; whole = _; left = _; known = (refl, refl); front = came.0.lines } };
+
+    ghost few_turns = { λ v. v.few };
+}
+
+/// Runs a made trace, and prints the end line of a plain disk, wherever power stops.
+///
+/// The volume is as it was made: its plain disk is empty, its cache has no address, and no block waits to
+/// be written back. No more groups may stay dirty than the cache has, else it would have to write some back
+/// before that. No line of a made trace is refused, and there is no source that could fail.
+pub fn replay_made<O: Sink, R: Rig, V: Volume<R>>(
+    alloc: Global,
+    made: TraceGen,
+    sink: &mut O,
+    rig: &mut R,
+    volume: &mut V,
+) -> Result<(), Ended>
+    requires few { length (lines_left made) < 2 ^ 64 }
+    requires size { volume_size made ≡ (V.state volume.old).told.geometry.size }
+    requires owns { V.owns volume.old (R.state rig.old).contents }
+    requires ack { (V.state volume.old).told.ack ≡ ack.Write }
+    requires on { (R.state rig.old).power.on ≡ true }
+    requires unarmed { (R.state rig.old).power.stops ≡ [] }
+    requires dirty { (V.state volume.old).told.dirty ≤ (V.state volume.old).told.geometry.c }
+    requires up { (V.state volume.old).down ≡ false }
+    requires table { (V.state volume.old).table ≡ [] }
+    requires held { (a : ℕ) → (V.state volume.old).held a ≡ false }
+    requires empty { StandFor (V.stands (V.state volume.old).told) (R.state rig.old).contents empty }
+    ensures owns { V.owns volume.new (R.state rig.new).contents }
+    ensures told { (V.state volume.new).told ≡ (V.state volume.old).told }
+    ensures whole { OnOk result (RunsWhole (V.state volume.old).told (Gives (lines_left made)) (TellsEnd (O.state sink.old) (O.state sink.new))
+        (V.stands (V.state volume.new).told) (R.state rig.old) (R.state rig.new)) }
+    ensures not_trace { IsErrOf result Ended.Trace → ⊥ }
+    ensures not_source { IsErrOf result Ended.Source → ⊥ }
+    ensures part { IfErr result (EndsPart (V.state volume.old).told (Gives (lines_left made)) (TellsEnd (O.state sink.old) (O.state sink.new)) (TellsEndPart (O.state sink.old) (O.state sink.new))
+        (V.stands (V.state volume.new).told) (R.state rig.old) (R.state rig.new)) }
+    ensures sink { IsErrOf result Ended.Sink → Rose (O.state sink.old).faults (O.state sink.new).faults }
+    ensures flash { IsErrOf result Ended.Flash → Rose (R.state rig.old).faults.flash (R.state rig.new).faults.flash }
+    ensures disk { IsErrOf result Ended.Disk → Rose (R.state rig.old).faults.disk (R.state rig.new).faults.disk }
+    ensures sink_lent { (O.state sink.new).lent ≡ (O.state sink.old).lent }
+    ensures rig_lent { (R.state rig.new).lent ≡ (R.state rig.old).lent }
+{
+    let mut script = MadeScript::new(alloc, made, sink);
+    replay_script(alloc, &mut script, rig, volume)
+}
+
+#[cfg(test)]
+mod tests {
+    use super::MadeScript;
+    use crate::Script;
+    use ft_base::{Geometry, MemSink};
+    use std::test::Fail;
+    use trace_gen::TraceGen;
+    use trace_model::{Answer, Line};
+
+    #[test]
+    fn nothing_is_printed_but_the_end_line(rt: HostRuntime) -> Result<(), Fail> {
+        let alloc = rt.alloc();
+        let small = Geometry::new(4, 2, 2, 1, 64)?;
+        let mut sink = MemSink::new(alloc, 100, 100, Vec::new(alloc))?;
+        let made = TraceGen::new(1, 1, &small);
+        let mut script = MadeScript::new(alloc, made, &mut sink);
+        let read = Line::Read { lba: 1, count: 8 };
+        assert_eq!(rt; script.next(0), Ok(Some(read)));
+        assert_eq!(rt; script.answer(&Answer::Idle), Ok(()));
+        assert_eq!(rt; script.next(0), Ok(None));
+        assert_eq!(rt; script.end(1, 2, 3), Ok(()));
+        let printed =
+            b"end 1 2 3 e3b0c44298fc1c149afbf4c8996fb92427ae41e4649b934ca495991b7852b855\n";
+        assert_eq!(rt; sink.bytes(), printed.as_slice());
+        Ok(())
+    }
+}
