@@ -5,11 +5,10 @@ use Rattle.clap.specs.Faults.{fault_of}
 use Rattle.clap.specs.Simple.{matches_of}
 use Rattle.clap.specs.Walk.{Row, first_of}
 use Rattle.command_line.specs.Command.{Setting, Spells, Text, value_in}
-use Rattle.command_line.specs.Matching.{is_fair_word, options_app}
+use Rattle.command_line.specs.Matching.{is_fair_word, is_name, options_app}
 use Rattle.command_line.proofs.Pairs.{pair_value}
 use Rattle.command_line.proofs.ParseLemmas.{err_from, ok_from, unfair_refused}
 use Rattle.command_line.proofs.SettingLemmas.{options_spelled, unspelled, value_pairs}
-use Rattle.command_line.proofs.WordLemmas.{is_name}
 
 pub found_settings : (names words : List Text) → list_all is_fair_word words ≡ true → (rows : List Row) → (fault_of (options_app names) words ≡ []) × (rows ≡ matches_of (options_app names) words)
     → (settings : List Setting) × Spells names words settings × ((name : Text) → first_of name rows ≡ value_in settings name)

@@ -8,7 +8,8 @@ use Rattle.std.proofs.lemmas.Slice.Eq.{bytes_eq-Decides}
 use Rattle.clap.specs.Lexer.{long_of}
 use Rattle.command_line.specs.Command.{AreOnce, IsSetting, Setting, Spells, Text, begins_with_minus, is_known, value_in, words_of}
 use Rattle.command_line.proofs.Pairs.{Pair, has_name, joined, option_begun, options_of, pair_of, pair_value, pairs_from, pairs_of}
-use Rattle.command_line.proofs.WordLemmas.{apart_is, is_name, joined_is, long_apart, long_joined}
+use Rattle.command_line.specs.Matching.{is_name}
+use Rattle.command_line.proofs.WordLemmas.{apart_is, joined_is, long_apart, long_joined}
 
 pub value_pairs : (settings : List Setting) (name : Text) → pair_value name (pairs_of settings) ≡ value_in settings name
 value_pairs [] name = refl

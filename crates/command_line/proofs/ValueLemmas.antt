@@ -1,10 +1,10 @@
 -- The values of the options say one thing at most.
-use Rattle.std.proofs.Common.{◌≡◌, ℕ, ◌+◌, ◌/◌, ◌^◌, ◌<◌, ◌≤◌, ◌⊎◌, List, ◌∷◌, bytes_eq, codes, Bool, true, false, not, nat_le, Option, Some, None, Result, Ok, Err, OkIff, IfErr, IfNone, decimal, inl, inr, refl, sym, ap, subst, ◌∙◌, arith}
+use Rattle.std.proofs.Common.{◌≡◌, ℕ, ◌+◌, ◌/◌, ◌^◌, ◌<◌, ◌≤◌, ◌⊎◌, List, ◌∷◌, bytes_eq, codes, Bool, true, false, nat_le, Option, Some, None, Result, Ok, Err, OkIff, IfErr, IfNone, decimal, inl, inr, refl, sym, ap, subst, ◌∙◌, arith}
 use Rattle.std.specs.Result.{result_ok}
 use native.Mathlib.Bridge.{le_prop}
 use mathlib.Core.HLevel.{is_prop→PathP}
 use mathlib.Core.Path.{fun_ext}
-use Rattle.std.proofs.lemmas.Bool.{and_from, both_ways, le-leb, not-false}
+use Rattle.std.proofs.lemmas.Bool.{and_from, both_ways, le-leb}
 use Rattle.std.proofs.lemmas.Fmt.{decimal_injective}
 use Rattle.std.proofs.lemmas.Slice.Eq.{bytes_eq-Decides}
 use Rattle.ft_base.specs.Ranges.{InRange, first_out, is_within}
@@ -13,7 +13,9 @@ use Rattle.ft_base.specs.declared.geometry.Geometry.{Geometry}
 use Rattle.ft_base.specs.declared.geometry.GeometryError.{GeometryError}
 use Rattle.ft_base.specs.declared.told.Mode.{Mode}
 use Rattle.ft_base.specs.declared.told.Mode.TheVariants.{Back, Through}
-use Rattle.command_line.specs.Command.{AreNumbers, IsCommand, IsDirty, IsGiven, Say, Setting, Spells, Text, mode_word, option_names, value_in}
+use Rattle.std.specs.List.{list_all}
+use Rattle.command_line.specs.Command.{AreNumbers, IsCommand, IsCount, IsDirty, IsGen, IsGiven, Say, SayMade, Setting, Spells, Text, gen_names, mode_word, option_names, value_in}
+use Rattle.command_line.specs.Matching.{is_name}
 use Rattle.command_line.proofs.Pairs.{pair_value, pairs_of}
 use Rattle.command_line.proofs.SettingLemmas.{spelled_options, value_pairs}
 
@@ -126,25 +128,75 @@ same_said value o other says also =
 pub say_along : (value other : Text → Option Text) (o : Told) → ((name : Text) → value name ≡ other name) → Say value o → Say other o
 say_along value other o same = subst (λ (v : Text → Option Text). Say v o) (fun_ext same)
 
+pub made_along : (value other : Text → Option Text) (number count : ℕ) → ((name : Text) → value name ≡ other name) → SayMade value number count → SayMade other number count
+made_along value other number count same = subst (λ (v : Text → Option Text). SayMade v number count) (fun_ext same)
+
 -- words spell the values of their options in one way
-pub same_values : (words : List Text) (settings other : List Setting) → Spells option_names words settings → Spells option_names words other → (name : Text) → value_in settings name ≡ value_in other name
-same_values words settings other spelled also name =
-    let pairs : pairs_of settings ≡ pairs_of other = cc (spelled_options option_names words settings refl spelled, spelled_options option_names words other refl also) in
+pub same_values : (names words : List Text) (settings other : List Setting) → list_all is_name names ≡ true → Spells names words settings → Spells names words other → (name : Text) → value_in settings name ≡ value_in other name
+same_values names words settings other are spelled also name =
+    let pairs : pairs_of settings ≡ pairs_of other = cc (spelled_options names words settings are spelled, spelled_options names words other are also) in
     sym (value_pairs settings name) ∙ ap (pair_value name) pairs ∙ value_pairs other name
 
 pub same_command : (words : List Text) (o other : Told) → IsCommand words o → IsCommand words other → o ≡ other
 same_command words o other command also =
     let rest : command.others ≡ also.others = cc (command.first, also.first) in
     let spelled = subst (λ (ws : List Text). Spells option_names ws command.settings) rest command.spelled in
-    same_said (value_in also.settings) o other (say_along (value_in command.settings) (value_in also.settings) o (same_values also.others command.settings also.settings spelled also.spelled) command.says) also.says
+    same_said (value_in also.settings) o other (say_along (value_in command.settings) (value_in also.settings) o (same_values option_names also.others command.settings also.settings refl spelled also.spelled) command.says) also.says
 
-pub first_word : (word text : Text) (differs : Bool) → text ≡ word → differs ≡ not (bytes_eq text (codes "replay")) → differs ≡ false → word ≡ codes "replay"
-first_word word text differs same is equal = sym same ∙ (bytes_eq-Decides text (codes "replay")).0 (not-false (bytes_eq text (codes "replay")) (sym is ∙ equal))
+-- the options spell the values that were found
+module _ (others : List Text) (settings : List Setting) (value : Text → Option Text) (values : (name : Text) → value name ≡ value_in settings name) where
+  -- words are no command where their options say nothing
+  pub no_command : Spells option_names others settings → ((o : Told) → Say value o → ⊥) → (o : Told) → IsCommand (codes "replay" ∷ others) o → ⊥
+  no_command spelled says o command =
+      let rest : command.others ≡ others = cc command.first in
+      let also = subst (λ (ws : List Text). Spells option_names ws command.settings) rest command.spelled in
+      says o (say_along (value_in command.settings) value o (λ name. same_values option_names others command.settings settings refl also spelled name ∙ sym (values name)) command.says)
 
--- words are no command where their options say nothing
-pub no_command : (words others : List Text) (settings : List Setting) (value : Text → Option Text) → words ≡ codes "replay" ∷ others → Spells option_names others settings
-    → ((name : Text) → value name ≡ value_in settings name) → ((o : Told) → Say value o → ⊥) → (o : Told) → IsCommand words o → ⊥
-no_command words others settings value first spelled values says o command =
-    let rest : command.others ≡ others = cc (command.first, first) in
-    let also = subst (λ (ws : List Text). Spells option_names ws command.settings) rest command.spelled in
-    says o (say_along (value_in command.settings) value o (λ name. same_values others command.settings settings also spelled name ∙ sym (values name)) command.says)
+  gen_values : Spells gen_names others settings → (o : Told) (number count : ℕ) (gen : IsGen (codes "gen" ∷ others) o number count) → (name : Text) → value_in gen.settings name ≡ value name
+  gen_values spelled o number count gen name =
+      let rest : gen.others ≡ others = cc gen.first in
+      let also = subst (λ (ws : List Text). Spells gen_names ws gen.settings) rest gen.spelled in
+      same_values gen_names others gen.settings settings refl also spelled name ∙ sym (values name)
+
+  pub no_gen_volume : Spells gen_names others settings → ((o : Told) → Say value o → ⊥) → (o : Told) (number count : ℕ) → IsGen (codes "gen" ∷ others) o number count → ⊥
+  no_gen_volume spelled says o number count gen = says o (say_along (value_in gen.settings) value o (gen_values spelled o number count gen) gen.says)
+
+  pub no_gen_made : Spells gen_names others settings → ((number count : ℕ) → SayMade value number count → ⊥) → (o : Told) (number count : ℕ) → IsGen (codes "gen" ∷ others) o number count → ⊥
+  no_gen_made spelled says o number count gen = says number count (made_along (value_in gen.settings) value number count (gen_values spelled o number count gen) gen.made)
+
+-- ---- a made trace
+
+-- a number that is no count of lines
+pub no_count : (value : Text → Option Text) (m count : ℕ) → m < 2 ^ 64 → IsGiven decimal 20000 (value (codes "count")) m → (m < 1) ⊎ (1000000 < m) → IsCount value count → ⊥
+no_count value m count small given out is =
+    let same = same_number 20000 (value (codes "count")) m count small (omega (arith, is.high)) given is.given in
+    outside out is.low is.high same
+  where
+    outside : (m < 1) ⊎ (1000000 < m) → 1 ≤ count → count ≤ 1000000 → m ≡ count → ⊥
+    outside (inl below) low high same = omega arith
+    outside (inr above) low high same = omega arith
+
+same_made : (value : Text → Option Text) (m n lines others : ℕ) → SayMade value m lines → SayMade value n others → (m ≡ n) × (lines ≡ others)
+same_made value m n lines others made also = (
+  same_number 1 (value (codes "number")) m n made.small also.small made.which also.which,
+  same_number 20000 (value (codes "count")) lines others (omega (arith, made.lines.high)) (omega (arith, also.lines.high)) made.lines.given also.lines.given,
+)
+
+pub same_gen : (words : List Text) (o other : Told) (m n lines others : ℕ) → IsGen words o m lines → IsGen words other n others → (o ≡ other) × (m ≡ n) × (lines ≡ others)
+same_gen words o other m n lines others gen also =
+    let rest : gen.others ≡ also.others = cc (gen.first, also.first) in
+    let spelled = subst (λ (ws : List Text). Spells gen_names ws gen.settings) rest gen.spelled in
+    let values = same_values gen_names also.others gen.settings also.settings refl spelled also.spelled in
+    let made = same_made (value_in also.settings) m n lines others (made_along (value_in gen.settings) (value_in also.settings) m lines values gen.made) also.made in
+    (same_said (value_in also.settings) o other (say_along (value_in gen.settings) (value_in also.settings) o values gen.says) also.says, made.0, made.1)
+
+-- ---- the first word
+
+pub first_word : (word text name : Text) (equal : Bool) → text ≡ word → equal ≡ bytes_eq text name → equal ≡ true → word ≡ name
+first_word word text name equal same is holds = sym same ∙ (bytes_eq-Decides text name).0 (sym is ∙ holds)
+
+gen_replay : codes "gen" ≡ codes "replay" → ⊥
+gen_replay is = both_ways (bytes_eq (codes "gen") (codes "replay")) refl ((bytes_eq-Decides (codes "gen") (codes "replay")).1 is)
+
+pub apart : (words : List Text) (o other : Told) (number count : ℕ) → IsCommand words o → IsGen words other number count → ⊥
+apart words o other number count command gen = gen_replay (cc (command.first, gen.first))

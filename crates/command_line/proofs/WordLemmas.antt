@@ -1,16 +1,12 @@
 -- What clap's lexer makes of the words of an option.
-use Rattle.std.proofs.Common.{◌≡◌, ℕ, Bool, true, false, not, ◌==◌, [], ◌∷◌, ◌++◌, Option, Some, None, refl, ap, ap₂, sym, ◌∙◌, ◌⊎◌, inl, inr, add-one, one-add, eqb-true}
+use Rattle.std.proofs.Common.{◌≡◌, ℕ, Bool, true, false, ◌==◌, [], ◌∷◌, ◌++◌, Option, Some, None, refl, ap, ap₂, sym, ◌∙◌, ◌⊎◌, inl, inr, add-one, one-add, eqb-true}
 use Rattle.std.specs.List.{before_first, after_first}
 use Rattle.std.specs.Prelude.{option_and_then}
 use Rattle.std.proofs.lemmas.Bool.{cases_Bool, not-true}
 use Rattle.std.proofs.lemmas.Option.{cond_some, option_and_then_some, same_Some}
 use Rattle.clap.specs.Lexer.{has_byte, long_of, long_of_rest, name_and_value, strip_byte}
 use Rattle.command_line.specs.Command.{Text}
-
--- a name has a byte, and no `=`
-abbrev pub is_name : Text → Bool
-is_name [] = false
-is_name (b ∷ bytes) = not (has_byte 61 (b ∷ bytes))
+use Rattle.command_line.specs.Matching.{is_name}
 
 abbrev is_equals : ℕ → Bool
 is_equals b = b == 61

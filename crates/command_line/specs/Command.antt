@@ -1,5 +1,5 @@
 -- What a command is: which words it has, and what they say.
-use Rattle.std.specs.Prelude.{◌≡◌, ◌+◌, ◌/◌, ◌≤◌, ◌==◌, ℕ, Bool, true, false, if◌then◌else◌, List, [], ◌∷◌, ◌++◌, flat_map, bytes_eq, codes, decimal, Option, Some, None, ⊤}
+use Rattle.std.specs.Prelude.{◌≡◌, ◌+◌, ◌/◌, ◌≤◌, ◌<◌, ◌^◌, ◌==◌, ℕ, Bool, true, false, if◌then◌else◌, List, [], ◌∷◌, ◌++◌, flat_map, bytes_eq, codes, decimal, Option, Some, None, ⊤}
 use Rattle.std.specs.List.{AllByRecursion, list_any}
 use Rattle.ft_base.specs.Told.{Told}
 use Rattle.ft_base.specs.declared.geometry.Geometry.{Geometry}
@@ -16,6 +16,10 @@ Text = List ℕ
 -- the options of a replay
 abbrev pub option_names : List Text
 option_names = codes "mode" ∷ codes "pages" ∷ codes "data" ∷ codes "log" ∷ codes "journal" ∷ codes "size" ∷ codes "dirty" ∷ []
+
+-- the options of a made trace
+abbrev pub gen_names : List Text
+gen_names = option_names ++ codes "number" ∷ codes "count" ∷ []
 
 -- there is an option of this name
 abbrev pub is_known : Text → List Text → Bool
@@ -90,6 +94,18 @@ pub record Say (value : Text → Option Text) (o : Told) : Type 0 where
   pub dirty : IsDirty value o.geometry.c o.dirty
   pub ack : o.ack ≡ Write
 
+-- how many lines a made trace has: one to a million
+pub record IsCount (value : Text → Option Text) (count : ℕ) : Type 0 where
+  pub given : IsGiven decimal 20000 (value (codes "count")) count
+  pub low : 1 ≤ count
+  pub high : count ≤ 1000000
+
+-- what the values say of a made trace: its number, of 64 bits, and how many lines it has
+pub record SayMade (value : Text → Option Text) (number count : ℕ) : Type 0 where
+  pub which : IsGiven decimal 1 (value (codes "number")) number
+  pub small : number < 2 ^ 64
+  pub lines : IsCount value count
+
 -- the word replay, and then options that say this
 pub record IsCommand (words : List Text) (o : Told) : Type 0 where
   pub others : List Text
@@ -97,3 +113,12 @@ pub record IsCommand (words : List Text) (o : Told) : Type 0 where
   pub settings : List Setting
   pub spelled : Spells option_names others settings
   pub says : Say (value_in settings) o
+
+-- the word gen, and then options that say this of the volume and of the trace
+pub record IsGen (words : List Text) (o : Told) (number count : ℕ) : Type 0 where
+  pub others : List Text
+  pub first : words ≡ codes "gen" ∷ others
+  pub settings : List Setting
+  pub spelled : Spells gen_names others settings
+  pub says : Say (value_in settings) o
+  pub made : SayMade (value_in settings) number count

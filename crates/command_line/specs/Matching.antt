@@ -1,12 +1,17 @@
 -- The options of a command, as clap reads them.
-use Rattle.std.specs.Prelude.{◌||◌, Bool, true, not, List, map, codes, Option, Some, is_some}
-use Rattle.clap.specs.Lexer.{long_of}
+use Rattle.std.specs.Prelude.{◌||◌, Bool, true, false, not, List, [], ◌∷◌, map, codes, Option, Some, is_some}
+use Rattle.clap.specs.Lexer.{has_byte, long_of}
 use Rattle.clap.specs.Matches.{found_of}
 use Rattle.clap.specs.Simple.{App, new_app, new_rule, on_top}
 use Rattle.clap.specs.Walk.{Rule, first_of, rows_of}
 use Rattle.clap.specs.declared.builder.action.ArgAction.TheVariants.{Set}
 use Rattle.clap.specs.declared.parser.matches.ArgMatches.{ArgMatches}
 use Rattle.command_line.specs.Command.{Text, begins_with_minus}
+
+-- a name has a byte, and no `=`
+abbrev pub is_name : Text → Bool
+is_name [] = false
+is_name (b ∷ bytes) = not (has_byte 61 (b ∷ bytes))
 
 -- one option, which takes a value
 abbrev pub option_rule : Text → Rule

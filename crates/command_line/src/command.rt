@@ -1,28 +1,43 @@
-ghost use Rattle.std.specs.Prelude.{IfOk, IfSome, IfNone, map};
+ghost use Rattle.std.specs.Prelude.{◌∷◌, ℕ, IfOk, IfSome, IfNone, codes, map};
 ghost use Rattle.std.specs.String.{string_bytes};
 ghost use Rattle.ft_base.specs.Told.{Told};
-ghost use Rattle.ft_volume.specs.Volume.{told_for};
-ghost use Rattle.command_line.specs.Command.{IsCommand};
+ghost use Rattle.command_line.specs.Command.{IsCommand, IsGen};
+ghost use Rattle.command_line.specs.Spoken.{AreWordsOf};
 
-use crate::matching::options;
-use crate::settings::replay_of;
+use crate::matching::{gen_options, replay_options};
+use crate::settings::{made_of, volume_of};
 use ft_volume::{Mode, Options};
 use std::alloc::{AllocError, Global};
 
 /// A command: to run a trace over a volume of this mode, made with these options.
 #[derive(Clone, Copy, Debug, PartialEq, Eq)]
-pub struct Replay {
-    /// When a block that was written comes to the disk.
-    pub mode: Mode,
-    /// What the volume is made with.
-    pub options: Options,
+pub enum Command {
+    /// Over a trace that is read.
+    Replay {
+        /// When a block that was written comes to the disk.
+        mode: Mode,
+        /// What the volume is made with.
+        options: Options,
+    },
+    /// Over a made trace.
+    Gen {
+        /// When a block that was written comes to the disk.
+        mode: Mode,
+        /// What the volume is made with.
+        options: Options,
+        /// Which made trace.
+        number: u64,
+        /// How many lines it has.
+        count: u64,
+    },
 }
 
 /// The command that the words after the program's name say, or None where they are none.
 ///
-/// The first word is `replay`. After it come options in any order, each at most once, as `--name value` or
-/// `--name=value`. A value in a word by itself doesn't begin with `-`. A number is `0`, or decimal digits of
-/// which the first isn't 0. Every other word is refused, also `--` and flags for help or a version.
+/// The first word is `replay` or `gen`. After it come options in any order, each at most once, as
+/// `--name value` or `--name=value`. A value in a word by itself doesn't begin with `-`. A number is `0`, or
+/// decimal digits of which the first isn't 0. Every other word is refused, also `--` and flags for help or a
+/// version.
 ///
 /// | Option | Value | Default |
 /// |---|---|---|
@@ -33,18 +48,57 @@ pub struct Replay {
 /// | `--journal` | erase blocks of a log region, 1 to 16 | 2 |
 /// | `--size` | blocks of the volume, 1 to 2^40 | 1,048,576 |
 /// | `--dirty` | dirty groups that an idle step leaves alone, 1 to the data blocks | half of these, rounded up |
-pub fn command_of(alloc: Global, words: &[String]) -> Result<Option<Replay>, AllocError>
-    ensures command { IfOk result (λ c. IfSome c (λ it. IsCommand (map string_bytes words.now) (told_for it.mode it.options))) }
+/// | `--number`, of `gen` alone | which made trace, 0 to 2^64 - 1 | 1 |
+/// | `--count`, of `gen` alone | lines of the made trace, 1 to 1,000,000 | 20,000 |
+pub fn command_of(alloc: Global, words: &[String]) -> Result<Option<Command>, AllocError>
+    ensures command { IfOk result (λ c. IfSome c (AreWordsOf (map string_bytes words.now))) }
     ensures none { IfOk result (λ c. IfNone c ((o : Told) → IsCommand (map string_bytes words.now) o → ⊥)) }
+    ensures none_made { IfOk result (λ c. IfNone c ((o : Told) (number count : ℕ) → IsGen (map string_bytes words.now) o number count → ⊥)) }
 {
     let Some((first, others)) = words.split_first() else {
         return Ok(None);
     };
-    if first.as_str() != "replay" {
+    if first.as_str() == "replay" {
+        return replay_command(alloc, others);
+    }
+    if first.as_str() == "gen" {
+        return gen_command(alloc, others);
+    }
+    Ok(None)
+}
+
+/// The command that `replay` and these words after it say, or None where they are none.
+fn replay_command(alloc: Global, others: &[String]) -> Result<Option<Command>, AllocError>
+    ensures command { IfOk result (λ c. IfSome c (AreWordsOf (codes "replay" ∷ map string_bytes others.now))) }
+    ensures none { IfOk result (λ c. IfNone c ((o : Told) → IsCommand (codes "replay" ∷ map string_bytes others.now) o → ⊥)) }
+{
+    let Some(matches) = replay_options(alloc, others)? else {
         return Ok(None);
-    }
-    match options(alloc, others)? {
-        Some(matches) => Ok(replay_of(&matches)),
-        None => Ok(None),
-    }
+    };
+    let Some((mode, options)) = volume_of(&matches) else {
+        return Ok(None);
+    };
+    Ok(Some(Command::Replay { mode, options }))
+}
+
+/// The command that `gen` and these words after it say, or None where they are none.
+fn gen_command(alloc: Global, others: &[String]) -> Result<Option<Command>, AllocError>
+    ensures command { IfOk result (λ c. IfSome c (AreWordsOf (codes "gen" ∷ map string_bytes others.now))) }
+    ensures none { IfOk result (λ c. IfNone c ((o : Told) (number count : ℕ) → IsGen (codes "gen" ∷ map string_bytes others.now) o number count → ⊥)) }
+{
+    let Some(matches) = gen_options(alloc, others)? else {
+        return Ok(None);
+    };
+    let Some((mode, options)) = volume_of(&matches) else {
+        return Ok(None);
+    };
+    let Some((number, count)) = made_of(&matches) else {
+        return Ok(None);
+    };
+    Ok(Some(Command::Gen {
+        mode,
+        options,
+        number,
+        count,
+    }))
 }

@@ -12,5 +12,5 @@ mod settings;
 #[cfg(test)]
 mod tests;
 
-pub use command::{Replay, command_of};
+pub use command::{Command, command_of};
 pub use laws::command_law;

@@ -2,15 +2,20 @@ ghost use Rattle.std.specs.Prelude.{◌≡◌, ◌≢◌, List, [], map, true, f
 ghost use Rattle.std.specs.String.{string_bytes};
 ghost use Rattle.std.specs.List.{list_all};
 ghost use Rattle.clap.specs.Words.{app_of, rule_of, rows_of, found_of, matches_of, fault_of, is_simple_and_free};
-ghost use Rattle.command_line.specs.Command.{Setting, Spells, Text, option_names, value_in};
-ghost use Rattle.command_line.specs.Matching.{bare_app, is_fair_word, option_rule, options_app, value_of};
+ghost use Rattle.command_line.specs.Command.{Setting, Spells, Text, gen_names, option_names, value_in};
+ghost use Rattle.command_line.specs.Matching.{bare_app, is_fair_word, is_name, option_rule, options_app, value_of};
 
 use clap::error::ErrorKind;
 use clap::{Arg, ArgAction, ArgMatches, Command};
 use std::alloc::{AllocError, Global};
 
 /// The options of a replay.
-static NAMES: [&str; 7] = ["mode", "pages", "data", "log", "journal", "size", "dirty"];
+static REPLAY_NAMES: [&str; 7] = ["mode", "pages", "data", "log", "journal", "size", "dirty"];
+
+/// The options of a made trace.
+static GEN_NAMES: [&str; 9] = [
+    "mode", "pages", "data", "log", "journal", "size", "dirty", "number", "count",
+];
 
 /// An option of this name, which takes a value.
 fn option<'a>(alloc: Global, name: &'a str) -> Arg<'a>
@@ -86,8 +91,25 @@ fn all_fair(words: &[String]) -> bool
     true
 }
 
-/// The options that the words spell, or None where they spell none.
-pub(crate) fn options<'a>(
+/// The options of these names that the words spell, or None where they spell none.
+fn options<'a>(
+    alloc: Global,
+    names: &[&'a str],
+    words: &'a [String],
+) -> Result<Option<ArgMatches<'a>>, AllocError>
+    requires { list_all is_name (map (λ s. s.now) names.now) ≡ true }
+    ensures some { IfOk result (λ r. IfSome r (λ m. (settings : List Setting) × Spells (map (λ s. s.now) names.now) (map string_bytes words.entry.now) settings
+        × ((name : Text) → value_of m name ≡ value_in settings name))) }
+    ensures none { IfOk result (λ r. IfNone r ((settings : List Setting) → Spells (map (λ s. s.now) names.now) (map string_bytes words.entry.now) settings → ⊥)) }
+{
+    if !all_fair(words) {
+        return Ok(None);
+    }
+    parse(alloc, names, words)
+}
+
+/// The options of a replay that the words spell, or None where they spell none.
+pub(crate) fn replay_options<'a>(
     alloc: Global,
     words: &'a [String],
 ) -> Result<Option<ArgMatches<'a>>, AllocError>
@@ -95,10 +117,19 @@ pub(crate) fn options<'a>(
         × ((name : Text) → value_of m name ≡ value_in settings name))) }
     ensures none { IfOk result (λ r. IfNone r ((settings : List Setting) → Spells option_names (map string_bytes words.entry.now) settings → ⊥)) }
 {
-    if !all_fair(words) {
-        return Ok(None);
-    }
-    parse(alloc, NAMES.as_slice(), words)
+    options(alloc, REPLAY_NAMES.as_slice(), words)
+}
+
+/// The options of a made trace that the words spell, or None where they spell none.
+pub(crate) fn gen_options<'a>(
+    alloc: Global,
+    words: &'a [String],
+) -> Result<Option<ArgMatches<'a>>, AllocError>
+    ensures some { IfOk result (λ r. IfSome r (λ m. (settings : List Setting) × Spells gen_names (map string_bytes words.entry.now) settings
+        × ((name : Text) → value_of m name ≡ value_in settings name))) }
+    ensures none { IfOk result (λ r. IfNone r ((settings : List Setting) → Spells gen_names (map string_bytes words.entry.now) settings → ⊥)) }
+{
+    options(alloc, GEN_NAMES.as_slice(), words)
 }
 
 /// The value of the option of this name, where it is given.

@@ -4,10 +4,9 @@ ghost use Rattle.ft_base.specs.declared.geometry.Geometry.{Geometry};
 ghost use Rattle.ft_base.specs.declared.told.Mode.{Mode};
 ghost use Rattle.ft_base.specs.declared.told.Mode.TheVariants.{Back};
 ghost use Rattle.ft_volume.specs.Volume.{told_for};
-ghost use Rattle.command_line.specs.Command.{AreNumbers, IsDirty, IsGiven, Say, mode_word};
+ghost use Rattle.command_line.specs.Command.{AreNumbers, IsCount, IsDirty, IsGiven, Say, SayMade, mode_word};
 ghost use Rattle.command_line.specs.Matching.{value_of};
 
-use crate::Replay;
 use crate::matching::value;
 use crate::number::number_of;
 use clap::ArgMatches;
@@ -95,12 +94,34 @@ fn mode_of(matches: &ArgMatches<'_>) -> Option<Mode>
     }
 }
 
-/// What the options say, or None where one of them has no such value.
-pub(crate) fn replay_of(matches: &ArgMatches<'_>) -> Option<Replay>
-    ensures some { IfSome result (λ it. Say (value_of matches.now) (told_for it.mode it.options)) }
+/// What the options say of the volume, or None where one of them has no such value.
+pub(crate) fn volume_of(matches: &ArgMatches<'_>) -> Option<(Mode, Options)>
+    ensures some { IfSome result (λ it. Say (value_of matches.now) (told_for it.0 it.1)) }
     ensures none { IfNone result ((o : Told) → Say (value_of matches.now) o → ⊥) }
 {
     let mode = mode_of(matches)?;
     let options = options_of(matches)?;
-    Some(Replay { mode, options })
+    Some((mode, options))
+}
+
+/// How many lines a made trace has.
+fn count_of(matches: &ArgMatches<'_>) -> Option<u64>
+    ensures some { IfSome result (IsCount (value_of matches.now)) }
+    ensures none { IfNone result ((count : ℕ) → IsCount (value_of matches.now) count → ⊥) }
+{
+    let count = number(matches, "count", 20000)?;
+    if count < 1 || count > 1000000 {
+        return None;
+    }
+    Some(count)
+}
+
+/// What the options say of a made trace, its number and its lines, or None where one has no such value.
+pub(crate) fn made_of(matches: &ArgMatches<'_>) -> Option<(u64, u64)>
+    ensures some { IfSome result (λ it. SayMade (value_of matches.now) it.0 it.1) }
+    ensures none { IfNone result ((number count : ℕ) → SayMade (value_of matches.now) number count → ⊥) }
+{
+    let which = number(matches, "number", 1)?;
+    let count = count_of(matches)?;
+    Some((which, count))
 }

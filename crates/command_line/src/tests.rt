@@ -1,10 +1,10 @@
-use crate::{Replay, command_law, command_of};
-use ft_volume::Mode;
+use crate::{Command, command_law, command_of};
+use ft_volume::{Mode, Options};
 use std::alloc::Global;
 use std::test::Fail;
 
 /// The command of the words between these spaces.
-fn command_in(alloc: Global, line: &str) -> Result<Option<Replay>, Fail> {
+fn command_in(alloc: Global, line: &str) -> Result<Option<Command>, Fail> {
     let mut words = Vec::new(alloc);
     for word in line.split(' ') {
         words.push(String::from_str(alloc, word)?)?;
@@ -23,10 +23,15 @@ fn no_other_words_are_a_command(rt: HostRuntime) -> Result<(), Fail> {
         "replay x",
         "x replay",
         "replay replay",
-        "gen",
+        "generate",
+        "Gen",
         "sweep",
         "inspect",
-        "gen --number 1",
+        "gen replay",
+        "gen 1",
+        "replay gen",
+        "gen --help",
+        "gen --",
         "help",
         "--help",
         "-h",
@@ -65,6 +70,7 @@ fn an_option_has_its_name_and_its_value(rt: HostRuntime) -> Result<(), Fail> {
         "replay --size64",
         "replay --=64",
         "replay --number 1",
+        "replay --count 5",
         "replay --pages",
         "replay --pages --data 2",
         "replay --pages -",
@@ -134,21 +140,38 @@ fn a_number_is_in_its_range(rt: HostRuntime) -> Result<(), Fail> {
     Ok(())
 }
 
-/// The mode, and the numbers in the order of the options.
-fn said(alloc: Global, line: &str) -> Result<(Mode, [u64; 6]), Fail> {
-    let Replay { mode, options } = command_in(alloc, line)?.ok_or("no command")?;
+/// The numbers in the order of the options.
+fn numbers_of(options: &Options) -> [u64; 6] {
     let numbers = options.geometry;
-    Ok((
-        mode,
-        [
-            u64::from(numbers.p()),
-            u64::from(numbers.c()),
-            u64::from(numbers.l()),
-            u64::from(numbers.j()),
-            numbers.size(),
-            u64::from(options.dirty),
-        ],
-    ))
+    [
+        u64::from(numbers.p()),
+        u64::from(numbers.c()),
+        u64::from(numbers.l()),
+        u64::from(numbers.j()),
+        numbers.size(),
+        u64::from(options.dirty),
+    ]
+}
+
+/// The mode and the numbers of a replay.
+fn said(alloc: Global, line: &str) -> Result<(Mode, [u64; 6]), Fail> {
+    match command_in(alloc, line)?.ok_or("no command")? {
+        Command::Replay { mode, options } => Ok((mode, numbers_of(&options))),
+        Command::Gen { .. } => Err("a made trace".into()),
+    }
+}
+
+/// The mode, the numbers, and which made trace of how many lines.
+fn made(alloc: Global, line: &str) -> Result<(Mode, [u64; 6], u64, u64), Fail> {
+    match command_in(alloc, line)?.ok_or("no command")? {
+        Command::Gen {
+            mode,
+            options,
+            number,
+            count,
+        } => Ok((mode, numbers_of(&options), number, count)),
+        Command::Replay { .. } => Err("no made trace".into()),
+    }
 }
 
 #[test]
@@ -199,6 +222,48 @@ fn options_come_in_any_order(rt: HostRuntime) -> Result<(), Fail> {
         "replay --dirty 512 --log=64 --size=1099511627776 --mode=back --data 512 --journal=16",
     ] {
         assert_eq!(rt; said(rt.alloc(), line)?, great, "{line}");
+    }
+    Ok(())
+}
+
+#[test]
+fn a_made_trace_has_a_number_and_a_count(rt: HostRuntime) -> Result<(), Fail> {
+    let defaults = [64, 128, 16, 2, 1048576, 64];
+    let (back, through) = (Mode::Back, Mode::Through);
+    for (line, said) in [
+        ("gen", (back, defaults, 1, 20000)),
+        ("gen --number 0", (back, defaults, 0, 20000)),
+        ("gen --count=1", (back, defaults, 1, 1)),
+        (
+            "gen --count 1000000 --number 7",
+            (back, defaults, 7, 1000000),
+        ),
+        (
+            "gen --number=18446744073709551615",
+            (back, defaults, 18446744073709551615, 20000),
+        ),
+        (
+            "gen --count 300 --mode=through --pages 4 --data 2 --log=2 --journal 1 --size 64 --number 9",
+            (through, [4, 2, 2, 1, 64, 1], 9, 300),
+        ),
+    ] {
+        assert_eq!(rt; made(rt.alloc(), line)?, said, "{line}");
+    }
+    for line in [
+        "gen --count 0",
+        "gen --count 1000001",
+        "gen --count=01",
+        "gen --count",
+        "gen --count=",
+        "gen --count -1",
+        "gen --number=18446744073709551616",
+        "gen --number=",
+        "gen --number 1 --number 1",
+        "gen --number=1 --count 5 --count=5",
+        "gen --size 0",
+        "gen --outcome torn",
+    ] {
+        assert!(rt; command_in(rt.alloc(), line)?.is_none(), "{line}");
     }
     Ok(())
 }

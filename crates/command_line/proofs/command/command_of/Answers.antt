@@ -1,15 +1,20 @@
-use Rattle.std.proofs.Common.{◌≡◌, ◌∷◌, ap, codes, map, ◌∙◌}
+use Rattle.std.proofs.Common.{◌≡◌, List, ◌∷◌, ap, codes, map, subst, ◌∙◌}
 use Rattle.std.specs.String.{string_bytes}
-use Rattle.command_line.specs.Matching.{value_of}
-use Rattle.command_line.proofs.FoundLemmas.{none_then}
-use Rattle.command_line.proofs.ValueLemmas.{first_word, no_command}
+use Rattle.command_line.specs.Command.{IsCommand, IsGen, Text}
+use Rattle.command_line.proofs.FoundLemmas.{none_weaker}
+use Rattle.command_line.proofs.ValueLemmas.{first_word}
 use Rattle.command_line.proofs.command.command_of.Goals as goal
 
-pub returns-in-Some-2-clause-none : goal.returns-in-Some-2-clause-none
-returns-in-Some-2-clause-none c =
+pub returns-then-eq-clause-none : goal.returns-then-eq-clause-none
+returns-then-eq-clause-none c =
     let others = map string_bytes c.in-Some.others.now in
-    let replay = first_word (string_bytes c.in-Some.first.now) c.as_str.result.now c.ne.result c.as_str.ensures.value c.ne.ensures c.if-ne.false in
+    let replay = first_word (string_bytes c.in-Some.first.now) c.as_str.result.now (codes "replay") c.eq.result c.as_str.ensures.value c.eq.ensures c.if-eq.true in
     let first : map string_bytes c.args.words.now ≡ codes "replay" ∷ others = ap (map string_bytes) c.in-Some.ensures.cases.0 ∙ ap (λ word. word ∷ others) replay in
-    let (settings, spelled, values) = rw c.in-Some-2.is at c.in_ok-matches.ensures.some in
-    none_then c.replay_of.result _ _
-    (no_command (map string_bytes c.args.words.now) others settings (value_of c.in-Some-2.matches) first spelled values) c.replay_of.ensures.none
+    none_weaker c.replay_command.result _ _ (λ none o command. none o (subst (λ (ws : List Text). IsCommand ws o) first command)) c.replay_command.ensures.none
+
+pub returns-then-eq-2-clause-none_made : goal.returns-then-eq-2-clause-none_made
+returns-then-eq-2-clause-none_made c =
+    let others = map string_bytes c.in-Some.others.now in
+    let gen = first_word (string_bytes c.in-Some.first.now) c.as_str-2.result.now (codes "gen") c.eq-2.result c.as_str-2.ensures.value c.eq-2.ensures c.if-eq-2.true in
+    let first : map string_bytes c.args.words.now ≡ codes "gen" ∷ others = ap (map string_bytes) c.in-Some.ensures.cases.0 ∙ ap (λ word. word ∷ others) gen in
+    none_weaker c.gen_command.result _ _ (λ none o number count made. none o number count (subst (λ (ws : List Text). IsGen ws o number count) first made)) c.gen_command.ensures.none
