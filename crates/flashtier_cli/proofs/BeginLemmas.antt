@@ -20,9 +20,11 @@ use Rattle.ft_volume.proofs.MediaLemmas.{image_stands}
 use Rattle.ft_volume.specs.Opening.{ImageIs, IsNewest, IsOpened, nothing_held}
 use Rattle.ft_volume.specs.Volume.{StandFor, VolumeState, told_for}
 use Rattle.ft_volume.specs.declared.options.Options.{Options}
+use Rattle.trace_model.specs.declared.line.Line.{Line}
 use Rattle.trace_model.specs.Readings.{Reads}
 use Rattle.trace_replay.proofs.FromLemmas.{part_from, refused_from, unread_from, whole_from}
 use Rattle.trace_replay.specs.Before.{IsBefore}
+use Rattle.trace_replay.specs.Commands.{Gives, TellsEnd, TellsEndPart}
 use Rattle.trace_replay.specs.Said.{Tells, TellsPart}
 use Rattle.trace_replay.specs.Theorem.{EndsPart, EndsRefused, EndsUnread, RunsWhole}
 use Rattle.trace_replay.specs.declared.ended.Ended.{Ended}
@@ -107,3 +109,25 @@ module _ (mode kind : Mode) (options : Options) (is : mode ≡ kind) {owns : Con
       (λ all w reads. reads) (λ run answers says. says) (image_stands (told_for mode options)) new.before
       (TellsPart x y) (TellsPart x y) (λ run answers next shown. shown) e
       (subst (λ (k : Told). EndsPart k (Reads k.geometry.size a z) (Tells x y) (TellsPart x y) (ImageIs k) begun now e) same (subst (λ (k : Told). EndsPart v.told (Reads v.told.geometry.size a z) (Tells x y) (TellsPart x y) (ImageIs k) begun now e) stays ends))
+
+-- ---- the records of a run of given lines over it
+
+module _ (mode kind : Mode) (options : Options) (is : mode ≡ kind) {owns : Contents → Type 0} {v : VolumeState} {old begun : State} (new : IsNewVolume (told_for kind options) owns v old begun)
+    (u : Told) (stays : u ≡ v.told) (left lines : List Line) (given : left ≡ lines) (x y : SinkState) (now : State) where
+  told_made : v.told ≡ told_for mode options
+  told_made = new.told ∙ ap (λ (m : Mode). told_for m options) (sym is)
+
+  pub whole_made : RunsWhole v.told (Gives left) (TellsEnd x y) (ImageIs u) begun now
+      → RunsWhole (told_for mode options) (Gives lines) (TellsEnd x y) (ImageStandsFor options.geometry) (fitted_for options.geometry old) now
+  whole_made whole =
+      whole_from (told_for mode options) (Gives left) (Gives lines) (TellsEnd x y) (TellsEnd x y) (ImageIs (told_for mode options)) (ImageStandsFor options.geometry) (fitted_for options.geometry old) begun now
+      (λ all w gives. subst (λ (ls : List Line). Gives ls all w) given gives) (λ run answers says. says) (image_stands (told_for mode options)) new.before
+      (subst (λ (k : Told). RunsWhole k (Gives left) (TellsEnd x y) (ImageIs k) begun now) told_made (subst (λ (k : Told). RunsWhole v.told (Gives left) (TellsEnd x y) (ImageIs k) begun now) stays whole))
+
+  pub part_made : (e : Ended) → EndsPart v.told (Gives left) (TellsEnd x y) (TellsEndPart x y) (ImageIs u) begun now e
+      → EndsPart (told_for mode options) (Gives lines) (TellsEnd x y) (TellsEndPart x y) (ImageStandsFor options.geometry) (fitted_for options.geometry old) now e
+  part_made e ends =
+      part_from (told_for mode options) (Gives left) (Gives lines) (TellsEnd x y) (TellsEnd x y) (ImageIs (told_for mode options)) (ImageStandsFor options.geometry) (fitted_for options.geometry old) begun now
+      (λ all w gives. subst (λ (ls : List Line). Gives ls all w) given gives) (λ run answers says. says) (image_stands (told_for mode options)) new.before
+      (TellsEndPart x y) (TellsEndPart x y) (λ run answers next shown. shown) e
+      (subst (λ (k : Told). EndsPart k (Gives left) (TellsEnd x y) (TellsEndPart x y) (ImageIs k) begun now e) told_made (subst (λ (k : Told). EndsPart v.told (Gives left) (TellsEnd x y) (TellsEndPart x y) (ImageIs k) begun now e) stays ends))

@@ -1,2 +1,3 @@
 pub mod BeginLemmas
 pub mod StatusLemmas
+pub mod WordsLemmas

@@ -51,15 +51,15 @@ by_device Flash n is failed = inl refl
 by_device Disk n is failed = inr refl
 by_device Memory n is failed = absurd (elim failed [ inl flash ↦ omega (arith, is, flash) | inr disk ↦ omega (arith, is, disk) ])
 
--- before anything was read or said, or within a line
-module _ (source sink reads writes unarmed : Type 0) (Says : Told → Type 0) (P : Told → Ended → Type 0) (o : Told) (said : Says o) where
+-- before anything was read or said, or within a line of a trace that is read
+module _ (source sink reads writes unarmed : Type 0) (Says : Told → Type 0) (P : Told → Ended → Type 0) (Made : Type 0) (o : Told) (said : Says o) where
   ended_so : (e : Ended) (n : ℕ) → n ≡ status_of (Err e) → (source × sink × reads × writes × ((e ≡ Flash) ⊎ (e ≡ Disk) → unarmed)) ⊎ P o e
-      → (source × sink × reads × writes × ((n ≡ 5) ⊎ (n ≡ 6) → unarmed)) ⊎ ((p : Told) × (f : Ended) × Says p × (n ≡ status_of (Err f)) × P p f)
+      → (source × sink × reads × writes × ((n ≡ 5) ⊎ (n ≡ 6) → unarmed)) ⊎ (((p : Told) × (f : Ended) × Says p × (n ≡ status_of (Err f)) × P p f) ⊎ Made)
   ended_so e n is (inl nothing) = inl (nothing.0, nothing.1, nothing.2, nothing.3, λ failed. nothing.4 (by_device e n is failed))
-  ended_so e n is (inr part) = inr (o, e, said, is, part)
+  ended_so e n is (inr part) = inr (inl (o, e, said, is, part))
 
   pub at_part : (r : Result (Unit {0}) Ended) (n : ℕ) → n ≡ status_of r → IfErr r (λ e. e ≢ Trace → e ≢ Source → (source × sink × reads × writes × ((e ≡ Flash) ⊎ (e ≡ Disk) → unarmed)) ⊎ P o e) → 4 ≤ n
-      → (source × sink × reads × writes × ((n ≡ 5) ⊎ (n ≡ 6) → unarmed)) ⊎ ((p : Told) × (f : Ended) × Says p × (n ≡ status_of (Err f)) × P p f)
+      → (source × sink × reads × writes × ((n ≡ 5) ⊎ (n ≡ 6) → unarmed)) ⊎ (((p : Told) × (f : Ended) × Says p × (n ≡ status_of (Err f)) × P p f) ⊎ Made)
   at_part (Ok done) n is part late = absurd (omega (arith, is, late))
   at_part (Err Trace) n is part late = absurd (omega (arith, is, late))
   at_part (Err Source) n is part late = absurd (omega (arith, is, late))
@@ -67,3 +67,11 @@ module _ (source sink reads writes unarmed : Type 0) (Says : Told → Type 0) (P
   at_part (Err Flash) n is part late = ended_so Flash n is (part (λ same. cc) (λ same. cc))
   at_part (Err Disk) n is part late = ended_so Disk n is (part (λ same. cc) (λ same. cc))
   at_part (Err Memory) n is part late = ended_so Memory n is (part (λ same. cc) (λ same. cc))
+
+-- before anything was said, or within a line of a made trace
+module _ (source sink reads writes unarmed : Type 0) (Read : Type 0) (Says : Told → ℕ → ℕ → Type 0) (P : Told → ℕ → ℕ → Ended → Type 0) (o : Told) (number count : ℕ) (said : Says o number count) (same : source) where
+  pub at_made_part : (r : Result (Unit {0}) Ended) (n : ℕ) → n ≡ status_of r → IfErr r (λ e. (sink × reads × writes × ((e ≡ Flash) ⊎ (e ≡ Disk) → unarmed)) ⊎ P o number count e) → 4 ≤ n
+      → (source × sink × reads × writes × ((n ≡ 5) ⊎ (n ≡ 6) → unarmed)) ⊎ (Read ⊎ ((p : Told) × (m : ℕ) × (c : ℕ) × (f : Ended) × Says p m c × (n ≡ status_of (Err f)) × P p m c f))
+  at_made_part (Ok done) n is part late = absurd (omega (arith, is, late))
+  at_made_part (Err e) n is (inl nothing) late = inl (same, nothing.0, nothing.1, nothing.2, λ failed. nothing.3 (by_device e n is failed))
+  at_made_part (Err e) n is (inr part) late = inr (inr (o, number, count, e, said, is, part))

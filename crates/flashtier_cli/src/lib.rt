@@ -5,8 +5,10 @@
 
 mod beginning;
 mod ending;
+mod making;
 mod program;
 mod replaying;
 
+pub use making::gen_with;
 pub use program::run;
 pub use replaying::replay_with;

@@ -1,28 +1,32 @@
-ghost use Rattle.std.specs.Prelude.{◌≡◌, ◌≢◌, ◌⊎◌, ◌≤◌, [], true, Err, map};
+ghost use Rattle.std.specs.Prelude.{◌≡◌, ◌≢◌, ◌⊎◌, ◌≤◌, ℕ, [], true, Err, map};
 ghost use Rattle.std.specs.String.{string_bytes};
 ghost use Rattle.std.specs.Io.KnownBytes.{IsAtEnd};
 ghost use Rattle.ft_base.specs.Count.{Rose};
 ghost use Rattle.ft_base.specs.Told.{Told};
 ghost use Rattle.cache_model.specs.Stands.{ImageStandsFor};
 ghost use Rattle.trace_model.specs.Readings.{Reads};
+ghost use Rattle.trace_gen.specs.Made.{made_trace};
 ghost use Rattle.trace_replay.specs.declared.ended.Ended as ended;
+ghost use Rattle.trace_replay.specs.Commands.{Gives, TellsEnd, TellsEndPart};
 ghost use Rattle.trace_replay.specs.Said.{Tells, TellsPart};
 ghost use Rattle.trace_replay.specs.Theorem.{EndsPart, EndsRefused, EndsUnread, RunsWhole};
-ghost use Rattle.command_line.specs.Command.{IsCommand};
+ghost use Rattle.command_line.specs.Command.{IsCommand, IsGen};
 ghost use Rattle.flashtier_cli.specs.Begun.{fitted_for};
 ghost use Rattle.flashtier_cli.specs.Status as status;
+ghost use Rattle.flashtier_cli.specs.Words.{AreCommand};
 
 use crate::ending::status_of;
+use crate::making::gen_with;
 use crate::replaying::replay_with;
-use command_line::command_of;
+use command_line::{Command, command_of};
 use ft_base::{Sink, Source};
 use ft_media::{Media, Rig};
 use std::alloc::Global;
 
 /// Runs the command that the words say, and answers its status.
 ///
-/// The words are those after the program's name: `replay`, and after it options, in any order and each at
-/// most once, as `--name value` or `--name=value`.
+/// The words are those after the program's name: `replay` or `gen`, and after it options, in any order and
+/// each at most once, as `--name value` or `--name=value`.
 ///
 /// | Option | Says | Range | Default |
 /// |---|---|---|---|
@@ -33,17 +37,21 @@ use std::alloc::Global;
 /// | `--journal` | erase blocks of a log region | 1 to 16 | 2 |
 /// | `--size` | blocks of the volume | 1 to 2^40 | 1,048,576 |
 /// | `--dirty` | groups that an idle step leaves dirty | 1 to the data blocks | half of these, rounded up |
+/// | `--number`, of `gen` alone | which made trace | 0 to 2^64 - 1 | 1 |
+/// | `--count`, of `gen` alone | lines of the made trace | 1 to 1,000,000 | 20,000 |
 ///
-/// It reads a trace from the source, runs it over a cache of these numbers before a disk, both of them on the
-/// rig, and prints to the sink what each request answered. Power may stop within any device write; the run
-/// then goes on after recovery.
+/// With `replay` it reads a trace from the source, runs it over a cache of these numbers before a disk, both
+/// of them on the rig, and prints to the sink what each request answered. Power may stop within any device
+/// write; the run then goes on after recovery.
+///
+/// With `gen` it runs a made trace so, and prints the end line alone. It takes nothing from the source.
 ///
 /// | Status | Comes |
 /// |---|---|
-/// | 0 | the source was read to its end, and every line was run |
+/// | 0 | the source was read to its end, or the trace is a made one, and every line was run |
 /// | 1 | the words are no command; nothing is read or printed |
-/// | 2 | a line was refused, after those before it were run; the last line printed says why |
-/// | 3 | the source failed, after the lines that ended before were run |
+/// | 2 | a line was refused, after those before it were run; the last line printed says why; `replay` alone |
+/// | 3 | the source failed, after the lines that ended before were run; `replay` alone |
 /// | 4 | the sink failed; what it took is a front of the text |
 /// | 5, 6 | the flash, the disk failed |
 /// | 7 | memory was refused, also that in which the words are read |
@@ -55,16 +63,23 @@ pub fn run<I: Source, O: Sink, R: Rig>(
     rig: &mut R,
 ) -> u8
     // The text is what a plain disk prints that holds, after each recovery, a prefix of the block writes
-    // with every acknowledged one; and the media are that disk, wherever power stops next.
-    ensures whole { result ≡ 0 → (o : Told) × IsCommand (map string_bytes words.now) o × RunsWhole o (Reads o.geometry.size (I.state source.old) (I.state source.new)) (Tells (O.state sink.old) (O.state sink.new))
-        (ImageStandsFor o.geometry) (fitted_for o.geometry (R.state rig.old)) (R.state rig.new) }
-    ensures end { result ≡ 0 → IsAtEnd (I.state source.new).left }
+    // with every acknowledged one; and the media are that disk, wherever power stops next. Of a made trace it is
+    // the end line of that text.
+    ensures whole { result ≡ 0 → ((o : Told) × IsCommand (map string_bytes words.now) o × RunsWhole o (Reads o.geometry.size (I.state source.old) (I.state source.new)) (Tells (O.state sink.old) (O.state sink.new))
+        (ImageStandsFor o.geometry) (fitted_for o.geometry (R.state rig.old)) (R.state rig.new))
+        ⊎ ((o : Told) × (number : ℕ) × (count : ℕ) × IsGen (map string_bytes words.now) o number count × RunsWhole o (Gives (made_trace number count o.geometry)) (TellsEnd (O.state sink.old) (O.state sink.new))
+        (ImageStandsFor o.geometry) (fitted_for o.geometry (R.state rig.old)) (R.state rig.new)) }
+    ensures end { result ≡ 0 → (o : Told) → IsCommand (map string_bytes words.now) o → IsAtEnd (I.state source.new).left }
+
+    // A made trace takes nothing from the source, however it ends.
+    ensures unused { (o : Told) (number count : ℕ) → IsGen (map string_bytes words.now) o number count → source.new ≡ source.old }
 
     // Words that are no command touch nothing, also where memory for reading them is refused.
-    ensures words { result ≡ 1 → (o : Told) → IsCommand (map string_bytes words.now) o → ⊥ }
-    ensures no_command { ((o : Told) → IsCommand (map string_bytes words.now) o → ⊥) → (result ≡ 1) ⊎ (result ≡ 7) }
-    ensures nothing { ((o : Told) → IsCommand (map string_bytes words.now) o → ⊥) → (source.new ≡ source.old) × (sink.new ≡ sink.old) × (rig.new ≡ rig.old) }
+    ensures words { result ≡ 1 → AreCommand (map string_bytes words.now) → ⊥ }
+    ensures no_command { (AreCommand (map string_bytes words.now) → ⊥) → (result ≡ 1) ⊎ (result ≡ 7) }
+    ensures nothing { (AreCommand (map string_bytes words.now) → ⊥) → (source.new ≡ source.old) × (sink.new ≡ sink.old) × (rig.new ≡ rig.old) }
 
+    // A made trace has no line that is refused and no source that fails, so these come with a trace that is read.
     ensures refused { result ≡ 2 → (o : Told) × IsCommand (map string_bytes words.now) o × EndsRefused o (Reads o.geometry.size (I.state source.old) (I.state source.new)) (Tells (O.state sink.old) (O.state sink.new))
         (ImageStandsFor o.geometry) (fitted_for o.geometry (R.state rig.old)) (R.state rig.new) }
     ensures unread { result ≡ 3 → (o : Told) × IsCommand (map string_bytes words.now) o × EndsUnread o (Reads o.geometry.size (I.state source.old) (I.state source.new)) (Tells (O.state sink.old) (O.state sink.new))
@@ -75,8 +90,10 @@ pub fn run<I: Source, O: Sink, R: Rig>(
     ensures part { 4 ≤ result → ((source.new ≡ source.old) × (sink.new ≡ sink.old)
         × ((R.state rig.new).counts.disk_reads ≡ (R.state rig.old).counts.disk_reads) × ((R.state rig.new).counts.disk_writes ≡ (R.state rig.old).counts.disk_writes)
         × ((result ≡ 5) ⊎ (result ≡ 6) → (R.state rig.new).power.stops ≡ []))
-        ⊎ ((o : Told) × (e : ended.Ended) × IsCommand (map string_bytes words.now) o × (result ≡ status.status_of (Err e)) × EndsPart o (Reads o.geometry.size (I.state source.old) (I.state source.new)) (Tells (O.state sink.old) (O.state sink.new)) (TellsPart (O.state sink.old) (O.state sink.new))
-        (ImageStandsFor o.geometry) (fitted_for o.geometry (R.state rig.old)) (R.state rig.new) e) }
+        ⊎ (((o : Told) × (e : ended.Ended) × IsCommand (map string_bytes words.now) o × (result ≡ status.status_of (Err e)) × EndsPart o (Reads o.geometry.size (I.state source.old) (I.state source.new)) (Tells (O.state sink.old) (O.state sink.new)) (TellsPart (O.state sink.old) (O.state sink.new))
+        (ImageStandsFor o.geometry) (fitted_for o.geometry (R.state rig.old)) (R.state rig.new) e)
+        ⊎ ((o : Told) × (number : ℕ) × (count : ℕ) × (e : ended.Ended) × IsGen (map string_bytes words.now) o number count × (result ≡ status.status_of (Err e)) × EndsPart o (Gives (made_trace number count o.geometry)) (TellsEnd (O.state sink.old) (O.state sink.new)) (TellsEndPart (O.state sink.old) (O.state sink.new))
+        (ImageStandsFor o.geometry) (fitted_for o.geometry (R.state rig.old)) (R.state rig.new) e)) }
     ensures known { result ≤ 7 }
 
     ensures source { result ≡ 3 → Rose (I.state source.old).faults (I.state source.new).faults }
@@ -94,6 +111,9 @@ pub fn run<I: Source, O: Sink, R: Rig>(
     ensures complete { (o : Told) → IsCommand (map string_bytes words.now) o → (Rose (I.state source.old).faults (I.state source.new).faults → ⊥) → (Rose (O.state sink.old).faults (O.state sink.new).faults → ⊥)
         → (Rose (R.state rig.old).faults.flash (R.state rig.new).faults.flash → ⊥) → (Rose (R.state rig.old).faults.disk (R.state rig.new).faults.disk → ⊥)
         → (result ≡ 0) ⊎ (result ≡ 2) ⊎ (result ≡ 7) }
+    ensures complete_made { (o : Told) (number count : ℕ) → IsGen (map string_bytes words.now) o number count → (Rose (O.state sink.old).faults (O.state sink.new).faults → ⊥)
+        → (Rose (R.state rig.old).faults.flash (R.state rig.new).faults.flash → ⊥) → (Rose (R.state rig.old).faults.disk (R.state rig.new).faults.disk → ⊥)
+        → (result ≡ 0) ⊎ (result ≡ 7) }
 {
     let Ok(command) = command_of(alloc, words) else {
         return 7;
@@ -101,5 +121,15 @@ pub fn run<I: Source, O: Sink, R: Rig>(
     let Some(command) = command else {
         return 1;
     };
-    status_of(replay_with(alloc, command.mode, &command.options, source, sink, rig))
+    match command {
+        Command::Replay { mode, options } => {
+            status_of(replay_with(alloc, mode, &options, source, sink, rig))
+        }
+        Command::Gen {
+            mode,
+            options,
+            number,
+            count,
+        } => status_of(gen_with(alloc, mode, &options, number, count, sink, rig)),
+    }
 }
