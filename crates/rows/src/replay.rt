@@ -189,13 +189,15 @@ fn a_cut_loses_nothing_that_was_acknowledged(rt: HostRuntime) -> Result<(), Fail
 }
 
 /// Words that are no command.
-const WRONG: [&[&str]; 42] = [
+const WRONG: [&[&str]; 44] = [
     &[],
     &["play"],
     &["Replay"],
     &["replay "],
     &[""],
-    &["gen"],
+    &["gen", "x"],
+    &["gen", "--count=0"],
+    &["replay", "--count=5"],
     &["sweep"],
     &["inspect"],
     &["help"],
