@@ -1,19 +1,22 @@
-//! The sparse map beside std's hash map: bytes an entry, and the time of a look-up, an insertion and a
-//! removal.
+//! The sparse map beside std's hash map: bytes an entry, the time of a look-up, an insertion and a removal, and the
+//! time of a step where an old address goes and a new one comes.
 //!
 //! A round makes a map of so many entries, looks each of them up and takes each of them out; the time of
 //! one operation is the mean over all rounds. So insertions and removals are met at every size from none to
-//! all of the entries, and insertions pay for the growth of the map.
+//! all of the entries, and insertions pay for the growth of the map. Bytes are counted with all entries in the map,
+//! and at the peak of its filling, where it moves into longer lists.
 
+pub(crate) mod churn;
 pub(crate) mod keys;
 pub(crate) mod measured;
 pub(crate) mod round;
-mod row;
+pub(crate) mod row;
 
+use churn::churn;
 use keys::Keys;
 use measured::Measured;
-use round::rounds;
-use row::{Row, print_head};
+use round::{peak, rounds};
+use row::{Row, print_churn, print_churn_head, print_head};
 use sparse_map::SparseMap;
 use std::collections::HashMap;
 use std::io;
@@ -22,7 +25,12 @@ use std::rt::Clock;
 /// The numbers of entries, each with the number of rounds that makes it a million operations of each kind.
 const SIZES: [(u32, u32); 3] = [(1_000, 1_000), (100_000, 10), (1_000_000, 1)];
 
-/// Prints a row for each map at each number of entries.
+/// The addresses of a map whose entries come and go, and how many come.
+const ADDRESSES: u32 = 4_000;
+
+const STEPS: u32 = 1_000_000;
+
+/// Prints a row for each map at each number of entries, and one for each that is turned over.
 pub(crate) fn measure(rt: &(impl AllocGlobal + Clock + Print)) -> io::Result<()> {
     print_head(rt)?;
     for (entries, count) in SIZES {
@@ -30,7 +38,15 @@ pub(crate) fn measure(rt: &(impl AllocGlobal + Clock + Print)) -> io::Result<()>
         measure_one::<SparseMap<u64>>(rt, &keys, count)?;
         measure_one::<HashMap<u64, u64>>(rt, &keys, count)?;
     }
-    Ok(())
+    print_churn_head(rt)?;
+    churn_one::<SparseMap<u64>>(rt)?;
+    churn_one::<HashMap<u64, u64>>(rt)
+}
+
+/// Prints the row of one map whose entries come and go.
+fn churn_one<M: Measured>(rt: &(impl AllocGlobal + Clock + Print)) -> io::Result<()> {
+    let churned = churn::<M>(rt, ADDRESSES, STEPS)?;
+    print_churn(rt, M::NAME, &churned)
 }
 
 /// Prints the row of one map.
@@ -39,6 +55,15 @@ fn measure_one<M: Measured>(
     keys: &Keys,
     count: u32,
 ) -> io::Result<()> {
+    let peak = peak::<M>(rt.alloc(), keys.inserted.as_slice())?;
     let (size, times) = rounds::<M>(rt, keys, count)?;
-    Row::new(M::NAME, size, times, count).print(rt)
+    let row = Row {
+        name: M::NAME,
+        size,
+        peak,
+        times,
+        rounds: count,
+    };
+    let row = row.line(rt.alloc())?;
+    println!(rt; "{row}")
 }

@@ -25,7 +25,7 @@ use Rattle.cache_history.specs.History.{Given, given, Lists, settled, stepped, L
 use Rattle.cache_history.specs.Moment.{IsMoment}
 use Rattle.ssc.proofs.HoldsLemmas.{not_waiting, undone_away}
 use Rattle.ssc.proofs.CommandLemmas.{cleaned_clean}
-use Rattle.cache_history.proofs.GoneLemmas.{IsClean, vanished_at, vanished_none, left_whole, unless_same, unless_lost}
+use Rattle.cache_history.proofs.GoneLemmas.{vanished_at, vanished_none, left_whole, unless_same, unless_lost}
 
 -- ---- an answer
 

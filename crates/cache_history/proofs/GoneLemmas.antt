@@ -1,5 +1,5 @@
 -- What gives way to a write.
-use Rattle.std.proofs.Common.{◌≡◌, ◌⊎◌, ℕ, ◌/◌, Bool, true, false, cond, Option, Some, None, refl, sym, ◌∙◌, ap, inl, inr}
+use Rattle.std.proofs.Common.{◌≡◌, ◌⊎◌, ℕ, ◌/◌, true, false, cond, Option, Some, None, refl, sym, ◌∙◌, ap, inl, inr}
 use Rattle.std.specs.FinMap.{get}
 use Rattle.std.proofs.lemmas.Bool.{cases_Bool}
 use Rattle.ft_base.specs.declared.geometry.Geometry.{Geometry}

@@ -4,3 +4,4 @@ pub mod MightLemmas
 pub mod LawLemmas
 pub mod ListedLemmas
 pub mod CommandLemmas
+pub mod RefusedLemmas

@@ -1,16 +1,15 @@
 -- What an address may hold after some events, in the list that is held and in the one that a crash would leave.
-use Rattle.std.proofs.Common.{◌≡◌, ◌⊎◌, ℕ, ◌==◌, ◌/◌, Bool, true, false, cond, List, [], ◌∷◌, Option, Some, None, refl, sym, ◌∙◌, ap, subst, inl, inr, eqb-true, nat_cmp}
+use Rattle.std.proofs.Common.{◌≡◌, ◌⊎◌, ℕ, ◌==◌, Bool, true, false, List, [], ◌∷◌, Option, Some, None, refl, sym, ◌∙◌, ap, subst, inl, inr, eqb-true, nat_cmp}
 use Rattle.std.specs.Option.{option_map}
 use Rattle.std.specs.FinMap.{get, empty, get-empty}
-use Rattle.std.proofs.lemmas.Bool.{cases_Bool, both_ways}
 use Rattle.ft_base.specs.declared.block.Block.{Block}
 use Rattle.ft_base.specs.declared.geometry.Geometry.{Geometry}
-use Rattle.cache_model.specs.Cache.{Held, CacheList, Vanish, marked_as}
+use Rattle.cache_model.specs.Cache.{Held, CacheList, marked_as}
 use Rattle.cache_history.specs.declared.kind.Kind.{Kind}
 use Rattle.cache_history.specs.declared.kind.Kind.TheVariants.{WriteDirty, WriteClean, Evict, Clean, Commit, Checkpoint}
-use Rattle.cache_history.specs.History.{Given, Event, Answered, Refused, Crashed, Lists, settled, LeftByKind, IsAtOnce, unless_gone, AfterAnswer, AfterRefusal, AfterCrash, LivedFrom, Lived, is_write}
+use Rattle.cache_history.specs.History.{Given, Event, Answered, Refused, Crashed, Lists, settled, IsAtOnce, unless_gone, AfterAnswer, AfterRefusal, AfterCrash, LivedFrom, Lived, is_write}
 use Rattle.cache_history.proofs.StepLemmas.{step_of, step_at, get_stepped}
-use Rattle.cache_history.proofs.GoneLemmas.{IsClean, LostAt, left_at, unless_same, unless_lost}
+use Rattle.cache_history.proofs.GoneLemmas.{IsClean, left_at, unless_same, unless_lost}
 
 -- what the address of a command may be where a crash would undo the command
 abbrev pub Lags : Kind → Option Held → Type 0

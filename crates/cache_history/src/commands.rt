@@ -6,7 +6,7 @@ ghost use Rattle.cache_model.specs.Loading.{load};
 ghost use Rattle.cache_model.specs.Stands.{StandsFor};
 ghost use Rattle.op_log.specs.Log.{FitsOn};
 ghost use Rattle.op_log.specs.Refusals.{open_failed, open_lost, IsRefusal};
-ghost use Rattle.ssc.specs.CacheState.{Holds, IsUp, geometry_of};
+ghost use Rattle.ssc.specs.CacheState.{Holds, IsAsBefore, IsUp, geometry_of};
 ghost use Rattle.ssc.specs.Errors.{ssc_failed, ssc_lost, stops};
 ghost use Rattle.cache_history.specs.declared.kind.Kind.TheVariants.{WriteDirty};
 ghost use Rattle.cache_history.specs.History.{Lists, given, is_write, settled, AfterAnswer, AfterRefusal};
@@ -32,8 +32,10 @@ pub fn give<M: Media>(
     ensures answered { OnOk result ((l : Lists) → IsMoment cache.old (M.state media.old).contents l → (m : Lists) × AfterAnswer (geometry_of cache.old) (given kind lba block.now) l m × IsMoment cache.new (M.state media.new).contents m) }
     // Whatever is answered, and wherever power went off.
     ensures images { (l : Lists) → IsMoment cache.old (M.state media.old).contents l → (x : Image) → Now (M.state media.new).contents x → (m : Lists) × AfterRefusal (geometry_of cache.old) (given kind lba block.now) l m × StandsFor (geometry_of cache.old) x.page m.now }
-    // Full and want of memory are no event: nothing happened. Each comes for its cause alone.
-    ensures unchanged { OnErr result (stops result ≡ false → (cache.new ≡ cache.old) × (M.state media.new ≡ M.state media.old)) }
+    // Full and want of memory are no event: the lists and the media are as before. Each comes for its cause alone.
+    ensures unchanged { OnErr result (stops result ≡ false → IsAsBefore cache.old cache.new × (M.state media.new ≡ M.state media.old)) }
+    ensures still { OnErr result (stops result ≡ false → (l : Lists) → IsMoment cache.old (M.state media.old).contents l → IsMoment cache.new (M.state media.new).contents l) }
+    ensures full_keeps { (n k : ℕ) → IsErrOf result (SscError.Full n k) → cache.new ≡ cache.old }
     ensures full { (n k : ℕ) → IsErrOf result (SscError.Full n k) → (kind ≡ WriteDirty) × ((s : CacheList) → Holds cache.old (M.state media.old).contents s → IsFull (geometry_of cache.old) s lba) }
     ensures memory { IsErrOf result SscError.OutOfMemory → (is_write kind ≡ true) × (cache.old.ready ≡ false) }
     ensures stopped { cache.new.stopped ≡ stops result }

@@ -15,23 +15,30 @@ use Rattle.ssc.specs.Commands.{HoldsWritten}
 up_same : (c d : Ssc) (a b : State) → (d ≡ c) × (b ≡ a) → IsUp c a.contents → IsUp d b.contents
 up_same c d a b is up = subst (λ (v : Ssc). IsUp v b.contents) (sym is.0) (subst (λ (k : State). IsUp c k.contents) (sym is.1) up)
 
+-- where memory is wanting nothing that is held changes
+abbrev StillHolds : Ssc → Ssc → State → State → Type 0
+StillHolds c d a b = (b ≡ a) × ((contents : Contents) (list : CacheList) → Holds c contents list → Holds d contents list)
+
+up_still : (c d : Ssc) (a b : State) → StillHolds c d a b → IsUp c a.contents → d.stopped ≡ false → IsUp d b.contents
+up_still c d a b still up going = subst (λ (k : State). IsUp d k.contents) (sym still.0) (record { list = up.list; holds = still.1 a.contents up.list up.holds; up = going })
+
 -- after Ok it holds some list
 abbrev HoldsSome : Ssc → Contents → Type 0
 HoldsSome c contents = (list : CacheList) × Holds c contents list
 
-up_some : (r : Result (Unit {0}) SscError) (c d : Ssc) (a b : State) → IsUp c a.contents → d.stopped ≡ stops r → OnOk r (HoldsSome d b.contents) → ((n l : ℕ) → IsErrOf r (Full n l) → (d ≡ c) × (b ≡ a)) → (IsErrOf r OutOfMemory → (d ≡ c) × (b ≡ a)) → d.stopped ≡ false → IsUp d b.contents
+up_some : (r : Result (Unit {0}) SscError) (c d : Ssc) (a b : State) → IsUp c a.contents → d.stopped ≡ stops r → OnOk r (HoldsSome d b.contents) → ((n l : ℕ) → IsErrOf r (Full n l) → (d ≡ c) × (b ≡ a)) → (IsErrOf r OutOfMemory → StillHolds c d a b) → d.stopped ≡ false → IsUp d b.contents
 up_some (Ok done) c d a b up stopped holds full memory going = record { list = holds.0; holds = holds.1; up = going }
 up_some (Err (Full n l)) c d a b up stopped holds full memory going = up_same c d a b (full n l refl) up
 up_some (Err FlashFault) c d a b up stopped holds full memory going = absurd (false≢true (sym going ∙ stopped))
 up_some (Err PowerLost) c d a b up stopped holds full memory going = absurd (false≢true (sym going ∙ stopped))
-up_some (Err OutOfMemory) c d a b up stopped holds full memory going = up_same c d a b (memory refl) up
+up_some (Err OutOfMemory) c d a b up stopped holds full memory going = up_still c d a b (memory refl) up going
 
 on_ok : {P Q : Type 0} (r : Result (Unit {0}) SscError) → (P → Q) → OnOk r P → OnOk r Q
 on_ok (Ok done) f p = f p
 on_ok (Err e) f p = tt
 
 -- a write, from which clean groups may have given way
-pub up_written : (r : Result (Unit {0}) SscError) (c d : Ssc) (a b : State) (lba : ℕ) (f : CacheList → CacheList) → IsUp c a.contents → d.stopped ≡ stops r → OnOk r ((s : CacheList) → Holds c a.contents s → HoldsWritten d b.contents s lba f) → ((n l : ℕ) → IsErrOf r (Full n l) → (d ≡ c) × (b ≡ a)) → (IsErrOf r OutOfMemory → (d ≡ c) × (b ≡ a)) → d.stopped ≡ false → IsUp d b.contents
+pub up_written : (r : Result (Unit {0}) SscError) (c d : Ssc) (a b : State) (lba : ℕ) (f : CacheList → CacheList) → IsUp c a.contents → d.stopped ≡ stops r → OnOk r ((s : CacheList) → Holds c a.contents s → HoldsWritten d b.contents s lba f) → ((n l : ℕ) → IsErrOf r (Full n l) → (d ≡ c) × (b ≡ a)) → (IsErrOf r OutOfMemory → StillHolds c d a b) → d.stopped ≡ false → IsUp d b.contents
 up_written r c d a b lba f up stopped holds = up_some r c d a b up stopped (on_ok r (λ (k : (s : CacheList) → Holds c a.contents s → HoldsWritten d b.contents s lba f). let w = k up.list up.holds in (f w.left, w.holds)) holds)
 
 -- any other command

@@ -6,3 +6,4 @@ pub mod OpenLemmas
 pub mod HeldLemmas
 pub mod OpenedLemmas
 pub mod ReadLemmas
+pub mod ReportLemmas

@@ -2,8 +2,8 @@
 //!
 //! The layer above relies on this: what is left on the media stands for one plain disk, and the cache
 //! agrees with the disk at each clean address, wherever power stops (`specs/Kept`). Opening again, reads
-//! that keep what they brought from the disk, flushes, checkpoints and cuts keep that, and say what they
-//! leave of the dirty addresses.
+//! that keep what they brought from the disk, flushes, reports, checkpoints and cuts keep that, and say what
+//! they leave of the dirty addresses.
 #![tactic(auto)]
 
 mod disk;

@@ -3,15 +3,15 @@ ghost use Rattle.ft_base.specs.Layout.{log_pages};
 ghost use Rattle.ft_base.specs.PlainDisk.{PlainDisk};
 ghost use Rattle.ft_base.specs.Table.{goes_back};
 ghost use Rattle.ft_volume.specs.Opening.{ImageIs};
-ghost use Rattle.ft_volume.specs.Volume.{Costs, Flushes, Goes, Idles, StandFor, WasDone};
-ghost use Rattle.ssc.specs.CacheState.{log_room, pending};
-ghost use Rattle.cached_disk.specs.Kept.{IsLeft, dirty_of, state_in, told_of};
+ghost use Rattle.ft_volume.specs.Volume.{Costs, Flushes, Goes, Idles, IsReport, Reports, StandFor, WasDone};
+ghost use Rattle.ssc.specs.CacheState.{entries_of, log_room, pending};
+ghost use Rattle.cached_disk.specs.Kept.{IsLeft, Loads, dirty_of, state_in, told_of};
 ghost use Rattle.cached_disk.specs.Kept as kept;
 
 use crate::CachedDisk;
 use crate::errors::cache_error;
 use ft_media::Media;
-use ft_volume::{Idled, VolumeError};
+use ft_volume::{Idled, Report, VolumeError};
 
 impl CachedDisk {
     /// Puts all that the cache buffers on the flash.
@@ -32,6 +32,40 @@ impl CachedDisk {
     {
         match self.cache.commit(media) {
             Ok(()) => Ok(()),
+            Err(error) => Err(cache_error(error)),
+        }
+    }
+
+    /// Puts all that the cache buffers on the flash, reads each page that is held, and says what there is.
+    /// A write that is refused leaves it down; a page that can't be read leaves it up.
+    pub fn report<M: Media>(&mut self, media: &mut M) -> Result<Report, VolumeError>
+        requires left { IsLeft self.old (M.state media.old).contents }
+        requires up { kept.is_down self.old ≡ false }
+        ensures left { IsLeft self.new (M.state media.new).contents }
+        ensures was { (order : List ℕ) (base : PlainDisk) → StandFor (ImageIs (told_of self.old)) (M.state media.old).contents base
+            → WasDone ImageIs Reports (state_in order self.old) (state_in order self.new) (M.state media.new).contents result base }
+        ensures goes { (order : List ℕ) → Goes (state_in order self.old) (state_in order self.new) (M.state media.old) (M.state media.new) result }
+        ensures costs { (order : List ℕ) → Costs Reports (state_in order self.old) (state_in order self.new) (M.state media.old) (M.state media.new) result }
+        ensures report { IfOk result (IsReport self.old.options.geometry (entries_of self.new.cache)) }
+        // The flash has just these entries.
+        ensures loads { OnOk result (Loads (told_of self.old) (M.state media.new).contents.flash.page (entries_of self.new.cache)) }
+        ensures dirty { kept.is_down self.new ≡ false → dirty_of self.new ≡ dirty_of self.old }
+        ensures options { (self.new.options ≡ self.old.options) × (self.new.mode ≡ self.old.mode) }
+        ensures nothing_waits { kept.is_down self.new ≡ false → pending self.new.cache ≡ [] }
+        ensures faulted { IsErrOf result VolumeError.DiskFault → kept.is_down self.new ≡ true }
+        ensures memory { IsErrOf result VolumeError.OutOfMemory → ⊥ }
+        ensures within { IsErrOf result VolumeError.OutOfVolume → ⊥ }
+    {
+        if let Err(error) = self.flush(media) {
+            return Err(error);
+        }
+        match self.cache.scrub(media) {
+            Ok(scrub) => Ok(Report {
+                held: self.cache.held(),
+                dirty_groups: self.cache.dirty_groups(),
+                buckets: self.cache.buckets(),
+                scrubbed: scrub.pages,
+            }),
             Err(error) => Err(cache_error(error)),
         }
     }

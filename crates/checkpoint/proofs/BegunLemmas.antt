@@ -1,5 +1,5 @@
 -- A cache of nothing, and a page put into it.
-use Rattle.std.proofs.Common.{◌≡◌, ◌⊎◌, ℕ, ◌+◌, ◌-◌, ◌*◌, ◌/◌, ◌<◌, ◌==◌, Bool, true, false, cond, Option, List, [], ◌∷◌, ◌++◌, length, map, filter, Some, None, refl, sym, ◌∙◌, ap, subst, arith, inl, inr, nat_cmp}
+use Rattle.std.proofs.Common.{◌≡◌, ◌⊎◌, ℕ, ◌+◌, ◌*◌, ◌/◌, ◌<◌, ◌==◌, Bool, true, false, cond, Option, List, [], ◌∷◌, ◌++◌, length, map, filter, Some, None, refl, sym, ◌∙◌, ap, subst, arith, inl, inr, nat_cmp}
 use Rattle.std.specs.FinMap.{get, get-empty}
 use Rattle.ft_base.specs.declared.geometry.Geometry.{Geometry}
 use Rattle.ft_base.specs.declared.block.Place.{Place}
@@ -16,7 +16,7 @@ use Rattle.cache_model.specs.Loading.{after_all, is_whole}
 use Rattle.cache_model.proofs.StepLemmas.{get-after}
 use Rattle.cache_model.proofs.FitsLemmas.{fits-from, no_entries-map, no_entries-nil}
 use Rattle.cache_model.proofs.LoadLemmas.{checkpoint_below}
-use Rattle.mapping.specs.Checkpoint.{checkpoint_records, set_group_of, set_page_of}
+use Rattle.mapping.specs.Checkpoint.{IsCheckpoint}
 use Rattle.op_log.specs.Log.{LogValue, pushed}
 use Rattle.checkpoint.specs.Current.{IsCurrent, AreWhole, IsOpenLog, IsCommitted, PoolStays}
 use Rattle.checkpoint.specs.Regions.{InCheckpoint, IsBare, IsPrepared, IsSealPage, IsWritten, MapsWritten, Programmed}
@@ -37,17 +37,37 @@ empty_whole page m none = record { whole = λ a e at. absurd (none_some e (sym (
     none_some : (e : Entry) → None ≡ Some e → ⊥
     none_some e s = absurd (cc)
 
+no_true : false ≡ true → ⊥
+no_true e = absurd (cc)
+
+-- a map of nothing has a checkpoint of no records
+pub nothing_listed : (g : Geometry) (m : Entries) → m ≡ no_entries → IsCheckpoint g m []
+nothing_listed g m none = subst (λ (n : Entries). IsCheckpoint g n []) (sym none) (record {
+  groups = [];
+  pages = [];
+  are = refl;
+  of_groups = record {
+    each = λ k there. absurd (no_true there);
+    all = λ a e at mapped. absurd (not_there a e at);
+    once = subst (λ (es : List (ℕ × Entry)). 0 ≡ length (each_once (map (λ x. x.0 / g.p) (filter (λ x. x.1.block_mapped) es)))) (sym no_entries-nil) refl;
+  };
+  of_pages = record {
+    each = tt;
+    all = λ a e at mapped. absurd (not_there a e at);
+    once = subst (λ (es : List (ℕ × Entry)). 0 ≡ length (filter (λ x. page_mapped x.1) es)) (sym no_entries-nil) refl;
+  };
+})
+  where
+    not_there : (a : ℕ) (e : Entry) → get no_entries a ≡ Some e → ⊥
+    not_there a e at = let here : None ≡ Some e = sym (get-empty nat_cmp a) ∙ at in absurd (cc)
+
 blank_bare : (g : Geometry) (page : Place → Page) → ((at : Place) → at.block < first_pool g → page at ≡ Blank) → IsBare g 1 page
 blank_bare g page blank = record { pages = λ i within. map_or_lost _ (blank (checkpoint_at g 1 i) (checkpoint_below g 1 i (omega arith) within)) }
 
-pub begun : (g : Geometry) (m : Entries) (log : LogValue) (old new : Flash) → m ≡ no_entries → log ≡ record { geometry = g; region = 0; era = 0; next = 0; buffered = [] } → ((at : Place) → at.block < first_pool g → old.page at ≡ Blank) → IsWritten g 0 0 m old new → IsCommitted new log m
-begun g m log old new none is blank written = subst (λ (l : LogValue). IsCommitted new l m) (sym is) (formatted g 0 m old new (empty_map g m none) written (blank_bare g old.page blank) (empty_whole old.page m none))
+pub begun : (g : Geometry) (m : Entries) (log : LogValue) (old new : Flash) → m ≡ no_entries → log ≡ record { geometry = g; region = 0; era = 0; next = 0; buffered = [] } → ((at : Place) → at.block < first_pool g → old.page at ≡ Blank) → IsWritten g 0 0 [] old new → IsCommitted new log m
+begun g m log old new none is blank written = subst (λ (l : LogValue). IsCommitted new l m) (sym is) (formatted g 0 m [] old new (empty_map g m none) (nothing_listed g m none) written (blank_bare g old.page blank) (empty_whole old.page m none))
 
 -- ---- a seal alone on blank media
-
-empty_records : (g : Geometry) (m : Entries) → m ≡ no_entries → 0 ≡ length (checkpoint_records g m)
-empty_records g m none = subst (λ (n : Entries). 0 ≡ length (checkpoint_records g n)) (sym none)
-    (subst (λ (es : List (ℕ × Entry)). 0 ≡ length (map (set_group_of g no_entries) (each_once (map (λ x. x.0 / g.p) (filter (λ x. x.1.block_mapped) es))) ++ map set_page_of (filter (λ x. page_mapped x.1) es))) (sym no_entries-nil) refl)
 
 -- the first page of region 0
 pub first_page : (g : Geometry) → ◌≡◌ {A = Place} (record { block = 0; page = 0 }) (checkpoint_at g 0 0)
@@ -56,7 +76,7 @@ first_page g =
     let page : 0 ≡ (checkpoint_at g 0 0).page = omega (arith, g.in_range.p_low) in
     λ i. record { block = block i; page = page i }
 
-module _ (g : Geometry) (m : Entries) (none : m ≡ no_entries) (old new : Flash) (blank : (at : Place) → at.block < first_pool g → old.page at ≡ Blank) (fresh : (b : ℕ) → b < first_pool g → old.next b ≡ Some 0) where
+module _ (g : Geometry) (old new : Flash) (blank : (at : Place) → at.block < first_pool g → old.page at ≡ Blank) (fresh : (b : ℕ) → b < first_pool g → old.next b ≡ Some 0) where
   in_first : (b : ℕ) → InCheckpoint g 0 b → b < first_pool g
   in_first b within = by_number (k g) (checkpoint_low g 0 b (omega arith) within)
     where
@@ -75,7 +95,7 @@ module _ (g : Geometry) (m : Entries) (none : m ≡ no_entries) (old new : Flash
     ready = λ b out out'. refl;
   }
 
-  no_maps : MapsWritten g 0 0 (checkpoint_records g m) 0 old old
+  no_maps : MapsWritten g 0 0 [] 0 old old
   no_maps = record {
     maps = λ i low. absurd (omega arith);
     blank = λ i from within. blank (checkpoint_at g 0 i) (checkpoint_below g 0 i (omega arith) within);
@@ -84,8 +104,8 @@ module _ (g : Geometry) (m : Entries) (none : m ≡ no_entries) (old new : Flash
     next = λ b out. refl;
   }
 
-  pub sealed_alone : Programmed (IsSealPage g 0 0 0) (checkpoint_at g 0 0) old new → IsWritten g 0 0 m old new
-  sealed_alone = seal_done g 0 0 m (omega arith) 0 0 (ap (λ n. (n + 127 - 1) / 127) (empty_records g m none)) (empty_records g m none) (some_pages g) old old old new prepared no_maps
+  pub sealed_alone : Programmed (IsSealPage g 0 0 0) (checkpoint_at g 0 0) old new → IsWritten g 0 0 [] old new
+  sealed_alone = seal_done g 0 0 [] (omega arith) 0 0 refl refl (some_pages g) old old old new prepared no_maps
 
 -- ---- a page more
 

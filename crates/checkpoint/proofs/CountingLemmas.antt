@@ -1,5 +1,5 @@
 -- A checkpoint has no more records than its region has room for.
-use Rattle.std.proofs.Common.{◌≡◌, ℕ, zero, suc, ◌+◌, ◌*◌, ◌/◌, ◌<◌, ◌≤◌, ◌==◌, ◌||◌, Bool, true, false, cond, T, List, [], ◌∷◌, ◌++◌, length, map, filter, Some, refl, sym, ◌∙◌, ap, ap₂, subst, arith, inl, inr, nat_cmp, eqb-true, length-append}
+use Rattle.std.proofs.Common.{◌≡◌, ℕ, zero, suc, ◌+◌, ◌-◌, ◌*◌, ◌/◌, ◌<◌, ◌≤◌, ◌==◌, ◌||◌, Bool, true, false, cond, T, List, [], ◌∷◌, ◌++◌, length, map, filter, Some, refl, sym, ◌∙◌, ap, ap₂, subst, arith, inl, inr, nat_cmp, eqb-true, length-append}
 use Rattle.std.specs.List.{AllByRecursion, range_with_len}
 use Rattle.std.specs.FinMap.{get, entries, entries_sorted, is_sorted}
 use Rattle.std.specs.FinMap.Entries.{below_all}
@@ -17,7 +17,8 @@ use Rattle.cache_model.specs.Entries.{each_once, groups_with, blocks_with, page_
 use Rattle.cache_model.proofs.CountLemmas.{member, numbers, each_once-le, member_of}
 use Rattle.cache_model.proofs.MapLemmas.{all_entries}
 use Rattle.cache_model.proofs.LayoutLemmas.{checkpoint_fits}
-use Rattle.mapping.specs.Checkpoint.{checkpoint_records, set_group_of, set_page_of}
+use Rattle.ft_base.specs.declared.record.Record.{Record}
+use Rattle.mapping.specs.Checkpoint.{IsCheckpoint, set_group_of, set_page_of}
 use Rattle.mapping.proofs.AscendingLemmas.{Items}
 use Rattle.mapping.proofs.MarksLemmas.{member_from}
 use Rattle.checkpoint.specs.Regions.{map_pages}
@@ -110,6 +111,17 @@ all_both : {A : Type 0} (P Q : A → Type 0) (xs : List A) → AllByRecursion P 
 all_both P Q [] all all' = tt
 all_both P Q (x ∷ xs) all all' = ((all.0, all'.0), all_both P Q xs all.1 all'.1)
 
+-- one record for each group with a data block, and one for each page-mapped entry
+pub records_counted : (g : Geometry) (m : Entries) (records : List Record) → IsCheckpoint g m records → length records ≡ length (groups_with g (λ e. e.block_mapped) m) + length (filter (λ x. page_mapped x.1) (entries m))
+records_counted g m records listed =
+    let same = ap length listed.are in
+    let both = length-append (map (set_group_of g m) listed.groups) (map set_page_of listed.pages) in
+    let in_groups = length-map listed.groups (set_group_of g m) in
+    let in_pages = length-map listed.pages set_page_of in
+    let once = listed.of_groups.once in
+    let once' = listed.of_pages.once in
+    omega arith
+
 module _ (g : Geometry) (m : Entries) (is_map : IsMap g m) where
   same_place_numbers : (x y : ℕ × Entry) → get m x.0 ≡ Some x.1 → get m y.0 ≡ Some y.1 → place_number g.p x ≡ place_number g.p y → x.0 ≡ y.0
   same_place_numbers x y at at' same =
@@ -163,24 +175,30 @@ module _ (g : Geometry) (m : Entries) (is_map : IsMap g m) where
       holds true h = refl
       holds false h = absurd h
 
-  pub records_few : length (checkpoint_records g m) ≤ most_records g
-  records_few =
-      let both = length-append (map (set_group_of g m) (groups_with g (λ e. e.block_mapped) m)) (map set_page_of (filter (λ x. page_mapped x.1) (entries m))) in
-      let groups = length-map (groups_with g (λ e. e.block_mapped) m) (set_group_of g m) in
-      let pages = length-map (filter (λ x. page_mapped x.1) (entries m)) set_page_of in
+  pub records_few : (records : List Record) → IsCheckpoint g m records → length records ≤ most_records g
+  records_few records listed =
+      let count = records_counted g m records listed in
       let few = pages_few in
       let few' = is_map.data_blocks in
       omega arith
 
-  pub records_bounded : length (checkpoint_records g m) ≤ 4608
-  records_bounded =
-      let few = records_few in
+  pub records_bounded : (records : List Record) → IsCheckpoint g m records → length records ≤ 4608
+  records_bounded records listed =
+      let few = records_few records listed in
       let pages = product g.l 64 g.p g.in_range.l_high in
       omega (arith, g.in_range.c_high, g.in_range.p_high)
 
   -- the map pages and the seal fit the region
-  pub maps_fit : map_pages (checkpoint_records g m) < checkpoint_pages g
-  maps_fit = by_number (length (checkpoint_records g m)) (most_records g) records_few (checkpoint_fits g)
+  pub maps_fit : (records : List Record) → IsCheckpoint g m records → map_pages records < checkpoint_pages g
+  maps_fit records listed = by_number (length records) (most_records g) (records_few records listed) (checkpoint_fits g)
     where
       by_number : (a b : ℕ) → a ≤ b → pages_for b ≤ checkpoint_pages g → up a 127 < checkpoint_pages g
       by_number a b le fits = omega arith
+
+-- a listing of a map of this geometry
+pub listing_here : (g' g : Geometry) (m : Entries) (records : List Record) → g' ≡ g → IsCheckpoint g' m records → IsCheckpoint g m records
+listing_here g' g m records same listed = subst (λ (x : Geometry). IsCheckpoint x m records) same listed
+
+-- the map pages of so many records, and the seal, fit the region
+pub pages_fit : (g' g : Geometry) (m : Entries) (records : List Record) (n : ℕ) → g' ≡ g → IsMap g m → IsCheckpoint g' m records → n ≡ length records → (n + 127 - 1) / 127 < checkpoint_pages g
+pages_fit g' g m records n same is_map listed is = subst (λ k. (k + 127 - 1) / 127 < checkpoint_pages g) (sym is) (maps_fit g m is_map records (listing_here g' g m records same listed))

@@ -1,4 +1,5 @@
 pub mod PlacesLemmas
+pub mod CountsLemmas
 pub mod ListsLemmas
 pub mod ErasingLemmas
 pub mod UnsealedLemmas

@@ -24,7 +24,7 @@ use Rattle.cache_model.proofs.LogLemmas.{after_pages-one}
 use Rattle.cache_model.proofs.LoadLemmas.{newest_is, newest_below}
 use Rattle.cache_model.proofs.FitsLemmas.{load-map, after_all-map}
 use Rattle.cache_model.proofs.CheckpointLemmas.{checkpoint_from, sealed_chosen, sealed_entries}
-use Rattle.mapping.specs.Checkpoint.{checkpoint_records}
+use Rattle.mapping.specs.Checkpoint.{IsCheckpoint as IsListing}
 use Rattle.mapping.proofs.RebuildLemmas.{rebuilt}
 use Rattle.op_log.specs.Log.{LogValue, restarted}
 use Rattle.op_log.specs.Refusals.{seal_of}
@@ -108,18 +108,18 @@ pub current_low : (log : LogValue) (page : Place → Page) (m : Entries) → IsC
 current_low log page m current = newest_below log.geometry page (log.region, current.newest) (newest_is log.geometry page (log.region, current.newest) current.chosen)
 
 -- a sealed region is complete, and where it is the newest, flash stands for its map
-module _ (g : Geometry) (region era : ℕ) (m : Entries) (old new : Place → Page) (low : region < 2) (is_map : IsMap g m) (sealed : IsSealed g region era m old new) where
+module _ (g : Geometry) (region era : ℕ) (m : Entries) (records : List Record) (old new : Place → Page) (low : region < 2) (is_map : IsMap g m) (listed : IsListing g m records) (sealed : IsSealed g region era records old new) where
   abbrev pages : ℕ
-  pages = map_pages (checkpoint_records g m)
+  pages = map_pages records
 
   abbrev pub sealed_checkpoint : Complete
   sealed_checkpoint = complete era pages (seal_of g)
 
-  within : map_pages (checkpoint_records g m) < checkpoint_pages g
-  within = maps_fit g m is_map
+  within : map_pages records < checkpoint_pages g
+  within = maps_fit g m is_map records listed
 
-  enough : length (checkpoint_records g m) ≤ 127 * (0 + map_pages (checkpoint_records g m))
-  enough = by_number (length (checkpoint_records g m))
+  enough : length records ≤ 127 * (0 + map_pages records)
+  enough = by_number (length records)
     where
       by_number : (n : ℕ) → n ≤ 127 * (0 + (n + 127 - 1) / 127)
       by_number n = omega arith
@@ -129,18 +129,18 @@ module _ (g : Geometry) (region era : ℕ) (m : Entries) (old new : Place → Pa
     maps = pages_from new (checkpoint_at g region) 0 pages;
     seal = new (checkpoint_at g region (0 + pages));
     rest = pages_from new (checkpoint_at g region) (0 + pages + 1) (checkpoint_pages g - (pages + 1));
-    total = length (checkpoint_records g m);
+    total = length records;
     parts = pages_split new (checkpoint_at g region) 0 pages (checkpoint_pages g) within;
-    are_maps = maps_counted g era (checkpoint_records g m) new (checkpoint_at g region) 0 pages 0 (λ j from high. sealed.maps j (omega arith)) (omega arith) enough;
+    are_maps = maps_counted g era records new (checkpoint_at g region) 0 pages 0 (λ j from high. sealed.maps j (omega arith)) (omega arith) enough;
     number = sym (length-pages new (checkpoint_at g region) 0 pages);
-    is_seal = (subst (λ n. IsSealPage g era n (length (checkpoint_records g m)) (new (checkpoint_at g region (0 + pages)))) (sym (length-pages new (checkpoint_at g region) 0 pages))
-        (subst (λ n. IsSealPage g era pages (length (checkpoint_records g m)) (new (checkpoint_at g region n))) (let e : pages ≡ 0 + pages = omega arith in e) sealed.seal)).seal;
+    is_seal = (subst (λ n. IsSealPage g era n (length records) (new (checkpoint_at g region (0 + pages)))) (sym (length-pages new (checkpoint_at g region) 0 pages))
+        (subst (λ n. IsSealPage g era pages (length records) (new (checkpoint_at g region n))) (let e : pages ≡ 0 + pages = omega arith in e) sealed.seal)).seal;
   }
 
   pub sealed_complete : checkpoint_in (checkpoint_region g new region) ≡ Some sealed_checkpoint
   sealed_complete = checkpoint_from sealed_checkpoint (checkpoint_region g new region) is_checkpoint
 
-  module _ (counts : newest g new ≡ Some (region, complete era (map_pages (checkpoint_records g m)) (seal_of g))) where
+  module _ (counts : newest g new ≡ Some (region, complete era (map_pages records) (seal_of g))) where
     pub sealed_of : checkpoint_of g new ≡ Ok (region, sealed_checkpoint)
     sealed_of =
         ap (λ o. ok_or o NotFormatted >>= wanted g) counts
@@ -149,23 +149,23 @@ module _ (g : Geometry) (region era : ℕ) (m : Entries) (old new : Place → Pa
     sealed_found : entries_of g new ≡ Ok m
     sealed_found = sealed_entries g new (region, sealed_checkpoint) m sealed_of
         (ap (λ qs. after_pages g Map era (checkpoint_at g region) 0 qs no_entries) (take-pages new (checkpoint_at g region) 0 pages (checkpoint_pages g) (omega (arith, within)))
-        ∙ maps_applied g era (checkpoint_records g m) new (checkpoint_at g region) 0 pages no_entries m (λ j from high. sealed.maps j (omega arith)) enough (rebuilt g m is_map))
+        ∙ maps_applied g era records new (checkpoint_at g region) 0 pages no_entries m (λ j from high. sealed.maps j (omega arith)) enough (rebuilt g m is_map records listed))
         (λ some. sealed.log (log_at g region 0) (log_within g region 0 some))
 
     pub sealed_loads : AreWhole old m → load g new ≡ Ok m
     sealed_loads whole = load_from g new m sealed_found (λ a e at. ap is_whole (pool_stays g region old new low sealed.beside e.place (is_map.in_pool a e at).above) ∙ whole.whole a e at)
 
 -- and its log is empty
-pub written_stands : (g : Geometry) (region era : ℕ) (m : Entries) (old new : Flash) → region < 2 → IsMap g m → IsWritten g region era m old new → newest g new.page ≡ Some (region, complete era (map_pages (checkpoint_records g m)) (seal_of g)) → AreWhole old.page m → IsCommitted new (record { geometry = g; region = region; era = era; next = 0; buffered = [] }) m
-written_stands g region era m old new low is_map written counts whole = record {
-  loads = sealed_loads g region era m old.page new.page low is_map written.sealed counts whole;
+pub written_stands : (g : Geometry) (region era : ℕ) (m : Entries) (records : List Record) (old new : Flash) → region < 2 → IsMap g m → IsListing g m records → IsWritten g region era records old new → newest g new.page ≡ Some (region, complete era (map_pages records) (seal_of g)) → AreWhole old.page m → IsCommitted new (record { geometry = g; region = region; era = era; next = 0; buffered = [] }) m
+written_stands g region era m records old new low is_map listed written counts whole = record {
+  loads = sealed_loads g region era m records old.page new.page low is_map listed written.sealed counts whole;
   nothing = refl;
   current = record {
     durable = m;
-    loads = sealed_loads g region era m old.page new.page low is_map written.sealed counts whole;
+    loads = sealed_loads g region era m records old.page new.page low is_map listed written.sealed counts whole;
     buffered = refl;
-    newest = complete era (map_pages (checkpoint_records g m)) (seal_of g);
-    chosen = sealed_of g region era m old.page new.page low is_map written.sealed counts;
+    newest = complete era (map_pages records) (seal_of g);
+    chosen = sealed_of g region era m records old.page new.page low is_map listed written.sealed counts;
     era = refl;
   };
   opened = record {
@@ -180,19 +180,19 @@ written_stands g region era m old new low is_map written counts whole = record {
 
 -- ---- the other region, with the era after the log's
 
-pub sealed_newest : (log : LogValue) (m : Entries) (old new : Place → Page) → IsCurrent old log m → IsSealed log.geometry (1 - log.region) ((log.era + 1) % 3) m old new → newest log.geometry new ≡ Some (1 - log.region, complete ((log.era + 1) % 3) (map_pages (checkpoint_records log.geometry m)) (seal_of log.geometry))
-sealed_newest log m old new current sealed =
+pub sealed_newest : (log : LogValue) (m : Entries) (records : List Record) (old new : Place → Page) → IsCurrent old log m → IsListing log.geometry m records → IsSealed log.geometry (1 - log.region) ((log.era + 1) % 3) records old new → newest log.geometry new ≡ Some (1 - log.region, complete ((log.era + 1) % 3) (map_pages records) (seal_of log.geometry))
+sealed_newest log m records old new current listed sealed =
     let low = current_low log old m current in
     let was = newest_was log.geometry old (log.region, current.newest) (newest_is log.geometry old (log.region, current.newest) current.chosen) in
-    sealed_chosen log.geometry new current.newest (complete ((log.era + 1) % 3) (map_pages (checkpoint_records log.geometry m)) (seal_of log.geometry)) log.region low
+    sealed_chosen log.geometry new current.newest (complete ((log.era + 1) % 3) (map_pages records) (seal_of log.geometry)) log.region low
     (ap checkpoint_in (checkpoint_stays log.geometry log.region old new low sealed.beside) ∙ was)
-    (sealed_complete log.geometry (1 - log.region) ((log.era + 1) % 3) m old new (other_low log.region) (current_map log old m current) sealed)
+    (sealed_complete log.geometry (1 - log.region) ((log.era + 1) % 3) m records old new (other_low log.region) (current_map log old m current) listed sealed)
     (ap (λ n. (n + 1) % 3) (sym current.era))
 
 -- ---- the first region, where the other one isn't complete
 
-pub formatted : (g : Geometry) (era : ℕ) (m : Entries) (old new : Flash) → IsMap g m → IsWritten g 0 era m old new → IsBare g 1 old.page → AreWhole old.page m → IsCommitted new (record { geometry = g; region = 0; era = era; next = 0; buffered = [] }) m
-formatted g era m old new is_map written bare whole = written_stands g 0 era m old new (omega arith) is_map written (ap₂ chosen (sealed_complete g 0 era m old.page new.page (omega arith) is_map written.sealed) none) whole
+pub formatted : (g : Geometry) (era : ℕ) (m : Entries) (records : List Record) (old new : Flash) → IsMap g m → IsListing g m records → IsWritten g 0 era records old new → IsBare g 1 old.page → AreWhole old.page m → IsCommitted new (record { geometry = g; region = 0; era = era; next = 0; buffered = [] }) m
+formatted g era m records old new is_map listed written bare whole = written_stands g 0 era m records old new (omega arith) is_map listed written (ap₂ chosen (sealed_complete g 0 era m records old.page new.page (omega arith) is_map listed written.sealed) none) whole
   where
     none : checkpoint_in (checkpoint_region g new.page 1) ≡ None
     none = ap checkpoint_in (checkpoint_stays g 1 old.page new.page (omega arith) written.sealed.beside) ∙ none_of (checkpoint_in (checkpoint_region g old.page 1)) (λ d is. bare_incomplete g 1 old.page d bare is)
@@ -203,41 +203,41 @@ formatted g era m old new is_map written bare whole = written_stands g 0 era m o
 
 -- ---- what a checkpoint leaves, whatever it answers
 
-pub loads_one_of : (log : LogValue) (m : Entries) (old new : Place → Page) → IsCurrent old log m → AreWhole old m → IsUnsealed log.geometry (1 - log.region) old new ⊎ IsSealed log.geometry (1 - log.region) ((log.era + 1) % 3) m old new → LoadsOneOf log.geometry old new m
-loads_one_of log m old new current whole (inl unsealed) = inr (unsealed_loads log.geometry old new (log.region, current.newest) current.chosen unsealed)
-loads_one_of log m old new current whole (inr sealed) = inl (sealed_loads log.geometry (1 - log.region) ((log.era + 1) % 3) m old new (other_low log.region) (current_map log old m current) sealed (sealed_newest log m old new current sealed) whole)
+pub loads_one_of : (log : LogValue) (m : Entries) (records : List Record) (old new : Place → Page) → IsCurrent old log m → AreWhole old m → IsListing log.geometry m records → IsUnsealed log.geometry (1 - log.region) old new ⊎ IsSealed log.geometry (1 - log.region) ((log.era + 1) % 3) records old new → LoadsOneOf log.geometry old new m
+loads_one_of log m records old new current whole listed (inl unsealed) = inr (unsealed_loads log.geometry old new (log.region, current.newest) current.chosen unsealed)
+loads_one_of log m records old new current whole listed (inr sealed) = inl (sealed_loads log.geometry (1 - log.region) ((log.era + 1) % 3) m records old new (other_low log.region) (current_map log old m current) listed sealed (sealed_newest log m records old new current listed sealed) whole)
 
-pub log_goes_last : (log : LogValue) (m : Entries) (old new : Place → Page) → IsCurrent old log m → IsUnsealed log.geometry (1 - log.region) old new ⊎ IsSealed log.geometry (1 - log.region) ((log.era + 1) % 3) m old new → LogGoesLast log old new
-log_goes_last log m old new current (inl unsealed) = inr (unsealed_log log.geometry (1 - log.region) old new (other_low log.region) unsealed)
-log_goes_last log m old new current (inr sealed) = inl (complete ((log.era + 1) % 3) (map_pages (checkpoint_records log.geometry m)) (seal_of log.geometry), sealed_newest log m old new current sealed)
+pub log_goes_last : (log : LogValue) (m : Entries) (records : List Record) (old new : Place → Page) → IsCurrent old log m → IsListing log.geometry m records → IsUnsealed log.geometry (1 - log.region) old new ⊎ IsSealed log.geometry (1 - log.region) ((log.era + 1) % 3) records old new → LogGoesLast log old new
+log_goes_last log m records old new current listed (inl unsealed) = inr (unsealed_log log.geometry (1 - log.region) old new (other_low log.region) unsealed)
+log_goes_last log m records old new current listed (inr sealed) = inl (complete ((log.era + 1) % 3) (map_pages records) (seal_of log.geometry), sealed_newest log m records old new current listed sealed)
 
-pub pool_left : (log : LogValue) (m : Entries) (old new : Place → Page) → IsUnsealed log.geometry (1 - log.region) old new ⊎ IsSealed log.geometry (1 - log.region) ((log.era + 1) % 3) m old new → (at : Place) → first_pool log.geometry ≤ at.block → new at ≡ old at
-pool_left log m old new (inl unsealed) = pool_stays log.geometry (1 - log.region) old new (other_low log.region) (unsealed_stays log.geometry (1 - log.region) old new unsealed)
-pool_left log m old new (inr sealed) = pool_stays log.geometry (1 - log.region) old new (other_low log.region) sealed.beside
+pub pool_left : (log : LogValue) (records : List Record) (old new : Place → Page) → IsUnsealed log.geometry (1 - log.region) old new ⊎ IsSealed log.geometry (1 - log.region) ((log.era + 1) % 3) records old new → (at : Place) → first_pool log.geometry ≤ at.block → new at ≡ old at
+pool_left log records old new (inl unsealed) = pool_stays log.geometry (1 - log.region) old new (other_low log.region) (unsealed_stays log.geometry (1 - log.region) old new unsealed)
+pool_left log records old new (inr sealed) = pool_stays log.geometry (1 - log.region) old new (other_low log.region) sealed.beside
 
 -- ---- and after Ok
 
-pub written_committed : (log : LogValue) (m : Entries) (old new : Flash) → IsCurrent old.page log m → AreWhole old.page m → IsWritten log.geometry (1 - log.region) ((log.era + 1) % 3) m old new → IsCommitted new (log_checkpointed log) m
-written_committed log m old new current whole written = written_stands log.geometry (1 - log.region) ((log.era + 1) % 3) m old new (other_low log.region) (current_map log old.page m current) written (sealed_newest log m old.page new.page current written.sealed) whole
+pub written_committed : (log : LogValue) (m : Entries) (records : List Record) (old new : Flash) → IsCurrent old.page log m → AreWhole old.page m → IsListing log.geometry m records → IsWritten log.geometry (1 - log.region) ((log.era + 1) % 3) records old new → IsCommitted new (log_checkpointed log) m
+written_committed log m records old new current whole listed written = written_stands log.geometry (1 - log.region) ((log.era + 1) % 3) m records old new (other_low log.region) (current_map log old.page m current) listed written (sealed_newest log m records old.page new.page current listed written.sealed) whole
 
 -- ---- as the code names it
 
 -- the region and the era were read from the log
-module _ (log : LogValue) (m : Entries) (g : Geometry) (region era : ℕ) (same : g ≡ log.geometry) (region_is : region ≡ log.region) (era_is : era ≡ log.era) where
-  pub left_of_log : (old new : Place → Page) → IsUnsealed g (1 - region) old new ⊎ IsSealed g (1 - region) ((era + 1) % 3) m old new → IsUnsealed log.geometry (1 - log.region) old new ⊎ IsSealed log.geometry (1 - log.region) ((log.era + 1) % 3) m old new
+module _ (log : LogValue) (records : List Record) (g : Geometry) (region era : ℕ) (same : g ≡ log.geometry) (region_is : region ≡ log.region) (era_is : era ≡ log.era) where
+  pub left_of_log : (old new : Place → Page) → IsUnsealed g (1 - region) old new ⊎ IsSealed g (1 - region) ((era + 1) % 3) records old new → IsUnsealed log.geometry (1 - log.region) old new ⊎ IsSealed log.geometry (1 - log.region) ((log.era + 1) % 3) records old new
   left_of_log old new left =
-      subst (λ (x : Geometry). IsUnsealed x (1 - log.region) old new ⊎ IsSealed x (1 - log.region) ((log.era + 1) % 3) m old new) same
-      (subst (λ r. IsUnsealed g (1 - r) old new ⊎ IsSealed g (1 - r) ((log.era + 1) % 3) m old new) region_is
-      (subst (λ e. IsUnsealed g (1 - region) old new ⊎ IsSealed g (1 - region) ((e + 1) % 3) m old new) era_is left))
+      subst (λ (x : Geometry). IsUnsealed x (1 - log.region) old new ⊎ IsSealed x (1 - log.region) ((log.era + 1) % 3) records old new) same
+      (subst (λ r. IsUnsealed g (1 - r) old new ⊎ IsSealed g (1 - r) ((log.era + 1) % 3) records old new) region_is
+      (subst (λ e. IsUnsealed g (1 - region) old new ⊎ IsSealed g (1 - region) ((e + 1) % 3) records old new) era_is left))
 
-  pub written_of_log : (old new : Flash) → IsWritten g (1 - region) ((era + 1) % 3) m old new → IsWritten log.geometry (1 - log.region) ((log.era + 1) % 3) m old new
+  pub written_of_log : (old new : Flash) → IsWritten g (1 - region) ((era + 1) % 3) records old new → IsWritten log.geometry (1 - log.region) ((log.era + 1) % 3) records old new
   written_of_log old new written =
-      subst (λ (x : Geometry). IsWritten x (1 - log.region) ((log.era + 1) % 3) m old new) same
-      (subst (λ r. IsWritten g (1 - r) ((log.era + 1) % 3) m old new) region_is
-      (subst (λ e. IsWritten g (1 - region) ((e + 1) % 3) m old new) era_is written))
+      subst (λ (x : Geometry). IsWritten x (1 - log.region) ((log.era + 1) % 3) records old new) same
+      (subst (λ r. IsWritten g (1 - r) ((log.era + 1) % 3) records old new) region_is
+      (subst (λ e. IsWritten g (1 - region) ((e + 1) % 3) records old new) era_is written))
 
   pub restarted_log : (log' : LogValue) → log' ≡ restarted (1 - region) ((era + 1) % 3) log → log' ≡ log_checkpointed log
   restarted_log log' is = is ∙ ap₂ (λ r e. restarted (1 - r) ((e + 1) % 3) log) region_is era_is
 
-pub ready_left : (log : LogValue) (m : Entries) (old new : Flash) → IsWritten log.geometry (1 - log.region) ((log.era + 1) % 3) m old new → (b : ℕ) → first_pool log.geometry ≤ b → new.next b ≡ old.next b
-ready_left log m old new written b pool = written.ready b (pool_no_checkpoint log.geometry (1 - log.region) b (other_low log.region) pool) (pool_no_log log.geometry (1 - log.region) b (other_low log.region) pool)
+pub ready_left : (log : LogValue) (records : List Record) (old new : Flash) → IsWritten log.geometry (1 - log.region) ((log.era + 1) % 3) records old new → (b : ℕ) → first_pool log.geometry ≤ b → new.next b ≡ old.next b
+ready_left log records old new written b pool = written.ready b (pool_no_checkpoint log.geometry (1 - log.region) b (other_low log.region) pool) (pool_no_log log.geometry (1 - log.region) b (other_low log.region) pool)

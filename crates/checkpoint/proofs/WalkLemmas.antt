@@ -9,7 +9,7 @@ use Rattle.ft_base.specs.Layout.{k, blocks, checkpoint_at, checkpoint_pages}
 use Rattle.cache_model.specs.declared.format.Header.{Header}
 use Rattle.cache_model.specs.declared.format.Seal.{Seal}
 use Rattle.cache_model.specs.declared.format.PageKind.TheVariants.{Map}
-use Rattle.cache_model.specs.Reading.{read_header, read_seal}
+use Rattle.cache_model.specs.Reading.{read_page_header, read_seal}
 use Rattle.cache_model.specs.Loading.{Complete, complete, said, when, is_page, is_seal_of, era_in, sealed_from, checkpoint_in, checkpoint_region, pages_from}
 use Rattle.cache_model.proofs.RegionLemmas.{no_seal}
 use Rattle.cache_model.proofs.LoadLemmas.{checkpoint_below}
@@ -25,7 +25,7 @@ use Rattle.cache_model.proofs.LayoutLemmas.{checkpoint_least}
 use Rattle.checkpoint.proofs.PlacesLemmas.{product}
 
 -- a page of records is no seal
-pub unsealed : (page : Page) (h : Header) → said read_header page ≡ Some h → said read_seal page ≡ None
+pub unsealed : (page : Page) (h : Header) → said read_page_header page ≡ Some h → said read_seal page ≡ None
 unsealed Blank h is = refl
 unsealed Torn h is = refl
 unsealed (Whole block spare) h is = none_of (read_seal block.0) (λ s there. no_seal (Whole block spare) s (h, is) there)
@@ -56,48 +56,48 @@ module _ (i count : ℕ) (rest : List Page) where
   era_of : Option Header → Option (Header × Seal) → Option ℕ
   era_of x s = option_or (option_map of_header x) (option_map of_seal s)
 
-  step_is : (e : ℕ) (page : Page) → sealed_from e i count (page ∷ rest) ≡ step_of e (said read_header page) (said read_seal page)
+  step_is : (e : ℕ) (page : Page) → sealed_from e i count (page ∷ rest) ≡ step_of e (said read_page_header page) (said read_seal page)
   unfolding step_of
   step_is e page = refl
 
-  era_is : (page : Page) → era_in page ≡ era_of (said read_header page) (said read_seal page)
+  era_is : (page : Page) → era_in page ≡ era_of (said read_page_header page) (said read_seal page)
   unfolding era_of
   era_is page = refl
 
   -- no page of either kind ends it
-  pub walk_other : (o : Option ℕ) (page : Page) → said read_header page ≡ None → said read_seal page ≡ None → sealed_by o i count (page ∷ rest) ≡ None
+  pub walk_other : (o : Option ℕ) (page : Page) → said read_page_header page ≡ None → said read_seal page ≡ None → sealed_by o i count (page ∷ rest) ≡ None
   unfolding step_of era_of
   walk_other None page head seal = ap (option_and_then (λ e. sealed_from e i count (page ∷ rest))) (era_is page ∙ ap₂ era_of head seal)
   walk_other (Some e) page head seal = step_is e page ∙ ap₂ (step_of e) head seal
 
   module _ (o : Option ℕ) (page : Page) (h : Header) where
     -- a page of records
-    records_step : said read_header page ≡ Some h → sealed_by o i count (page ∷ rest) ≡ step_of (unwrap_or o h.era) (Some h) None
+    records_step : said read_page_header page ≡ Some h → sealed_by o i count (page ∷ rest) ≡ step_of (unwrap_or o h.era) (Some h) None
     unfolding era_of
     records_step head =
         by_era o h.era i count page rest (era_is page ∙ ap₂ era_of head (unsealed page h head))
         ∙ step_is (unwrap_or o h.era) page ∙ ap₂ (step_of (unwrap_or o h.era)) head (unsealed page h head)
 
-    pub walk_on : said read_header page ≡ Some h → is_page Map (unwrap_or o h.era) i h ≡ true → sealed_by o i count (page ∷ rest) ≡ sealed_from (unwrap_or o h.era) (i + 1) (count + h.count) rest
+    pub walk_on : said read_page_header page ≡ Some h → is_page Map (unwrap_or o h.era) i h ≡ true → sealed_by o i count (page ∷ rest) ≡ sealed_from (unwrap_or o h.era) (i + 1) (count + h.count) rest
     unfolding step_of
     walk_on head t = records_step head ∙ ap (λ b. option_and_then (λ (x : Header). sealed_from (unwrap_or o h.era) (i + 1) (count + x.count) rest) (cond b (Some h) None)) t
 
-    pub walk_no_map : said read_header page ≡ Some h → is_page Map (unwrap_or o h.era) i h ≡ false → sealed_by o i count (page ∷ rest) ≡ None
+    pub walk_no_map : said read_page_header page ≡ Some h → is_page Map (unwrap_or o h.era) i h ≡ false → sealed_by o i count (page ∷ rest) ≡ None
     unfolding step_of
     walk_no_map head f = records_step head ∙ ap (λ b. option_and_then (λ (x : Header). sealed_from (unwrap_or o h.era) (i + 1) (count + x.count) rest) (cond b (Some h) None)) f
 
     -- a seal
-    seal_step : (seal : Seal) → said read_header page ≡ None → said read_seal page ≡ Some (h, seal) → sealed_by o i count (page ∷ rest) ≡ step_of (unwrap_or o h.era) None (Some (h, seal))
+    seal_step : (seal : Seal) → said read_page_header page ≡ None → said read_seal page ≡ Some (h, seal) → sealed_by o i count (page ∷ rest) ≡ step_of (unwrap_or o h.era) None (Some (h, seal))
     unfolding era_of
     seal_step seal head is =
         by_era o h.era i count page rest (era_is page ∙ ap₂ era_of head is)
         ∙ step_is (unwrap_or o h.era) page ∙ ap₂ (step_of (unwrap_or o h.era)) head is
 
-    pub walk_sealed : (seal : Seal) → said read_header page ≡ None → said read_seal page ≡ Some (h, seal) → is_seal_of (unwrap_or o h.era) i count (h, seal) ≡ true → sealed_by o i count (page ∷ rest) ≡ Some (complete (unwrap_or o h.era) i seal)
+    pub walk_sealed : (seal : Seal) → said read_page_header page ≡ None → said read_seal page ≡ Some (h, seal) → is_seal_of (unwrap_or o h.era) i count (h, seal) ≡ true → sealed_by o i count (page ∷ rest) ≡ Some (complete (unwrap_or o h.era) i seal)
     unfolding step_of
     walk_sealed seal head is t = seal_step seal head is ∙ ap (λ b. option_or (option_map (complete (unwrap_or o h.era) i) (option_map numbers_of (cond b (Some (h, seal)) None))) None) t
 
-    pub walk_no_seal : (seal : Seal) → said read_header page ≡ None → said read_seal page ≡ Some (h, seal) → is_seal_of (unwrap_or o h.era) i count (h, seal) ≡ false → sealed_by o i count (page ∷ rest) ≡ None
+    pub walk_no_seal : (seal : Seal) → said read_page_header page ≡ None → said read_seal page ≡ Some (h, seal) → is_seal_of (unwrap_or o h.era) i count (h, seal) ≡ false → sealed_by o i count (page ∷ rest) ≡ None
     unfolding step_of
     walk_no_seal seal head is f = seal_step seal head is ∙ ap (λ b. option_or (option_map (complete (unwrap_or o h.era) i) (option_map numbers_of (cond b (Some (h, seal)) None))) None) f
 

@@ -1,27 +1,23 @@
 -- A whole checkpoint, from its erased region to its seal.
-use Rattle.std.proofs.Common.{◌≡◌, ◌⊎◌, ℕ, ◌<◌, Option, length, sym, ◌∙◌, ap, subst, inl, inr, arith}
+use Rattle.std.proofs.Common.{◌≡◌, ◌⊎◌, ℕ, ◌<◌, Option, List, length, sym, ◌∙◌, ap, subst, inl, inr, arith}
 use Rattle.ft_base.specs.declared.geometry.Geometry.{Geometry}
 use Rattle.ft_base.specs.declared.block.Place.{Place}
 use Rattle.ft_base.specs.declared.block.Page.{Page}
 use Rattle.ft_base.specs.declared.block.Page.TheVariants.{Blank, Torn}
 use Rattle.ft_base.specs.Contents.{Flash, set_page}
 use Rattle.ft_base.specs.Layout.{checkpoint_at, checkpoint_pages}
-use Rattle.cache_model.specs.Records.{Entries}
+use Rattle.ft_base.specs.declared.record.Record.{Record}
 use Rattle.cache_model.proofs.LoadLemmas.{set_page-other}
-use Rattle.mapping.specs.Checkpoint.{checkpoint_records}
-use Rattle.checkpoint.specs.Regions.{InCheckpoint, InLog, IsPrepared, IsBare, IsUnsealed, IsMapPage, IsSealPage, Programmed, LeavesOne, MapsWritten, LeavesMaps, IsSealed, IsWritten, part, map_pages}
+use Rattle.checkpoint.specs.Regions.{InCheckpoint, InLog, IsPrepared, IsBare, IsUnsealed, IsMapPage, IsSealPage, Programmed, LeavesOne, MapsWritten, LeavesMaps, IsSealed, IsWritten, HasSpares, part, map_pages, seal_spare}
+use Rattle.op_log.specs.Log.{HasSpare}
 use Rattle.checkpoint.proofs.PlacesLemmas.{checkpoint_within, checkpoint_apart, checkpoint_no_log}
 use Rattle.checkpoint.proofs.MapsLemmas.{set_page-here, set-other, maps_bare, bare_put, outside}
-
--- the map is of this geometry
-pub records_of : (g' g : Geometry) (m : Entries) (n : ℕ) → g' ≡ g → n ≡ length (checkpoint_records g' m) → n ≡ length (checkpoint_records g m)
-records_of g' g m n same is = is ∙ ap (λ (x : Geometry). length (checkpoint_records x m)) same
 
 -- while map pages are programmed, nothing is sealed
 pub maps_unsealed : (g : Geometry) (region : ℕ) (old mid new : Flash) → IsPrepared g region old mid → LeavesMaps g region mid.page new.page → IsUnsealed g region old.page new.page
 maps_unsealed g region old mid new prepared left = inr (left.bare, λ at out out'. left.beside at out ∙ prepared.beside at out out')
 
-module _ (g : Geometry) (region era : ℕ) (m : Entries) (low : region < 2) (n count : ℕ) (all : n ≡ map_pages (checkpoint_records g m)) (records : count ≡ length (checkpoint_records g m)) (within : n < checkpoint_pages g) (old mid now new : Flash) (prepared : IsPrepared g region old mid) (maps : MapsWritten g region era (checkpoint_records g m) n mid now) where
+module _ (g : Geometry) (region era : ℕ) (records : List Record) (low : region < 2) (n count : ℕ) (all : n ≡ map_pages records) (is_count : count ≡ length records) (within : n < checkpoint_pages g) (old mid now new : Flash) (prepared : IsPrepared g region old mid) (maps : MapsWritten g region era records n mid now) where
   module _ (v : Page) (pages : new.page ≡ set_page now.page (checkpoint_at g region n) v) where
     out_of : (at : Place) → (InCheckpoint g region at.block → ⊥) → new.page at ≡ now.page at
     out_of at out = ap (λ (f : Place → Page). f at) pages ∙ set_page-other now.page (checkpoint_at g region n) at v (outside g region n at within out)
@@ -31,27 +27,27 @@ module _ (g : Geometry) (region era : ℕ) (m : Entries) (low : region < 2) (n c
         let out : InCheckpoint g region at.block → ⊥ = λ c. checkpoint_no_log g region region at.block low low c there in
         out_of at out ∙ maps.beside at out ∙ prepared.log.page at there
 
-    sealed_here : IsSealPage g era n count v → IsSealed g region era m old.page new.page
+    sealed_here : IsSealPage g era n count v → IsSealed g region era records old.page new.page
     sealed_here is = record {
-      maps = λ i low'. subst (λ (q : Page). IsMapPage era i (part (checkpoint_records g m) i) q)
+      maps = λ i low'. subst (λ (q : Page). IsMapPage era i (part records i) q)
           (sym (ap (λ (f : Place → Page). f (checkpoint_at g region i)) pages ∙ set_page-other now.page (checkpoint_at g region n) (checkpoint_at g region i) v (λ e. let same = checkpoint_apart g region i n e in absurd (omega arith))))
           (maps.maps i (omega arith));
-      seal = subst (λ j. IsSealPage g era j (length (checkpoint_records g m)) (new.page (checkpoint_at g region j))) all
-          (subst (λ (q : Page). IsSealPage g era n (length (checkpoint_records g m)) q) (sym (ap (λ (f : Place → Page). f (checkpoint_at g region n)) pages ∙ set_page-here now.page (checkpoint_at g region n) v))
-          (subst (λ c. IsSealPage g era n c v) records is));
+      seal = subst (λ j. IsSealPage g era j (length records) (new.page (checkpoint_at g region j))) all
+          (subst (λ (q : Page). IsSealPage g era n (length records) q) (sym (ap (λ (f : Place → Page). f (checkpoint_at g region n)) pages ∙ set_page-here now.page (checkpoint_at g region n) v))
+          (subst (λ c. IsSealPage g era n c v) is_count is));
       log = log_blank;
       beside = λ at out out'. out_of at out ∙ maps.beside at out ∙ prepared.beside at out out';
     }
 
-  pub seal_left : LeavesOne (IsSealPage g era n count) (checkpoint_at g region n) now new → IsUnsealed g region old.page new.page ⊎ IsSealed g region era m old.page new.page
-  seal_left (inl same) = inl (maps_unsealed g region old mid new prepared (subst (λ (f : Place → Page). LeavesMaps g region mid.page f) (sym same) (maps_bare g region era (checkpoint_records g m) n mid now maps)))
+  pub seal_left : LeavesOne (IsSealPage g era n count) (checkpoint_at g region n) now new → IsUnsealed g region old.page new.page ⊎ IsSealed g region era records old.page new.page
+  seal_left (inl same) = inl (maps_unsealed g region old mid new prepared (subst (λ (f : Place → Page). LeavesMaps g region mid.page f) (sym same) (maps_bare g region era records n mid now maps)))
   seal_left (inr (inl torn)) = inl (inr (
-    subst (λ (f : Place → Page). IsBare g region f) (sym torn) (bare_put g region now.page (checkpoint_at g region n) Torn (maps_bare g region era (checkpoint_records g m) n mid now maps).bare tt),
+    subst (λ (f : Place → Page). IsBare g region f) (sym torn) (bare_put g region now.page (checkpoint_at g region n) Torn (maps_bare g region era records n mid now maps).bare tt),
     λ at out out'. out_of Torn torn at out ∙ maps.beside at out ∙ prepared.beside at out out',
   ))
   seal_left (inr (inr whole)) = inr (sealed_here whole.0 whole.2 whole.1)
 
-  pub seal_done : Programmed (IsSealPage g era n count) (checkpoint_at g region n) now new → IsWritten g region era m old new
+  pub seal_done : Programmed (IsSealPage g era n count) (checkpoint_at g region n) now new → IsWritten g region era records old new
   seal_done done = record {
     sealed = sealed_here done.page done.pages done.is_kind;
     log = record {
@@ -63,3 +59,15 @@ module _ (g : Geometry) (region era : ℕ) (m : Entries) (low : region < 2) (n c
     where
       next_of : (b : ℕ) → (InCheckpoint g region b → ⊥) → new.next b ≡ mid.next b
       next_of b out = ap (λ (f : ℕ → Option ℕ). f b) done.next ∙ set-other now.next (checkpoint_at g region n).block b _ (λ e. out (subst (λ j. InCheckpoint g region j) e (checkpoint_within g region n within))) ∙ maps.next b out
+
+-- ---- spare bytes
+
+pub sealed_spares : (g : Geometry) (region era : ℕ) (records : List Record) (old new : Place → Page) → IsSealed g region era records old new → HasSpares g region era (map_pages records) new
+sealed_spares g region era records old new sealed = record { maps = λ i low. (sealed.maps i low).spare; seal = sealed.seal.spare }
+
+-- a seal alone
+pub seal_spares : (g : Geometry) (region era : ℕ) (old new : Flash) → Programmed (IsSealPage g era 0 0) (checkpoint_at g region 0) old new → HasSpares g region era 0 new.page
+seal_spares g region era old new done = record {
+  maps = λ i low. absurd (omega arith);
+  seal = subst (λ (q : Page). HasSpare (seal_spare era 0) q) (sym (ap (λ (f : Place → Page). f (checkpoint_at g region 0)) done.pages ∙ set_page-here old.page (checkpoint_at g region 0) done.page)) done.is_kind.spare;
+}

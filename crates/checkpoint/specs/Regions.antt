@@ -1,6 +1,7 @@
 -- The regions of a checkpoint and of its log, and what is done to them.
 use Rattle.std.specs.Prelude.{◌≡◌, ◌⊎◌, ◌≤◌, ◌<◌, ◌+◌, ◌*◌, ℕ, Some, List, length, take, drop}
 use Rattle.ft_base.specs.declared.geometry.Geometry.{Geometry}
+use Rattle.ft_base.specs.declared.block.Spare.{Spare}
 use Rattle.ft_base.specs.declared.block.Place.{Place}
 use Rattle.ft_base.specs.declared.block.Page.{Page}
 use Rattle.ft_base.specs.declared.block.Page.TheVariants.{Blank, Torn}
@@ -9,12 +10,13 @@ use Rattle.ft_base.specs.Contents.{Flash, set, set_page}
 use Rattle.ft_base.specs.Layout.{up, k, first_log, checkpoint_at, checkpoint_pages}
 use Rattle.cache_model.specs.declared.format.Header.{Header}
 use Rattle.cache_model.specs.declared.format.PageKind.TheVariants.{Map, Seal as SealPage}
-use Rattle.cache_model.specs.Records.{Entries}
+use Rattle.cache_model.specs.declared.format.SpareKind.TheVariants.{Map as MapSpare, Seal as SealSpare}
+use Rattle.cache_model.specs.Spelling.{spelled_spare, spare_fields}
 use Rattle.cache_model.specs.Reading.{read_records}
 use Rattle.cache_model.specs.Loading.{header_at, seal_at, said}
 use Rattle.cache_model.specs.Laws.{IsMapOrLost}
+use Rattle.op_log.specs.Log.{HasSpare}
 use Rattle.op_log.specs.Refusals.{seal_of}
-use Rattle.mapping.specs.Checkpoint.{checkpoint_records}
 
 -- one of so many erase blocks from the first on
 abbrev pub IsWithin : ℕ → ℕ → ℕ → Type 0
@@ -77,16 +79,25 @@ map_header era sequence changes = record { kind = Map; era = era; sequence = seq
 abbrev pub seal_header : ℕ → ℕ → ℕ → Header
 seal_header era pages count = record { kind = SealPage; era = era; sequence = pages; count = count }
 
+-- the spare bytes of a map page of this era and sequence, and of a seal over so many map pages
+abbrev pub map_spare : ℕ → ℕ → Spare
+map_spare era sequence = record { 0 = spelled_spare (spare_fields MapSpare era sequence) }
+
+abbrev pub seal_spare : ℕ → ℕ → Spare
+seal_spare era pages = record { 0 = spelled_spare (spare_fields SealSpare era pages) }
+
 -- a whole map page with these records
 pub record IsMapPage (era sequence : ℕ) (changes : List Record) (page : Page) : Type 0 where
   pub header : Header
   pub head : header_at Map era sequence page ≡ Some header
   pub count : header.count ≡ length changes
   pub records : said (read_records header) page ≡ Some changes
+  pub spare : HasSpare (map_spare era sequence) page
 
 -- a whole page that seals so many map pages with so many records
 pub record IsSealPage (g : Geometry) (era pages count : ℕ) (page : Page) : Type 0 where
   pub seal : seal_at era pages count page ≡ Some (seal_of g)
+  pub spare : HasSpare (seal_spare era pages) page
 
 -- a page of this kind was programmed, the page after it is next, and nothing else changed
 pub record Programmed (kind : Page → Type 0) (at : Place) (old new : Flash) : Type 0 where
@@ -116,15 +127,20 @@ pub record LeavesMaps (g : Geometry) (region : ℕ) (old new : Place → Page) :
   pub bare : IsBare g region new
   pub beside : (at : Place) → ¬ InCheckpoint g region at.block → new at ≡ old at
 
--- a checkpoint of the map stands in the region, its log is blank, and nothing else changed
-pub record IsSealed (g : Geometry) (region era : ℕ) (m : Entries) (old new : Place → Page) : Type 0 where
-  pub maps : (i : ℕ) → i < map_pages (checkpoint_records g m) → IsMapPage era i (part (checkpoint_records g m) i) (new (checkpoint_at g region i))
-  pub seal : IsSealPage g era (map_pages (checkpoint_records g m)) (length (checkpoint_records g m)) (new (checkpoint_at g region (map_pages (checkpoint_records g m))))
+-- a checkpoint with these records stands in the region, its log is blank, and nothing else changed
+pub record IsSealed (g : Geometry) (region era : ℕ) (records : List Record) (old new : Place → Page) : Type 0 where
+  pub maps : (i : ℕ) → i < map_pages records → IsMapPage era i (part records i) (new (checkpoint_at g region i))
+  pub seal : IsSealPage g era (map_pages records) (length records) (new (checkpoint_at g region (map_pages records)))
   pub log : (at : Place) → InLog g region at.block → new at ≡ Blank
   pub beside : StaysBeside g region old new
 
 -- and its log is ready
-pub record IsWritten (g : Geometry) (region era : ℕ) (m : Entries) (old new : Flash) : Type 0 where
-  pub sealed : IsSealed g region era m old.page new.page
+pub record IsWritten (g : Geometry) (region era : ℕ) (records : List Record) (old new : Flash) : Type 0 where
+  pub sealed : IsSealed g region era records old.page new.page
   pub log : AreBlank (first_log g + region * g.j) g.j new
   pub ready : ReadyBeside g region old new
+
+-- the map pages of a checkpoint and its seal have the spare bytes of their kind, era and sequence
+pub record HasSpares (g : Geometry) (region era pages : ℕ) (page : Place → Page) : Type 0 where
+  pub maps : (i : ℕ) → i < pages → HasSpare (map_spare era i) (page (checkpoint_at g region i))
+  pub seal : HasSpare (seal_spare era pages) (page (checkpoint_at g region pages))

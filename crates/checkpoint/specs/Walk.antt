@@ -1,7 +1,7 @@
 -- The walk along a checkpoint region, page by page.
 use Rattle.std.specs.Prelude.{◌≡◌, ◌+◌, ◌≤◌, ℕ, Option, None, Some, option_and_then, List, [], ◌∷◌}
 use Rattle.ft_base.specs.declared.block.Page.{Page}
-use Rattle.cache_model.specs.Reading.{read_header, read_seal}
+use Rattle.cache_model.specs.Reading.{read_page_header, read_seal}
 use Rattle.cache_model.specs.Loading.{Complete, complete, said, era_in, sealed_from}
 use Rattle.checkpoint.specs.declared.reading.Found.{Found}
 use Rattle.checkpoint.specs.declared.reading.Found.TheVariants as is
@@ -11,9 +11,9 @@ use Rattle.checkpoint.specs.declared.walk.Step.TheVariants as step
 
 -- what a page of a checkpoint region was found to be
 abbrev pub Finds : Page → Found → Type 0
-Finds page (is.Records header) = said read_header page ≡ Some header
-Finds page (is.Sealed header seal) = (said read_header page ≡ None) × (said read_seal page ≡ Some (header, seal))
-Finds page is.Other = (said read_header page ≡ None) × (said read_seal page ≡ None)
+Finds page (is.Records header) = said read_page_header page ≡ Some header
+Finds page (is.Sealed header seal) = (said read_page_header page ≡ None) × (said read_seal page ≡ Some (header, seal))
+Finds page is.Other = (said read_page_header page ≡ None) × (said read_seal page ≡ None)
 
 -- a page has at most 127 records
 abbrev pub IsFew : Found → Type 0

@@ -1,11 +1,13 @@
-ghost use Rattle.std.specs.Prelude.{◌≡◌, ◌≢◌, ◌<◌, [], IfOk, OnOk, OnErr, IsOk, IsErrOf};
+ghost use Rattle.std.specs.Prelude.{◌≡◌, ◌≢◌, ◌<◌, ◌≤◌, ◌+◌, ◌-◌, ◌%◌, [], IfOk, OnOk, OnErr, IsOk, IsErrOf};
 ghost use Rattle.ft_base.specs.Count.{Rose};
 ghost use Rattle.ft_base.specs.Layout.{log_pages};
 ghost use Rattle.ft_media.specs.State.{failed, lost};
 ghost use Rattle.ft_media.specs.Media.{program_counted};
 ghost use Rattle.ft_media.specs.Passes.{Spends};
 ghost use Rattle.ft_media.specs.Drives.{DrivesFlash};
-ghost use Rattle.op_log.specs.Log.{FitsOn};
+ghost use Rattle.op_log.specs.Log.{FitsOn, HasSpare, log_spare, next_place};
+ghost use Rattle.checkpoint.specs.Counts.{checkpoint_counted};
+ghost use Rattle.checkpoint.specs.Regions.{HasSpares, map_pages};
 ghost use Rattle.checkpoint.specs.Current.{IsCurrent, AreWhole, IsOpenLog, IsCommitted, PoolStays, PoolReadyStays, LoadsOneOf, LogGoesLast, log_committed, log_checkpointed};
 
 use crate::writing::{Target, write_checkpoint};
@@ -68,7 +70,10 @@ impl Checkpoints {
         ensures stands { LoadsOneOf log.old.geometry (M.state media.old).contents.flash.page (M.state media.new).contents.flash.page map.now.entries }
         ensures pool { PoolStays log.old.geometry (M.state media.old).contents.flash.page (M.state media.new).contents.flash.page }
         ensures pool_ready { OnOk result (PoolReadyStays log.old.geometry (M.state media.old).contents.flash (M.state media.new).contents.flash) }
+        ensures spare { OnOk result (log.old.buffered ≢ [] → log.old.next < log_pages log.old.geometry → HasSpare (log_spare log.old.era log.old.next) ((M.state media.new).contents.flash.page (next_place log.old))) }
+        ensures spares { OnOk result (log.old.buffered ≢ [] → log_pages log.old.geometry ≤ log.old.next → HasSpares log.old.geometry (1 - log.old.region) ((log.old.era + 1) % 3) (map_pages map.now.records) (M.state media.new).contents.flash.page) }
         ensures one_page { OnOk result (log.old.buffered ≢ [] → log.old.next < log_pages log.old.geometry → (M.state media.new).counts ≡ program_counted (M.state media.old).counts) }
+        ensures whole_checkpoint { OnOk result (log.old.buffered ≢ [] → log_pages log.old.geometry ≤ log.old.next → (M.state media.new).counts ≡ checkpoint_counted log.old.geometry (map_pages map.now.records) (M.state media.old).counts) }
         ensures programs { OnOk result (log.old.buffered ≢ [] → Rose (M.state media.old).counts.programs (M.state media.new).counts.programs) }
         ensures spends { OnOk result (log.old.buffered ≢ [] → Spends 1 (M.state media.old) (M.state media.new)) }
         ensures memory { IsErrOf result MediaError.OutOfMemory → ⊥ }
@@ -105,6 +110,8 @@ impl Checkpoints {
         ensures log_last { LogGoesLast log.old (M.state media.old).contents.flash.page (M.state media.new).contents.flash.page }
         ensures pool { PoolStays log.old.geometry (M.state media.old).contents.flash.page (M.state media.new).contents.flash.page }
         ensures pool_ready { OnOk result (PoolReadyStays log.old.geometry (M.state media.old).contents.flash (M.state media.new).contents.flash) }
+        ensures spares { OnOk result (HasSpares log.old.geometry (1 - log.old.region) ((log.old.era + 1) % 3) (map_pages map.now.records) (M.state media.new).contents.flash.page) }
+        ensures counts { OnOk result ((M.state media.new).counts ≡ checkpoint_counted log.old.geometry (map_pages map.now.records) (M.state media.old).counts) }
         ensures programs { OnOk result (Rose (M.state media.old).counts.programs (M.state media.new).counts.programs) }
         ensures spends { OnOk result (Spends 1 (M.state media.old) (M.state media.new)) }
         ensures memory { IsErrOf result MediaError.OutOfMemory → ⊥ }

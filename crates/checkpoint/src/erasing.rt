@@ -1,7 +1,9 @@
 ghost use Rattle.std.specs.Prelude.{◌≡◌, ◌<◌, ◌≤◌, ◌+◌, OnOk, IsErrOf};
+ghost use Rattle.ft_base.specs.Layout.{k};
 ghost use Rattle.ft_media.specs.State.{failed, lost};
 ghost use Rattle.ft_media.specs.Drives.{DrivesFlash};
 ghost use Rattle.op_log.specs.Log.{FitsOn};
+ghost use Rattle.checkpoint.specs.Counts.{erases_counted};
 ghost use Rattle.checkpoint.specs.Regions.{AreLost, AreBlank, NextStays, IsPrepared, IsUnsealed};
 
 use ft_base::Geometry;
@@ -17,6 +19,7 @@ pub(crate) fn erase_blocks<M: Media>(
     ensures blank { OnOk result (AreBlank first count (M.state media.new).contents.flash) }
     ensures next { OnOk result (NextStays first count (M.state media.old).contents.flash (M.state media.new).contents.flash) }
     ensures pages { AreLost first count (M.state media.old).contents.flash.page (M.state media.new).contents.flash.page }
+    ensures counts { OnOk result ((M.state media.new).counts ≡ erases_counted count (M.state media.old).counts) }
     ensures programs { (M.state media.new).counts.programs ≡ (M.state media.old).counts.programs }
     ensures memory { IsErrOf result MediaError.OutOfMemory → ⊥ }
     ensures drives { DrivesFlash (M.state media.old) (M.state media.new) (failed result) (lost result) }
@@ -37,6 +40,7 @@ pub(crate) fn erase_regions<M: Media>(
     requires region { region < 2 }
     ensures done { OnOk result (IsPrepared geometry.now region (M.state media.old).contents.flash (M.state media.new).contents.flash) }
     ensures pages { IsUnsealed geometry.now region (M.state media.old).contents.flash.page (M.state media.new).contents.flash.page }
+    ensures counts { OnOk result ((M.state media.new).counts ≡ erases_counted (k geometry.now + geometry.now.j) (M.state media.old).counts) }
     ensures programs { (M.state media.new).counts.programs ≡ (M.state media.old).counts.programs }
     ensures memory { IsErrOf result MediaError.OutOfMemory → ⊥ }
     ensures drives { DrivesFlash (M.state media.old) (M.state media.new) (failed result) (lost result) }

@@ -4,6 +4,8 @@ ghost use Rattle.ft_media.specs.Drives.{DrivesFlash};
 ghost use Rattle.cache_model.specs.Records.{no_entries};
 ghost use Rattle.cache_model.specs.Loading.{load};
 ghost use Rattle.op_log.specs.Log.{FitsOn};
+ghost use Rattle.checkpoint.specs.Counts.{format_counted};
+ghost use Rattle.checkpoint.specs.Regions.{HasSpares};
 
 use crate::erasing::erase_blocks;
 use crate::writing::{Target, program_seal};
@@ -15,6 +17,8 @@ use ft_media::{Media, MediaError};
 pub fn format<M: Media>(media: &mut M, geometry: &Geometry) -> Result<(), MediaError>
     requires shape { FitsOn geometry.now (M.state media.old).contents.shape }
     ensures done { OnOk result (load geometry.now (M.state media.new).contents.flash.page ≡ Ok no_entries) }
+    ensures spares { OnOk result (HasSpares geometry.now 0 0 0 (M.state media.new).contents.flash.page) }
+    ensures counts { OnOk result ((M.state media.new).counts ≡ format_counted geometry.now (M.state media.old).counts) }
     ensures memory { IsErrOf result MediaError.OutOfMemory → ⊥ }
     ensures drives { DrivesFlash (M.state media.old) (M.state media.new) (failed result) (lost result) }
 {

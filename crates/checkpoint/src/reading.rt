@@ -10,7 +10,7 @@ ghost use Rattle.checkpoint.specs.Walk.{Finds, IsFew};
 use cache_model::{Header, Seal};
 use ft_base::{Block, Geometry, Place, Spare, zero_block};
 use ft_media::{Media, MediaError, PageRead};
-use record_codec::{read_header, read_seal};
+use record_codec::{read_page_header, read_seal};
 
 /// What a page of a checkpoint region is.
 #[derive(Clone, Copy, Debug, PartialEq, Eq)]
@@ -28,7 +28,7 @@ fn kind_of(block: &Block) -> Found
     ensures finds { (spare : SpareValue) → Finds (Whole block.now spare) result }
     ensures few { IsFew result }
 {
-    if let Some(header) = read_header(block) {
+    if let Some(header) = read_page_header(block) {
         return Found::Records(header);
     }
     match read_seal(block) {

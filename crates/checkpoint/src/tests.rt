@@ -95,7 +95,7 @@ fn begin<M: Media>(media: &mut M, alloc: Global, geometry: &Geometry) -> Result<
     ensures committed { IfOk result (λ c. IsCommitted (M.state media.new).contents.flash c.log c.map.entries) }
     ensures whole { IfOk result (λ c. AreWhole (M.state media.new).contents.flash.page c.map.entries) }
 {
-    let map = Map::new(alloc, geometry);
+    let map = Map::new(alloc, geometry)?;
     let log = OpLog::new(alloc, geometry, 0, 0)?;
     let marks = Checkpoints::new(alloc, geometry)?;
     program_first_seal(media, geometry)?;

@@ -1,7 +1,7 @@
 ghost use Rattle.std.specs.Prelude.{◌≡◌, ◌≤◌, ◌*◌, ◌^◌, Some, None};
 ghost use Rattle.ft_base.specs.declared.block.Page.{Page};
 ghost use Rattle.cache_model.specs.declared.format.Seal.{Seal as SealValue};
-ghost use Rattle.cache_model.specs.Reading.{read_header, read_seal};
+ghost use Rattle.cache_model.specs.Reading.{read_page_header, read_seal};
 ghost use Rattle.cache_model.specs.Loading.{said, is_page, is_seal_of};
 ghost use Rattle.cache_model.specs.declared.format.PageKind.TheVariants.{Map as map_page};
 ghost use Rattle.checkpoint.specs.Walk.{Finds, IsFew, Steps};
@@ -58,7 +58,7 @@ pub(crate) fn after_page(walk: Walk, sequence: u32, found: Found) -> Step
 fn after_records(walk: Walk, sequence: u32, header: &Header) -> Step
     requires records { walk.records ≤ 127 * 2 ^ 16 }
     requires few { header.now.count ≤ 127 }
-    ensures { (page : Page) → said read_header page ≡ Some header.now → Steps walk sequence page result }
+    ensures { (page : Page) → said read_page_header page ≡ Some header.now → Steps walk sequence page result }
 {
     let era = walk.era.unwrap_or(header.era);
     if !is_map_page(header, era, sequence) {
@@ -79,7 +79,7 @@ fn is_map_page(header: &Header, era: u8, sequence: u32) -> bool
 
 /// What a seal makes of it.
 fn after_seal(walk: Walk, sequence: u32, header: &Header, seal: &Seal) -> Step
-    ensures { (page : Page) → said read_header page ≡ None → said read_seal page ≡ Some (header.now, seal.now) → Steps walk sequence page result }
+    ensures { (page : Page) → said read_page_header page ≡ None → said read_seal page ≡ Some (header.now, seal.now) → Steps walk sequence page result }
 {
     let era = walk.era.unwrap_or(header.era);
     if !ends(header, era, sequence, walk.records) {

@@ -20,7 +20,7 @@ any_map p q step [] none = elim none [ ]
 any_map p q step (x ∷ xs) (inl is) = inl (step x is)
 any_map p q step (x ∷ xs) (inr is) = inr (any_map p q step xs is)
 
-cause_then : {S T : Type 0} (a b c : Faults) (v : S) (result : Result T VolumeError) → HasCause {T = S} a b (Ok v) → HasCause b c result → HasCause a c result
+pub cause_then : {S T : Type 0} (a b c : Faults) (v : S) (result : Result T VolumeError) → HasCause {T = S} a b (Ok v) → HasCause b c result → HasCause a c result
 cause_then a b c v result first then = record {
   flash = let x = first.flash in let y = then.flash in omega (arith, x, y);
   disk = let x = first.disk in let y = then.disk in omega (arith, x, y);
@@ -31,10 +31,10 @@ cause_then a b c v result first then = record {
 }
 
 -- the same refusal of another call
-err_at : (S T : Type 0) (e x : VolumeError) → IsErrOf {T = T} (Err e) x → IsErrOf {T = S} (Err e) x
+pub err_at : (S T : Type 0) (e x : VolumeError) → IsErrOf {T = T} (Err e) x → IsErrOf {T = S} (Err e) x
 err_at S T e x is = let same : e ≡ x = cc in ap Err same
 
-cause_at : (S T : Type 0) (a b : Faults) (e : VolumeError) → HasCause {T = S} a b (Err e) → HasCause {T = T} a b (Err e)
+pub cause_at : (S T : Type 0) (a b : Faults) (e : VolumeError) → HasCause {T = S} a b (Err e) → HasCause {T = T} a b (Err e)
 cause_at S T a b e cause = record {
   flash = cause.flash;
   disk = cause.disk;
@@ -44,7 +44,7 @@ cause_at S T a b e cause = record {
   power_lost = λ is. cause.power_lost (err_at S T e PowerLost is);
 }
 
-lost_at : (S T : Type 0) (e : VolumeError) → volume_lost {T = S} (Err e) ≡ volume_lost {T = T} (Err e)
+pub lost_at : (S T : Type 0) (e : VolumeError) → volume_lost {T = S} (Err e) ≡ volume_lost {T = T} (Err e)
 lost_at S T FlashFault = refl
 lost_at S T DiskFault = refl
 lost_at S T PowerLost = refl

@@ -12,11 +12,15 @@ use Rattle.ft_base.specs.Told.{Told}
 use Rattle.ft_base.specs.declared.block.Block.{Block}
 use Rattle.ft_base.specs.declared.block.Page.{Page}
 use Rattle.ft_base.specs.declared.block.Place.{Place}
+use Rattle.ft_base.specs.declared.geometry.Geometry.{Geometry}
 use Rattle.ft_base.specs.declared.told.Mode.{Mode}
 use Rattle.ft_base.specs.declared.told.Ack.TheVariants.{Write as AtWrite}
 use Rattle.cache_model.specs.Records.{Entries}
+use Rattle.cache_model.specs.Buckets.{AreBucketsFor}
+use Rattle.cache_model.specs.Entries.{groups_with}
 use Rattle.ft_volume.specs.declared.options.Options.{Options}
 use Rattle.ft_volume.specs.declared.volume.Idled.{Idled}
+use Rattle.ft_volume.specs.declared.volume.Report.{Report}
 use Rattle.ft_volume.specs.declared.volume.Idled.TheVariants.{Nothing, Cleaned, Checkpointed}
 use Rattle.ft_volume.specs.declared.volume.VolumeError.{VolumeError}
 use Rattle.ft_volume.specs.declared.volume.VolumeError.TheVariants.{FlashFault, DiskFault, PowerLost, OutOfMemory, OutOfVolume}
@@ -48,12 +52,14 @@ pub data Call : Type 0 where
   Writes : ℕ → Block → Call
   Flushes : Call
   Idles : Call
+  Reports : Call
 
 abbrev pub writes_of : Call → List BlockWrite
 writes_of (Reads lba block) = []
 writes_of (Writes lba block) = record { lba = lba; block = block } ∷ []
 writes_of Flushes = []
 writes_of Idles = []
+writes_of Reports = []
 
 -- ---- what images stand for
 
@@ -95,6 +101,7 @@ Finds (Reads lba block) d = block ≡ d lba
 Finds (Writes lba block) d = ⊤
 Finds Flushes d = ⊤
 Finds Idles d = ⊤
+Finds Reports d = ⊤
 
 -- what the media may come to be in it: as they were, with what was owed, with what it writes
 abbrev pub stages : List BlockWrite → List BlockWrite → PlainDisk → List PlainDisk
@@ -201,6 +208,7 @@ table_after (Reads lba block) told t = t
 table_after (Writes lba block) told t = table_written told.mode told lba t
 table_after Flushes told t = t
 table_after Idles told t = table_idled told t
+table_after Reports told t = t
 
 -- the blocks that go to the disk in it
 abbrev pub backs_of : Call → Told → Table → ℕ
@@ -208,6 +216,7 @@ backs_of (Reads lba block) told t = 0
 backs_of (Writes lba block) told t = backs_written told.mode told lba t
 backs_of Flushes told t = 0
 backs_of Idles told t = backs_idled told t
+backs_of Reports told t = 0
 
 -- the blocks that may be read from the disk in it
 abbrev pub misses : Call → (ℕ → Bool) → ℕ
@@ -215,6 +224,7 @@ misses (Reads lba block) held = if held lba then 0 else 1
 misses (Writes lba block) held = 0
 misses Flushes held = 0
 misses Idles held = 0
+misses Reports held = 0
 
 -- the address is the call's own
 abbrev pub IsOwn : Call → ℕ → Type 0
@@ -222,6 +232,7 @@ IsOwn (Reads lba block) a = a ≡ lba
 IsOwn (Writes lba block) a = a ≡ lba
 IsOwn Flushes a = ⊥
 IsOwn Idles a = ⊥
+IsOwn Reports a = ⊥
 
 -- the groups of these addresses, with the call's own, are among these few
 pub record LieIn (told : Told) (call : Call) (held : ℕ → Bool) (groups : List ℕ) : Type 0 where
@@ -245,6 +256,15 @@ pub record Costs {T : Type 0} (call : Call) (old new : VolumeState) (before afte
 
 abbrev pub idled_of : Told → ℕ → ℕ → Idled
 idled_of told groups room = if goes_back told.mode told.dirty groups then Cleaned else (if nat_le (2 * room) (log_pages told.geometry) then Checkpointed else Nothing)
+
+-- ---- what a report says
+
+-- of the entries that the flash has: how many there are, of how many groups some are dirty, and how many pages were looked at; and buckets for those that stand in log blocks
+pub record IsReport (g : Geometry) (m : Entries) (report : Report) : Type 0 where
+  pub held : report.held ≡ length (entries m)
+  pub dirty_groups : report.dirty_groups ≡ length (groups_with g (λ e. e.dirty) m)
+  pub buckets : AreBucketsFor m report.buckets
+  pub scrubbed : report.scrubbed ≡ length (entries m)
 
 -- a page was programmed: the count tells it, and it is one device write less before the front stop
 pub record Programs (before after : State) : Type 0 where

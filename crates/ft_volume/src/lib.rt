@@ -13,4 +13,4 @@ mod volume;
 pub use ft_base::{Ack, Mode};
 pub use laws::{answers_law, media_law, one_disk_law, opening_law};
 pub use options::Options;
-pub use volume::{Idled, Volume, VolumeError};
+pub use volume::{Idled, Report, Volume, VolumeError};

@@ -7,7 +7,7 @@ ghost use Rattle.ft_base.specs.declared.block.Page.{Page};
 ghost use Rattle.ft_base.specs.declared.block.Place.{Place};
 ghost use Rattle.cache_model.specs.Records.{Entries};
 ghost use Rattle.ft_media.specs.Rig.{CutThrough};
-ghost use Rattle.ft_volume.specs.Volume.{Costs, Done, FaultDowns, Fixes, Flushes, Goes, Idles, Programs, Reads, VolumeState, Writes, idled_of, opened_of};
+ghost use Rattle.ft_volume.specs.Volume.{Costs, Done, FaultDowns, Fixes, Flushes, Goes, Idles, IsReport, Programs, Reads, Reports, VolumeState, Writes, idled_of, opened_of};
 
 use ft_base::{Block, Outcome};
 use ft_media::{Media, Rig};
@@ -42,6 +42,19 @@ pub enum Idled {
     Cleaned,
     /// A checkpoint was made, since half of the log was used.
     Checkpointed,
+}
+
+/// What there is in the cache, once all of it is on the flash.
+#[derive(Clone, Copy, Debug, PartialEq, Eq)]
+pub struct Report {
+    /// The addresses that are held.
+    pub held: u64,
+    /// The groups with a dirty address.
+    pub dirty_groups: u32,
+    /// The buckets of the map of log pages: none, or a power of two from 32 on.
+    pub buckets: u64,
+    /// The pages that were read, each of an address that is held.
+    pub scrubbed: u64,
 }
 
 /// A cache and a disk joined to one disk. The rig of each call is the one with which the volume was
@@ -123,6 +136,23 @@ pub trait Volume<R: Rig> {
             → Costs Idles (opened_of (state self.old) m) (state self.new) (R.state rig.old) (R.state rig.new) result }
         ensures idled { IfOk result (λ idled. (m : Entries) → loads (state self.old).told (R.state rig.old).contents.flash.page m
             → idled ≡ idled_of (state self.old).told (length (opened_of (state self.old) m).table) (opened_of (state self.old) m).log_room) }
+        ensures within { IsErrOf result VolumeError.OutOfVolume → ⊥ };
+
+    /// Puts all that is buffered or owed on the media, reads every page that is held, and says what there
+    /// is. It changes no block.
+    fn report(&mut self, rig: &mut R) -> Result<Report, VolumeError>
+        requires { owns self.old (R.state rig.old).contents }
+        ensures owns { owns self.new (R.state rig.new).contents }
+        ensures disk { Done stands Reports (state self.old) (state self.new)
+            (R.state rig.old).contents (R.state rig.new).contents result }
+        ensures nothing_owed { OnOk result ((state self.new).owed ≡ []) }
+        ensures goes { Goes (state self.old) (state self.new) (R.state rig.old) (R.state rig.new) result }
+        ensures faulted { IsErrOf result VolumeError.DiskFault → (state self.new).down ≡ true }
+        ensures costs { (m : Entries) → loads (state self.old).told (R.state rig.old).contents.flash.page m
+            → Costs Reports (opened_of (state self.old) m) (state self.new) (R.state rig.old) (R.state rig.new) result }
+        ensures report { IfOk result (λ report. (m : Entries) → loads (state self.old).told (R.state rig.new).contents.flash.page m
+            → IsReport (state self.old).told.geometry m report) }
+        ensures memory { (state self.old).down ≡ false → IsErrOf result VolumeError.OutOfMemory → ⊥ }
         ensures within { IsErrOf result VolumeError.OutOfVolume → ⊥ };
 
     /// Turns power off between two device writes, and on again. What is owed is lost.

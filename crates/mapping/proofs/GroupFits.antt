@@ -1,9 +1,7 @@
 -- What the tests of a data block say of whether it fits.
-use Rattle.std.proofs.Common.{◌≡◌, ◌↔◌, ℕ, ◌+◌, ◌-◌, ◌*◌, ◌/◌, ◌%◌, ◌^◌, ◌<◌, ◌≤◌, ◌==◌, nat_le, min, Bool, true, false, cond, not, bit_and, length, IsTrue, refl, sym, ◌∙◌, ap, subst, arith, inl, inr, nat_cmp, eqb-true, eq-eqb, ne_eqb, nat_lt, ltb-true, lt-ltb, leb-true, le-leb}
-use Rattle.std.specs.List.{list_any}
+use Rattle.std.proofs.Common.{◌≡◌, ◌↔◌, ℕ, ◌+◌, ◌-◌, ◌*◌, ◌/◌, ◌%◌, ◌^◌, ◌<◌, ◌≤◌, ◌==◌, nat_le, min, Bool, true, false, not, bit_and, IsTrue, refl, sym, ◌∙◌, ap, subst, arith, inl, inr, eqb-true, eq-eqb, ne_eqb, nat_lt, ltb-true, lt-ltb, leb-true, le-leb}
 use Rattle.std.specs.Int.{bit_at}
-use Rattle.std.specs.FinMap.{from_entries}
-use Rattle.std.proofs.lemmas.Bool.{cases_Bool, and_parts, and_from, both_ways, not-true}
+use Rattle.std.proofs.lemmas.Bool.{cases_Bool, both_ways, not-true}
 use Rattle.std.proofs.lemmas.Nat.{div-mul-add, mod_below, pow_pos}
 use Rattle.std.proofs.lemmas.Nat.Bits.{shr_and_one, bit_at_and, bit_at-lt}
 use Rattle.ft_base.specs.declared.geometry.Geometry.{Geometry}
@@ -11,15 +9,14 @@ use Rattle.ft_base.specs.declared.record.Record.TheVariants.{SetGroup, Remove, C
 use Rattle.ft_base.specs.Layout.{first_pool, blocks}
 use Rattle.cache_model.specs.declared.entry.Entry.{Entry}
 use Rattle.cache_model.specs.Records.{Entries, after, has_bit}
-use Rattle.cache_model.specs.Entries.{each_once, IsMap, IsInReach, Fits}
+use Rattle.cache_model.specs.Entries.{IsMap, IsInReach, Fits}
 use Rattle.cache_model.proofs.CountLemmas.{remove_fits, clean_fits, remove_group_fits}
 use Rattle.std.proofs.Math.Nat.{lt-div-mul-add, div-eq_of_lt}
 use Rattle.mapping.specs.declared.marks.Mark.TheVariants.{Dirty, BlockMapped}
-use Rattle.mapping.specs.Ascending.{Ascends}
-use Rattle.mapping.specs.Counts.{groups_along}
-use Rattle.mapping.specs.Fitting.{is_marked_in, is_foreign_in, HasPageBelow, EndsBelowSize, BlockMayCome}
-use Rattle.mapping.proofs.AscendingLemmas.{Items}
-use Rattle.mapping.proofs.MarksLemmas.{found_entry, finds, ChangesGroup, mark_counts}
+use Rattle.mapping.specs.declared.seeking.Sought.TheVariants.{Outside}
+use Rattle.mapping.specs.Seeking.{IsFoundIn, IsNotIn, MayHave}
+use Rattle.mapping.specs.Fitting.{HasPageBelow, EndsBelowSize, BlockMayCome}
+use Rattle.mapping.proofs.MarksLemmas.{ChangesGroup, may_have_fits}
 use Rattle.mapping.proofs.FittingLemmas.{page_entry, group_cases, group_here, group_other, group_fits, fits_group}
 
 -- ---- bits
@@ -30,7 +27,7 @@ bit_there set i is = eq-eqb _ _ (sym (shr_and_one set i) ∙ is)
 pub bit_absent : (set i : ℕ) → (bit_and (set / 2 ^ i) 1 ≡ 1 → ⊥) → has_bit set i ≡ false
 bit_absent set i not = ne_eqb _ _ (λ e. not (shr_and_one set i ∙ e))
 
-both_bits : (a b i : ℕ) → has_bit (bit_and a b) i ≡ true → (has_bit a i ≡ true) × (has_bit b i ≡ true)
+pub both_bits : (a b i : ℕ) → has_bit (bit_and a b) i ≡ true → (has_bit a i ≡ true) × (has_bit b i ≡ true)
 both_bits a b i t =
     let is : min (bit_at a i) (bit_at b i) ≡ 1 = sym (bit_at_and a b i) ∙ eqb-true _ _ t in
     let low = bit_at-lt a i in
@@ -39,7 +36,7 @@ both_bits a b i t =
     let one' : bit_at b i ≡ 1 = omega (arith, is, low, low') in
     (eq-eqb _ _ one, eq-eqb _ _ one')
 
-from_both : (a b i : ℕ) → has_bit a i ≡ true → has_bit b i ≡ true → has_bit (bit_and a b) i ≡ true
+pub from_both : (a b i : ℕ) → has_bit a i ≡ true → has_bit b i ≡ true → has_bit (bit_and a b) i ≡ true
 from_both a b i t u =
     let one : bit_at a i ≡ 1 = eqb-true _ _ t in
     let one' : bit_at b i ≡ 1 = eqb-true _ _ u in
@@ -56,10 +53,7 @@ absent set pages b is f i low = elim (cases_Bool (has_bit set i)) [
 
 -- ---- the block
 
-module _ (g : Geometry) (items : Items) (up : Ascends items) (group block present : ℕ) where
-  abbrev m : Entries
-  m = from_entries items
-
+module _ (g : Geometry) (m : Entries) (group block present : ℕ) where
   pub free_block : ((i : ℕ) → i < g.p → has_bit present i ≡ false) → BlockMayCome g group block present m
   free_block none = record {
     sizes = λ i low there. absurd (both_ways (has_bit present i) (none i low) there);
@@ -76,30 +70,24 @@ module _ (g : Geometry) (items : Items) (up : Ascends items) (group block presen
   foreign_is : (a : ℕ) → not (a / g.p == group) ≡ true → a / g.p ≡ group → ⊥
   foreign_is a t same = both_ways (a / g.p == group) (not-true (a / g.p == group) t) (eq-eqb _ _ same)
 
-  pub held_by_others : HasPageBelow present g.p → list_any (is_foreign_in g.p group block) items ≡ true → BlockMayCome g group block present m → ⊥
-  held_by_others has t may =
-      let x = found_entry items up (is_foreign_in g.p group block) t in
-      let p = and_parts (not (x.0 / g.p == group)) (x.1.place.block == block) x.3 in
-      may.foreign has.0 has.1 has.2 x.0 x.1 x.2 (foreign_is x.0 p.0) (eqb-true _ _ p.1)
+  pub held_by_others : (a : ℕ) → HasPageBelow present g.p → IsFoundIn g (Outside group) m block a → BlockMayCome g group block present m → ⊥
+  held_by_others a has x may = may.foreign has.0 has.1 has.2 a x.0 x.1 (foreign_is a x.3) x.2
 
-  pub block_decides : (b : Bool) → first_pool g ≤ block → block < blocks g → list_any (is_foreign_in g.p group block) items ≡ false → ((b ≡ true → EndsBelowSize g group present) × (EndsBelowSize g group present → b ≡ true)) → IsTrue b ↔ BlockMayCome g group block present m
+  pub block_decides : (b : Bool) → first_pool g ≤ block → block < blocks g → IsNotIn g (Outside group) m block → ((b ≡ true → EndsBelowSize g group present) × (EndsBelowSize g group present → b ≡ true)) → IsTrue b ↔ BlockMayCome g group block present m
   block_decides b above below none ends = (
     λ t. record {
       sizes = ends.0 t;
       pool = λ i low there. (above, below);
-      foreign = λ i low there a e is other same. both_ways (list_any (is_foreign_in g.p group block) items) none (finds items up (is_foreign_in g.p group block) a e is (and_from _ _ (ap not (ne_eqb _ _ other)) (eq-eqb _ _ same)));
+      foreign = λ i low there a e is other same. none a e is same (ap not (ne_eqb _ _ other));
     },
     λ may. ends.1 may.sizes,
   )
 
 -- ---- the change
 
-module _ (g : Geometry) (items : Items) (up : Ascends items) (is_map : IsMap g (from_entries {R = nat_cmp} items)) (group block present dirty : ℕ) where
-  abbrev old : Entries
-  old = from_entries items
-
+module _ (g : Geometry) (old : Entries) (is_map : IsMap g old) (group block present dirty : ℕ) where
   abbrev new : Entries
-  new = after g (SetGroup group block present dirty) (from_entries items)
+  new = after g (SetGroup group block present dirty) old
 
   some_pages : 0 < g.p
   some_pages = omega (arith, g.in_range.p_low)
@@ -133,15 +121,15 @@ module _ (g : Geometry) (items : Items) (up : Ascends items) (is_map : IsMap g (
   pub no_block : (BlockMayCome g group block present old → ⊥) → Fits g (SetGroup group block present dirty) old → ⊥
   no_block not fits = let may = fits_group g old is_map group block present dirty fits in not (record { sizes = may.sizes; pool = may.pool; foreign = may.foreign })
 
-  pub too_many_blocks : (has b : Bool) → ((has ≡ true → HasPageBelow present g.p) × (HasPageBelow present g.p → has ≡ true)) → b ≡ nat_le (length (each_once (groups_along g.p BlockMapped items)) + cond has 1 0) (g.c + cond (list_any (is_marked_in BlockMapped g.p group) items) 1 0) → b ≡ false → Fits g (SetGroup group block present dirty) old → ⊥
-  too_many_blocks has b is test f fits = both_ways b f ((mark_counts g items BlockMapped group new has b up (mapped_change has is) test).1 (fits_group g old is_map group block present dirty fits).data_blocks)
+  pub too_many_blocks : (has b : Bool) → ((has ≡ true → HasPageBelow present g.p) × (HasPageBelow present g.p → has ≡ true)) → ((b ≡ true → MayHave g old BlockMapped group has) × (MayHave g old BlockMapped group has → b ≡ true)) → b ≡ false → Fits g (SetGroup group block present dirty) old → ⊥
+  too_many_blocks has b is may f fits = both_ways b f (may.1 ((may_have_fits g BlockMapped group old (after g (SetGroup group block present dirty) old) has (mapped_change has is) is_map.data_blocks).1 (fits_group g old is_map group block present dirty fits).data_blocks))
 
-  pub group_decides : (has has' b b' : Bool) → IsInReach g (SetGroup group block present dirty) → BlockMayCome g group block present old → ((has ≡ true → HasPageBelow present g.p) × (HasPageBelow present g.p → has ≡ true)) → b ≡ nat_le (length (each_once (groups_along g.p BlockMapped items)) + cond has 1 0) (g.c + cond (list_any (is_marked_in BlockMapped g.p group) items) 1 0) → b ≡ true → ((has' ≡ true → HasPageBelow (bit_and present dirty) g.p) × (HasPageBelow (bit_and present dirty) g.p → has' ≡ true)) → b' ≡ nat_le (length (each_once (groups_along g.p Dirty items)) + cond has' 1 0) (g.c + cond (list_any (is_marked_in Dirty g.p group) items) 1 0) → IsTrue b' ↔ Fits g (SetGroup group block present dirty) old
-  group_decides has has' b b' reach may is test t is' test' =
-      let blocks_fit = (mark_counts g items BlockMapped group new has b up (mapped_change has is) test).0 t in
-      let decide = mark_counts g items Dirty group new has' b' up (dirty_change has' is') test' in (
-        λ u. group_fits g old is_map group block present dirty (record { reach = reach; sizes = may.sizes; pool = may.pool; foreign = may.foreign; data_blocks = blocks_fit; dirty_groups = decide.0 u }),
-        λ fits. decide.1 (fits_group g old is_map group block present dirty fits).dirty_groups,
+  pub group_decides : (has has' b b' : Bool) → IsInReach g (SetGroup group block present dirty) → BlockMayCome g group block present old → ((has ≡ true → HasPageBelow present g.p) × (HasPageBelow present g.p → has ≡ true)) → ((b ≡ true → MayHave g old BlockMapped group has) × (MayHave g old BlockMapped group has → b ≡ true)) → b ≡ true → ((has' ≡ true → HasPageBelow (bit_and present dirty) g.p) × (HasPageBelow (bit_and present dirty) g.p → has' ≡ true)) → ((b' ≡ true → MayHave g old Dirty group has') × (MayHave g old Dirty group has' → b' ≡ true)) → IsTrue b' ↔ Fits g (SetGroup group block present dirty) old
+  group_decides has has' b b' reach come is may t is' may' =
+      let blocks_fit = (may_have_fits g BlockMapped group old (after g (SetGroup group block present dirty) old) has (mapped_change has is) is_map.data_blocks).0 (may.0 t) in
+      let decide = may_have_fits g Dirty group old (after g (SetGroup group block present dirty) old) has' (dirty_change has' is') is_map.dirty_groups in (
+        λ u. group_fits g old is_map group block present dirty (record { reach = reach; sizes = come.sizes; pool = come.pool; foreign = come.foreign; data_blocks = blocks_fit; dirty_groups = decide.0 (may'.0 u) }),
+        λ fits. may'.1 (decide.1 (fits_group g old is_map group block present dirty fits).dirty_groups),
       )
 
 -- ---- sets of the first pages

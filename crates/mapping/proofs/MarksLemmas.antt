@@ -1,8 +1,7 @@
 -- What is looked for among the entries, and counts of marked groups.
-use Rattle.std.proofs.Common.{◌≡◌, ℕ, zero, suc, ◌+◌, ◌/◌, ◌<◌, ◌≤◌, ◌==◌, nat_le, Bool, true, false, cond, List, [], ◌∷◌, length, get_or, Some, refl, sym, ◌∙◌, ap, arith, inl, inr, nat_cmp, eqb-true, eq-eqb, leb-true, le-leb}
-use Rattle.std.specs.List.{list_any}
-use Rattle.std.specs.FinMap.{get, entries, from_entries}
-use Rattle.std.proofs.lemmas.Bool.{cases_Bool, and_parts, and_from, or_cases, or_left, or_parts, both_ways, cases_eq}
+use Rattle.std.proofs.Common.{◌≡◌, ◌↔◌, IsTrue, ℕ, zero, suc, ◌+◌, ◌/◌, ◌<◌, ◌≤◌, ◌==◌, Bool, true, false, cond, List, [], ◌∷◌, length, Some, refl, sym, ◌∙◌, ap, arith, inl, inr, subst}
+use Rattle.std.specs.FinMap.{get, entries}
+use Rattle.std.proofs.lemmas.Bool.{cases_Bool, or_left, both_ways, cases_eq}
 use Rattle.std.proofs.lemmas.Bool.Decides.{nat_tests}
 use Rattle.ft_base.specs.declared.geometry.Geometry.{Geometry}
 use Rattle.cache_model.specs.declared.entry.Entry.{Entry}
@@ -11,40 +10,9 @@ use Rattle.cache_model.specs.Entries.{each_once, groups_with}
 use Rattle.cache_model.proofs.MapLemmas.{all_entries, by_get}
 use Rattle.cache_model.proofs.CountLemmas.{member, numbers, all_members, member_of, counts_beside, others, member_others, member_self, one_and_others}
 use Rattle.mapping.specs.declared.marks.Mark.{Mark}
-use Rattle.mapping.specs.Ascending.{Ascends}
-use Rattle.mapping.specs.Counts.{has_mark, groups_along}
-use Rattle.mapping.specs.Fitting.{is_marked_in, count_range}
-use Rattle.mapping.proofs.AscendingLemmas.{Items, spare_item, get_here, place_of, entries_are}
-
--- ---- what a search along the list says of the map
-
-any_at : (p : ℕ × Entry → Bool) (xs : Items) → list_any p xs ≡ true → (i : ℕ) × (i < length xs) × (p (get_or xs i spare_item) ≡ true)
-any_at p [] t = absurd (cc)
-any_at p (x ∷ xs) t = elim (or_cases (p x) (list_any p xs) t) [
-  | inl here ↦ (0, omega arith, here)
-  | inr later ↦ let q = any_at p xs later in (suc q.0, omega (arith, q.1), q.2)
-]
-
-none_at : (p : ℕ × Entry → Bool) (xs : Items) (i : ℕ) → list_any p xs ≡ false → i < length xs → p (get_or xs i spare_item) ≡ false
-none_at p [] i f within = absurd (omega arith)
-none_at p (x ∷ xs) zero f within = (or_parts (p x) (list_any p xs) f).0
-none_at p (x ∷ xs) (suc i) f within = none_at p xs i (or_parts (p x) (list_any p xs) f).1 (omega arith)
-
-module _ (items : Items) (up : Ascends items) (p : ℕ × Entry → Bool) where
-  pub found_entry : list_any p items ≡ true → (a : ℕ) × (e : Entry) × (get {R = nat_cmp} (from_entries items) a ≡ Some e) × (p (a, e) ≡ true)
-  found_entry t =
-      let q = any_at p items t in
-      let x = get_or items q.0 spare_item in
-      (x.0, x.1, get_here items q.0 spare_item up q.1, q.2)
-
-  pub not_found : (a : ℕ) (e : Entry) → list_any p items ≡ false → get {R = nat_cmp} (from_entries items) a ≡ Some e → p (a, e) ≡ false
-  not_found a e f is = let q = place_of items a e spare_item is in ap p (sym q.2) ∙ none_at p items q.0 f q.1
-
-  pub finds : (a : ℕ) (e : Entry) → get {R = nat_cmp} (from_entries items) a ≡ Some e → p (a, e) ≡ true → list_any p items ≡ true
-  finds a e is t = elim (cases_Bool (list_any p items)) [
-    | inl y ↦ y
-    | inr n ↦ absurd (both_ways (p (a, e)) (not_found a e n is) t)
-  ]
+use Rattle.mapping.specs.Counts.{has_mark}
+use Rattle.mapping.specs.Fitting.{count_range}
+use Rattle.mapping.specs.Seeking.{HasMarkIn, MayHave}
 
 pub same_bools : (a b : Bool) → (a ≡ true → b ≡ true) → (b ≡ true → a ≡ true) → a ≡ b
 same_bools true b f h = sym (f refl)
@@ -62,39 +30,98 @@ module _ (f : ℕ × Entry → ℕ) (t : Entry → Bool) (m : Entries) where
 
 -- ---- counts of marked groups, where one group alone changes
 
-limit_is : (count now most : ℕ) (had has b : Bool) → count + cond had 1 0 ≡ now + cond has 1 0 → b ≡ nat_le (now + cond has 1 0) (most + cond had 1 0) → ((b ≡ true) → count ≤ most) × (count ≤ most → b ≡ true)
-limit_is count now most true has b sum is = (λ t. let le = leb-true _ _ (sym is ∙ t) in omega arith, λ le. is ∙ le-leb _ _ (omega arith))
-limit_is count now most false has b sum is = (λ t. let le = leb-true _ _ (sym is ∙ t) in omega arith, λ le. is ∙ le-leb _ _ (omega arith))
-
 -- how a map stands to another that differs in one group alone, and whether that group has the mark then
 pub record ChangesGroup (g : Geometry) (mark : Mark) (group : ℕ) (old new : Entries) (has : Bool) : Type 0 where
   pub others : (a : ℕ) → (a / g.p ≡ group → ⊥) → get new a ≡ get old a
   pub there : has ≡ true → (a : ℕ) × (e : Entry) × (get new a ≡ Some e) × (a / g.p ≡ group) × (has_mark mark e ≡ true)
   pub from : (a : ℕ) (e : Entry) → get new a ≡ Some e → a / g.p ≡ group → has_mark mark e ≡ true → has ≡ true
 
-pub mark_counts : (g : Geometry) (items : Items) (mark : Mark) (group : ℕ) (new : Entries) (has b : Bool) → Ascends items → ChangesGroup g mark group (from_entries items) new has → b ≡ nat_le (length (each_once (groups_along g.p mark items)) + cond has 1 0) (g.c + cond (list_any (is_marked_in mark g.p group) items) 1 0) → ((b ≡ true) → length (groups_with g (has_mark mark) new) ≤ g.c) × (length (groups_with g (has_mark mark) new) ≤ g.c → b ≡ true)
-mark_counts g items mark group new has b up change is =
-    let old : Entries = from_entries items in
+-- whether the group counts
+pub counts_group : (g : Geometry) (mark : Mark) (m : Entries) (group : ℕ) → (member group (numbers (λ x. x.0 / g.p) (has_mark mark) (entries m)) ≡ true → HasMarkIn g m mark group) × (HasMarkIn g m mark group → member group (numbers (λ x. x.0 / g.p) (has_mark mark) (entries m)) ≡ true)
+counts_group g mark m group = (
+  λ mem. let x = member_to (λ x. x.0 / g.p) (has_mark mark) m group mem in (x.0.0, x.3, (x.0.1, x.1, x.2)),
+  λ x. ap (λ k. member k (numbers (λ x. x.0 / g.p) (has_mark mark) (entries m))) (sym x.1) ∙ member_from (λ x. x.0 / g.p) (has_mark mark) m x.0 x.2.0 x.2.1 x.2.2,
+)
+
+-- the count of the groups, before and after
+pub group_counts : (g : Geometry) (mark : Mark) (group : ℕ) (old new : Entries) (had has : Bool) → ((a : ℕ) → (a / g.p ≡ group → ⊥) → get new a ≡ get old a) → ((had ≡ true → HasMarkIn g old mark group) × (HasMarkIn g old mark group → had ≡ true)) → ((has ≡ true → HasMarkIn g new mark group) × (HasMarkIn g new mark group → has ≡ true)) → length (groups_with g (has_mark mark) new) + cond had 1 0 ≡ length (groups_with g (has_mark mark) old) + cond has 1 0
+group_counts g mark group old new had has others before after =
     let f : ℕ × Entry → ℕ = λ x. x.0 / g.p in
     let t : Entry → Bool = λ e. has_mark mark e in
     let xs = numbers f t (entries old) in
     let ys = numbers f t (entries new) in
     let alike = λ (n : ℕ) (apart : n ≡ group → ⊥). same_bools (member n xs) (member n ys)
-    (λ mem. let x = member_to f t old n mem in ap (λ k. member k ys) (sym x.3) ∙ member_from f t new x.0.0 x.0.1 (change.others x.0.0 (λ s. apart (sym x.3 ∙ s)) ∙ x.1) x.2)
-    (λ mem. let x = member_to f t new n mem in ap (λ k. member k xs) (sym x.3) ∙ member_from f t old x.0.0 x.0.1 (sym (change.others x.0.0 (λ s. apart (sym x.3 ∙ s))) ∙ x.1) x.2) in
-    let had : member group xs ≡ list_any (is_marked_in mark g.p group) items = same_bools (member group xs) (list_any (is_marked_in mark g.p group) items)
-    (λ mem. let x = member_to f t old group mem in finds items up (is_marked_in mark g.p group) x.0.0 x.0.1 x.1 (and_from _ _ x.2 (eq-eqb _ _ x.3)))
-    (λ any.
-    let x = found_entry items up (is_marked_in mark g.p group) any in
-    let q = and_parts (has_mark mark x.1) (x.0 / g.p == group) x.3 in
-    ap (λ k. member k xs) (sym (eqb-true _ _ q.1)) ∙ member_from f t old x.0 x.1 x.2 q.0) in
-    let has' : member group ys ≡ has = same_bools (member group ys) has
-    (λ mem. let x = member_to f t new group mem in change.from x.0.0 x.0.1 x.1 x.3 x.2)
-    (λ y. let x = change.there y in ap (λ k. member k ys) (sym x.3) ∙ member_from f t new x.0 x.1 x.2 x.4) in
-    let sum : length (each_once ys) + cond (list_any (is_marked_in mark g.p group) items) 1 0 ≡ length (each_once xs) + cond has 1 0 =
-    ap (λ b. length (each_once ys) + cond b 1 0) (sym had) ∙ counts_beside group xs ys alike ∙ ap (λ b. length (each_once xs) + cond b 1 0) has' in
-    let along : length (each_once (groups_along g.p mark items)) ≡ length (each_once xs) = ap (λ (l : Items). length (each_once (groups_along g.p mark l))) (sym (entries_are items up)) in
-    limit_is (length (groups_with g (has_mark mark) new)) (length (each_once xs)) g.c (list_any (is_marked_in mark g.p group) items) has b sum (is ∙ ap (λ n. nat_le (n + cond has 1 0) (g.c + cond (list_any (is_marked_in mark g.p group) items) 1 0)) along)
+    (λ mem. let x = member_to f t old n mem in ap (λ k. member k ys) (sym x.3) ∙ member_from f t new x.0.0 x.0.1 (others x.0.0 (λ s. apart (sym x.3 ∙ s)) ∙ x.1) x.2)
+    (λ mem. let x = member_to f t new n mem in ap (λ k. member k xs) (sym x.3) ∙ member_from f t old x.0.0 x.0.1 (sym (others x.0.0 (λ s. apart (sym x.3 ∙ s))) ∙ x.1) x.2) in
+    let was : had ≡ member group xs = same_bools had (member group xs) (λ h. (counts_group g mark old group).1 (before.0 h)) (λ h. before.1 ((counts_group g mark old group).0 h)) in
+    let is : member group ys ≡ has = same_bools (member group ys) has (λ h. after.1 ((counts_group g mark new group).0 h)) (λ h. (counts_group g mark new group).1 (after.0 h)) in
+    ap (λ b. length (each_once ys) + cond b 1 0) was ∙ counts_beside group xs ys alike ∙ ap (λ b. length (each_once xs) + cond b 1 0) is
+
+-- a count after a change of one group
+pub recounted : (had has : Bool) (n d d' x : ℕ) → n ≡ d → d' + cond had 1 0 ≡ d + cond has 1 0 → x + cond had 1 0 ≡ n + cond has 1 0 → x ≡ d'
+recounted true true n d d' x is sum sum' = omega arith
+recounted true false n d d' x is sum sum' = omega arith
+recounted false true n d d' x is sum sum' = omega arith
+recounted false false n d d' x is sum sum' = omega arith
+
+pub counts_some : (g : Geometry) (mark : Mark) (m : Entries) (group n : ℕ) (had : Bool) → n ≡ length (groups_with g (has_mark mark) m) → (had ≡ true → HasMarkIn g m mark group) → had ≡ true → 1 ≤ n
+counts_some g mark m group n had is before t = let some = some_counted (numbers (λ x. x.0 / g.p) (has_mark mark) (entries m)) group ((counts_group g mark m group).1 (before t)) in omega (arith, is, some)
+  where
+    some_counted : (ns : List ℕ) (k : ℕ) → member k ns ≡ true → 0 < length (each_once ns)
+    some_counted [] k t = absurd (cc)
+    some_counted (j ∷ ns) k t = elim (cases_Bool (member j ns)) [
+      | inl m ↦ subst (λ b. 0 < length (cond b (each_once ns) (j ∷ each_once ns))) (sym m) (some_counted ns j m)
+      | inr f ↦ subst (λ b. 0 < length (cond b (each_once ns) (j ∷ each_once ns))) (sym f) (omega arith)
+    ]
+
+-- the group may have the mark from now on exactly where at most C groups have it then
+pub may_have_fits : (g : Geometry) (mark : Mark) (group : ℕ) (old new : Entries) (has : Bool) → ChangesGroup g mark group old new has → length (groups_with g (has_mark mark) old) ≤ g.c → (MayHave g old mark group has → length (groups_with g (has_mark mark) new) ≤ g.c) × (length (groups_with g (has_mark mark) new) ≤ g.c → MayHave g old mark group has)
+may_have_fits g mark group old new has change few =
+    let had = member group (numbers (λ x. x.0 / g.p) (has_mark mark) (entries old)) in
+    let sum = group_counts g mark group old new had has change.others (counts_group g mark old group) ((λ t. let x = change.there t in (x.0, x.3, (x.1, x.2, x.4))), λ x. change.from x.0 x.2.0 x.2.1 x.1 x.2.2) in (
+      λ may. by_case (length (groups_with g (has_mark mark) old)) (length (groups_with g (has_mark mark) new)) had has may (counts_group g mark old group).1 sum few refl,
+      λ fits. by_bits (length (groups_with g (has_mark mark) old)) (length (groups_with g (has_mark mark) new)) had has (counts_group g mark old group).0 sum fits refl,
+    )
+  where
+    one_of : (b : Bool) → b ≡ true → ◌≡◌ {A = ℕ} (cond b 1 0) 1
+    one_of b t = ap (λ c. cond c 1 0) t
+
+    none_of : (b : Bool) → b ≡ false → ◌≡◌ {A = ℕ} (cond b 1 0) 0
+    none_of b f = ap (λ c. cond c 1 0) f
+
+    bit_few : (b : Bool) → cond b 1 0 ≤ 1
+    bit_few true = omega arith
+    bit_few false = omega arith
+
+    by_case : (d d' : ℕ) (had has : Bool) → MayHave g old mark group has → (HasMarkIn g old mark group → had ≡ true) → d' + cond had 1 0 ≡ d + cond has 1 0 → d ≤ g.c → length (groups_with g (has_mark mark) old) ≡ d → d' ≤ g.c
+    by_case d d' had has (inl f) there sum few is = let no_one = none_of has f in omega (arith, sum, few, no_one)
+    by_case d d' had has (inr (inl low)) there sum few is = let one = bit_few has in omega (arith, sum, low, one, is)
+    by_case d d' had has (inr (inr x)) there sum few is = let one = one_of had (there x) in let most = bit_few has in omega (arith, sum, few, one, most)
+
+    by_bits : (d d' : ℕ) (had has : Bool) → (had ≡ true → HasMarkIn g old mark group) → d' + cond had 1 0 ≡ d + cond has 1 0 → d' ≤ g.c → length (groups_with g (has_mark mark) old) ≡ d → MayHave g old mark group has
+    by_bits d d' had false there sum fits is = inl refl
+    by_bits d d' true true there sum fits is = inr (inr (there refl))
+    by_bits d d' false true there sum fits is = inr (inl (omega (arith, sum, fits, is)))
+
+-- when it may
+module _ (g : Geometry) (m : Entries) (mark : Mark) (group : ℕ) (has : Bool) where
+  pub may_without : has ≡ false → IsTrue true ↔ MayHave g m mark group has
+  may_without f = (λ t. inl f, λ may. refl)
+
+  pub may_where_room : (now : ℕ) → now ≡ length (groups_with g (has_mark mark) m) → now < g.c → IsTrue true ↔ MayHave g m mark group has
+  may_where_room now is low = (λ t. inr (inl (omega arith)), λ may. refl)
+
+  pub may_where_full : (now : ℕ) (b : Bool) → has ≡ true → now ≡ length (groups_with g (has_mark mark) m) → g.c ≤ now → (IsTrue b ↔ HasMarkIn g m mark group) → IsTrue b ↔ MayHave g m mark group has
+  may_where_full now b t is full marked = (
+    λ u. inr (inr (marked.0 u)),
+    λ may. elim may [
+      | inl f ↦ absurd (both_ways has f t)
+      | inr other ↦ elim other [
+        | inl low ↦ absurd (omega (arith, is, full, low))
+        | inr x ↦ marked.1 x
+      ]
+    ],
+  )
 
 -- ---- numbers within a range
 

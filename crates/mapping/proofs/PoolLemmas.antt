@@ -1,5 +1,5 @@
 -- A map has no more entries than its pool has pages.
-use Rattle.std.proofs.Common.{◌≡◌, ℕ, zero, suc, ◌+◌, ◌-◌, ◌*◌, ◌/◌, ◌%◌, ◌<◌, ◌≤◌, ◌==◌, Bool, true, false, cond, List, [], ◌∷◌, length, get_or, map, refl, sym, ◌∙◌, ap, subst, arith, inl, inr, nat_cmp, eqb-true, ◌^◌}
+use Rattle.std.proofs.Common.{◌≡◌, ℕ, zero, suc, ◌+◌, ◌-◌, ◌*◌, ◌/◌, ◌%◌, ◌<◌, ◌≤◌, ◌==◌, Bool, true, false, cond, List, [], ◌∷◌, length, get_or, map, refl, sym, ◌∙◌, ap, subst, arith, inl, inr, nat_cmp, eqb-true}
 use Rattle.std.specs.FinMap.{from_entries}
 use Rattle.std.proofs.lemmas.Bool.{cases_Bool, or_cases}
 use Rattle.std.proofs.lemmas.Nat.{div-mul-add, mod-mul-add, mul-add-lt}
@@ -99,15 +99,3 @@ module _ (g : Geometry) (items : Items) (up : Ascends items) (is_map : IsMap g (
       (omega arith, omega (arith, low, is))) in
       let most = count_most (λ k. member k ns) 0 ((g.c + g.l + 1) * g.p) in
       omega (arith, long, all, counted, most)
-
-  pub entries_fit : length items < 2 ^ 20
-  entries_fit =
-      let few = few_entries in
-      let c = g.in_range.c_high in
-      let l = g.in_range.l_high in
-      let p = g.in_range.p_high in
-      let product : (g.c + g.l + 1) * g.p ≤ 577 * 64 = mul_le (g.c + g.l + 1) 577 g.p 64 (omega arith) p in
-      omega arith
-    where
-      mul_le : (a b c d : ℕ) → a ≤ b → c ≤ d → a * c ≤ b * d
-      mul_le a b c d le le' = grind arith

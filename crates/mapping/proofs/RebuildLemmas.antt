@@ -1,10 +1,10 @@
 -- The records of a checkpoint build the map from nothing.
-use Rattle.std.proofs.Common.{◌≡◌, ℕ, zero, suc, ◌+◌, ◌-◌, ◌*◌, ◌/◌, ◌%◌, ◌<◌, ◌≤◌, ◌==◌, ◌&&◌, ◌||◌, Bool, true, false, cond, not, List, [], ◌∷◌, ◌++◌, map, filter, Option, Some, None, refl, sym, ◌∙◌, ap, ap₂, subst, arith, inl, inr, ◌⊎◌, nat_cmp, eqb-true, lt-ltb, if◌then◌else◌}
+use Rattle.std.proofs.Common.{◌≡◌, ℕ, ◌+◌, ◌-◌, ◌*◌, ◌/◌, ◌%◌, ◌<◌, ◌≤◌, ◌==◌, ◌&&◌, ◌||◌, Bool, true, false, cond, not, List, [], ◌∷◌, ◌++◌, map, filter, Option, Some, None, refl, sym, ◌∙◌, ap, ap₂, subst, arith, inl, inr, ◌⊎◌, nat_cmp, eqb-true, lt-ltb, if◌then◌else◌}
 use Rattle.std.specs.Bool.{then_some}
 use Rattle.std.specs.List.{AllByRecursion}
 use Rattle.std.specs.Cmp.{nat_cmp_total}
 use Rattle.std.specs.FinMap.{get, entries, get-empty, same_map, nat_cmp-IsAntisymmetric}
-use Rattle.std.proofs.lemmas.Bool.{cases_Bool, cases_eq, or_left, or_right, both_ways, not-true}
+use Rattle.std.proofs.lemmas.Bool.{cases_Bool, or_left, or_right, both_ways, not-true}
 use Rattle.std.proofs.lemmas.Bool.Decides.{nat_tests}
 use Rattle.mapping.proofs.AscendingLemmas.{Items}
 use Rattle.std.proofs.lemmas.Nat.{div-mul-add, div-add-mod', mod_below}
@@ -21,9 +21,10 @@ use Rattle.cache_model.proofs.MapLemmas.{all_entries}
 use Rattle.mapping.proofs.MarksLemmas.{member_from, member_to}
 use Rattle.mapping.specs.declared.bits.Choice.TheVariants.{Mapped, MappedDirty}
 use Rattle.mapping.specs.Bits.{chosen_of, is_chosen}
-use Rattle.mapping.specs.Checkpoint.{set_group_of, set_page_of, block_or, block_below, checkpoint_records}
+use Rattle.mapping.specs.Checkpoint.{set_group_of, set_page_of, block_below, checkpoint_records, ListsGroups, ListsPages, IsCheckpoint}
 use Rattle.mapping.proofs.BitsLemmas.{bit_of_set, set_below}
 use Rattle.mapping.proofs.CountsLemmas.{div_mono}
+use Rattle.mapping.proofs.ChosenLemmas.{block_is}
 
 -- the entry, if it stands in a data block
 abbrev only_mapped : Option Entry → Option Entry
@@ -40,31 +41,6 @@ module _ (g : Geometry) (m : Entries) (is_map : IsMap g m) where
 
   some_pages : 0 < g.p
   some_pages = omega (arith, g.in_range.p_low)
-
-  -- ---- the data block of a group
-
-  block_is : (first n i : ℕ) (e : Entry) → i < n → get m (first + i) ≡ Some e → e.block_mapped ≡ true → ((j : ℕ) (f : Entry) → j < n → get m (first + j) ≡ Some f → f.block_mapped ≡ true → f.place.block ≡ e.place.block) → block_below m first n ≡ e.place.block
-  block_is first zero i e low at mapped same = absurd (omega arith)
-  block_is first (suc n) i e low at mapped same = by_last (get m (first + n)) refl (λ below. block_is first n i e below at mapped (λ j f low'. same j f (omega arith)))
-    where
-      some_none : (x : Entry) → Some x ≡ None → ⊥
-      some_none x s = absurd (cc)
-
-      some_same : (x y : Entry) → Some x ≡ Some y → x ≡ y
-      some_same x y s = cc
-
-      by_last : (o : Option Entry) → get m (first + n) ≡ o → (i < n → block_below m first n ≡ e.place.block) → block_or o (block_below m first n) ≡ e.place.block
-      by_last None is rest = rest (elim (cases_eq i n) [
-        | inl s ↦ absurd (some_none e (sym at ∙ ap (λ k. get m (first + k)) s ∙ is))
-        | inr other ↦ omega arith
-      ])
-      by_last (Some f) is rest = elim (cases_Bool f.block_mapped) [
-        | inl t ↦ ap (λ b. cond b f.place.block (block_below m first n)) t ∙ same n f (omega arith) is t
-        | inr f' ↦ ap (λ b. cond b f.place.block (block_below m first n)) f' ∙ rest (elim (cases_eq i n) [
-          | inl s ↦ absurd (both_ways e.block_mapped (ap (λ (x : Entry). x.block_mapped) (some_same e f (sym at ∙ ap (λ k. get m (first + k)) s ∙ is)) ∙ f') mapped)
-          | inr other ↦ omega arith
-        ])
-      ]
 
   -- what a group's record puts at an address of the group is what the map has there in a data block
   group_page : (group a : ℕ) → a / g.p ≡ group → page_of_group (block_below m (group * g.p) g.p) (chosen_of Mapped g m group) (chosen_of MappedDirty g m group) (a % g.p) ≡ only_mapped (get m a)
@@ -90,7 +66,7 @@ module _ (g : Geometry) (m : Entries) (is_map : IsMap g m) where
       by_entry (Some e) is = elim (cases_Bool e.block_mapped) [
         | inl t ↦
             let own = is_map.own_block a a e e is is t refl in
-            let block_same : block_below m (group * g.p) g.p ≡ e.place.block = block_is (group * g.p) g.p (a % g.p) e low (ap (get m) whole ∙ is) t (λ j f low' at mapped. is_map.one_block a (group * g.p + j) e f is at t mapped (div-mul-add group g.p j low' ∙ sym in_group)) in
+            let block_same : block_below m (group * g.p) g.p ≡ e.place.block = block_is m (group * g.p) g.p (a % g.p) e low (ap (get m) whole ∙ is) t (λ j f low' at mapped. is_map.one_block a (group * g.p + j) e f is at t mapped (div-mul-add group g.p j low' ∙ sym in_group)) in
             let dirty_same : has_bit (chosen_of MappedDirty g m group) (a % g.p) ≡ e.dirty = dirty_bit true ∙ ap (is_chosen MappedDirty) is ∙ ap (λ b. b && e.dirty) t in
             let same : record { place = record { block = block_below m (group * g.p) g.p; page = a % g.p }; dirty = has_bit (chosen_of MappedDirty g m group) (a % g.p); block_mapped = true } ≡ e = λ k. record { place = record { block = block_same k; page = sym own.page k }; dirty = dirty_same k; block_mapped = sym t k } in
             ap (λ b. then_some b (record { place = record { block = block_below m (group * g.p) g.p; page = a % g.p }; dirty = has_bit (chosen_of MappedDirty g m group) (a % g.p); block_mapped = true })) (bit true ∙ ap (is_chosen Mapped) is ∙ t)
@@ -254,56 +230,88 @@ module _ (g : Geometry) (m : Entries) (is_map : IsMap g m) where
       none_some : (x : Entries) → None ≡ Some x → ⊥
       none_some x s = absurd (cc)
 
-  member_once : (k : ℕ) (ns : List ℕ) → member k (each_once ns) ≡ member k ns
-  member_once k [] = refl
-  member_once k (n ∷ ns) = elim (cases_Bool (member n ns)) [
-    | inl t ↦ ap (λ b. member k (cond b (each_once ns) (n ∷ each_once ns))) t ∙ member_once k ns ∙ again t
-    | inr f ↦ ap (λ b. member k (cond b (each_once ns) (n ∷ each_once ns))) f ∙ ap (λ b. (n == k) || b) (member_once k ns)
-  ]
-    where
-      again : member n ns ≡ true → member k ns ≡ ((n == k) || member k ns)
-      again t = elim (cases_Bool (n == k)) [
-        | inl s ↦ ap (λ j. member j ns) (sym (eqb-true _ _ s)) ∙ t ∙ sym (ap (λ b. b || member k ns) s)
-        | inr f ↦ sym (ap (λ b. b || member k ns) f)
-      ]
-
   nothing : (a : ℕ) → get no_entries a ≡ None
   nothing a = get-empty nat_cmp a
 
-  are_groups : AreGroups (groups_with g (λ e. e.block_mapped) m)
-  are_groups = record {
-    entry = λ k t.
-        let x = member_to (λ x. x.0 / g.p) (λ e. e.block_mapped) m k (sym (member_once k (numbers (λ x. x.0 / g.p) (λ e. e.block_mapped) (entries m))) ∙ t) in
-        (x.0.0, x.0.1, x.1, x.3);
-  }
+  are_groups : (groups : List ℕ) → ListsGroups g m groups → AreGroups groups
+  are_groups groups listed = record { entry = λ k t. let x = listed.each k t in (x.0, x.1, x.2, x.4) }
+
+  all_pass : (es : Items) → AllByRecursion (λ x. (get m x.0 ≡ Some x.1) × (page_mapped x.1 ≡ true)) es → filter (λ x. page_mapped x.1) es ≡ es
+  all_pass [] all = refl
+  all_pass (x ∷ es) all = ap (λ b. cond b (x ∷ filter (λ x. page_mapped x.1) es) (filter (λ x. page_mapped x.1) es)) all.0.1 ∙ ap (λ (l : Items). x ∷ l) (all_pass es all.1)
+
+  all_held : (es : Items) → AllByRecursion (λ x. (get m x.0 ≡ Some x.1) × (page_mapped x.1 ≡ true)) es → AllByRecursion (λ x. get m x.0 ≡ Some x.1) es
+  all_held [] all = tt
+  all_held (x ∷ es) all = (all.0.0, all_held es all.1)
 
   pick : (b : Bool) (x y : Option Entry) → (b ≡ false → y ≡ x) → cond b x y ≡ x
   pick true x y same = refl
   pick false x y same = same refl
 
-  same_entries : (groups : List ℕ) (n1 n2 : Entries) → groups ≡ groups_with g (λ e. e.block_mapped) m → GroupsBuilt groups no_entries n1 → PagesBuilt (entries m) n1 n2 → (a : ℕ) → get n2 a ≡ get m a
-  same_entries groups n1 n2 are one two a = two.has a ∙ pick (member a (pages_of (entries m))) (get m a) (get n1 a) (by_entry (get m a) refl)
+  same_entries : (groups : List ℕ) (pages : Items) (n1 n2 : Entries) → ListsGroups g m groups → ListsPages m pages → GroupsBuilt groups no_entries n1 → PagesBuilt pages n1 n2 → (a : ℕ) → get n2 a ≡ get m a
+  same_entries groups pages n1 n2 of_groups of_pages one two a = two.has a ∙ pick (member a (pages_of pages)) (get m a) (get n1 a) (by_entry (get m a) refl)
     where
       either_way : (b : Bool) (o : Option Entry) → cond b o o ≡ o
       either_way true o = refl
       either_way false o = refl
 
-      by_entry : (o : Option Entry) → get m a ≡ o → member a (pages_of (entries m)) ≡ false → get n1 a ≡ get m a
+      listed : (e : Entry) → get m a ≡ Some e → page_mapped e ≡ true → member a (pages_of pages) ≡ true
+      listed e is t = ap (λ (l : Items). member a (map (λ (x : ℕ × Entry). x.0) l)) (all_pass pages of_pages.each) ∙ of_pages.all a e is t
+
+      by_entry : (o : Option Entry) → get m a ≡ o → member a (pages_of pages) ≡ false → get n1 a ≡ get m a
       by_entry None is f = one.has a ∙ ap₂ (λ x y. cond (member (a / g.p) groups) (only_mapped x) y) is (nothing a) ∙ either_way (member (a / g.p) groups) None ∙ sym is
       by_entry (Some e) is f = elim (cases_Bool e.block_mapped) [
-        | inl t ↦
-            let there : member (a / g.p) groups ≡ true = ap (member (a / g.p)) are ∙ member_once (a / g.p) (numbers (λ x. x.0 / g.p) (λ e. e.block_mapped) (entries m)) ∙ member_from (λ x. x.0 / g.p) (λ e. e.block_mapped) m a e is t in
-            one.has a ∙ ap (λ b. cond b (only_mapped (get m a)) (get no_entries a)) there ∙ ap only_mapped is ∙ ap (λ b. cond b (Some e) None) t ∙ sym is
-        | inr f' ↦ absurd (both_ways (member a (pages_of (entries m))) f (member_from (λ x. x.0) page_mapped m a e is (ap not f')))
+        | inl t ↦ one.has a ∙ ap (λ b. cond b (only_mapped (get m a)) (get no_entries a)) (of_groups.all a e is t) ∙ ap only_mapped is ∙ ap (λ b. cond b (Some e) None) t ∙ sym is
+        | inr f' ↦ absurd (both_ways (member a (pages_of pages)) f (listed e is (ap not f')))
       ]
 
-  pub rebuilt : after_all g (checkpoint_records g m) no_entries ≡ Some m
-  rebuilt =
-      let groups = groups_with g (λ e. e.block_mapped) m in
-      let one = groups_built groups no_entries (record { held = λ a e is. absurd (none_some e (sym (nothing a) ∙ is)) }) are_groups in
-      let two = pages_built (entries m) one.0 one.1.part (all_entries m (λ a e. get m a ≡ Some e) (λ a e is. is)) in
-      all_then (map (set_group_of g m) groups) (map set_page_of (filter (λ x. page_mapped x.1) (entries m))) no_entries one.0 one.1.built ∙ two.1.built
-      ∙ ap Some (same_map nat_cmp_total nat_cmp-IsAntisymmetric two.0 m (same_entries groups one.0 two.0 refl one.1 two.1))
+  pub rebuilt : (records : List Record) → IsCheckpoint g m records → after_all g records no_entries ≡ Some m
+  rebuilt records listed =
+      let one = groups_built listed.groups no_entries (record { held = λ a e is. absurd (none_some e (sym (nothing a) ∙ is)) }) (are_groups listed.groups listed.of_groups) in
+      let two = pages_built listed.pages one.0 one.1.part (all_held listed.pages listed.of_pages.each) in
+      ap (λ (l : List Record). after_all g l no_entries) listed.are
+      ∙ all_then (map (set_group_of g m) listed.groups) (map set_page_of listed.pages) no_entries one.0 one.1.built
+      ∙ ap (λ (l : Items). after_all g (map set_page_of l) one.0) (sym (all_pass listed.pages listed.of_pages.each)) ∙ two.1.built
+      ∙ ap Some (same_map nat_cmp_total nat_cmp-IsAntisymmetric two.0 m (same_entries listed.groups listed.pages one.0 two.0 listed.of_groups listed.of_pages one.1 two.1))
     where
       none_some : (x : Entry) → None ≡ Some x → ⊥
       none_some x s = absurd (cc)
+
+-- ---- the listing in ascending order
+
+member_once : (k : ℕ) (ns : List ℕ) → member k (each_once ns) ≡ member k ns
+member_once k [] = refl
+member_once k (n ∷ ns) = elim (cases_Bool (member n ns)) [
+  | inl t ↦ ap (λ b. member k (cond b (each_once ns) (n ∷ each_once ns))) t ∙ member_once k ns ∙ again t
+  | inr f ↦ ap (λ b. member k (cond b (each_once ns) (n ∷ each_once ns))) f ∙ ap (λ b. (n == k) || b) (member_once k ns)
+]
+  where
+    again : member n ns ≡ true → member k ns ≡ ((n == k) || member k ns)
+    again t = elim (cases_Bool (n == k)) [
+      | inl s ↦ ap (λ j. member j ns) (sym (eqb-true _ _ s)) ∙ t ∙ sym (ap (λ b. b || member k ns) s)
+      | inr f ↦ sym (ap (λ b. b || member k ns) f)
+    ]
+
+all_kept : (P : ℕ × Entry → Type 0) (t : Entry → Bool) (es : Items) → AllByRecursion P es → AllByRecursion (λ x. P x × (t x.1 ≡ true)) (filter (λ x. t x.1) es)
+all_kept P t [] all = tt
+all_kept P t (x ∷ es) all = elim (cases_Bool (t x.1)) [
+  | inl y ↦ subst (λ b. AllByRecursion (λ x. P x × (t x.1 ≡ true)) (cond b (x ∷ filter (λ x. t x.1) es) (filter (λ x. t x.1) es))) (sym y) ((all.0, y), all_kept P t es all.1)
+  | inr f ↦ subst (λ b. AllByRecursion (λ x. P x × (t x.1 ≡ true)) (cond b (x ∷ filter (λ x. t x.1) es) (filter (λ x. t x.1) es))) (sym f) (all_kept P t es all.1)
+]
+
+pub ascending : (g : Geometry) (m : Entries) → IsCheckpoint g m (checkpoint_records g m)
+ascending g m = record {
+  groups = groups_with g (λ e. e.block_mapped) m;
+  pages = filter (λ x. page_mapped x.1) (entries m);
+  are = refl;
+  of_groups = record {
+    each = λ k t. let x = member_to (λ x. x.0 / g.p) (λ e. e.block_mapped) m k (sym (member_once k (numbers (λ x. x.0 / g.p) (λ e. e.block_mapped) (entries m))) ∙ t) in (x.0.0, x.0.1, x.1, x.2, x.3);
+    all = λ a e is t. member_once (a / g.p) (numbers (λ x. x.0 / g.p) (λ e. e.block_mapped) (entries m)) ∙ member_from (λ x. x.0 / g.p) (λ e. e.block_mapped) m a e is t;
+    once = refl;
+  };
+  of_pages = record {
+    each = all_kept (λ x. get m x.0 ≡ Some x.1) page_mapped (entries m) (all_entries m (λ a e. get m a ≡ Some e) (λ a e is. is));
+    all = λ a e is t. member_from (λ x. x.0) page_mapped m a e is t;
+    once = refl;
+  };
+}

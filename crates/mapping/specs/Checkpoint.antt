@@ -1,5 +1,6 @@
 -- The records of a checkpoint of a map.
-use Rattle.std.specs.Prelude.{◌≡◌, ℕ, zero, suc, ◌+◌, ◌-◌, ◌*◌, ◌<◌, ◌≤◌, if◌then◌else◌, List, ◌++◌, map, filter, length, slice_index_or, Option, None, Some}
+use Rattle.std.specs.Prelude.{◌≡◌, ℕ, zero, suc, ◌+◌, ◌-◌, ◌*◌, ◌/◌, ◌<◌, ◌≤◌, ◌==◌, true, if◌then◌else◌, List, ◌++◌, map, filter, length, slice_index_or, Option, None, Some}
+use Rattle.std.specs.List.{list_any, AllByRecursion}
 use Rattle.std.specs.FinMap.{get, entries}
 use Rattle.ft_base.specs.declared.geometry.Geometry.{Geometry}
 use Rattle.ft_base.specs.declared.record.Record.{Record}
@@ -28,7 +29,27 @@ set_group_of g m group = SetGroup group (block_below m (group * g.p) g.p) (chose
 abbrev pub set_page_of : ℕ × Entry → Record
 set_page_of x = SetPage x.0 x.1.place x.1.dirty
 
--- each group with a data block, and then each page-mapped entry
+-- the groups with a data block, each once, in some order
+pub record ListsGroups (g : Geometry) (m : Entries) (groups : List ℕ) : Type 0 where
+  pub each : (k : ℕ) → list_any (λ n. n == k) groups ≡ true → (a : ℕ) × (e : Entry) × (get m a ≡ Some e) × (e.block_mapped ≡ true) × (a / g.p ≡ k)
+  pub all : (a : ℕ) (e : Entry) → get m a ≡ Some e → e.block_mapped ≡ true → list_any (λ n. n == a / g.p) groups ≡ true
+  pub once : length groups ≡ length (groups_with g (λ e. e.block_mapped) m)
+
+-- the page-mapped entries, each once, in some order
+pub record ListsPages (m : Entries) (pages : List (ℕ × Entry)) : Type 0 where
+  pub each : AllByRecursion (λ x. (get m x.0 ≡ Some x.1) × (page_mapped x.1 ≡ true)) pages
+  pub all : (a : ℕ) (e : Entry) → get m a ≡ Some e → page_mapped e ≡ true → list_any (λ n. n == a) (map (λ x. x.0) pages) ≡ true
+  pub once : length pages ≡ length (filter (λ x. page_mapped x.1) (entries m))
+
+-- what sets each group with a data block, and then what sets each page-mapped entry, each once, in some order
+pub record IsCheckpoint (g : Geometry) (m : Entries) (records : List Record) : Type 0 where
+  pub groups : List ℕ
+  pub pages : List (ℕ × Entry)
+  pub are : records ≡ map (set_group_of g m) groups ++ map set_page_of pages
+  pub of_groups : ListsGroups g m groups
+  pub of_pages : ListsPages m pages
+
+-- each group with a data block, and then each page-mapped entry, in ascending order
 abbrev pub checkpoint_records : Geometry → Entries → List Record
 checkpoint_records g m = map (set_group_of g m) (groups_with g (λ e. e.block_mapped) m) ++ map set_page_of (filter (λ x. page_mapped x.1) (entries m))
 

@@ -1,5 +1,5 @@
 -- Counts and selections of the entries of a map.
-use Rattle.std.specs.Prelude.{◌≡◌, ℕ, ◌/◌, Bool, List, map, filter, length, count_by, Some}
+use Rattle.std.specs.Prelude.{◌≡◌, ℕ, Bool, length, count_by, Some}
 use Rattle.std.specs.FinMap.{get, entries}
 use Rattle.ft_base.specs.declared.geometry.Geometry.{Geometry}
 use Rattle.ft_base.specs.declared.block.Place.{Place}
@@ -27,10 +27,6 @@ abbrev pub has_mark : Mark → Entry → Bool
 has_mark Dirty e = e.dirty
 has_mark BlockMapped e = e.block_mapped
 
--- the groups of marked entries along a list
-abbrev pub groups_along : ℕ → Mark → List (ℕ × Entry) → List ℕ
-groups_along pages mark items = map (λ x. x.0 / pages) (filter (λ x. has_mark mark x.1) items)
-
 -- the address has this place
 abbrev pub Owns : Entries → Place → ℕ → Type 0
 Owns m at a = (e : Entry) × (get m a ≡ Some e) × (e.place ≡ at)
@@ -38,7 +34,3 @@ Owns m at a = (e : Entry) × (get m a ≡ Some e) × (e.place ≡ at)
 -- what is told of an address that is held
 abbrev pub place_and_mark : Entry → Place × Bool
 place_and_mark e = (e.place, e.dirty)
-
--- what is told of an entry in its turn
-abbrev pub address_and_place : ℕ × Entry → ℕ × Place
-address_and_place x = (x.0, x.1.place)

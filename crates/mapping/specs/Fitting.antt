@@ -1,39 +1,10 @@
 -- What is looked for among the entries, before a change is taken.
-use Rattle.std.specs.Prelude.{◌≡◌, ℕ, zero, suc, ◌+◌, ◌*◌, ◌/◌, ◌<◌, ◌≤◌, true, Some, ◌==◌, ◌&&◌, ◌||◌, not, Bool, List, if◌then◌else◌}
-use Rattle.std.specs.List.{list_any}
+use Rattle.std.specs.Prelude.{◌≡◌, ℕ, zero, suc, ◌+◌, ◌*◌, ◌/◌, ◌<◌, ◌≤◌, true, Some, Bool, if◌then◌else◌}
 use Rattle.std.specs.FinMap.{get}
 use Rattle.ft_base.specs.declared.geometry.Geometry.{Geometry}
 use Rattle.ft_base.specs.Layout.{first_pool, blocks}
 use Rattle.cache_model.specs.Records.{Entries, has_bit}
-use Rattle.ft_base.specs.declared.block.Place.{Place}
-use Rattle.ft_base.specs.Contents.{same_place}
 use Rattle.cache_model.specs.declared.entry.Entry.{Entry}
-use Rattle.mapping.specs.declared.marks.Mark.{Mark}
-use Rattle.mapping.specs.Counts.{has_mark}
-
--- the entry of another address has the place, or has its erase block as a data block
-abbrev pub clashes_with : ℕ → Place → ℕ × Entry → Bool
-clashes_with lba at x = not (x.0 == lba) && (same_place x.1.place at || (x.1.block_mapped && (x.1.place.block == at.block)))
-
--- the entry of another address stands in this log block
-abbrev pub is_log_page_beside : ℕ → ℕ → ℕ × Entry → Bool
-is_log_page_beside lba block x = not (x.0 == lba) && (not x.1.block_mapped && (x.1.place.block == block))
-
--- the erase block has a page-mapped entry, where that of the address stands in block `placed`
-abbrev pub would_log : ℕ → ℕ → List (ℕ × Entry) → ℕ → Bool
-would_log lba placed items block = block == placed || list_any (is_log_page_beside lba block) items
-
--- the entry of another address of the group is dirty
-abbrev pub is_dirty_beside : ℕ → ℕ → ℕ → ℕ × Entry → Bool
-is_dirty_beside lba pages group x = not (x.0 == lba) && (x.1.dirty && (x.0 / pages == group))
-
--- an entry of the group has the mark
-abbrev pub is_marked_in : Mark → ℕ → ℕ → ℕ × Entry → Bool
-is_marked_in mark pages group x = has_mark mark x.1 && (x.0 / pages == group)
-
--- an entry of another group stands in the erase block
-abbrev pub is_foreign_in : ℕ → ℕ → ℕ → ℕ × Entry → Bool
-is_foreign_in pages group block x = not (x.0 / pages == group) && (x.1.place.block == block)
 
 -- how many of the numbers from here on, so many, pass a test
 abbrev pub count_range : (ℕ → Bool) → ℕ → ℕ → ℕ

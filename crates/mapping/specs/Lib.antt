@@ -4,3 +4,10 @@ pub mod Counts
 pub mod Fitting
 pub mod Bits
 pub mod Checkpoint
+pub mod Numbers
+pub mod Packed
+pub mod Index
+pub mod Ranges
+pub mod Seeking
+pub mod Kept
+pub mod Candidates

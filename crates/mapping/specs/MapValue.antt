@@ -1,7 +1,6 @@
 -- What the layers above see of a map.
-use Rattle.std.specs.Prelude.{ℕ, ◌≤◌, ◌+◌, ◌*◌, ◌^◌, List, Bool, refl}
-use Rattle.std.specs.Ordering.{nat_cmp}
-use Rattle.std.specs.FinMap.{from_entries, code}
+use Rattle.std.specs.Prelude.{ℕ, List, Bool, refl}
+use Rattle.std.specs.FinMap.{code}
 use Rattle.std.specs.Coded.{Coded, code_by, coded×, coded_ℕ, coded_bool}
 use Rattle.ft_base.specs.declared.block.Place.{Place}
 use Rattle.ft_base.specs.declared.geometry.Geometry.{Geometry}
@@ -9,8 +8,6 @@ use Rattle.ft_base.specs.declared.record.Record.{Record}
 use Rattle.ft_base.specs.declared.record.Record.TheVariants.{SetPage, Remove, Clean, SetGroup, RemoveGroup}
 use Rattle.cache_model.specs.declared.entry.Entry.{Entry}
 use Rattle.cache_model.specs.Records.{Entries}
-use Rattle.cache_model.specs.Entries.{IsMap}
-use Rattle.mapping.specs.Ascending.{Ascends}
 
 -- places, entries and maps of entries, as data that are told apart
 abbrev pub place_code : Coded Place
@@ -22,20 +19,14 @@ entry_code = code_by (Place × (Bool × Bool)) (coded× place_code (coded× code
 abbrev pub entries_code : Coded Entries
 entries_code = code coded_ℕ entry_code
 
--- a map of a geometry: its entries, and for how many changes of a page and of a group it has room
+-- a map of a geometry: its entries, for how many changes of a page and of a group it has room, the records of a checkpoint in its own order, and the buckets of its page-mapped part
 pub record MapValue : Type 0 where
   pub geometry : Geometry
   pub entries : Entries
   pub spare_pages : ℕ
   pub spare_groups : ℕ
-
--- what a list of so many entries, with room for so many, keeps
-pub record IsKept (g : Geometry) (items : List (ℕ × Entry)) (len capacity pages groups : ℕ) : Type 0 where
-  pub order : Ascends items
-  pub is_map : IsMap g (from_entries {R = nat_cmp} items)
-  pub room : len + pages + g.p * groups ≤ capacity
-  pub few_pages : pages ≤ 2 ^ 20
-  pub few_groups : groups ≤ 2 ^ 20
+  pub records : List Record
+  pub buckets : ℕ
 
 -- how much room a record takes
 abbrev pub pages_taken : Record → ℕ

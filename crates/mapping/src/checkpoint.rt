@@ -1,28 +1,14 @@
-//! The records of a checkpoint.
-ghost use Rattle.std.specs.Prelude.{◌≡◌, ◌<◌, ◌≤◌, ◌+◌, ◌-◌, ◌*◌, ◌/◌, ◌^◌, ◌++◌, ◌∷◌, [], ℕ, List, map, filter, length, count_by, not, min, take, drop};
-ghost use Rattle.std.specs.Ordering.{nat_cmp};
-ghost use Rattle.std.specs.FinMap.{from_entries};
+//! The records of a checkpoint, offered one after another.
+ghost use Rattle.std.specs.Prelude.{◌≡◌, ◌<◌, ◌≤◌, ◌+◌, ◌-◌, ◌^◌, ◌++◌, ◌∷◌, [], List, map, length, ◌⊎◌, true};
 ghost use Rattle.ft_base.specs.declared.record.Record.{Record as RecordValue};
-ghost use Rattle.cache_model.specs.Entries.{IsMap, each_once, page_mapped};
-ghost use Rattle.mapping.specs.declared.marks.Mark.TheVariants.{BlockMapped};
-ghost use Rattle.mapping.specs.Ascending.{Ascends};
-ghost use Rattle.mapping.specs.Counts.{groups_along};
-ghost use Rattle.mapping.specs.Checkpoint.{set_group_of, set_page_of, block_or, block_below, checkpoint_records, HasWindow};
+ghost use Rattle.sparse_map.specs.Slots.{items_of};
+ghost use Rattle.mapping.specs.Checkpoint.{HasWindow};
+ghost use Rattle.mapping.specs.Packed.{page_record, block_record};
 
-use crate::bits::Choice;
-use crate::counts::{count_groups, is_last};
-use crate::list::entry_of;
-use crate::marks::Mark;
-use crate::sets::chosen;
-use cache_model::Entry;
-use ft_base::{Geometry, Record};
-
-/// How many entries stand in log blocks.
-pub fn count_pages(items: &[(u64, Entry)]) -> usize
-    ensures { result ≡ count_by (λ x. page_mapped x.1) items.now }
-{
-    items.iter().filter(|item| !item.1.block_mapped).count()
-}
+use crate::log_page::LogPage;
+use block_map::BlockAt;
+use ft_base::Record;
+use sparse_map::SparseMap;
 
 /// Puts record number `at` where it belongs, if the window from number `from` on has it.
 fn offer(out: &mut [Record], from: usize, at: usize, change: Record)
@@ -33,119 +19,103 @@ fn offer(out: &mut [Record], from: usize, at: usize, change: Record)
     }
 }
 
-/// The data block of an entry that has one, or else this block.
-fn block_or(entry: Option<Entry>, block: u32) -> u32
-    ensures { result ≡ block_or entry block }
+/// Whether the window from number `from` on has none of so many records after the first ones.
+fn is_outside(out: &[Record], from: usize, before: usize, count: usize) -> bool
+    requires { before + count < 2 ^ 64 }
+    ensures { result ≡ true → (before + count ≤ from) ⊎ (from + length out.now ≤ before) }
 {
-    match entry {
-        Some(found) if found.block_mapped => found.place.block,
-        _ => block,
+    before + count <= from || before >= from && before - from >= out.len()
+}
+
+/// What sets a page of a log block.
+fn page_record(item: &(u64, LogPage)) -> Record
+    ensures { result ≡ page_record item.now }
+{
+    Record::SetPage {
+        lba: item.0,
+        place: item.1.place,
+        dirty: item.1.dirty,
     }
 }
 
-/// The data block that a group stands in.
-fn block_of(items: &[(u64, Entry)], geometry: &Geometry, group: u64) -> u32
-    requires order { Ascends items.now }
-    requires group { group ≤ (geometry.now.size - 1) / geometry.now.p }
-    ensures { result ≡ block_below (from_entries {R = nat_cmp} items.now) (group * geometry.now.p) geometry.now.p }
-{
-    let first = group * geometry.p as u64;
-    let mut block = 0;
-    for page in 0..geometry.p {
-        block = block_or(entry_of(items, first + page as u64), block);
-    }
-    block
-}
-
-/// What sets the data block of a group.
-fn set_group(items: &[(u64, Entry)], geometry: &Geometry, group: u64) -> Record
-    requires order { Ascends items.now }
-    requires group { group ≤ (geometry.now.size - 1) / geometry.now.p }
-    ensures { result ≡ set_group_of geometry.now (from_entries {R = nat_cmp} items.now) group }
+/// What sets a data block.
+fn block_record(item: &(u64, BlockAt)) -> Record
+    ensures { result ≡ block_record item.now }
 {
     Record::SetGroup {
-        group,
-        block: block_of(items, geometry, group),
-        present: chosen(items, geometry, Choice::Mapped, group),
-        dirty: chosen(items, geometry, Choice::MappedDirty, group),
+        group: item.0,
+        block: item.1.block(),
+        present: item.1.present(),
+        dirty: item.1.dirty(),
     }
 }
 
-/// Offers the records of the groups with a data block, and says how many there are.
-fn offer_groups(
-    items: &[(u64, Entry)],
-    geometry: &Geometry,
+/// Offers the records of these log pages, which come after so many others.
+fn offer_pages(items: &[(u64, LogPage)], before: usize, from: usize, out: &mut [Record])
+    requires { before + length items.now < 2 ^ 64 }
+    ensures { (records : List RecordValue) → length records ≡ before → HasWindow records from out.old → HasWindow (records ++ map page_record items.now) from out.new }
+{
+    if is_outside(out, from, before, items.len()) {
+        return;
+    }
+    let mut at = before;
+    for item in items {
+        offer(out, from, at, page_record(item));
+        at += 1;
+    }
+}
+
+/// Offers the records of these data blocks, which come after so many others.
+fn offer_blocks(items: &[(u64, BlockAt)], before: usize, from: usize, out: &mut [Record])
+    requires { before + length items.now < 2 ^ 64 }
+    ensures { (records : List RecordValue) → length records ≡ before → HasWindow records from out.old → HasWindow (records ++ map block_record items.now) from out.new }
+{
+    if is_outside(out, from, before, items.len()) {
+        return;
+    }
+    let mut at = before;
+    for item in items {
+        offer(out, from, at, block_record(item));
+        at += 1;
+    }
+}
+
+/// Offers the records of all log pages, which come after so many others.
+pub fn offer_all_pages(
+    pages: &SparseMap<LogPage>,
+    before: usize,
     from: usize,
     out: &mut [Record],
 ) -> usize
-    requires order { Ascends items.now }
-    requires is_map { IsMap geometry.now (from_entries {R = nat_cmp} items.now) }
-    ensures count { result ≡ length (each_once (groups_along geometry.now.p BlockMapped items.now)) }
-    ensures window { HasWindow (map (set_group_of geometry.now (from_entries {R = nat_cmp} items.now)) (each_once (groups_along geometry.now.p BlockMapped items.now))) from out.new }
-    ensures few { result ≤ length items.now }
+    requires { before + length (items_of pages.now.slots) < 2 ^ 64 }
+    ensures count { result ≡ before + length (items_of pages.now.slots) }
+    ensures window { (records : List RecordValue) → length records ≡ before → HasWindow records from out.old → HasWindow (records ++ map page_record (items_of pages.now.slots)) from out.new }
 {
-    let pages = geometry.p as u64;
-    let mut at = 0;
-    let mut last = None;
-    for item in items {
-        if !item.1.block_mapped {
-            continue;
-        }
-        let group = item.0 / pages;
-        if is_last(last, group) {
-            continue;
-        }
-        offer(out, from, at, set_group(items, geometry, group));
-        at += 1;
-        last = Some(group);
+    let mut at = before;
+    for group in 0..pages.groups() {
+        let (_, items) = pages.group_at(group);
+        offer_pages(items, at, from, out);
+        at += items.len();
     }
     at
 }
 
-/// Offers the records of the page-mapped entries, which come after so many others.
-fn offer_pages(items: &[(u64, Entry)], before: usize, from: usize, out: &mut [Record])
-    requires before { before + length items.now < 2 ^ 64 }
-    ensures { (records : List RecordValue) → length records ≡ before → HasWindow records from out.old → HasWindow (records ++ map set_page_of (filter (λ x. page_mapped x.1) items.now)) from out.new }
+/// Offers the records of all data blocks, which come after so many others.
+pub fn offer_all_blocks(
+    blocks: &SparseMap<BlockAt>,
+    before: usize,
+    from: usize,
+    out: &mut [Record],
+) -> usize
+    requires { before + length (items_of blocks.now.slots) < 2 ^ 64 }
+    ensures count { result ≡ before + length (items_of blocks.now.slots) }
+    ensures window { (records : List RecordValue) → length records ≡ before → HasWindow records from out.old → HasWindow (records ++ map block_record (items_of blocks.now.slots)) from out.new }
 {
     let mut at = before;
-    for item in items {
-        if item.1.block_mapped {
-            continue;
-        }
-        offer(
-            out,
-            from,
-            at,
-            Record::SetPage {
-                lba: item.0,
-                place: item.1.place,
-                dirty: item.1.dirty,
-            },
-        );
-        at += 1;
+    for group in 0..blocks.groups() {
+        let (_, items) = blocks.group_at(group);
+        offer_blocks(items, at, from, out);
+        at += items.len();
     }
-}
-
-/// How many records a checkpoint of these entries has.
-pub fn records_of(items: &[(u64, Entry)], geometry: &Geometry) -> u32
-    requires order { Ascends items.now }
-    requires is_map { IsMap geometry.now (from_entries {R = nat_cmp} items.now) }
-    ensures { result ≡ length (checkpoint_records geometry.now (from_entries {R = nat_cmp} items.now)) }
-{
-    let groups = count_groups(items, geometry.p as u64, Mark::BlockMapped);
-    (groups + count_pages(items)) as u32
-}
-
-/// Puts the records of a checkpoint to the front of `out`, from number `from` on.
-pub fn part_of(items: &[(u64, Entry)], geometry: &Geometry, from: u32, out: &mut [Record]) -> u32
-    requires order { Ascends items.now }
-    requires is_map { IsMap geometry.now (from_entries {R = nat_cmp} items.now) }
-    requires from { from ≤ length (checkpoint_records geometry.now (from_entries {R = nat_cmp} items.now)) }
-    ensures count { result ≡ min (length out.old) (length (checkpoint_records geometry.now (from_entries {R = nat_cmp} items.now)) - from) }
-    ensures records { take result out.new ≡ take result (drop from (checkpoint_records geometry.now (from_entries {R = nat_cmp} items.now))) }
-{
-    let groups = offer_groups(items, geometry, from as usize, out);
-    offer_pages(items, groups, from as usize, out);
-    let left = records_of(items, geometry) - from;
-    out.len().min(left as usize) as u32
+    at
 }

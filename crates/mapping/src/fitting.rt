@@ -1,18 +1,18 @@
-//! Which changes the entries of a cache may take.
-ghost use Rattle.std.specs.Prelude.{◌≡◌, ◌<◌, ◌≤◌, ◌+◌, ◌-◌, ◌/◌, ◌==◌, ◌&&◌, ◌||◌, ◌↔◌, ℕ, not, length, nat_le, IsTrue, if◌then◌else◌};
-ghost use Rattle.std.specs.List.{list_any};
-ghost use Rattle.std.specs.Ordering.{nat_cmp};
-ghost use Rattle.std.specs.FinMap.{from_entries};
+//! Which changes of a page the entries of a cache may take.
+ghost use Rattle.std.specs.Prelude.{◌≡◌, ◌≤◌, ◌<◌, ◌↔◌, Bool, length, IsTrue};
+ghost use Rattle.std.specs.FinMap.{get, remove};
 ghost use Rattle.ft_base.specs.declared.record.Record.TheVariants.{SetPage};
-ghost use Rattle.ft_base.specs.Layout.{first_pool};
-ghost use Rattle.cache_model.specs.Entries.{in_pool, each_once, IsMap, Fits};
-ghost use Rattle.mapping.specs.Ascending.{Ascends};
-ghost use Rattle.mapping.specs.Counts.{groups_along};
-ghost use Rattle.mapping.specs.Fitting.{clashes_with, is_log_page_beside, would_log, is_dirty_beside, is_marked_in, is_foreign_in, count_range};
+ghost use Rattle.ft_base.specs.Layout.{first_pool, blocks};
+ghost use Rattle.cache_model.specs.Records.{after};
+ghost use Rattle.cache_model.specs.Entries.{in_pool, page_mapped, blocks_with, IsMap, InPool, Fits};
+ghost use Rattle.mapping.specs.Counts.{dirty_group_count};
+ghost use Rattle.mapping.specs.Index.{IsIndex, tally, is_log_page_in};
+ghost use Rattle.mapping.specs.Seeking.{log_block};
 
-use crate::counts::count_groups;
-use crate::marks::Mark;
-use cache_model::Entry;
+use crate::held::Held;
+use crate::index::Index;
+use crate::marks::{Mark, may_have};
+use crate::seeking::{Sought, found_in, is_taken};
 use ft_base::{Geometry, Place};
 
 /// Whether a place is one of the pool.
@@ -22,114 +22,75 @@ pub fn is_in_pool(geometry: &Geometry, at: Place) -> bool
     geometry.first_pool() <= at.block && at.block < geometry.blocks() && at.page < geometry.p
 }
 
-/// Whether the entry of another address has this place, or has its erase block as a data block.
-pub fn clashes(items: &[(u64, Entry)], lba: u64, at: Place) -> bool
-    ensures { result ≡ list_any (clashes_with lba at) items.now }
+/// The log block in which the entry of an address stands.
+fn own_log_block(held: &Held, lba: u64) -> Option<u32>
+    ensures { result ≡ log_block (get held.now.entries lba) }
 {
-    items.iter().any(|item| {
-        item.0 != lba
-            && (item.1.place == at || item.1.block_mapped && item.1.place.block == at.block)
-    })
-}
-
-/// Whether the erase block has a page-mapped entry of another address.
-pub fn has_log_page(items: &[(u64, Entry)], lba: u64, block: u32) -> bool
-    ensures { result ≡ list_any (is_log_page_beside lba block) items.now }
-{
-    items.iter().any(|item| {
-        item.0 != lba && !item.1.block_mapped && item.1.place.block == block
-    })
-}
-
-/// Whether the group has a dirty entry of another address.
-pub fn is_dirty_without(items: &[(u64, Entry)], lba: u64, pages: u64, group: u64) -> bool
-    requires { 0 < pages }
-    ensures { result ≡ list_any (is_dirty_beside lba pages group) items.now }
-{
-    items.iter().any(|item| item.0 != lba && item.1.dirty && item.0 / pages == group)
-}
-
-/// Whether the group has an entry with the mark.
-pub fn is_marked(items: &[(u64, Entry)], mark: Mark, pages: u64, group: u64) -> bool
-    requires { 0 < pages }
-    ensures { result ≡ list_any (is_marked_in mark pages group) items.now }
-{
-    items
-        .iter()
-        .any(|item| mark.is_on(&item.1) && item.0 / pages == group)
-}
-
-/// Whether the erase block has an entry of another group.
-pub fn has_foreign(items: &[(u64, Entry)], pages: u64, group: u64, block: u32) -> bool
-    requires { 0 < pages }
-    ensures { result ≡ list_any (is_foreign_in pages group block) items.now }
-{
-    items.iter().any(|item| item.0 / pages != group && item.1.place.block == block)
-}
-
-/// Whether the erase block would have a page-mapped entry, with one of the address in block `placed`.
-fn is_log_block(items: &[(u64, Entry)], lba: u64, placed: u32, block: u32) -> bool
-    ensures { result ≡ would_log lba placed items.now block }
-{
-    if block == placed {
-        return true;
+    match held.entry(lba) {
+        Some(entry) if !entry.block_mapped => Some(entry.place.block),
+        _ => None,
     }
-    has_log_page(items, lba, block)
 }
 
-/// How many blocks of the pool would have page-mapped entries, with one of the address in block
-/// `placed`.
-fn count_log_blocks(items: &[(u64, Entry)], geometry: &Geometry, lba: u64, placed: u32) -> u32
-    ensures { result ≡ count_range (would_log lba placed items.now) (first_pool geometry.now) (geometry.now.c + geometry.now.l + 1) }
+/// How many log pages an erase block has beside that of the address that stands in block `own`.
+fn count_beside(held: &Held, index: &Index, geometry: &Geometry, lba: u64, block: u32) -> u32
+    requires above { first_pool geometry.now ≤ block }
+    requires below { block < blocks geometry.now }
+    requires map { IsMap geometry.now held.now.entries }
+    requires index { IsIndex geometry.now held.now.entries index.now }
+    ensures { result ≡ tally (is_log_page_in block) (remove held.now.entries lba) }
 {
-    let mut count = 0;
-    for block in geometry.first_pool()..geometry.blocks() {
-        if is_log_block(items, lba, placed, block) {
-            count += 1;
-        }
+    let count = index.logs.pages[(block - geometry.first_pool()) as usize];
+    match own_log_block(held, lba) {
+        Some(own) if own == block => count - 1,
+        _ => count,
     }
-    count
 }
 
-/// Whether the group would have a dirty entry, with one of the address that is dirty or not.
-fn is_dirty_with(items: &[(u64, Entry)], lba: u64, dirty: bool, pages: u64, group: u64) -> bool
-    requires { 0 < pages }
-    ensures { result ≡ (dirty || list_any (is_dirty_beside lba pages group) items.now) }
+/// How many blocks have log pages beside that of the address.
+fn count_used_beside(held: &Held, index: &Index, geometry: &Geometry, lba: u64) -> u32
+    requires map { IsMap geometry.now held.now.entries }
+    requires index { IsIndex geometry.now held.now.entries index.now }
+    ensures { result ≡ length (blocks_with page_mapped (remove held.now.entries lba)) }
 {
-    if dirty {
-        return true;
+    let Some(own) = own_log_block(held, lba) else {
+        return index.logs.used;
+    };
+    if count_beside(held, index, geometry, lba, own) == 0 {
+        return index.logs.used - 1;
     }
-    is_dirty_without(items, lba, pages, group)
+    index.logs.used
 }
 
-/// Whether at most C groups would have the mark, where only this group changes and has it then or not.
-pub fn mark_fits(
-    items: &[(u64, Entry)],
-    geometry: &Geometry,
-    mark: Mark,
-    group: u64,
-    has: bool,
-) -> bool
-    requires { Ascends items.now }
-    ensures { result ≡ nat_le (length (each_once (groups_along geometry.now.p mark items.now)) + (if has then 1 else 0)) (geometry.now.c + (if list_any (is_marked_in mark geometry.now.p group) items.now then 1 else 0)) }
+/// How many log blocks there would be, with the block of the address at this place of the pool.
+fn count_log_blocks(held: &Held, index: &Index, geometry: &Geometry, lba: u64, at: Place) -> u32
+    requires pool { InPool geometry.now at }
+    requires map { IsMap geometry.now held.now.entries }
+    requires index { IsIndex geometry.now held.now.entries index.now }
+    ensures { (dirty : Bool) → result ≡ length (blocks_with page_mapped (after geometry.now (SetPage lba at dirty) held.now.entries)) }
 {
-    let pages = geometry.p as u64;
-    let now = count_groups(items, pages, mark);
-    let had = is_marked(items, mark, pages, group);
-    now + usize::from(has) <= geometry.c as usize + usize::from(had)
+    let used = count_used_beside(held, index, geometry, lba);
+    if count_beside(held, index, geometry, lba, at.block) == 0 {
+        return used + 1;
+    }
+    used
 }
 
-/// Whether a page of a log block may have the block of an address.
+/// Whether a page of a log block may have the block of an address. So many groups are dirty now.
 pub fn fits_page(
-    items: &[(u64, Entry)],
+    held: &Held,
+    index: &Index,
     geometry: &Geometry,
+    dirty_groups: u32,
     lba: u64,
     at: Place,
     dirty: bool,
 ) -> bool
-    requires order { Ascends items.now }
-    requires is_map { IsMap geometry.now (from_entries {R = nat_cmp} items.now) }
-    ensures { IsTrue result ↔ Fits geometry.now (SetPage lba at dirty) (from_entries {R = nat_cmp} items.now) }
+    requires geometry { held.now.geometry ≡ geometry.now }
+    requires map { IsMap geometry.now held.now.entries }
+    requires index { IsIndex geometry.now held.now.entries index.now }
+    requires dirty_groups { dirty_groups ≡ dirty_group_count geometry.now held.now.entries }
+    ensures { IsTrue result ↔ Fits geometry.now (SetPage lba at dirty) held.now.entries }
 {
     if lba >= geometry.size {
         return false;
@@ -137,14 +98,23 @@ pub fn fits_page(
     if !is_in_pool(geometry, at) {
         return false;
     }
-    if clashes(items, lba, at) {
+    if is_taken(held, index, geometry, lba, at) {
         return false;
     }
-    if count_log_blocks(items, geometry, lba, at.block) > geometry.l {
+    if found_in(
+        held,
+        index,
+        geometry,
+        Sought::MappedBeside { lba },
+        at.block,
+    )
+    .is_some()
+    {
         return false;
     }
-    let pages = geometry.p as u64;
-    let group = lba / pages;
-    let has = is_dirty_with(items, lba, dirty, pages, group);
-    mark_fits(items, geometry, Mark::Dirty, group, has)
+    if count_log_blocks(held, index, geometry, lba, at) > geometry.l {
+        return false;
+    }
+    let group = lba / geometry.p as u64;
+    may_have(held, geometry, dirty_groups, Mark::Dirty, group, lba, dirty)
 }

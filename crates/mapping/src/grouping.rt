@@ -1,15 +1,16 @@
 //! Whether a data block of a group fits.
 ghost use Rattle.std.specs.Prelude.{◌≡◌, ◌<◌, ◌≤◌, ◌-◌, ◌/◌, ◌^◌, ◌↔◌, IsTrue};
-ghost use Rattle.std.specs.Ordering.{nat_cmp};
-ghost use Rattle.std.specs.FinMap.{from_entries};
 ghost use Rattle.ft_base.specs.declared.record.Record.TheVariants.{SetGroup};
 ghost use Rattle.cache_model.specs.Entries.{IsMap, Fits};
-ghost use Rattle.mapping.specs.Ascending.{Ascends};
+ghost use Rattle.mapping.specs.Counts.{dirty_group_count, data_block_count};
 ghost use Rattle.mapping.specs.Fitting.{HasPageBelow, EndsBelowSize, BlockMayCome};
+ghost use Rattle.mapping.specs.Index.{IsIndex};
 
-use crate::fitting::{fits_page, has_foreign, mark_fits};
-use crate::marks::Mark;
-use cache_model::Entry;
+use crate::fitting::fits_page;
+use crate::held::Held;
+use crate::index::Index;
+use crate::marks::{Mark, may_have};
+use crate::seeking::{Sought, found_in};
 use ft_base::{Geometry, Record};
 
 /// Whether a set has one of the first pages.
@@ -53,15 +54,17 @@ fn ends_below_size(geometry: &Geometry, group: u64, present: u64) -> bool
 
 /// Whether an erase block may hold the present pages of a group.
 fn may_come(
-    items: &[(u64, Entry)],
+    held: &Held,
+    index: &Index,
     geometry: &Geometry,
     group: u64,
     block: u32,
     present: u64,
 ) -> bool
-    requires order { Ascends items.now }
     requires group { group ≤ (geometry.now.size - 1) / geometry.now.p }
-    ensures { IsTrue result ↔ BlockMayCome geometry.now group block present (from_entries {R = nat_cmp} items.now) }
+    requires map { IsMap geometry.now held.now.entries }
+    requires index { IsIndex geometry.now held.now.entries index.now }
+    ensures { IsTrue result ↔ BlockMayCome geometry.now group block present held.now.entries }
 {
     if !has_page(present, geometry.p) {
         return true;
@@ -72,24 +75,31 @@ fn may_come(
     if block >= geometry.blocks() {
         return false;
     }
-    if has_foreign(items, geometry.p as u64, group, block) {
+    if found_in(held, index, geometry, Sought::Outside { group }, block).is_some() {
         return false;
     }
     ends_below_size(geometry, group, present)
 }
 
-/// Whether an erase block may become the data block of a group, with these pages.
+/// Whether an erase block may become the data block of a group, with these pages. So many groups are
+/// dirty now, and so many have a data block.
 pub fn fits_group(
-    items: &[(u64, Entry)],
+    held: &Held,
+    index: &Index,
     geometry: &Geometry,
+    dirty_groups: u32,
+    data_blocks: u32,
     group: u64,
     block: u32,
     present: u64,
     dirty: u64,
 ) -> bool
-    requires order { Ascends items.now }
-    requires is_map { IsMap geometry.now (from_entries {R = nat_cmp} items.now) }
-    ensures { IsTrue result ↔ Fits geometry.now (SetGroup group block present dirty) (from_entries {R = nat_cmp} items.now) }
+    requires geometry { held.now.geometry ≡ geometry.now }
+    requires map { IsMap geometry.now held.now.entries }
+    requires index { IsIndex geometry.now held.now.entries index.now }
+    requires dirty_groups { dirty_groups ≡ dirty_group_count geometry.now held.now.entries }
+    requires data_blocks { data_blocks ≡ data_block_count geometry.now held.now.entries }
+    ensures { IsTrue result ↔ Fits geometry.now (SetGroup group block present dirty) held.now.entries }
 {
     if group > (geometry.size - 1) / geometry.p as u64 {
         return false;
@@ -100,25 +110,54 @@ pub fn fits_group(
     if !is_set_below(dirty, geometry.p) {
         return false;
     }
-    if !may_come(items, geometry, group, block, present) {
+    if !may_come(held, index, geometry, group, block, present) {
         return false;
     }
+    let near = group * geometry.p as u64;
     let mapped = has_page(present, geometry.p);
-    if !mark_fits(items, geometry, Mark::BlockMapped, group, mapped) {
+    if !may_have(
+        held,
+        geometry,
+        data_blocks,
+        Mark::BlockMapped,
+        group,
+        near,
+        mapped,
+    ) {
         return false;
     }
     let marked = has_page(present & dirty, geometry.p);
-    mark_fits(items, geometry, Mark::Dirty, group, marked)
+    may_have(
+        held,
+        geometry,
+        dirty_groups,
+        Mark::Dirty,
+        group,
+        near,
+        marked,
+    )
 }
 
 /// Whether a change may come next.
-pub fn fits(items: &[(u64, Entry)], geometry: &Geometry, change: &Record) -> bool
-    requires order { Ascends items.now }
-    requires is_map { IsMap geometry.now (from_entries {R = nat_cmp} items.now) }
-    ensures { IsTrue result ↔ Fits geometry.now change.now (from_entries {R = nat_cmp} items.now) }
+pub fn fits(
+    held: &Held,
+    index: &Index,
+    geometry: &Geometry,
+    dirty_groups: u32,
+    data_blocks: u32,
+    change: &Record,
+) -> bool
+    requires geometry { held.now.geometry ≡ geometry.now }
+    requires map { IsMap geometry.now held.now.entries }
+    requires index { IsIndex geometry.now held.now.entries index.now }
+    requires dirty_groups { dirty_groups ≡ dirty_group_count geometry.now held.now.entries }
+    requires data_blocks { data_blocks ≡ data_block_count geometry.now held.now.entries }
+    ensures { IsTrue result ↔ Fits geometry.now change.now held.now.entries }
 {
     match *change {
-        Record::SetPage { lba, place, dirty } => fits_page(items, geometry, lba, place, dirty),
+        Record::SetPage { lba, place, dirty } => {
+            fits_page(held, index, geometry, dirty_groups, lba, place, dirty)
+        }
         Record::Remove { lba } => lba < geometry.size,
         Record::Clean { lba } => lba < geometry.size,
         Record::SetGroup {
@@ -126,7 +165,17 @@ pub fn fits(items: &[(u64, Entry)], geometry: &Geometry, change: &Record) -> boo
             block,
             present,
             dirty,
-        } => fits_group(items, geometry, group, block, present, dirty),
+        } => fits_group(
+            held,
+            index,
+            geometry,
+            dirty_groups,
+            data_blocks,
+            group,
+            block,
+            present,
+            dirty,
+        ),
         Record::RemoveGroup { group } => group <= (geometry.size - 1) / geometry.p as u64,
     }
 }

@@ -3,19 +3,27 @@
 //! The layers above see a `Map` as its geometry, the finite map of its entries, and the room that it
 //! has for changes. They rely on this: `fits` says exactly which changes a cache may make, `apply` is
 //! the step of `cache_model`, and the records of `checkpoint_part` build the same map from nothing.
-//! Entries stand in one list in the order of their addresses.
+//! Entries stand in two packed maps, those of log blocks by address and those of data blocks by group, and
+//! beside them is kept whose each page of the pool is, how many there are of what a write asks for, and which data
+//! blocks may give way.
 #![tactic(auto)]
 
 mod bits;
+mod candidates;
 mod checkpoint;
-mod counts;
 mod fitting;
 mod grouping;
+mod held;
+mod index;
 pub mod laws;
-mod list;
+mod log_page;
 mod map;
 mod marks;
+mod numbers;
+mod ranges;
+mod seeking;
 mod sets;
+mod steps;
 
 pub use map::Map;
 

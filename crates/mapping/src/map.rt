@@ -1,25 +1,28 @@
 ghost use Rattle.std.specs.Prelude.{◌≡◌, ◌<◌, ◌≤◌, ◌+◌, ◌*◌, ◌-◌, ◌^◌, ℕ, length, min, take, drop, IfOk, OnOk, OnErr, IfSome, IfNone, option_map, max, IsTrue, ◌↔◌};
-ghost use Rattle.std.specs.List.{slice_get};
-ghost use Rattle.std.specs.FinMap.{get, entries};
-ghost use Rattle.ft_base.specs.declared.block.Place.{Place as PlaceValue};
-ghost use Rattle.cache_model.specs.declared.entry.Entry.{Entry as EntryValue};
+ghost use Rattle.std.specs.FinMap.{get};
 ghost use Rattle.cache_model.specs.Records.{no_entries, after};
-ghost use Rattle.cache_model.specs.Entries.{Fits, IsMap};
+ghost use Rattle.cache_model.specs.Entries.{Fits, IsMap, blocks_with, page_mapped};
 ghost use Rattle.mapping.specs.MapValue.{pages_taken, groups_taken};
-ghost use Rattle.mapping.specs.Counts.{held_count, dirty_count, dirty_group_count, data_block_count, Owns, place_and_mark, address_and_place};
-ghost use Rattle.mapping.specs.declared.bits.Choice.TheVariants.{Held, Dirty, Mapped};
-ghost use Rattle.mapping.specs.Checkpoint.{checkpoint_records};
+ghost use Rattle.mapping.specs.Counts.{held_count, dirty_count, dirty_group_count, data_block_count, Owns, place_and_mark};
+ghost use Rattle.mapping.specs.declared.bits.Choice.TheVariants.{Held as held_choice, Dirty, Mapped};
+ghost use Rattle.mapping.specs.Checkpoint.{IsCheckpoint};
+ghost use Rattle.mapping.specs.Candidates.{AreCandidates};
+ghost use Rattle.mapping.specs.Numbers.{pool_pages, HasNumber, HasNone, AreNumbered, StandsNoneIn, IsGroupIn, IsNoDataBlock};
 ghost use Rattle.mapping.specs.Bits.{chosen_of, IsDataBlock};
+ghost use Rattle.cache_model.specs.Buckets.{AreBucketsFor};
 
 use crate::bits::Choice;
-use crate::checkpoint::{part_of, records_of};
-use crate::counts::{count_dirty, count_groups, owner_of};
+use crate::candidates::Candidates;
+use crate::fitting::is_in_pool;
 use crate::grouping::fits;
-use crate::list::{entry_of, nth_of, step};
-use crate::marks::Mark;
-use crate::sets::{chosen_any, data_block};
+use crate::held::Held;
+use crate::index::Index;
+use crate::marks::{Mark, has_mark, recount};
+use crate::numbers::{pool_pages, pool_place};
+use crate::ranges::{change_entries, first_of, group_of};
+use crate::seeking::{Sought, found_in};
+use crate::sets::chosen_any;
 use block_map::BlockAt;
-use cache_model::Entry;
 use ft_base::{Geometry, Place, Record};
 use std::alloc::{AllocError, Global};
 use std::marker::Model;
@@ -28,60 +31,86 @@ use std::marker::Model;
 #[derive(Drop)]
 pub struct Map {
     geometry: Geometry,
-    items: Vec<(u64, Entry)>,
+    held: Held,
+    index: Index,
+    candidates: Candidates,
+    dirty_groups: u32,
+    data_blocks: u32,
     spare_pages: u32,
     spare_groups: u32,
 }
 
 impl Model for Map {
-    ghost use Rattle.std.specs.Prelude.{vec_len};
-    ghost use Rattle.std.specs.Vec.{vec_capacity};
-    ghost use Rattle.std.specs.FinMap.{from_entries};
     ghost use Rattle.std.specs.Coded.{codes};
     ghost use Rattle.ft_base.specs.contracts.geometry.Geometry as geometry_row;
-    ghost use Rattle.mapping.specs.MapValue.{MapValue, IsKept, entries_code};
+    ghost use Rattle.ft_base.specs.contracts.record.Record as record_row;
+    ghost use Rattle.mapping.specs.MapValue.{MapValue, entries_code};
+    ghost use Rattle.mapping.specs.Kept.{IsKept};
 
     ghost Value = { MapValue };
 
-    ghost coded = { Prim.hlevel (codes, entries_code, geometry_row.the_row.coded) };
+    ghost coded = { Prim.hlevel (codes, entries_code, geometry_row.the_row.coded, record_row.the_row.coded) };
 
-    ghost view = { λ m. record { geometry = m.geometry; entries = from_entries m.items.items; spare_pages = m.spare_pages; spare_groups = m.spare_groups } };
+    ghost view = { λ m. record { geometry = m.geometry; entries = m.held.entries; spare_pages = m.spare_pages; spare_groups = m.spare_groups; records = m.held.records; buckets = m.held.buckets } };
 
-    ghost invariant = { λ m. IsKept m.geometry m.items.items (vec_len m.items) (vec_capacity m.items) m.spare_pages m.spare_groups };
+    ghost invariant = { λ m. IsKept m.geometry m.held m.index m.candidates.counts.items m.dirty_groups m.data_blocks m.spare_pages m.spare_groups };
 }
 
 impl Map {
     /// A map of no entries, with no room.
-    pub fn new(alloc: Global, geometry: &Geometry) -> Map
-        ensures geometry { result.geometry ≡ geometry.now }
-        ensures entries { result.entries ≡ no_entries }
-        ensures pages { result.spare_pages ≡ 0 }
-        ensures groups { result.spare_groups ≡ 0 }
+    pub fn new(alloc: Global, geometry: &Geometry) -> Result<Map, AllocError>
+        ensures geometry { IfOk result (λ m. m.geometry ≡ geometry.now) }
+        ensures entries { IfOk result (λ m. m.entries ≡ no_entries) }
+        ensures pages { IfOk result (λ m. m.spare_pages ≡ 0) }
+        ensures groups { IfOk result (λ m. m.spare_groups ≡ 0) }
     {
-        Map {
+        Ok(Map {
             geometry: *geometry,
-            items: Vec::new(alloc),
+            held: Held::new(alloc, geometry),
+            index: Index::new(alloc, geometry)?,
+            candidates: Candidates::new(alloc, geometry)?,
+            dirty_groups: 0,
+            data_blocks: 0,
             spare_pages: 0,
             spare_groups: 0,
-        }
+        })
     }
 
     /// The page of an address, and whether it is dirty.
     pub fn place(&self, lba: u64) -> Option<(Place, bool)>
-        ensures { result ≡ option_map place_and_mark (get self.now.entries lba) }
+        ensures place { result ≡ option_map place_and_mark (get self.now.entries lba) }
+        ensures is_map { IsMap self.now.geometry self.now.entries }
     {
-        match entry_of(&self.items, lba) {
+        match self.held.entry(lba) {
             Some(entry) => Some((entry.place, entry.dirty)),
             None => None,
         }
     }
 
-    /// The entry of number `i`, from 0, in ascending order of address: the address and its page. None
-    /// from the number of entries on.
-    pub fn nth(&self, i: u64) -> Option<(u64, Place)>
-        ensures { result ≡ option_map address_and_place (slice_get (entries self.now.entries) i) }
+    /// How many numbers the entries have, from 0 on: one for each page of the pool.
+    pub fn numbers(&self) -> u32
+        ensures count { result ≡ pool_pages self.now.geometry }
+        ensures each { AreNumbered self.now.geometry self.now.entries result }
+        ensures is_map { IsMap self.now.geometry self.now.entries }
     {
-        nth_of(&self.items, i)
+        pool_pages(&self.geometry)
+    }
+
+    /// The entry of number `i`, in the order of the pool's pages: the address and its page. None where
+    /// no entry has the number.
+    pub fn nth(&self, i: u32) -> Option<(u64, Place)>
+        ensures some { IfSome result (HasNumber self.now.geometry self.now.entries i) }
+        ensures none { IfNone result (HasNone self.now.geometry self.now.entries i) }
+        ensures is_map { IsMap self.now.geometry self.now.entries }
+    {
+        if i >= self.numbers() {
+            return None;
+        }
+        let at = pool_place(&self.geometry, i);
+        match self.owner(at) {
+            Some(lba) => Some((lba, at)),
+            None => None,
+        }
     }
 
     /// The address whose block stands at this place.
@@ -89,17 +118,64 @@ impl Map {
         ensures owner { IfSome result (Owns self.now.entries at) }
         ensures none { IfNone result ((a : ℕ) → ¬ Owns self.now.entries at a) }
     {
-        owner_of(&self.items, at)
+        if !is_in_pool(&self.geometry, at) {
+            return None;
+        }
+        self.index.owner(&self.geometry, at)
+    }
+
+    /// Whether no entry stands in an erase block.
+    pub fn stands_none_in(&self, block: u32) -> bool
+        ensures { IsTrue result ↔ StandsNoneIn self.now.entries block }
+    {
+        if block < self.geometry.first_pool() {
+            return true;
+        }
+        if block >= self.geometry.blocks() {
+            return true;
+        }
+        found_in(&self.held, &self.index, &self.geometry, Sought::Any, block).is_none()
+    }
+
+    /// The group whose data block an erase block is. None where it is no data block.
+    pub fn group_in(&self, block: u32) -> Option<u64>
+        ensures some { IfSome result (IsGroupIn self.now.geometry self.now.entries block) }
+        ensures none { IfNone result (IsNoDataBlock self.now.entries block) }
+    {
+        if block < self.geometry.first_pool() {
+            return None;
+        }
+        if block >= self.geometry.blocks() {
+            return None;
+        }
+        match found_in(
+            &self.held,
+            &self.index,
+            &self.geometry,
+            Sought::Mapped,
+            block,
+        ) {
+            Some(lba) => Some(lba / self.geometry.p as u64),
+            None => None,
+        }
     }
 
     /// Whether a change may come next: exactly where what it leaves is a map of this geometry.
     pub fn fits(&self, change: &Record) -> bool
         ensures { IsTrue result ↔ Fits self.now.geometry change.now self.now.entries }
     {
-        fits(&self.items, &self.geometry, change)
+        fits(
+            &self.held,
+            &self.index,
+            &self.geometry,
+            self.dirty_groups,
+            self.data_blocks,
+            change,
+        )
     }
 
-    /// Makes room for so many changes of a page and of a group. Refused, all is as before.
+    /// Makes room for so many changes of a page and of a group. Refused, the entries and the room are as
+    /// before, though the buckets may have grown.
     pub fn reserve(&mut self, pages: u32, groups: u32) -> Result<(), AllocError>
         requires pages { pages ≤ 2 ^ 20 }
         requires groups { groups ≤ 2 ^ 20 }
@@ -107,12 +183,13 @@ impl Map {
         ensures entries { self.new.entries ≡ self.old.entries }
         ensures pages { OnOk result (self.new.spare_pages ≡ max self.old.spare_pages pages) }
         ensures groups { OnOk result (self.new.spare_groups ≡ max self.old.spare_groups groups) }
-        ensures err { OnErr result (self.new ≡ self.old) }
+        ensures err_pages { OnErr result (self.new.spare_pages ≡ self.old.spare_pages) }
+        ensures err_groups { OnErr result (self.new.spare_groups ≡ self.old.spare_groups) }
     {
         let pages = self.spare_pages.max(pages);
         let groups = self.spare_groups.max(groups);
-        let room = pages as usize + self.geometry.p as usize * groups as usize;
-        self.items.reserve(room)?;
+        self.held.reserve_pages(pages)?;
+        self.held.reserve_blocks(groups)?;
         self.spare_pages = pages;
         self.spare_groups = groups;
         Ok(())
@@ -127,25 +204,45 @@ impl Map {
         ensures entries { self.new.entries ≡ after self.old.geometry change.now self.old.entries }
         ensures pages { self.new.spare_pages + pages_taken change.now ≡ self.old.spare_pages }
         ensures groups { self.new.spare_groups + groups_taken change.now ≡ self.old.spare_groups }
+        ensures buckets { self.new.buckets ≡ self.old.buckets }
     {
         let geometry = self.geometry;
-        step(&mut self.items, &geometry, change);
+        let near = first_of(&geometry, change);
+        let group = group_of(&geometry, change);
+        let was_dirty = has_mark(&self.held, &geometry, Mark::Dirty, group, near);
+        let before = self.held.block_of(group);
+        change_entries(&mut self.held, &mut self.index, &geometry, change);
+        let is_dirty = has_mark(&self.held, &geometry, Mark::Dirty, group, near);
+        let now = self.held.block_of(group);
+        self.dirty_groups = recount(self.dirty_groups, was_dirty, is_dirty);
+        self.data_blocks = recount(self.data_blocks, before.is_some(), now.is_some());
+        self.candidates.note(&geometry, before, now, is_dirty);
         self.spare_pages -= taken_pages(change);
         self.spare_groups -= taken_groups(change);
     }
 
+    /// For each erase block of the pool, from the first one on: how many pages of it are held, where it is
+    /// the data block of a group of which nothing is dirty; and 65,535 for every other one.
+    pub fn candidates(&self) -> &[u16]
+        ensures candidates { AreCandidates self.now.geometry self.now.entries result.now }
+        ensures is_map { IsMap self.now.geometry self.now.entries }
+    {
+        self.candidates.counts()
+    }
+
     /// How many addresses are held.
     pub fn held(&self) -> u64
-        ensures { result ≡ held_count self.now.entries }
+        ensures count { result ≡ held_count self.now.entries }
+        ensures is_map { IsMap self.now.geometry self.now.entries }
     {
-        self.items.len() as u64
+        self.index.held as u64
     }
 
     /// How many addresses are dirty.
     pub fn dirty_entries(&self) -> u64
         ensures { result ≡ dirty_count self.now.entries }
     {
-        count_dirty(&self.items) as u64
+        self.index.dirty as u64
     }
 
     /// How many groups have a dirty address: at most C.
@@ -153,7 +250,7 @@ impl Map {
         ensures count { result ≡ dirty_group_count self.now.geometry self.now.entries }
         ensures most { result ≤ self.now.geometry.c }
     {
-        count_groups(&self.items, self.geometry.p as u64, Mark::Dirty) as u32
+        self.dirty_groups
     }
 
     /// How many groups have a data block: at most C.
@@ -161,7 +258,7 @@ impl Map {
         ensures count { result ≡ data_block_count self.now.geometry self.now.entries }
         ensures most { result ≤ self.now.geometry.c }
     {
-        count_groups(&self.items, self.geometry.p as u64, Mark::BlockMapped) as u32
+        self.data_blocks
     }
 
     /// The data block of a group, with its present and its dirty pages: none where no address of the
@@ -170,46 +267,61 @@ impl Map {
         ensures some { IfSome result (IsDataBlock self.now.geometry self.now.entries group) }
         ensures none { IfNone result (chosen_of Mapped self.now.geometry self.now.entries group ≡ 0) }
     {
-        data_block(&self.items, &self.geometry, group)
+        self.held.block_of(group)
     }
 
     /// The held pages of a group: the bit of value 2^i for its address i.
     pub fn held_bits(&self, group: u64) -> u64
-        ensures { result ≡ chosen_of Held self.now.geometry self.now.entries group }
+        ensures { result ≡ chosen_of held_choice self.now.geometry self.now.entries group }
     {
-        chosen_any(&self.items, &self.geometry, Choice::Held, group)
+        chosen_any(&self.held, &self.geometry, Choice::Held, group)
     }
 
     /// The dirty pages of a group: the bit of value 2^i for its address i.
     pub fn dirty_bits(&self, group: u64) -> u64
         ensures { result ≡ chosen_of Dirty self.now.geometry self.now.entries group }
     {
-        chosen_any(&self.items, &self.geometry, Choice::Dirty, group)
+        chosen_any(&self.held, &self.geometry, Choice::Dirty, group)
     }
 
     /// How many records a checkpoint of this map has: one for each group with a data block, and one for
     /// each page-mapped address.
     pub fn checkpoint_len(&self) -> u32
-        ensures { result ≡ length (checkpoint_records self.now.geometry self.now.entries) }
+        ensures count { result ≡ length self.now.records }
+        ensures listing { IsCheckpoint self.now.geometry self.now.entries self.now.records }
+        ensures is_map { IsMap self.now.geometry self.now.entries }
     {
-        records_of(&self.items, &self.geometry)
+        self.held.checkpoint_len() as u32
     }
 
     /// Puts the records of a checkpoint to the front of `out`, from number `from` on, as far as they
-    /// or the room goes, and says how many.
+    /// or the room goes, and says how many. Their order stays while the map isn't changed.
     pub fn checkpoint_part(&self, from: u32, out: &mut [Record]) -> u32
-        requires { from ≤ length (checkpoint_records self.now.geometry self.now.entries) }
-        ensures count { result ≡ min (length out.old) (length (checkpoint_records self.now.geometry self.now.entries) - from) }
-        ensures records { take result out.new ≡ take result (drop from (checkpoint_records self.now.geometry self.now.entries)) }
+        requires { from ≤ length self.now.records }
+        ensures count { result ≡ min (length out.old) (length self.now.records - from) }
+        ensures records { take result out.new ≡ take result (drop from self.now.records) }
     {
-        part_of(&self.items, &self.geometry, from, out)
+        self.held.offer_records(from, out);
+        let left = (self.checkpoint_len() - from) as usize;
+        let count = out.len().min(left);
+        count as u32
     }
 
-    /// The buckets of the page-mapped part, which is a plain list yet.
-    pub fn buckets(&self) -> u64
-        ensures { result ≡ 0 }
+    /// How many erase blocks have page-mapped entries: at most L.
+    pub fn log_blocks(&self) -> u32
+        ensures count { result ≡ length (blocks_with page_mapped self.now.entries) }
+        ensures most { result ≤ self.now.geometry.l }
     {
-        0
+        self.index.logs.used
+    }
+
+    /// The buckets of the page-mapped part: none, or a power of two from 32 on, of which at least a
+    /// quarter is free.
+    pub fn buckets(&self) -> u64
+        ensures count { result ≡ self.now.buckets }
+        ensures bound { AreBucketsFor self.now.entries result }
+    {
+        self.held.buckets()
     }
 }
 

@@ -1,7 +1,13 @@
-ghost use Rattle.std.specs.Prelude.{◌≡◌, ◌<◌, ◌≤◌, ◌/◌, length, count_by};
-ghost use Rattle.cache_model.specs.Entries.{each_once};
+//! What may be said of an entry, and whether a group has an entry of which it is said.
+ghost use Rattle.std.specs.Prelude.{◌≡◌, ◌<◌, ◌≤◌, ◌+◌, ◌-◌, ◌*◌, ◌/◌, ◌^◌, ◌↔◌, IsTrue, length, true, if◌then◌else◌};
+ghost use Rattle.cache_model.specs.Entries.{groups_with};
+ghost use Rattle.mapping.specs.Counts.{has_mark};
+ghost use Rattle.mapping.specs.declared.marks.Mark.TheVariants.{Dirty as dirty_mark};
+ghost use Rattle.mapping.specs.Seeking.{HasMarkAt, HasMarkIn, MayHave};
 
+use crate::held::Held;
 use cache_model::Entry;
+use ft_base::Geometry;
 
 /// What may be said of an entry, and counted by groups.
 #[derive(Clone, Copy, Debug, PartialEq, Eq)]
@@ -12,16 +18,79 @@ pub enum Mark {
     BlockMapped,
 }
 
-impl Mark {
-    ghost use Rattle.mapping.specs.Counts.{has_mark};
+/// Whether the entry of an address is dirty.
+fn is_dirty(held: &Held, lba: u64) -> bool
+    ensures { IsTrue result ↔ HasMarkAt held.now.entries dirty_mark lba }
+{
+    match held.entry(lba) {
+        Some(entry) => entry.dirty,
+        None => false,
+    }
+}
 
-    /// Whether an entry has the mark.
-    pub fn is_on(self, entry: &Entry) -> bool
-        ensures { result ≡ has_mark self entry.now }
-    {
-        match self {
-            Mark::Dirty => entry.dirty,
-            Mark::BlockMapped => entry.block_mapped,
+/// Whether a group has a dirty entry. The address that is named is looked at first.
+fn is_dirty_group(held: &Held, geometry: &Geometry, group: u64, near: u64) -> bool
+    requires group { group ≤ (geometry.now.size - 1) / geometry.now.p }
+    requires near { near / geometry.now.p ≡ group }
+    ensures { IsTrue result ↔ HasMarkIn geometry.now held.now.entries dirty_mark group }
+{
+    if is_dirty(held, near) {
+        return true;
+    }
+    for page in 0..geometry.p {
+        let marked = is_dirty(held, group * geometry.p as u64 + page as u64);
+        if marked {
+            return true;
         }
     }
+    false
+}
+
+/// Whether a group has an entry with the mark. The address that is named is looked at first.
+pub fn has_mark(held: &Held, geometry: &Geometry, mark: Mark, group: u64, near: u64) -> bool
+    requires geometry { held.now.geometry ≡ geometry.now }
+    requires group { group ≤ (geometry.now.size - 1) / geometry.now.p }
+    requires near { near / geometry.now.p ≡ group }
+    ensures { IsTrue result ↔ HasMarkIn geometry.now held.now.entries mark group }
+{
+    match mark {
+        Mark::Dirty => is_dirty_group(held, geometry, group, near),
+        Mark::BlockMapped => held.block_of(group).is_some(),
+    }
+}
+
+/// Whether at most C groups have the mark, where this group has it from now on or not. So many have it
+/// now.
+pub fn may_have(
+    held: &Held,
+    geometry: &Geometry,
+    now: u32,
+    mark: Mark,
+    group: u64,
+    near: u64,
+    has: bool,
+) -> bool
+    requires geometry { held.now.geometry ≡ geometry.now }
+    requires now { now ≡ length (groups_with geometry.now (has_mark mark) held.now.entries) }
+    requires group { group ≤ (geometry.now.size - 1) / geometry.now.p }
+    requires near { near / geometry.now.p ≡ group }
+    ensures { IsTrue result ↔ MayHave geometry.now held.now.entries mark group has }
+{
+    if !has {
+        return true;
+    }
+    if now < geometry.c {
+        return true;
+    }
+    has_mark(held, geometry, mark, group, near)
+}
+
+/// How many groups have a mark, where one of them had it and has it now or not.
+pub fn recount(now: u32, had: bool, has: bool) -> u32
+    requires some { had ≡ true → 1 ≤ now }
+    requires few { now ≤ 2 ^ 20 }
+    ensures { result + (if had then 1 else 0) ≡ now + (if has then 1 else 0) }
+{
+    let others = if had { now - 1 } else { now };
+    if has { others + 1 } else { others }
 }

@@ -219,6 +219,7 @@ impl Media for MemRig {
 
 impl Rig for MemRig {
     ghost use Rattle.std.specs.Prelude.{◌<◌, ◌≤◌, length};
+    ghost use Rattle.nand_model.specs.Nand.{HasRoom};
     ghost use Rattle.ft_media.specs.Rig.{fitted, Armed, Cut, powered};
     ghost use Rattle.mem_rig.specs.Power.{power_after_arm};
     ghost use Rattle.mem_rig.specs.Steps.{cut_contents, cut_bumped};
@@ -227,6 +228,7 @@ impl Rig for MemRig {
         ensures ok { OnOk result (state_of self.new ≡ fitted (state_of self.old) blocks pages size) }
         ensures err { OnErr result (state_of self.new ≡ state_of self.old) }
         // Exactly:
+        ensures room { OnOk result (HasRoom self.new.nand blocks pages) }
         ensures uncounted { Uncounted self.old self.new }
     {
         self.fit_anew(alloc, blocks, pages, size)

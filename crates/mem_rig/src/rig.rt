@@ -1,6 +1,6 @@
 ghost use Rattle.std.specs.Prelude.{◌≡◌, ◌≤◌, ℕ, false, []};
 ghost use Rattle.ft_base.specs.Count.{last_count};
-ghost use Rattle.nand_model.specs.Nand.{flash_of, block_count, page_count};
+ghost use Rattle.nand_model.specs.Nand.{flash_of, block_count, page_count, HasRoom};
 ghost use Rattle.nand_model.specs.Nand as nand_numbers;
 ghost use Rattle.disk_model.specs.Disk.{disk_of, size_of};
 ghost use Rattle.disk_model.specs.Disk as disk_numbers;
@@ -233,6 +233,7 @@ impl MemRig {
         size: u64,
     ) -> Result<(), AllocError>
         ensures ok { OnOk result (state_of self.new ≡ fitted (state_of self.old) blocks pages size) }
+        ensures room { OnOk result (HasRoom self.new.nand blocks pages) }
         ensures err { OnErr result (state_of self.new ≡ state_of self.old) }
         ensures uncounted { Uncounted self.old self.new }
     {

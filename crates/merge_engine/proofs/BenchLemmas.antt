@@ -1,11 +1,11 @@
 -- A cache of nothing on a flash that was formatted, from which the tests start.
-use Rattle.std.proofs.Common.{◌≡◌, ◌≢◌, ◌≤◌, ℕ, Some, Ok, [], refl, sym, ◌∙◌, ap, subst, arith}
+use Rattle.std.proofs.Common.{◌≡◌, ◌≢◌, ℕ, Some, Ok, [], sym, ◌∙◌, ap, subst, arith}
 use Rattle.ft_base.specs.declared.geometry.Geometry.{Geometry}
 use Rattle.ft_base.specs.declared.block.Place.{Place}
 use Rattle.ft_base.specs.declared.block.Page.{Page}
 use Rattle.ft_base.specs.Contents.{Contents}
 use Rattle.cache_model.specs.Records.{Entries, no_entries}
-use Rattle.cache_model.specs.Loading.{Complete, complete, after_all, checkpoint_of, entries_of, load, newest, replayed}
+use Rattle.cache_model.specs.Loading.{Complete, complete, checkpoint_of, load, newest, replayed}
 use Rattle.cache_model.proofs.LoadLemmas.{bind_ok, loaded_is, newest_is}
 use Rattle.mapping.specs.declared.bits.Choice.TheVariants.{Held}
 use Rattle.mapping.specs.Bits.{chosen_of}

@@ -1,26 +1,29 @@
 -- The pages of a group are copied into an erase block in which nothing stands.
-use Rattle.std.proofs.Common.{◌≡◌, ℕ, zero, suc, ◌+◌, ◌-◌, ◌*◌, ◌/◌, ◌%◌, ◌^◌, ◌<◌, ◌≤◌, inl, inr, Bool, true, false, cond, Option, Some, None, Ok, refl, sym, ◌∙◌, ap, subst, arith, pow-suc}
+use Rattle.std.proofs.Common.{◌≡◌, ℕ, zero, suc, ◌+◌, ◌-◌, ◌*◌, ◌/◌, ◌%◌, ◌^◌, ◌<◌, ◌≤◌, inl, inr, Bool, true, false, cond, Option, Some, None, Ok, refl, sym, ◌∙◌, ap, subst, arith, add-one, pow-suc}
 use Rattle.std.specs.Option.{option_map}
 use Rattle.std.specs.FinMap.{get}
 use Rattle.std.specs.Int.Count.{count_leading_zeros}
 use Rattle.std.proofs.Math.Nat.{pow-le-pow_right}
 use Rattle.std.proofs.lemmas.Bool.{cases_Bool, cases_lt, both_ways}
-use Rattle.std.proofs.lemmas.Nat.{div-add-mod', mod_below, pow_pos, leading_length}
+use Rattle.std.proofs.lemmas.Nat.{div-add-mod', div-mul-add, mod_below, pow_pos, leading_length}
 use Rattle.ft_base.specs.declared.geometry.Geometry.{Geometry}
 use Rattle.ft_base.specs.declared.block.Block.{Block}
 use Rattle.ft_base.specs.declared.block.Spare.{Spare}
 use Rattle.ft_base.specs.declared.block.Place.{Place}
 use Rattle.ft_base.specs.declared.block.Page.{Page}
 use Rattle.ft_base.specs.declared.block.Page.TheVariants.{Blank, Whole, Torn}
-use Rattle.ft_base.specs.Contents.{Contents, Flash}
+use Rattle.ft_base.specs.Contents.{Contents, Flash, zero_block}
 use Rattle.ft_base.proofs.Images.{set_other}
-use Rattle.ft_media.specs.Media.{IsBlankAhead, LeavesPage, after_program}
+use Rattle.ft_media.specs.declared.rig.Counts.{Counts}
+use Rattle.ft_media.specs.Media.{IsBlankAhead, LeavesPage, after_program, program_counted}
 use Rattle.cache_model.specs.declared.entry.Entry.{Entry}
 use Rattle.cache_model.specs.Records.{Entries}
 use Rattle.cache_model.specs.Entries.{IsMap, InPool}
 use Rattle.cache_model.specs.Loading.{is_whole, load}
 use Rattle.cache_model.specs.Stands.{block_in}
 use Rattle.mapping.specs.Counts.{place_and_mark}
+use Rattle.cache_model.specs.declared.format.SpareKind.TheVariants.{Filler}
+use Rattle.cache_model.specs.Spelling.{spelled_spare, spare_fields}
 use Rattle.cache_model.specs.Cache.{CacheList}
 use Rattle.cache_model.proofs.LoadLemmas.{set_page-other}
 use Rattle.block_pool.specs.Pool.{IsFree, IsInPool}
@@ -30,7 +33,8 @@ use Rattle.mapping.specs.Bits.{set_of, is_chosen, chosen_of}
 use Rattle.mapping.proofs.BitsLemmas.{set_below}
 use Rattle.merge_engine.specs.declared.parts.Parts.{Parts}
 use Rattle.merge_engine.specs.Agreement.{Agree, AreOfOne, Lists}
-use Rattle.merge_engine.specs.Steps.{IsCopyOf}
+use Rattle.merge_engine.specs.Merges.{ReachesTo, programs_counted}
+use Rattle.merge_engine.specs.Steps.{IsCopyOf, filler_page}
 use Rattle.merge_engine.proofs.BesideLemmas.{ChangedBeside, leaves_beside, lists_beside, agree_beside, loaded_whole, current_map}
 use Rattle.checkpoint.proofs.MapsLemmas.{set_page-here}
 use Rattle.merge_engine.proofs.RoleLemmas.{free_in_pool, free_not_in_use, open_in_use}
@@ -139,6 +143,36 @@ copied_more parts old new group block lba n to agree ahead address here ready so
   ];
 }
 
+-- ---- the fillers so far
+
+pub filler_is : (old new : Flash) (to : Place) (block : Block) (spare : Spare) → block ≡ zero_block → spare.0 ≡ spelled_spare (spare_fields Filler 0 0) → new ≡ after_program old to block spare → new.page to ≡ filler_page
+filler_is old new to block spare empty spelled ok =
+    ap (λ (f : Flash). f.page to) ok ∙ set_page-here old.page to (Whole block spare) ∙ ap (λ b. Whole b spare) empty ∙ ap (λ s. Whole zero_block (record { 0 = s })) spelled
+
+-- each page of the erase block below this one that no held address has is a filler
+pub record IsFilledBelow (g : Geometry) (m : Entries) (group block n : ℕ) (page : Place → Page) : Type 0 where
+  pub each : (a : ℕ) → get m a ≡ None → a / g.p ≡ group → a % g.p < n → page (record { block = block; page = a % g.p }) ≡ filler_page
+
+pub filled_more : (g : Geometry) (m : Entries) (old new : Flash) (group block lba n : ℕ) (to : Place) → lba ≡ group * g.p + n → to ≡ record { block = block; page = n } → IsFilledBelow g m group block n old.page
+    → ((at : Place) → (at ≡ to → ⊥) → new.page at ≡ old.page at) → (get m lba ≡ None → new.page to ≡ filler_page) → IsFilledBelow g m group block (n + 1) new.page
+filled_more g m old new group block lba n to address here so_far others filler = record {
+  each = λ a none in_group low. elim (cases_lt (a % g.p) n) [
+    | inl less ↦ others (record { block = block; page = a % g.p }) (λ same. let page : a % g.p ≡ n = ap (λ (x : Place). x.page) (same ∙ here) in absurd (omega arith)) ∙ so_far.each a none in_group less
+    | inr high ↦
+        let same : a % g.p ≡ n = omega arith in
+        let this : lba ≡ a = address ∙ ap (λ q. q * g.p + n) (sym in_group) ∙ ap (λ r. a / g.p * g.p + r) (sym same) ∙ div-add-mod' a g.p in
+        let place : to ≡ record { block = block; page = a % g.p } = here ∙ ap (λ r. record { block = block; page = r }) (sym same) in
+        subst (λ (q : Place). new.page q ≡ filler_page) place (filler (ap (get m) this ∙ none))
+  ];
+}
+
+-- of two addresses of a group the smaller has the smaller page
+pub page_before : (a b p group : ℕ) → a / p ≡ group → b / p ≡ group → a < b → a % p < b % p
+page_before a b p group in_a in_b less =
+    let x : group * p + a % p ≡ a = ap (λ q. q * p + a % p) (sym in_a) ∙ div-add-mod' a p in
+    let y : group * p + b % p ≡ b = ap (λ q. q * p + b % p) (sym in_b) ∙ div-add-mod' b p in
+    omega arith
+
 -- ---- the held pages of a group
 
 powers : (i j : ℕ) → i ≤ j → 2 ^ i ≤ 2 ^ j
@@ -202,19 +236,41 @@ module _ (g : Geometry) (m : Entries) (group held : ℕ) (is : held ≡ chosen_o
         | inr high ↦ absurd (omega (arith, worth, less, powers n.0 (a % g.p) high))
       ]
 
-  -- and a page below that first one is one of the group's, and none past the last that is held
-  pub page_below : (page : ℕ) → IsMap g m → page < 64 - count_leading_zeros 64 held → (page < g.p) × (group * g.p + page < g.size)
-  page_below page is_map low =
+  -- and from each page below that first one on a page is held
+  held_from_on : (page : ℕ) → page < 64 - count_leading_zeros 64 held → (i : ℕ) × (page ≤ i) × (i < g.p) × ((e : Entry) × (get m (group * g.p + i) ≡ Some e))
+  held_from_on page low =
       let n = bits in
       let count = n.1 in
       let most = n.3 in
       let worth : 2 ^ page ≤ held = omega (arith, most, powers (suc page) n.0 (omega (arith, count)), twice page) in
       let at = page_from_on (λ i. is_chosen Held (get m (group * g.p + i))) g.p page (subst (λ k. 2 ^ page ≤ k) is worth) in
-      let e = held_entry (get m (group * g.p + at.0)) at.3 in
+      (at.0, at.1, at.2, held_entry (get m (group * g.p + at.0)) at.3)
+
+  -- and a page below that first one is one of the group's, and none past the last that is held
+  pub page_below : (page : ℕ) → IsMap g m → page < 64 - count_leading_zeros 64 held → (page < g.p) × (group * g.p + page < g.size)
+  page_below page is_map low =
+      let at = held_from_on page low in
+      let e = at.3 in
       let within = is_map.within (group * g.p + at.0) e.0 e.1 in
       let above = at.1 in
       let below = at.2 in
       (omega arith, omega (arith, within, above))
+
+  -- so many pages are there up to the last held one
+  pub pages_are : (pages : ℕ) → ReachesTo g m group pages → 64 - count_leading_zeros 64 held ≡ pages
+  pages_are pages reach =
+      let low = held_below reach.last reach.entry reach.held reach.in_group in
+      let number = reach.number in
+      elim (cases_lt pages (64 - count_leading_zeros 64 held)) [
+        | inl more ↦
+            let at = held_from_on pages more in
+            let above = at.1 in
+            let in_group : (group * g.p + at.0) / g.p ≡ group = div-mul-add group g.p at.0 at.2 in
+            let inside = reach.all (group * g.p + at.0) at.3.0 at.3.1 in_group in
+            let whole : group * g.p + (group * g.p + at.0) % g.p ≡ group * g.p + at.0 = ap (λ q. q * g.p + (group * g.p + at.0) % g.p) (sym in_group) ∙ div-add-mod' (group * g.p + at.0) g.p in
+            absurd (omega (arith, inside, whole, above))
+        | inr few ↦ omega (arith, low, number, few)
+      ]
 
 -- ---- the same of the parts
 
@@ -230,3 +286,10 @@ is_page_of_group parts contents group held page agree is low =
     let of_one = agree.sound.of_one in
     page_below parts.geometry parts.map.entries group held (subst (λ (g : Geometry). held ≡ chosen_of Held g parts.map.entries group) of_one.map is) page
     (subst (λ (g : Geometry). IsMap g parts.map.entries) of_one.log (current_map contents.flash.page parts.log parts.map.entries agree.sound.current)) low
+
+pub pages_of_group : (parts : Parts) (group held pages : ℕ) → AreOfOne parts → held ≡ chosen_of Held parts.map.geometry parts.map.entries group → ReachesTo parts.geometry parts.map.entries group pages → 64 - count_leading_zeros 64 held ≡ pages
+pages_of_group parts group held pages of_one is reach = pages_are parts.geometry parts.map.entries group held (subst (λ (g : Geometry). held ≡ chosen_of Held g parts.map.entries group) of_one.map is) pages reach
+
+-- one more program
+pub counted_more : (n : ℕ) (old was new : Counts) → was ≡ programs_counted n old → new ≡ program_counted was → new ≡ programs_counted (n + 1) old
+counted_more n old was new so_far more = more ∙ ap program_counted so_far ∙ ap (λ k. programs_counted k old) (sym (add-one n))

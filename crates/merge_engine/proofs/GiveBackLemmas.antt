@@ -1,9 +1,10 @@
 -- A log block that nothing stands in is taken out of use.
-use Rattle.std.proofs.Common.{◌≡◌, ℕ, ◌+◌, ◌<◌, List, [], ◌∷◌, length, slice_get, ◌≤◌, ◌==◌, not, Bool, true, false, cond, Some, None, inl, inr, refl, sym, ◌∙◌, ap, subst, arith, eqb-true, ne_eqb}
-use Rattle.std.proofs.lemmas.Bool.{cases_Bool, and_parts, and_from}
+use Rattle.std.proofs.Common.{◌≡◌, ℕ, ◌+◌, ◌<◌, List, [], ◌∷◌, ◌⊎◌, suc, length, slice_get, ◌≤◌, ◌==◌, not, Bool, true, false, cond, Some, None, inl, inr, refl, sym, ◌∙◌, ap, subst, arith, eqb-true, ne_eqb}
+use Rattle.std.proofs.lemmas.Bool.{cases_Bool, cases_lt, or_cases, and_parts, and_from}
 use Rattle.ft_base.specs.declared.geometry.Geometry.{Geometry}
 use Rattle.ft_base.specs.Contents.{Contents, Flash}
 use Rattle.cache_model.proofs.CountLemmas.{same_number}
+use Rattle.mapping.specs.MapValue.{MapValue}
 use Rattle.block_pool.specs.Pool.{PoolValue, IsInPool, role_of}
 use Rattle.block_pool.specs.declared.pool.Role.TheVariants.{Free, Data, Log}
 use Rattle.log_blocks.specs.Logs.{LogBlocksValue, IsInUse, is_in, is_open, next_place, released, without}
@@ -11,7 +12,7 @@ use Rattle.log_blocks.specs.Logs as list
 use Rattle.log_blocks.proofs.LogsLemmas.{is_in-at, is_in-without, length-without}
 use Rattle.merge_engine.specs.declared.parts.Parts.{Parts}
 use Rattle.merge_engine.specs.Agreement.{Agree, AreOfOne, IsOpenBlock, RolesAgree}
-use Rattle.merge_engine.specs.Steps.{IsUnheld}
+use Rattle.merge_engine.specs.Steps.{CanBeginLog, HasUnheldLog, IsUnheld}
 use Rattle.merge_engine.proofs.BesideLemmas.{same_beside, agree_beside}
 
 -- another block is in use as before
@@ -90,6 +91,61 @@ gave_back-more old mid new block gave is of_one unheld agree = record {
 -- each is one fewer
 pub one_fewer : (mid new : Parts) (block : ℕ) → new ≡ record mid { pool = new.pool; logs = released block mid.logs } → list.IsSound mid.logs → IsInUse mid.logs block → length new.logs.used + 1 ≡ length mid.logs.used
 one_fewer mid new block is sound used = ap (λ (p : Parts). length p.logs.used + 1) is ∙ length-without block mid.logs.used sound.distinct used
+
+-- fewer are in use; or all that were, and something stands in each of the first so many
+abbrev pub FewerOrHeld : Parts → Parts → ℕ → Type 0
+FewerOrHeld old new i = (length new.logs.used < length old.logs.used) ⊎ ((new.logs ≡ old.logs) × ((k b : ℕ) → k < i → slice_get old.logs.used k ≡ Some b → IsUnheld old.map.entries b → ⊥))
+
+pub fewer_given : (old mid new : Parts) (i : ℕ) → length new.logs.used + 1 ≡ length mid.logs.used → FewerOrHeld old mid i → FewerOrHeld old new i
+fewer_given old mid new i one (inl less) = inl (omega arith)
+fewer_given old mid new i one (inr same) = let all = ap (λ (l : LogBlocksValue). length l.used) same.0 in inl (omega arith)
+
+-- something stands in the next one too
+pub fewer_passed : (old mid : Parts) (i block : ℕ) → mid.map ≡ old.map → Some block ≡ slice_get mid.logs.used i → (IsUnheld mid.map.entries block → ⊥) → FewerOrHeld old mid i → FewerOrHeld old mid (i + 1)
+fewer_passed old mid i block map_is at held (inl less) = inl less
+fewer_passed old mid i block map_is at held (inr same) = inr (
+  same.0,
+  λ k b low is unheld. elim (cases_lt k i) [
+    | inl before ↦ same.1 k b before is unheld
+    | inr last ↦
+        let number : k ≡ i = omega arith in
+        let both : Some b ≡ Some block = sym is ∙ ap (λ (l : LogBlocksValue). slice_get l.used k) (sym same.0) ∙ ap (slice_get mid.logs.used) number ∙ sym at in
+        let one : b ≡ block = cc in
+        held (subst (λ n. IsUnheld mid.map.entries n) one (subst (λ (m : MapValue). IsUnheld m.entries b) (sym map_is) unheld))
+  ],
+)
+
+-- a block of a list has a place in it
+in_place : (xs : List ℕ) (b : ℕ) → is_in b xs ≡ true → (k : ℕ) × (k < length xs) × (slice_get xs k ≡ Some b)
+in_place [] b t = absurd (cc)
+in_place (x ∷ xs) b t = elim (or_cases (b == x) (is_in b xs) t) [
+  | inl here ↦ (0, omega arith, ap Some (sym (eqb-true b x here)))
+  | inr later ↦ let at = in_place xs b later in (suc at.0, omega (arith, at.1), at.2)
+]
+
+pub no_more_left : (old new : Parts) (i : ℕ) → FewerOrHeld old new i → length new.logs.used ≤ length old.logs.used
+no_more_left old new i (inl less) = omega arith
+no_more_left old new i (inr same) = let all = ap (λ (l : LogBlocksValue). length l.used) same.0 in omega arith
+
+-- all were looked at
+pub fewer_left : (old new : Parts) (i : ℕ) → length new.logs.used ≤ i → FewerOrHeld old new i → HasUnheldLog old → length new.logs.used < length old.logs.used
+fewer_left old new i past (inl less) some = less
+fewer_left old new i past (inr same) some =
+    let at = in_place old.logs.used some.0 some.1 in
+    let low = at.1 in
+    let all = ap (λ (l : LogBlocksValue). length l.used) same.0 in
+    absurd (same.1 at.0 some.0 (omega arith) at.2 some.2)
+
+-- where one can be begun without a merge, fewer than L are left
+pub few_left : (old mid : Parts) → list.IsSound old.logs → old.logs.geometry ≡ old.geometry → mid.geometry ≡ old.geometry → length mid.logs.used ≤ length old.logs.used
+    → (HasUnheldLog old → length mid.logs.used < length old.logs.used) → CanBeginLog old → length mid.logs.used < mid.geometry.l
+few_left old mid sound own same no_more fewer (inl few) = let l = ap (λ (h : Geometry). h.l) same in omega arith
+few_left old mid sound own same no_more fewer (inr some) =
+    let less = fewer some in
+    let most = sound.few in
+    let l = ap (λ (h : Geometry). h.l) same in
+    let l' = ap (λ (h : Geometry). h.l) own in
+    omega arith
 
 -- once the oldest is out of use there is room for one more
 pub room_after : (logs new : LogBlocksValue) → list.IsSound logs → 1 ≤ length logs.used → ((oldest : ℕ) → slice_get logs.used 0 ≡ Some oldest → new ≡ released oldest logs) → length new.used < logs.geometry.l

@@ -18,9 +18,9 @@ pub mod MergeLemmas
 pub mod RoomLemmas
 pub mod WayLemmas
 pub mod OwnerLemmas
-pub mod HeldLemmas
 pub mod GiveBackLemmas
 pub mod SpendLemmas
 pub mod GoesLemmas
 pub mod LoadedLemmas
 pub mod BenchLemmas
+pub mod LogRoomLemmas

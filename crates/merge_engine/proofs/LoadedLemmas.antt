@@ -1,11 +1,10 @@
 -- The roles and the log blocks of a map that was loaded.
-use Rattle.std.proofs.Common.{◌≡◌, ◌≢◌, ◌⊎◌, ℕ, suc, ◌+◌, ◌/◌, ◌<◌, ◌≤◌, ◌==◌, ◌||◌, nat_eq, Bool, true, false, not, List, [], ◌∷◌, ◌++◌, map, filter, length, length-append, Option, Some, None, inl, inr, refl, sym, ◌∙◌, ap, subst, arith, eqb-true, if◌then◌else◌}
-use Rattle.std.specs.Option.{option_map}
-use Rattle.std.specs.List.{slice_get, AllByRecursion, IsDistinct}
+use Rattle.std.proofs.Common.{◌≡◌, ◌≢◌, ◌⊎◌, ℕ, suc, ◌+◌, ◌-◌, ◌/◌, ◌<◌, ◌≤◌, ◌==◌, ◌||◌, nat_eq, Bool, true, false, not, List, [], ◌∷◌, ◌++◌, map, filter, length, length-append, Some, None, inl, inr, refl, sym, ◌∙◌, ap, subst, arith, eqb-true, if◌then◌else◌}
+use Rattle.std.specs.List.{AllByRecursion, IsDistinct}
 use Rattle.std.specs.FinMap.{get, entries}
 use Rattle.std.proofs.lemmas.Bool.{cases_Bool, cases_eq, cases_lt, or_cases}
 use Rattle.std.proofs.lemmas.Bool.Decides.{nat_tests}
-use Rattle.std.proofs.lemmas.Option.{some_pair_parts}
+use Rattle.std.proofs.lemmas.Nat.{div-mul-add}
 use Rattle.std.proofs.lemmas.Map.Keys.{IsDistinct-push}
 use Rattle.std.specs.Cmp.{nat_eq_equiv}
 use Rattle.ft_base.specs.declared.geometry.Geometry.{Geometry}
@@ -13,10 +12,10 @@ use Rattle.ft_base.specs.declared.block.Place.{Place}
 use Rattle.ft_base.specs.Layout.{first_pool}
 use Rattle.cache_model.specs.declared.entry.Entry.{Entry}
 use Rattle.cache_model.specs.Records.{Entries}
-use Rattle.cache_model.specs.Entries.{IsMap, each_once, page_mapped}
-use Rattle.cache_model.proofs.CountLemmas.{member, each_once-le}
+use Rattle.cache_model.specs.Entries.{InPool, IsMap, each_once, page_mapped}
+use Rattle.cache_model.proofs.CountLemmas.{member, each_once-le, same_number}
 use Rattle.block_map.specs.PageSets.{BlockPages}
-use Rattle.mapping.specs.Counts.{address_and_place}
+use Rattle.mapping.specs.Numbers.{number_of, HasNumber, HasNone, AreNumbered}
 use Rattle.mapping.specs.declared.bits.Choice.TheVariants.{Mapped}
 use Rattle.mapping.specs.Bits.{chosen_of, IsDataBlock}
 use Rattle.mapping.proofs.MarksLemmas.{member_from}
@@ -26,24 +25,22 @@ use Rattle.block_pool.specs.declared.pool.Role.TheVariants.{Free, Data, Log}
 use Rattle.log_blocks.specs.Logs.{LogBlocksValue, IsInUse, is_in}
 use Rattle.log_blocks.specs.Logs as list
 use Rattle.log_blocks.proofs.LogsLemmas.{is_in-push, sound_new}
-use Rattle.silent_evict.proofs.EntryLemmas.{number_of, entry_at}
 use Rattle.merge_engine.specs.declared.parts.Parts.{Parts}
 use Rattle.merge_engine.specs.Agreement.{IsDataBlockOf, RolesAgree}
-use Rattle.merge_engine.specs.Loaded.{AreInUse, IsLogBlockOf, IsUsedAs, RolesOf, RolesSoFar, role_for}
+use Rattle.merge_engine.specs.Loaded.{AreAscending, AreInUse, IsLogBlockOf, IsUsedAs, RolesOf, RolesSoFar, role_for}
 use Rattle.merge_engine.proofs.GroupLemmas.{group_block, no_block}
 
 -- ---- what one entry says
 
--- the entry of a number, told by its address and its place
-pub entry_of_number : (m : Entries) (i a : ℕ) (at : Place) → Some (a, at) ≡ option_map address_and_place (slice_get (entries m) i) → (e : Entry) × (slice_get (entries m) i ≡ Some (a, e)) × (get m a ≡ Some e) × (at ≡ e.place)
-entry_of_number m i a at is = by (slice_get (entries m) i) refl is
-  where
-    by : (o : Option (ℕ × Entry)) → slice_get (entries m) i ≡ o → Some (a, at) ≡ option_map address_and_place o → (e : Entry) × (slice_get (entries m) i ≡ Some (a, e)) × (get m a ≡ Some e) × (at ≡ e.place)
-    by None there is = absurd (cc)
-    by (Some x) there is =
-        let parts = some_pair_parts a x.0 at x.1.place is in
-        let here : slice_get (entries m) i ≡ Some (a, x.1) = there ∙ ap (λ k. Some (k, x.1)) (sym parts.0) in
-        (x.1, here, entry_at m i a x.1 here, parts.1)
+-- two places of the pool of one number are in one block
+number-block : (g : Geometry) (x y : Place) → InPool g x → InPool g y → number_of g x ≡ number_of g y → x.block ≡ y.block
+number-block g x y here there same =
+    let above = here.above in
+    let above' = there.above in
+    let one = div-mul-add (x.block - first_pool g) g.p x.page here.page in
+    let other = div-mul-add (y.block - first_pool g) g.p y.page there.page in
+    let blocks : x.block - first_pool g ≡ y.block - first_pool g = sym one ∙ ap (λ n. n / g.p) same ∙ other in
+    omega arith
 
 -- the block of a data block's entry is that of its group
 pub data_role : (g : Geometry) (m : Entries) (lba block : ℕ) (own : BlockPages) → IsMap g m → IsDataBlock g m (lba / g.p) own → own.block ≡ block → (e : Entry) → get m lba ≡ Some e → e.place.block ≡ block → Data ≡ role_for e.block_mapped
@@ -76,35 +73,42 @@ used_alike g m a b e f is_map is is' same = elim (cases_Bool e.block_mapped) [
 
 -- ---- the entries so far
 
-pub roles_more : (g : Geometry) (m : Entries) (old new : PoolValue) (i lba : ℕ) (at : Place) (role : Role) → IsMap g m → old.geometry ≡ g → Some (lba, at) ≡ option_map address_and_place (slice_get (entries m) i)
+pub roles_more : (g : Geometry) (m : Entries) (old new : PoolValue) (i lba : ℕ) (at : Place) (role : Role) → IsMap g m → old.geometry ≡ g → HasNumber g m i (lba, at)
     → ((e : Entry) → get m lba ≡ Some e → e.place.block ≡ at.block → role ≡ role_for e.block_mapped)
     → role_of new at.block ≡ role → ((b : ℕ) → IsInPool old.geometry b → b ≢ at.block → role_of new b ≡ role_of old b)
     → RolesSoFar g m old i → RolesSoFar g m new (i + 1)
-roles_more g m old new i lba at role is_map own is says here others so_far =
-    let f = entry_of_number m i lba at is in
-    let block : at.block ≡ f.0.place.block = ap (λ (p : Place). p.block) f.3 in
-    let role_is : role ≡ role_for f.0.block_mapped = says f.0 f.2 (sym block) in
+roles_more g m old new i lba at role is_map own has says here others so_far =
+    let f = has.owns in
+    let block : f.0.place.block ≡ at.block = ap (λ (p : Place). p.block) f.2 in
+    let role_is : role ≡ role_for f.0.block_mapped = says f.0 f.1 block in
     let other = λ (b : ℕ) (in_pool : IsInPool g b) (apart : b ≢ at.block). others b (subst (λ (h : Geometry). IsInPool h b) (sym own) in_pool) apart in
     record {
-      seen = λ k a e low there.
-          let is_e = entry_at m k a e there in
+      seen = λ a e is_e low.
           let pool = is_map.in_pool a e is_e in
           elim (cases_eq e.place.block at.block) [
-            | inl same ↦ ap (role_of new) same ∙ here ∙ role_is ∙ ap role_for (used_alike g m lba a f.0 e is_map f.2 is_e (sym block ∙ sym same))
-            | inr apart ↦ other e.place.block (pool.above, pool.below) apart ∙ elim (cases_lt k i) [
-              | inl less ↦ so_far.seen k a e less there
+            | inl same ↦ ap (role_of new) same ∙ here ∙ role_is ∙ ap role_for (used_alike g m lba a f.0 e is_map f.1 is_e (block ∙ sym same))
+            | inr apart ↦ other e.place.block (pool.above, pool.below) apart ∙ elim (cases_lt (number_of g e.place) i) [
+              | inl less ↦ so_far.seen a e is_e less
               | inr high ↦
-                  let same : k ≡ i = omega arith in
-                  let both : Some (a, e) ≡ Some (lba, f.0) = sym there ∙ ap (slice_get (entries m)) same ∙ f.1 in
-                  let parts = some_pair_parts a lba e f.0 both in
-                  absurd (apart (ap (λ (x : Entry). x.place.block) parts.1 ∙ sym block))
+                  let same : number_of g e.place ≡ number_of g at = (let last : number_of g e.place ≡ i = omega arith in last) ∙ sym has.number in
+                  absurd (apart (number-block g e.place at pool (subst (InPool g) f.2 (is_map.in_pool lba f.0 f.1)) same))
             ]
           ];
       rest = λ b in_pool. elim (cases_eq b at.block) [
-        | inl same ↦ inr (lba, f.0, f.2, sym block ∙ sym same, ap (role_of new) same ∙ here ∙ role_is)
+        | inl same ↦ inr (lba, f.0, f.1, block ∙ sym same, ap (role_of new) same ∙ here ∙ role_is)
         | inr apart ↦ subst (λ (r : Role). (r ≡ Free) ⊎ IsUsedAs m b r) (sym (other b in_pool apart)) (so_far.rest b in_pool)
       ];
     }
+
+-- no entry has the number
+pub roles_same : (g : Geometry) (m : Entries) (pool : PoolValue) (i : ℕ) → HasNone g m i → RolesSoFar g m pool i → RolesSoFar g m pool (i + 1)
+roles_same g m pool i none so_far = record {
+  seen = λ a e is low. elim (cases_lt (number_of g e.place) i) [
+    | inl less ↦ so_far.seen a e is less
+    | inr high ↦ absurd (none a e is (omega arith))
+  ];
+  rest = so_far.rest;
+}
 
 data_only : (b : Bool) → Data ≡ role_for b → b ≡ true
 data_only true is = refl
@@ -115,8 +119,8 @@ log_only true is = absurd (cc)
 log_only false is = refl
 
 -- all entries are done
-pub roles_all : (g : Geometry) (m : Entries) (pool : PoolValue) (i : ℕ) → length (entries m) ≤ i → RolesSoFar g m pool i → RolesOf g m pool
-roles_all g m pool i all so_far = record {
+pub roles_all : (g : Geometry) (m : Entries) (pool : PoolValue) (numbers i : ℕ) → AreNumbered g m numbers → numbers ≤ i → RolesSoFar g m pool i → RolesOf g m pool
+roles_all g m pool numbers i all past so_far = record {
   data_blocks = λ b in_pool. (
     λ is. data_from b is (so_far.rest b in_pool),
     λ found. ap (role_of pool) (sym found.4) ∙ says found.0 found.1 found.2 ∙ ap role_for found.3,
@@ -128,7 +132,7 @@ roles_all g m pool i all so_far = record {
 }
   where
     says : (a : ℕ) (e : Entry) → get m a ≡ Some e → role_of pool e.place.block ≡ role_for e.block_mapped
-    says a e is = let at = number_of m a e is in so_far.seen at.0 a e (omega (arith, at.1)) at.2
+    says a e is = so_far.seen a e is (omega (arith, all a e is))
 
     data_from : (b : ℕ) → role_of pool b ≡ Data → (role_of pool b ≡ Free) ⊎ IsUsedAs m b (role_of pool b) → IsDataBlockOf m b
     data_from b is (inl free) = absurd (let both : Data ≡ Free = sym is ∙ free in cc)
@@ -191,6 +195,22 @@ module _ (g : Geometry) (pool : PoolValue) (logs : LogBlocksValue) (block : ℕ)
     where
       is_counted : (n : ℕ) → IsInPool g n → role_of pool n ≡ Log → member n (map (λ (x : ℕ × Entry). x.1.place.block) (filter (λ (x : ℕ × Entry). page_mapped x.1) (entries m))) ≡ true
       is_counted n at is = let e = (roles.log_blocks n at).0 is in subst (λ k. member k (map (λ (x : ℕ × Entry). x.1.place.block) (filter (λ (x : ℕ × Entry). page_mapped x.1) (entries m))) ≡ true) e.4 (member_from (λ x. x.1.place.block) page_mapped m e.0 e.1 e.2 (ap not e.3))
+
+-- the numbers rise once more where the last is above all others
+pub ascending-push : (xs : List ℕ) (block : ℕ) → AreAscending xs → ((n : ℕ) → is_in n xs ≡ true → n < block) → AreAscending (xs ++ block ∷ [])
+ascending-push [] block rise low = (tt, tt)
+ascending-push (x ∷ xs) block rise low = (below-push xs rise.0, ascending-push xs block rise.1 (λ n there. low n (later n there)))
+  where
+    below-push : (ys : List ℕ) → AllByRecursion (λ k. x < k) ys → AllByRecursion (λ k. x < k) (ys ++ block ∷ [])
+    below-push [] all = (low x (ap (λ b. b || is_in x xs) (same_number x)), tt)
+    below-push (y ∷ ys) all = (all.0, below-push ys all.1)
+
+    later : (n : ℕ) → is_in n xs ≡ true → is_in n (x ∷ xs) ≡ true
+    later n there = or_more (n == x) (is_in n xs) there
+      where
+        or_more : (a b : Bool) → b ≡ true → (a || b) ≡ true
+        or_more true b t = refl
+        or_more false b t = t
 
 pub adopted_none : (g : Geometry) (pool : PoolValue) (logs : LogBlocksValue) (block : ℕ) → logs ≡ record { geometry = g; used = []; open_block = None; room = 0 } → block ≡ first_pool g → AdoptedBelow g pool logs block
 adopted_none g pool logs block none first = subst (λ (l : LogBlocksValue). AdoptedBelow g pool l block) (sym none) (record {

@@ -1,33 +1,37 @@
 -- What a group's move leaves, step by step.
-use Rattle.std.proofs.Common.{◌≡◌, ℕ, ◌≤◌, false, [], Result, Err, Some, sym, ◌∙◌, ap, ap₂, subst, arith, inl, inr}
+use Rattle.std.proofs.Common.{◌≡◌, ℕ, ◌/◌, ◌%◌, ◌≤◌, false, List, [], ◌∷◌, ◌++◌, Result, Err, Option, None, Some, refl, sym, ◌∙◌, ap, ap₂, subst, arith, inl, inr}
 use Rattle.std.specs.FinMap.{get}
 use Rattle.ft_base.specs.declared.geometry.Geometry.{Geometry}
 use Rattle.ft_base.specs.declared.block.Place.{Place}
 use Rattle.ft_base.specs.declared.block.Page.{Page}
 use Rattle.ft_base.specs.Contents.{Contents, Flash}
+use Rattle.ft_base.specs.Layout.{first_pool}
 use Rattle.ft_base.proofs.Images.{set_other}
 use Rattle.ft_media.specs.declared.media.MediaError.{MediaError}
 use Rattle.ft_media.specs.declared.media.MediaError.TheVariants.{Failed, PowerLost, OutOfMemory}
 use Rattle.ft_media.specs.State.{State, failed, lost}
 use Rattle.ft_media.specs.Drives.{DrivesFlash}
-use Rattle.ft_media.specs.Media.{after_erase}
+use Rattle.ft_media.specs.Media.{after_erase, erase_counted, program_counted}
+use Rattle.ft_base.specs.declared.record.Record.{Record}
 use Rattle.ft_media.proofs.DrivesLemmas.{drives_then}
 use Rattle.cache_model.specs.declared.entry.Entry.{Entry}
 use Rattle.cache_model.specs.Records.{Entries}
 use Rattle.cache_model.specs.Cache.{CacheList}
 use Rattle.cache_model.specs.Stands.{StandsFor}
+use Rattle.checkpoint.specs.Current.{PoolStays}
 use Rattle.block_pool.specs.Pool.{PoolValue, IsFree, IsInPool, role_of}
 use Rattle.log_blocks.specs.Logs.{IsInUse, next_place}
 use Rattle.silent_evict.specs.Candidates.{IsHeld}
 use Rattle.merge_engine.specs.declared.parts.Parts.{Parts}
 use Rattle.merge_engine.specs.Agreement.{Agree, IsOpenBlock, Lists, RolesAgree}
-use Rattle.merge_engine.specs.Merges.{HasBlockOrRoom, OthersStay, StandsForEither, moved}
-use Rattle.merge_engine.specs.Steps.{IsCopied, IsMerged, IsUnheld}
+use Rattle.merge_engine.specs.Merges.{HasBlockOrRoom, OthersStay, ReachesTo, StandsForEither, dropped, move_counted, moved, programs_counted}
+use Rattle.merge_engine.specs.Room.{LacksRoom}
+use Rattle.merge_engine.specs.Steps.{HasFillers, IsCopied, IsFilledUp, IsMerged, IsUnheld, filler_page}
 use Rattle.merge_engine.proofs.BesideLemmas.{ChangedBeside, erased_beside, agree_beside, nothing_buffered}
 use Rattle.merge_engine.proofs.RoleLemmas.{free_in_pool, free_unheld, free_not_in_use, open_in_use}
 use Rattle.merge_engine.proofs.TakeLemmas.{erased_pages}
 use Rattle.merge_engine.proofs.PutLemmas.{of_one_roles}
-use Rattle.merge_engine.proofs.MovedLemmas.{moved_from, moved_other}
+use Rattle.merge_engine.proofs.MovedLemmas.{dropped_here, moved_from, moved_here, moved_other}
 
 -- the list is the same, whatever the pool is used for
 pub lists_roles : (parts : Parts) (pool : PoolValue) (page : Place → Page) (list durable : CacheList) → Lists parts page list durable → Lists (record parts { pool = pool }) page list durable
@@ -99,6 +103,52 @@ module _ (g : Geometry) (m n : Entries) (group block : ℕ) (is : n ≡ moved g 
 
   pub others_moved : OthersStay g group m n
   others_moved a other = ap (λ k. get k a) is ∙ moved_other g m group block a other
+
+-- ---- fillers
+
+pub filled_still : (g h : Geometry) (m n : Entries) (group block : ℕ) (page : Place → Page) → h ≡ g → n ≡ m → IsFilledUp h n group block page → IsFilledUp g m group block page
+filled_still g h m n group block page same is filled = subst (λ (k : Geometry). IsFilledUp k m group block page) same (subst (λ (x : Entries). IsFilledUp h x group block page) is filled)
+
+pub fillers_still : (g h : Geometry) (n : Entries) (group : ℕ) (page : Place → Page) → h ≡ g → HasFillers h n group page → HasFillers g n group page
+fillers_still g h n group page same filled = subst (λ (k : Geometry). HasFillers k n group page) same filled
+
+module _ (g : Geometry) (m n : Entries) (group block : ℕ) (is : n ≡ moved g m group block) where
+  was_none : (a : ℕ) → get n a ≡ None → a / g.p ≡ group → get m a ≡ None
+  was_none a none in_group = by_entry (get m a) refl
+    where
+      by_entry : (o : Option Entry) → get m a ≡ o → get m a ≡ None
+      by_entry None at = at
+      by_entry (Some e) at = absurd (let here = sym (moved_here g m group block a e at in_group) ∙ ap (λ (x : Entries). get x a) (sym is) ∙ none in cc)
+
+  -- once a group moved, its data block has the fillers
+  pub fillers_moved : (page page' : Place → Page) → first_pool g ≤ block → PoolStays g page page' → IsFilledUp g m group block page → HasFillers g n group page'
+  fillers_moved page page' high stays filled a b e in_a none in_b there less =
+      let was = moved_from g m group block b e (sym (ap (λ k. get k b) is) ∙ there) in_b in
+      let here : e.place.block ≡ block = ap (λ (x : Entry). x.place.block) was.2 in
+      subst (λ k. page' (record { block = k; page = a % g.p }) ≡ filler_page) (sym here)
+      (stays (record { block = block; page = a % g.p }) high ∙ filled a b was.0 in_a (was_none a none in_a) in_b was.1 less)
+
+-- where the group is gone, nothing of it is held
+pub fillers_gone : (g : Geometry) (m n : Entries) (group : ℕ) (page : Place → Page) → n ≡ dropped g m group → HasFillers g n group page
+fillers_gone g m n group page is a b e in_a none in_b there less = absurd (let gone = sym (dropped_here g m group b in_b) ∙ ap (λ (x : Entries). get x b) (sym is) ∙ there in cc)
+
+-- ---- what a merge costs
+
+-- something is buffered once a record was
+pub pushed_some : (changes : List Record) (change : Record) → changes ++ change ∷ [] ≡ [] → ⊥
+pushed_some [] change none = absurd (cc)
+pushed_some (x ∷ xs) change none = absurd (cc)
+
+pub reach_still : (old mid : Parts) (group pages : ℕ) → mid ≡ old → ReachesTo old.geometry old.map.entries group pages → ReachesTo mid.geometry mid.map.entries group pages
+reach_still old mid group pages same reach = subst (λ (p : Parts). ReachesTo p.geometry p.map.entries group pages) (sym same) reach
+
+-- nothing was buffered, so that the group was copied and one log page programmed
+pub moved_counts : (pages : ℕ) (old mid now last : State) → mid ≡ old → now.counts ≡ programs_counted pages (erase_counted mid.counts) → last.counts ≡ program_counted now.counts → last.counts ≡ move_counted pages old.counts
+moved_counts pages old mid now last same copied page = page ∙ ap program_counted copied ∙ ap (λ (s : State). program_counted (programs_counted pages (erase_counted s.counts))) same
+
+pub room_not_lacked : (g : Geometry) (m : Entries) (group : ℕ) → LacksRoom g m group → HasBlockOrRoom g m group → ⊥
+room_not_lacked g m group lacks (inl has) = lacks.none has
+room_not_lacked g m group lacks (inr low) = let full = lacks.full in absurd (omega arith)
 
 -- ---- calls of the flash
 

@@ -1,6 +1,7 @@
 -- What stands in a log block whose groups are merged.
-use Rattle.std.proofs.Common.{◌≡◌, ℕ, ◌+◌, ◌<◌, ◌/◌, true, inl, inr, sym, ◌∙◌, ap, subst, arith}
+use Rattle.std.proofs.Common.{◌≡◌, ℕ, ◌+◌, ◌<◌, ◌/◌, true, Some, inl, inr, sym, ◌∙◌, ap, subst, arith}
 use Rattle.std.proofs.lemmas.Bool.{cases_lt}
+use Rattle.std.specs.FinMap.{get}
 use Rattle.ft_base.specs.declared.geometry.Geometry.{Geometry}
 use Rattle.ft_base.specs.declared.block.Place.{Place}
 use Rattle.cache_model.specs.Records.{Entries}
@@ -44,3 +45,7 @@ none_before-more m block i before here page low = elim (cases_lt page i) [
 
 pub none_before-all : (g : Geometry) (m : Entries) (block : ℕ) → IsMap g m → NoneBefore m block g.p → IsUnheld m block
 none_before-all g m block is_map before a e is here = before e.place.page (is_map.in_pool a e is).page a e is (ap (λ b. record { block = b; page = e.place.page }) here)
+
+-- where nothing stands in a block, nothing stands at a page of it
+pub unowned_in : (old now : Parts) (block page : ℕ) → now ≡ old → IsUnheld old.map.entries block → IsUnowned now.map.entries (record { block = block; page = page })
+unowned_in old now block page same unheld a e is here = unheld a e (subst (λ (p : Parts). get p.map.entries a ≡ Some e) same is) (ap (λ (p : Place). p.block) here)

@@ -1,10 +1,11 @@
 -- What the erase blocks of a map that was loaded are used for.
-use Rattle.std.specs.Prelude.{◌≡◌, ◌⊎◌, ◌↔◌, ◌<◌, ℕ, Bool, false, Some, if◌then◌else◌}
-use Rattle.std.specs.List.{slice_get}
-use Rattle.std.specs.FinMap.{get, entries}
+use Rattle.std.specs.Prelude.{◌≡◌, ◌⊎◌, ◌↔◌, ◌<◌, ℕ, Bool, false, List, [], ◌∷◌, Some, if◌then◌else◌}
+use Rattle.std.specs.List.{AllByRecursion}
+use Rattle.std.specs.FinMap.{get}
 use Rattle.ft_base.specs.declared.geometry.Geometry.{Geometry}
 use Rattle.cache_model.specs.declared.entry.Entry.{Entry}
 use Rattle.cache_model.specs.Records.{Entries}
+use Rattle.mapping.specs.Numbers.{number_of}
 use Rattle.block_pool.specs.Pool.{PoolValue, IsInPool, role_of}
 use Rattle.block_pool.specs.declared.pool.Role.{Role}
 use Rattle.block_pool.specs.declared.pool.Role.TheVariants.{Free, Data, Log}
@@ -23,9 +24,9 @@ role_for block_mapped = if block_mapped then Data else Log
 abbrev pub IsUsedAs : Entries → ℕ → Role → Type 0
 IsUsedAs m block role = (a : ℕ) × (e : Entry) × (get m a ≡ Some e) × (e.place.block ≡ block) × (role ≡ role_for e.block_mapped)
 
--- the blocks of the first so many entries are used as they say, and every other one is free or is used as an entry in it says
+-- the blocks of the entries of the first so many numbers are used as they say, and every other one is free or is used as an entry in it says
 pub record RolesSoFar (g : Geometry) (m : Entries) (pool : PoolValue) (i : ℕ) : Type 0 where
-  pub seen : (k a : ℕ) (e : Entry) → k < i → slice_get (entries m) k ≡ Some (a, e) → role_of pool e.place.block ≡ role_for e.block_mapped
+  pub seen : (a : ℕ) (e : Entry) → get m a ≡ Some e → number_of g e.place < i → role_of pool e.place.block ≡ role_for e.block_mapped
   pub rest : (b : ℕ) → IsInPool g b → (role_of pool b ≡ Free) ⊎ IsUsedAs m b (role_of pool b)
 
 -- each block of the pool is used as the entries in it say
@@ -36,3 +37,8 @@ pub record RolesOf (g : Geometry) (m : Entries) (pool : PoolValue) : Type 0 wher
 -- the log blocks of the pool are those in use
 abbrev pub AreInUse : Geometry → PoolValue → LogBlocksValue → Type 0
 AreInUse g pool logs = (b : ℕ) → IsInUse logs b ↔ (IsInPool g b × (role_of pool b ≡ Log))
+
+-- each number is below those after it
+abbrev pub AreAscending : List ℕ → Type 0
+AreAscending [] = Unit {0}
+AreAscending (n ∷ ns) = AllByRecursion (λ k. n < k) ns × AreAscending ns

@@ -1,11 +1,14 @@
 -- What a merge makes of the entries and of the list.
-use Rattle.std.specs.Prelude.{◌≡◌, ◌⊎◌, ◌<◌, ◌/◌, ℕ, not}
+use Rattle.std.specs.Prelude.{◌≡◌, ◌⊎◌, ◌<◌, ◌/◌, ◌%◌, ◌+◌, ℕ, zero, suc, Some, not}
 use Rattle.std.specs.FinMap.{get, retain_keys}
 use Rattle.ft_base.specs.declared.geometry.Geometry.{Geometry}
 use Rattle.ft_base.specs.declared.block.Place.{Place}
 use Rattle.ft_base.specs.declared.block.Page.{Page}
 use Rattle.ft_base.specs.declared.record.Record.{Record}
 use Rattle.ft_base.specs.declared.record.Record.TheVariants.{SetGroup, RemoveGroup}
+use Rattle.ft_media.specs.declared.rig.Counts.{Counts}
+use Rattle.ft_media.specs.Media.{program_counted, erase_counted}
+use Rattle.cache_model.specs.declared.entry.Entry.{Entry}
 use Rattle.cache_model.specs.Records.{Entries, after, is_in_group}
 use Rattle.cache_model.specs.Cache.{CacheList}
 use Rattle.cache_model.specs.Stands.{StandsFor}
@@ -41,3 +44,23 @@ OthersStay g group old new = (a : ℕ) → (a / g.p ≡ group → ⊥) → get n
 -- the flash stands for one list or for another
 abbrev pub StandsForEither : Geometry → (Place → Page) → CacheList → CacheList → Type 0
 StandsForEither g page s t = StandsFor g page s ⊎ StandsFor g page t
+
+-- ---- what a merge costs
+
+-- the pages of the group up to the last held one are so many
+pub record ReachesTo (g : Geometry) (m : Entries) (group pages : ℕ) : Type 0 where
+  pub last : ℕ
+  pub entry : Entry
+  pub held : get m last ≡ Some entry
+  pub in_group : last / g.p ≡ group
+  pub number : last % g.p + 1 ≡ pages
+  pub all : (a : ℕ) (e : Entry) → get m a ≡ Some e → a / g.p ≡ group → a % g.p < pages
+
+-- the counts after so many programs
+abbrev pub programs_counted : ℕ → Counts → Counts
+programs_counted zero counts = counts
+programs_counted (suc n) counts = program_counted (programs_counted n counts)
+
+-- the counts after a group of so many pages was moved: one erase, a program for each page, and one for the log page
+abbrev pub move_counted : ℕ → Counts → Counts
+move_counted pages counts = program_counted (programs_counted pages (erase_counted counts))

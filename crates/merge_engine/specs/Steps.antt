@@ -7,6 +7,9 @@ use Rattle.ft_base.specs.declared.block.Place.{Place}
 use Rattle.ft_base.specs.declared.block.Page.{Page}
 use Rattle.ft_base.specs.declared.block.Page.TheVariants.{Whole}
 use Rattle.ft_base.specs.declared.geometry.Geometry.{Geometry}
+use Rattle.ft_base.specs.Contents.{zero_block}
+use Rattle.cache_model.specs.declared.format.SpareKind.TheVariants.{Filler}
+use Rattle.cache_model.specs.Spelling.{spelled_spare, spare_fields}
 use Rattle.cache_model.specs.declared.entry.Entry.{Entry}
 use Rattle.cache_model.specs.Records.{Entries}
 use Rattle.cache_model.specs.Cache.{CacheList, with_group}
@@ -24,6 +27,12 @@ abbrev pub GoesOn : LogValue → Parts → (Place → Page) → CacheList → Ca
 GoesOn log parts page list durable =
     ((parts.log ≡ log) × Lists parts page list durable)
     ⊎ ((parts.log.buffered ≡ []) × ((v : CacheList) × GivesRoom parts.geometry list v × Lists parts page v v))
+
+-- what was buffered still is, or all is on the flash; and the list stays
+abbrev pub KeepsList : LogValue → Parts → (Place → Page) → CacheList → CacheList → Type 0
+KeepsList log parts page list durable =
+    ((parts.log ≡ log) × Lists parts page list durable)
+    ⊎ ((parts.log.buffered ≡ []) × Lists parts page list list)
 
 -- a page of a log block in use has the block of the address, and no entry stands there yet
 pub record IsNewPage (parts : Parts) (page : Place → Page) (at : Place) (lba : ℕ) (block : Block) : Type 0 where
@@ -48,6 +57,18 @@ pub record IsCopyOf (page : Place → Page) (from to : Place) (lba : ℕ) : Type
 -- each held address of the group has a copy at its own page of the erase block
 abbrev pub IsCopied : Geometry → Entries → ℕ → ℕ → (Place → Page) → Type 0
 IsCopied g m group block page = (a : ℕ) (e : Entry) → get m a ≡ Some e → a / g.p ≡ group → IsCopyOf page e.place (record { block = block; page = a % g.p }) a
+
+-- a filler page: the zero block, with the spare bytes of a filler
+abbrev pub filler_page : Page
+filler_page = Whole zero_block (record { 0 = spelled_spare (spare_fields Filler 0 0) })
+
+-- each page of the erase block before the last held one of the group that no held address has is a filler
+abbrev pub IsFilledUp : Geometry → Entries → ℕ → ℕ → (Place → Page) → Type 0
+IsFilledUp g m group block page = (a b : ℕ) (e : Entry) → a / g.p ≡ group → get m a ≡ None → b / g.p ≡ group → get m b ≡ Some e → a < b → page (record { block = block; page = a % g.p }) ≡ filler_page
+
+-- each page of the group's data block before the last held one that no held address has is a filler
+abbrev pub HasFillers : Geometry → Entries → ℕ → (Place → Page) → Type 0
+HasFillers g m group page = (a b : ℕ) (e : Entry) → a / g.p ≡ group → get m a ≡ None → b / g.p ≡ group → get m b ≡ Some e → a < b → page (record { block = e.place.block; page = a % g.p }) ≡ filler_page
 
 -- each address of the group that is held stands in its data block
 abbrev pub IsMerged : Geometry → Entries → ℕ → Type 0
@@ -76,3 +97,15 @@ IsUnheld m block = (a : ℕ) (e : Entry) → get m a ≡ Some e → e.place.bloc
 -- no entry stands at the place
 abbrev pub IsUnowned : Entries → Place → Type 0
 IsUnowned m at = (a : ℕ) (e : Entry) → get m a ≡ Some e → e.place ≡ at → ⊥
+
+-- nothing stands in one of the log blocks in use
+abbrev pub HasUnheldLog : Parts → Type 0
+HasUnheldLog parts = (b : ℕ) × IsInUse parts.logs b × IsUnheld parts.map.entries b
+
+-- a log block can be begun without a merge: fewer than L are in use, or nothing stands in one of them
+abbrev pub CanBeginLog : Parts → Type 0
+CanBeginLog parts = (length parts.logs.used < parts.geometry.l) ⊎ HasUnheldLog parts
+
+-- a log block can be had without a merge: a page is left in the open one, or another can be begun
+abbrev pub HasLogRoom : Parts → Type 0
+HasLogRoom parts = (1 ≤ parts.logs.room) ⊎ CanBeginLog parts

@@ -1,22 +1,17 @@
-ghost use Rattle.std.specs.Prelude.{◌≡◌, ◌≤◌, ◌<◌, ◌+◌, ◌-◌, [], length, ℕ, Some, option_map, OnOk, OnErr, IfOk, IsOk, IsErrOf};
+ghost use Rattle.std.specs.Prelude.{◌≡◌, ◌≤◌, ◌<◌, ◌+◌, ◌-◌, [], length, ℕ, OnOk, OnErr, IfOk, IsOk, IsErrOf};
 ghost use Rattle.ft_base.specs.Count.{Rose};
 ghost use Rattle.ft_media.specs.State.{failed, lost};
 ghost use Rattle.ft_media.specs.Drives.{DrivesFlash};
 ghost use Rattle.ft_media.specs.Passes.{Spends};
 ghost use Rattle.ft_media.specs.Media.{program_counted};
 ghost use Rattle.ft_base.specs.Contents.{Contents};
-ghost use Rattle.ft_base.specs.declared.block.Place.{Place as PlaceValue};
 ghost use Rattle.cache_model.specs.Cache.{CacheList};
-ghost use Rattle.mapping.specs.Counts.{address_and_place};
-ghost use Rattle.std.specs.FinMap.{entries};
-ghost use Rattle.std.specs.List.{slice_get};
-ghost use Rattle.std.specs.Bool.{OnTrue, OnFalse};
 ghost use Rattle.block_pool.specs.Pool.{IsFree, IsInPool};
 ghost use Rattle.log_blocks.specs.Logs.{IsInUse, IsSound, begun};
 ghost use Rattle.merge_engine.specs.Merges.{StandsForEither};
 ghost use Rattle.merge_engine.specs.Agreement.{Agree, AreOfOne, Lists, RolesAgree};
 ghost use Rattle.merge_engine.specs.Room.{StandsForGiven};
-ghost use Rattle.merge_engine.specs.Steps.{GoesOn, IsNewPage, IsUnheld};
+ghost use Rattle.merge_engine.specs.Steps.{CanBeginLog, GoesOn, HasLogRoom, HasUnheldLog, IsNewPage, KeepsList};
 
 use crate::Parts;
 use crate::committing::commit;
@@ -24,10 +19,10 @@ use crate::freeing::{free_log_block, give_back};
 use block_pool::Role;
 use ft_base::{Block, Place};
 use ft_media::{Media, MediaError};
-use mapping::Map;
 
 /// Programs a block into the next page of the open log block, and says where. Where none has a page
-/// left, one is opened first. It takes no memory.
+/// left, one is opened first: a merge comes only where L log blocks are in use and something stands in
+/// each. It takes no memory.
 pub fn append<M: Media>(
     cache: &mut Parts,
     media: &mut M,
@@ -46,6 +41,10 @@ pub fn append<M: Media>(
     ensures lists { OnOk result ((list durable : CacheList) → Lists cache.old (M.state media.old).contents.flash.page list durable → GoesOn cache.old.log cache.new (M.state media.new).contents.flash.page list durable) }
     // Whatever is answered, and wherever power went off.
     ensures stands { (list durable : CacheList) → Lists cache.old (M.state media.old).contents.flash.page list durable → StandsForGiven cache.old.geometry (M.state media.new).contents.flash.page durable list }
+    // Where a log block can be had without a merge, the map stays and nothing gives way.
+    ensures map_stays { HasLogRoom cache.old → cache.new.map ≡ cache.old.map }
+    ensures list_stands { HasLogRoom cache.old → (list durable : CacheList) → Lists cache.old (M.state media.old).contents.flash.page list durable → StandsForEither cache.old.geometry (M.state media.new).contents.flash.page durable list }
+    ensures list_stays { OnOk result (HasLogRoom cache.old → (list durable : CacheList) → Lists cache.old (M.state media.old).contents.flash.page list durable → KeepsList cache.old.log cache.new (M.state media.new).contents.flash.page list durable) }
     // Where the open log block has a page left: one program, no erase, and nothing gives way.
     ensures one_program { OnOk result (1 ≤ cache.old.logs.room
         → (cache.new ≡ record cache.old { logs = record cache.old.logs { room = cache.old.logs.room - 1 } }) × ((M.state media.new).counts ≡ program_counted (M.state media.old).counts)) }
@@ -69,6 +68,7 @@ fn program_next<M: Media>(
     requires opened { 1 ≤ cache.old.logs.room }
     ensures cache { OnOk result (cache.new ≡ record cache.old { logs = record cache.old.logs { room = cache.old.logs.room - 1 } }) }
     ensures refused { OnErr result (cache.new ≡ cache.old) }
+    ensures map { cache.new.map ≡ cache.old.map }
     ensures agree { OnOk result (Agree cache.new (M.state media.new).contents) }
     ensures place { IfOk result (λ at. IsNewPage cache.new (M.state media.new).contents.flash.page at lba block.now) }
     // Whatever is answered, no page that an entry names changed.
@@ -95,6 +95,9 @@ fn open_if_closed<M: Media>(cache: &mut Parts, media: &mut M) -> Result<(), Medi
     ensures room { OnOk result (length cache.new.log.buffered < 127) }
     ensures lists { OnOk result ((list durable : CacheList) → Lists cache.old (M.state media.old).contents.flash.page list durable → GoesOn cache.old.log cache.new (M.state media.new).contents.flash.page list durable) }
     ensures stands { (list durable : CacheList) → Lists cache.old (M.state media.old).contents.flash.page list durable → StandsForGiven cache.old.geometry (M.state media.new).contents.flash.page durable list }
+    ensures map_stays { HasLogRoom cache.old → cache.new.map ≡ cache.old.map }
+    ensures list_stands { HasLogRoom cache.old → (list durable : CacheList) → Lists cache.old (M.state media.old).contents.flash.page list durable → StandsForEither cache.old.geometry (M.state media.new).contents.flash.page durable list }
+    ensures list_stays { OnOk result (HasLogRoom cache.old → (list durable : CacheList) → Lists cache.old (M.state media.old).contents.flash.page list durable → KeepsList cache.old.log cache.new (M.state media.new).contents.flash.page list durable) }
     ensures memory { IsErrOf result MediaError.OutOfMemory → ⊥ }
     ensures drives { DrivesFlash (M.state media.old) (M.state media.new) (failed result) (lost result) }
 {
@@ -172,6 +175,7 @@ fn make_room<M: Media>(cache: &mut Parts, media: &mut M) -> Result<(), MediaErro
     ensures room { OnOk result (length cache.new.log.buffered < 127) }
     ensures lists { OnOk result ((list durable : CacheList) → Lists cache.old (M.state media.old).contents.flash.page list durable → GoesOn cache.old.log cache.new (M.state media.new).contents.flash.page list durable) }
     ensures stands { (list durable : CacheList) → Lists cache.old (M.state media.old).contents.flash.page list durable → StandsForGiven cache.old.geometry (M.state media.new).contents.flash.page durable list }
+    ensures no_merge { CanBeginLog cache.old → IsOk result × (cache.new ≡ record cache.old { pool = cache.new.pool; logs = cache.new.logs }) × (M.state media.new ≡ M.state media.old) }
     ensures memory { IsErrOf result MediaError.OutOfMemory → ⊥ }
     ensures drives { DrivesFlash (M.state media.old) (M.state media.new) (failed result) (lost result) }
 {
@@ -187,37 +191,17 @@ fn free_unheld(cache: &mut Parts)
     requires of_one { AreOfOne cache.old }
     requires in_pool { (b : ℕ) → IsInUse cache.old.logs b → IsInPool cache.old.geometry b }
     ensures cache { cache.new ≡ record cache.old { pool = cache.new.pool; logs = cache.new.logs } }
+    ensures no_more { length cache.new.logs.used ≤ length cache.old.logs.used }
+    ensures fewer { HasUnheldLog cache.old → length cache.new.logs.used < length cache.old.logs.used }
     ensures agree { (contents : Contents) → Agree cache.old contents → Agree cache.new contents }
 {
     let mut i = 0;
     while i < cache.logs.used() {
         let block = cache.logs.nth(i);
-        if is_unheld(&cache.map, block) {
+        if cache.map.stands_none_in(block) {
             give_back(cache, block);
         } else {
             i += 1;
         }
-    }
-}
-
-/// Whether no entry stands in the block.
-fn is_unheld(map: &Map, block: u32) -> bool
-    ensures { OnTrue result (IsUnheld map.now.entries block) }
-{
-    for i in 0..map.held() {
-        if stands_in(map, i, block) {
-            return false;
-        }
-    }
-    true
-}
-
-/// Whether entry `i` stands in the block.
-fn stands_in(map: &Map, i: u64, block: u32) -> bool
-    ensures { OnFalse result ((a : ℕ) (at : PlaceValue) → Some (a, at) ≡ option_map address_and_place (slice_get (entries map.now.entries) i) → at.block ≡ block → ⊥) }
-{
-    match map.nth(i) {
-        Some((_, at)) => at.block == block,
-        None => false,
     }
 }

@@ -1,17 +1,18 @@
 //! The pages of a group are copied into one erase block.
-ghost use Rattle.std.specs.Prelude.{◌≡◌, ◌≤◌, ◌<◌, ◌+◌, [], true, Some, OnOk, IsErrOf};
+ghost use Rattle.std.specs.Prelude.{◌≡◌, ◌≤◌, ◌<◌, ◌+◌, [], ℕ, true, None, Some, OnOk, IsErrOf};
 ghost use Rattle.std.specs.FinMap.{get};
 ghost use Rattle.ft_base.specs.declared.block.Place.{Place as PlaceValue};
 ghost use Rattle.ft_media.specs.State.{failed, lost};
 ghost use Rattle.ft_media.specs.Drives.{DrivesFlash};
-ghost use Rattle.ft_media.specs.Media.{after_program};
+ghost use Rattle.ft_media.specs.Media.{after_program, program_counted};
 ghost use Rattle.cache_model.specs.declared.entry.Entry.{Entry};
 ghost use Rattle.cache_model.specs.Cache.{CacheList};
 ghost use Rattle.cache_model.specs.Loading.{is_whole};
 ghost use Rattle.cache_model.specs.Stands.{block_in};
 ghost use Rattle.block_pool.specs.Pool.{IsFree};
 ghost use Rattle.merge_engine.specs.Agreement.{Agree, Lists};
-ghost use Rattle.merge_engine.specs.Steps.{IsCopied, IsCopyOf};
+ghost use Rattle.merge_engine.specs.Merges.{ReachesTo, programs_counted};
+ghost use Rattle.merge_engine.specs.Steps.{IsCopied, IsCopyOf, IsFilledUp, filler_page};
 
 use crate::Parts;
 use cache_model::SpareKind;
@@ -35,6 +36,8 @@ pub(crate) fn copy_group<M: Media>(
     // Whatever is answered, and wherever power went off: no page that an entry names changed.
     ensures lists { (list durable : CacheList) → Lists cache.now (M.state media.old).contents.flash.page list durable → Lists cache.now (M.state media.new).contents.flash.page list durable }
     ensures copied { OnOk result (IsCopied cache.now.geometry cache.now.map.entries group block (M.state media.new).contents.flash.page) }
+    ensures filled { OnOk result (IsFilledUp cache.now.geometry cache.now.map.entries group block (M.state media.new).contents.flash.page) }
+    ensures counts { OnOk result ((pages : ℕ) → ReachesTo cache.now.geometry cache.now.map.entries group pages → (M.state media.new).counts ≡ programs_counted pages (M.state media.old).counts) }
     ensures memory { IsErrOf result MediaError.OutOfMemory → ⊥ }
     ensures drives { DrivesFlash (M.state media.old) (M.state media.new) (failed result) (lost result) }
 {
@@ -62,8 +65,10 @@ fn copy_page<M: Media>(
     ensures agree { OnOk result (Agree cache.now (M.state media.new).contents) }
     ensures lists { (list durable : CacheList) → Lists cache.now (M.state media.old).contents.flash.page list durable → Lists cache.now (M.state media.new).contents.flash.page list durable }
     ensures copied { OnOk result ((e : Entry) → get cache.now.map.entries lba ≡ Some e → IsCopyOf (M.state media.new).contents.flash.page e.place to lba) }
+    ensures filler { OnOk result (get cache.now.map.entries lba ≡ None → (M.state media.new).contents.flash.page to ≡ filler_page) }
     ensures others { OnOk result ((at : PlaceValue) → (at ≡ to → ⊥) → (M.state media.new).contents.flash.page at ≡ (M.state media.old).contents.flash.page at) }
     ensures next { OnOk result ((M.state media.new).contents.flash.next to.block ≡ Some (to.page + 1)) }
+    ensures counts { OnOk result ((M.state media.new).counts ≡ program_counted (M.state media.old).counts) }
     ensures memory { IsErrOf result MediaError.OutOfMemory → ⊥ }
     ensures drives { DrivesFlash (M.state media.old) (M.state media.new) (failed result) (lost result) }
 {
@@ -91,6 +96,7 @@ fn program_unheld<M: Media>(
     ensures programmed { OnOk result ((M.state media.new).contents.flash ≡ after_program (M.state media.old).contents.flash at block.now spare.now) }
     ensures agree { OnOk result (Agree cache.now (M.state media.new).contents) }
     ensures lists { (list durable : CacheList) → Lists cache.now (M.state media.old).contents.flash.page list durable → Lists cache.now (M.state media.new).contents.flash.page list durable }
+    ensures counts { OnOk result ((M.state media.new).counts ≡ program_counted (M.state media.old).counts) }
     ensures memory { IsErrOf result MediaError.OutOfMemory → ⊥ }
     ensures drives { DrivesFlash (M.state media.old) (M.state media.new) (failed result) (lost result) }
 {

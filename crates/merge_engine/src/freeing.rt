@@ -1,4 +1,4 @@
-ghost use Rattle.std.specs.Prelude.{◌≡◌, ◌≤◌, ◌<◌, ◌+◌, [], length, ℕ, Some, slice_get, OnOk, OnErr, IsErrOf};
+ghost use Rattle.std.specs.Prelude.{◌≡◌, ◌≤◌, ◌<◌, ◌+◌, [], length, ℕ, Some, slice_get, OnOk, OnErr, IsOk, IsErrOf};
 ghost use Rattle.ft_media.specs.State.{failed, lost};
 ghost use Rattle.ft_media.specs.Drives.{DrivesFlash};
 ghost use Rattle.cache_model.specs.Cache.{CacheList};
@@ -16,7 +16,7 @@ use ft_base::Place;
 use ft_media::{Media, MediaError};
 
 /// Frees the log block that was taken first: each group with a page in it is merged, in the order of
-/// the pages. It takes no memory.
+/// the pages. Where nothing stands in it no call of the media is made. It takes no memory.
 pub fn free_log_block<M: Media>(cache: &mut Parts, media: &mut M) -> Result<(), MediaError>
     requires agree { Agree cache.old (M.state media.old).contents }
     requires used { 1 ≤ length cache.old.logs.used }
@@ -24,6 +24,8 @@ pub fn free_log_block<M: Media>(cache: &mut Parts, media: &mut M) -> Result<(), 
     requires room { length cache.old.log.buffered < 127 }
     ensures geometry { cache.new.geometry ≡ cache.old.geometry }
     ensures logs { OnOk result ((oldest : ℕ) → slice_get cache.old.logs.used 0 ≡ Some oldest → cache.new.logs ≡ released oldest cache.old.logs) }
+    ensures unheld { (oldest : ℕ) → slice_get cache.old.logs.used 0 ≡ Some oldest → IsUnheld cache.old.map.entries oldest
+        → IsOk result × (cache.new ≡ record cache.old { pool = cache.new.pool; logs = cache.new.logs }) × (M.state media.new ≡ M.state media.old) }
     ensures pages { cache.new.map.spare_pages ≡ cache.old.map.spare_pages }
     ensures groups { cache.old.map.spare_groups ≤ cache.new.map.spare_groups + cache.old.geometry.p }
     ensures agree { OnOk result (Agree cache.new (M.state media.new).contents) }
@@ -49,6 +51,7 @@ fn merge_owners<M: Media>(cache: &mut Parts, media: &mut M, block: u32) -> Resul
     requires groups { cache.old.geometry.p ≤ cache.old.map.spare_groups }
     requires room { length cache.old.log.buffered < 127 }
     ensures geometry { cache.new.geometry ≡ cache.old.geometry }
+    ensures nothing { IsUnheld cache.old.map.entries block → IsOk result × (cache.new ≡ cache.old) × (M.state media.new ≡ M.state media.old) }
     ensures logs { cache.new.logs ≡ cache.old.logs }
     ensures pages { cache.new.map.spare_pages ≡ cache.old.map.spare_pages }
     ensures groups { cache.old.map.spare_groups ≤ cache.new.map.spare_groups + cache.old.geometry.p }
@@ -73,6 +76,7 @@ fn merge_owner<M: Media>(cache: &mut Parts, media: &mut M, at: Place) -> Result<
     requires groups { 1 ≤ cache.old.map.spare_groups }
     requires room { length cache.old.log.buffered < 127 }
     ensures geometry { cache.new.geometry ≡ cache.old.geometry }
+    ensures nothing { IsUnowned cache.old.map.entries at → IsOk result × (cache.new ≡ cache.old) × (M.state media.new ≡ M.state media.old) }
     ensures logs { cache.new.logs ≡ cache.old.logs }
     ensures pages { cache.new.map.spare_pages ≡ cache.old.map.spare_pages }
     ensures groups { cache.old.map.spare_groups ≤ cache.new.map.spare_groups + 1 }

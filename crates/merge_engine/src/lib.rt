@@ -1,9 +1,9 @@
 //! Merges: the data blocks and log blocks of a cache, and the steps that move between them.
 //!
 //! `Parts` are the parts that the steps share: the map, the operation log, the pool, the log blocks. A
-//! block is appended to the open log block; where all log blocks are in use the oldest is freed, which
-//! merges each group with a page in it into a data block of its own; where all data blocks are in use a
-//! clean group gives way.
+//! block is appended to the open log block; where all log blocks are in use, and something stands in
+//! each, the oldest is freed, which merges each group with a page in it into a data block of its own;
+//! where all data blocks are in use a clean group gives way.
 //!
 //! The layer above relies on this: between two steps the parts agree with the flash. A step that
 //! answers Ok leaves the list of held blocks as it was, or without some wholly clean groups that gave

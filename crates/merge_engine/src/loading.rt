@@ -5,7 +5,7 @@ ghost use Rattle.cache_model.specs.Entries.{IsMap};
 ghost use Rattle.block_pool.specs.Pool.{IsFree, IsInPool};
 ghost use Rattle.log_blocks.specs.Logs as list;
 ghost use Rattle.merge_engine.specs.Agreement.{AreOfOne, RolesAgree};
-ghost use Rattle.merge_engine.specs.Loaded.{AreInUse, RolesOf, RolesSoFar, role_for};
+ghost use Rattle.merge_engine.specs.Loaded.{AreAscending, AreInUse, RolesOf, RolesSoFar, role_for};
 
 use crate::Parts;
 use block_pool::{Pool, Role};
@@ -17,8 +17,9 @@ use op_log::OpLog;
 use silent_evict::Victims;
 use std::alloc::{AllocError, Global};
 
-/// The parts over a map that was loaded, with the log of this region and era. No log block is open. It
-/// is refused for want of memory alone.
+/// The parts over a map that was loaded, with the log of this region and era, at its first page and with
+/// nothing buffered. The log blocks are in the order of their numbers, and none is open. It is refused
+/// for want of memory alone.
 pub fn loaded(
     alloc: Global,
     geometry: &Geometry,
@@ -36,6 +37,8 @@ pub fn loaded(
     ensures log { IfOk result (λ parts. parts.log ≡ record { geometry = geometry.now; region = region; era = era; next = 0; buffered = [] }) }
     ensures roles { IfOk result (λ parts. RolesAgree parts) }
     ensures logs { IfOk result (λ parts. list.IsSound parts.logs) }
+    ensures ascending { IfOk result (λ parts. AreAscending parts.logs.used) }
+    ensures none_open { IfOk result (λ parts. parts.logs.open_block ≡ None) }
     ensures closed { IfOk result (λ parts. parts.logs.room ≡ 0) }
 {
     let mut parts = unused(alloc, geometry, map, region, era)?;
@@ -87,13 +90,13 @@ fn set_roles(parts: &mut Parts)
     ensures of_one { AreOfOne parts.new }
     ensures roles { RolesOf parts.old.geometry parts.old.map.entries parts.new.pool }
 {
-    for i in 0..parts.map.held() {
+    for i in 0..parts.map.numbers() {
         set_role_at(parts, i);
     }
 }
 
-/// Uses the block of entry `i` as it says.
-fn set_role_at(parts: &mut Parts, i: u64)
+/// Uses the block of entry number `i` as it says, where there is one.
+fn set_role_at(parts: &mut Parts, i: u32)
     requires of_one { AreOfOne parts.old }
     requires map { IsMap parts.old.geometry parts.old.map.entries }
     ensures parts { parts.new ≡ record parts.old { pool = parts.new.pool } }
@@ -133,6 +136,8 @@ fn adopt_log_blocks(parts: &mut Parts)
     ensures of_one { AreOfOne parts.new }
     ensures in_use { AreInUse parts.old.geometry parts.old.pool parts.new.logs }
     ensures sound { list.IsSound parts.new.logs }
+    ensures ascending { AreAscending parts.new.logs.used }
+    ensures none_open { parts.new.logs.open_block ≡ None }
     ensures closed { parts.new.logs.room ≡ 0 }
 {
     for block in parts.geometry.first_pool()..parts.geometry.blocks() {

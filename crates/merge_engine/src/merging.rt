@@ -1,15 +1,17 @@
-ghost use Rattle.std.specs.Prelude.{◌≡◌, ◌≤◌, ◌<◌, ◌+◌, [], length, OnOk, IfOk, IsErrOf};
+ghost use Rattle.std.specs.Prelude.{◌≡◌, ◌≢◌, ◌≤◌, ◌<◌, ◌+◌, ℕ, [], length, OnOk, IfOk, IsErrOf};
 ghost use Rattle.ft_base.specs.Contents.{Contents};
 ghost use Rattle.ft_media.specs.State.{failed, lost};
+ghost use Rattle.ft_base.specs.Layout.{log_pages};
+ghost use Rattle.ft_media.specs.Media.{erase_counted};
 ghost use Rattle.ft_media.specs.Drives.{DrivesFlash};
 ghost use Rattle.cache_model.specs.Cache.{CacheList};
 ghost use Rattle.cache_model.specs.Entries.{IsMap};
 ghost use Rattle.block_pool.specs.Pool.{IsFree};
 ghost use Rattle.silent_evict.specs.Candidates.{IsHeld};
 ghost use Rattle.merge_engine.specs.Agreement.{Agree, AreOfOne, Lists, RolesAgree};
-ghost use Rattle.merge_engine.specs.Merges.{HasBlockOrRoom, OthersStay, StandsForEither, dropped, list_without, moved};
+ghost use Rattle.merge_engine.specs.Merges.{HasBlockOrRoom, OthersStay, ReachesTo, StandsForEither, dropped, list_without, move_counted, moved, programs_counted};
 ghost use Rattle.merge_engine.specs.Room.{GaveWay, StandsForGiven};
-ghost use Rattle.merge_engine.specs.Steps.{IsCopied, IsMerged, OthersStayOrGo, PageMappedStay};
+ghost use Rattle.merge_engine.specs.Steps.{HasFillers, IsCopied, IsFilledUp, IsMerged, OthersStayOrGo, PageMappedStay};
 
 use crate::Parts;
 use crate::committing::commit;
@@ -36,8 +38,12 @@ pub fn merge_group<M: Media>(cache: &mut Parts, media: &mut M, group: u64) -> Re
     ensures lists { OnOk result ((list durable : CacheList) → Lists cache.old (M.state media.old).contents.flash.page list durable
         → (v : CacheList) × GaveWay cache.old.geometry cache.old.map.entries group list v × Lists cache.new (M.state media.new).contents.flash.page v v) }
     ensures merged { OnOk result (IsMerged cache.old.geometry cache.new.map.entries group) }
+    ensures filled { OnOk result (HasFillers cache.old.geometry cache.new.map.entries group (M.state media.new).contents.flash.page) }
     ensures others { OnOk result (OthersStayOrGo cache.old.geometry group cache.old.map.entries cache.new.map.entries) }
     ensures page_mapped { OnOk result (PageMappedStay cache.old.map.entries cache.new.map.entries) }
+    // Where no group gives way: one erase, a program for each page up to the last held one, and one for the log page.
+    ensures counts { OnOk result (HasBlockOrRoom cache.old.geometry cache.old.map.entries group → cache.old.log.buffered ≡ [] → cache.old.log.next < log_pages cache.old.geometry
+        → (pages : ℕ) → ReachesTo cache.old.geometry cache.old.map.entries group pages → (M.state media.new).counts ≡ move_counted pages (M.state media.old).counts) }
     // Whatever is answered, and wherever power went off.
     ensures stands { (list durable : CacheList) → Lists cache.old (M.state media.old).contents.flash.page list durable → StandsForGiven cache.old.geometry (M.state media.new).contents.flash.page durable list }
     ensures memory { IsErrOf result MediaError.OutOfMemory → ⊥ }
@@ -92,7 +98,10 @@ fn move_group<M: Media>(cache: &mut Parts, media: &mut M, group: u64) -> Result<
     ensures nothing_waits { OnOk result (cache.new.log.buffered ≡ []) }
     ensures lists { OnOk result ((list durable : CacheList) → Lists cache.old (M.state media.old).contents.flash.page list durable → Lists cache.new (M.state media.new).contents.flash.page list list) }
     ensures merged { OnOk result (IsMerged cache.old.geometry cache.new.map.entries group) }
+    ensures filled { OnOk result (HasFillers cache.old.geometry cache.new.map.entries group (M.state media.new).contents.flash.page) }
     ensures others { OnOk result (OthersStay cache.old.geometry group cache.old.map.entries cache.new.map.entries) }
+    ensures counts { OnOk result (cache.old.log.buffered ≡ [] → cache.old.log.next < log_pages cache.old.geometry
+        → (pages : ℕ) → ReachesTo cache.old.geometry cache.old.map.entries group pages → (M.state media.new).counts ≡ move_counted pages (M.state media.old).counts) }
     // Whatever is answered, and wherever power went off.
     ensures stands { (list durable : CacheList) → Lists cache.old (M.state media.old).contents.flash.page list durable → StandsForEither cache.old.geometry (M.state media.new).contents.flash.page durable list }
     ensures memory { IsErrOf result MediaError.OutOfMemory → ⊥ }
@@ -114,6 +123,8 @@ fn copy_out<M: Media>(cache: &mut Parts, media: &mut M, group: u64) -> Result<u3
     ensures lists { (list durable : CacheList) → Lists cache.old (M.state media.old).contents.flash.page list durable → Lists cache.new (M.state media.new).contents.flash.page list durable }
     ensures free { IfOk result (IsFree cache.new.pool) }
     ensures copied { IfOk result (λ block. IsCopied cache.old.geometry cache.old.map.entries group block (M.state media.new).contents.flash.page) }
+    ensures filled { IfOk result (λ block. IsFilledUp cache.old.geometry cache.old.map.entries group block (M.state media.new).contents.flash.page) }
+    ensures counts { OnOk result ((pages : ℕ) → ReachesTo cache.old.geometry cache.old.map.entries group pages → (M.state media.new).counts ≡ programs_counted pages (erase_counted (M.state media.old).counts)) }
     ensures memory { IsErrOf result MediaError.OutOfMemory → ⊥ }
     ensures drives { DrivesFlash (M.state media.old) (M.state media.new) (failed result) (lost result) }
 {
@@ -136,6 +147,8 @@ fn put_group(cache: &mut Parts, group: u64, block: u32)
     ensures entries { cache.new.map.entries ≡ moved cache.old.geometry cache.old.map.entries group block }
     ensures pages { cache.new.map.spare_pages ≡ cache.old.map.spare_pages }
     ensures groups { cache.new.map.spare_groups + 1 ≡ cache.old.map.spare_groups }
+    ensures waits { cache.new.log.buffered ≢ [] }
+    ensures next { cache.new.log.next ≡ cache.old.log.next }
     ensures agree { (contents : Contents) → IsCopied cache.old.geometry cache.old.map.entries group block contents.flash.page → Agree cache.old contents → Agree cache.new contents }
     ensures lists { (contents : Contents) (list durable : CacheList) → IsCopied cache.old.geometry cache.old.map.entries group block contents.flash.page
         → Lists cache.old contents.flash.page list durable → Lists cache.new contents.flash.page list durable }

@@ -47,7 +47,7 @@ pub fn put_out(cache: &mut Parts, lba: u64)
     requires fits { Fits cache.old.geometry (Remove lba) cache.old.map.entries }
     requires room { length cache.old.log.buffered < 127 }
     ensures cache { cache.new ≡ record cache.old { map = cache.new.map; log = cache.new.log; pool = cache.new.pool } }
-    ensures map { cache.new.map ≡ record cache.old.map { entries = after cache.old.geometry (Remove lba) cache.old.map.entries } }
+    ensures map { cache.new.map ≡ record cache.old.map { entries = after cache.old.geometry (Remove lba) cache.old.map.entries; records = cache.new.map.records } }
     ensures log { cache.new.log ≡ pushed (Remove lba) cache.old.log }
     ensures agree { (contents : Contents) → Agree cache.old contents → Agree cache.new contents }
     ensures lists { (contents : Contents) (list durable : CacheList) → Lists cache.old contents.flash.page list durable → Lists cache.new contents.flash.page (evicted lba list) durable }
@@ -62,7 +62,7 @@ pub fn put_clean(cache: &mut Parts, lba: u64)
     requires fits { Fits cache.old.geometry (Clean lba) cache.old.map.entries }
     requires room { length cache.old.log.buffered < 127 }
     ensures cache { cache.new ≡ record cache.old { map = cache.new.map; log = cache.new.log } }
-    ensures map { cache.new.map ≡ record cache.old.map { entries = after cache.old.geometry (Clean lba) cache.old.map.entries } }
+    ensures map { cache.new.map ≡ record cache.old.map { entries = after cache.old.geometry (Clean lba) cache.old.map.entries; records = cache.new.map.records } }
     ensures log { cache.new.log ≡ pushed (Clean lba) cache.old.log }
     ensures agree { (contents : Contents) → Agree cache.old contents → Agree cache.new contents }
     ensures lists { (contents : Contents) (list durable : CacheList) → Lists cache.old contents.flash.page list durable → Lists cache.new contents.flash.page (made_clean lba list) durable }
@@ -87,6 +87,7 @@ pub(crate) fn note(cache: &mut Parts, change: &Record, group: u64)
     ensures entries { cache.new.map.entries ≡ after cache.old.geometry change.now cache.old.map.entries }
     ensures pages { cache.new.map.spare_pages + pages_taken change.now ≡ cache.old.map.spare_pages }
     ensures groups { cache.new.map.spare_groups + groups_taken change.now ≡ cache.old.map.spare_groups }
+    ensures buckets { cache.new.map.buckets ≡ cache.old.map.buckets }
     ensures log { cache.new.log ≡ pushed change.now cache.old.log }
     ensures roles { FollowsGroup cache.old.geometry group cache.old.map.entries cache.new.map.entries cache.old.pool cache.new.pool }
 {

@@ -69,7 +69,8 @@ fn begin(alloc: Global) -> Result<Bench, Fail>
 {
     let geometry = Geometry::new(4, 2, 2, 1, 64)?;
     let mut rig = formatted(alloc, &geometry)?;
-    let mut parts = loaded(alloc, &geometry, Map::new(alloc, &geometry), 0, 0)?;
+    let map = Map::new(alloc, &geometry)?;
+    let mut parts = loaded(alloc, &geometry, map, 0, 0)?;
     make_checkpoint(&mut parts, &mut rig)?;
     Ok(Bench { parts, rig })
 }
@@ -165,6 +166,45 @@ fn data_block(bench: &Bench, group: u64) -> Option<u32> {
     Some(own.block())
 }
 
+/// The pages of a group that are held, and those that are dirty.
+fn bits(bench: &Bench, group: u64) -> (u64, u64) {
+    (
+        bench.parts.map.held_bits(group),
+        bench.parts.map.dirty_bits(group),
+    )
+}
+
+/// Where an address lies, and whether it is dirty.
+fn place_of(bench: &Bench, lba: u64) -> Option<(Place, bool)> {
+    bench.parts.map.place(lba)
+}
+
+/// How many groups have a data block.
+fn data_blocks(bench: &Bench) -> u32 {
+    bench.parts.map.data_blocks()
+}
+
+/// How many groups have a dirty page.
+fn dirty_groups(bench: &Bench) -> u32 {
+    bench.parts.map.dirty_groups()
+}
+
+/// How many changes wait for a log page.
+fn buffered(bench: &Bench) -> u32 {
+    bench.parts.log.buffered()
+}
+
+/// How many pages the open log block has left.
+fn room(bench: &Bench) -> u32 {
+    bench.parts.logs.room()
+}
+
+/// How many blocks were erased, and how many pages programmed.
+fn erased_and_programmed(bench: &Bench) -> (u64, u64) {
+    let done = bench.rig.done();
+    (done.erases, done.programs)
+}
+
 /// What stands at a page. None where it isn't whole.
 fn seen_at(bench: &mut Bench, block: u32, page: u32) -> Result<Option<Seen>, Fail>
     requires { Agree bench.old.parts (state_of bench.old.rig).contents }
@@ -205,41 +245,45 @@ fn pages_are_appended_in_order(rt: HostRuntime) -> Result<(), Fail> {
         assert_eq!(rt; place, Place { block: 4, page });
     }
     assert_eq!(rt; role(&bench, 4), Some(Role::Log));
-    assert_eq!(rt; bench.parts.logs.room(), 0);
+    assert_eq!(rt; room(&bench), 0);
     let place = put(&mut bench, 6, 2, true)?;
     assert_eq!(rt;
         place,
         Place { block: 5, page: 0 },
         "the next block is opened"
     );
-    assert_eq!(rt; seen_at(&mut bench, 4, 1)?, data(6, 1));
     assert_eq!(rt; seen_at(&mut bench, 5, 0)?, data(6, 2));
-    assert_eq!(rt; seen_at(&mut bench, 5, 1)?, None);
-    assert_eq!(rt; bench.parts.map.place(6), Some((place, true)));
+    assert_eq!(rt; place_of(&bench, 6), Some((place, true)));
     Ok(())
 }
 
 #[test]
-fn the_newest_pages_of_a_group_are_gathered(rt: HostRuntime) -> Result<(), Fail> {
+fn the_pages_of_a_group_are_gathered(rt: HostRuntime) -> Result<(), Fail> {
     let mut bench = begin(rt.alloc())?;
     put(&mut bench, 4, 1, true)?;
-    put(&mut bench, 5, 1, false)?;
     put(&mut bench, 7, 1, false)?;
     merge(&mut bench, 1)?;
     assert_eq!(rt; data_block(&bench, 1), Some(5));
+    assert_eq!(rt; bits(&bench, 1), (0b1001, 0b0001));
+    assert_eq!(rt; seen_at(&mut bench, 5, 0)?, data(4, 1));
+    assert_eq!(rt; seen_at(&mut bench, 5, 2)?, filler());
+    assert_eq!(rt; seen_at(&mut bench, 5, 3)?, data(7, 1));
+    Ok(())
+}
+
+#[test]
+fn an_older_page_stays_behind(rt: HostRuntime) -> Result<(), Fail> {
+    let mut bench = begin(rt.alloc())?;
+    put(&mut bench, 5, 1, false)?;
+    merge(&mut bench, 1)?;
     put(&mut bench, 5, 2, true)?;
     merge(&mut bench, 1)?;
     assert_eq!(rt; data_block(&bench, 1), Some(6));
-    assert_eq!(rt; seen_at(&mut bench, 6, 0)?, data(4, 1));
     assert_eq!(rt;
         seen_at(&mut bench, 6, 1)?,
         data(5, 2),
         "not the older page of its data block"
     );
-    assert_eq!(rt; seen_at(&mut bench, 6, 2)?, filler());
-    assert_eq!(rt; seen_at(&mut bench, 6, 3)?, data(7, 1));
-    assert_eq!(rt; bench.parts.map.held_bits(1), 0b1011);
-    assert_eq!(rt; bench.parts.map.dirty_bits(1), 0b0011);
     assert_eq!(rt; role(&bench, 5), Some(Role::Free), "the old data block");
     assert_eq!(rt; role(&bench, 6), Some(Role::Data));
     Ok(())
@@ -249,19 +293,17 @@ fn the_newest_pages_of_a_group_are_gathered(rt: HostRuntime) -> Result<(), Fail>
 fn holes_are_filled_up_to_the_last_page(rt: HostRuntime) -> Result<(), Fail> {
     let mut bench = begin(rt.alloc())?;
     put(&mut bench, 6, 1, true)?;
-    let before = bench.rig.done();
+    let (erased, programmed) = erased_and_programmed(&bench);
     merge(&mut bench, 1)?;
-    assert_eq!(rt; seen_at(&mut bench, 5, 0)?, filler());
+    let after = erased_and_programmed(&bench);
+    assert_eq!(rt;
+        after,
+        (erased.wrapping_add(1), programmed.wrapping_add(5)),
+        "three pages, and a log page before them and one after"
+    );
     assert_eq!(rt; seen_at(&mut bench, 5, 1)?, filler());
     assert_eq!(rt; seen_at(&mut bench, 5, 2)?, data(6, 1));
     assert_eq!(rt; seen_at(&mut bench, 5, 3)?, None);
-    let after = bench.rig.done();
-    assert_eq!(rt; after.erases.wrapping_sub(before.erases), 1);
-    assert_eq!(rt;
-        after.programs.wrapping_sub(before.programs),
-        5,
-        "three pages, and a log page before them and one after"
-    );
     Ok(())
 }
 
@@ -272,10 +314,24 @@ fn an_old_data_block_is_taken_again_last(rt: HostRuntime) -> Result<(), Fail> {
     for block in [5, 6, 7, 8, 5] {
         merge(&mut bench, 1)?;
         assert_eq!(rt; data_block(&bench, 1), Some(block));
-        assert_eq!(rt; seen_at(&mut bench, block, 0)?, data(4, 1));
     }
+    assert_eq!(rt; seen_at(&mut bench, 5, 0)?, data(4, 1));
     assert_eq!(rt; role(&bench, 8), Some(Role::Free));
-    assert_eq!(rt; bench.parts.map.data_blocks(), 1);
+    assert_eq!(rt; data_blocks(&bench), 1);
+    Ok(())
+}
+
+#[test]
+fn a_data_block_with_a_page_stays(rt: HostRuntime) -> Result<(), Fail> {
+    let mut bench = begin(rt.alloc())?;
+    put(&mut bench, 4, 1, true)?;
+    put(&mut bench, 5, 1, true)?;
+    merge(&mut bench, 1)?;
+    mark_clean(&mut bench, 4)?;
+    assert_eq!(rt; bits(&bench, 1), (0b0011, 0b0010));
+    take_out(&mut bench, 5)?;
+    assert_eq!(rt; role(&bench, 5), Some(Role::Data), "one page is held");
+    assert_eq!(rt; dirty_groups(&bench), 0);
     Ok(())
 }
 
@@ -283,19 +339,13 @@ fn an_old_data_block_is_taken_again_last(rt: HostRuntime) -> Result<(), Fail> {
 fn an_empty_data_block_is_free(rt: HostRuntime) -> Result<(), Fail> {
     let mut bench = begin(rt.alloc())?;
     put(&mut bench, 4, 1, true)?;
-    put(&mut bench, 5, 1, true)?;
     merge(&mut bench, 1)?;
-    mark_clean(&mut bench, 4)?;
-    assert_eq!(rt; bench.parts.map.dirty_bits(1), 0b0010);
-    take_out(&mut bench, 5)?;
-    assert_eq!(rt; role(&bench, 5), Some(Role::Data), "one page is held");
-    assert_eq!(rt; bench.parts.map.dirty_groups(), 0);
     take_out(&mut bench, 4)?;
     assert_eq!(rt; role(&bench, 5), Some(Role::Free));
-    assert_eq!(rt; bench.parts.log.buffered(), 3);
-    let before = bench.rig.done();
+    assert_eq!(rt; buffered(&bench), 1);
+    let (_, programmed) = erased_and_programmed(&bench);
     commit(&mut bench.parts, &mut bench.rig)?;
-    assert_eq!(rt; bench.parts.log.buffered(), 0);
-    assert_eq!(rt; bench.rig.done().programs, before.programs.wrapping_add(1));
+    assert_eq!(rt; buffered(&bench), 0);
+    assert_eq!(rt; erased_and_programmed(&bench).1, programmed.wrapping_add(1));
     Ok(())
 }

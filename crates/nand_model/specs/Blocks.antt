@@ -1,5 +1,6 @@
 -- What a list of erase blocks contains.
 use Rattle.std.specs.Prelude.{◌≡◌, ◌≤◌, ℕ, Option, None, Some, List, slice_get, slice_index_or}
+use Rattle.std.specs.Vec.{vec_capacity}
 use Rattle.std.proofs.Common.{refl, ap}
 use Rattle.ft_base.specs.declared.block.Place.{Place}
 use Rattle.ft_base.specs.declared.block.Page.{Page}
@@ -31,6 +32,21 @@ size_of_block (Some block) = block.pages
 -- how many pages a block has, and 0 where it is not there
 abbrev pub pages_at : List EraseBlock → ℕ → ℕ
 pages_at blocks block = size_of_block (slice_get blocks block)
+
+abbrev pub block_room_of : Option EraseBlock → ℕ
+block_room_of None = 0
+block_room_of (Some block) = vec_capacity block.blocks
+
+abbrev pub spare_room_of : Option EraseBlock → ℕ
+spare_room_of None = 0
+spare_room_of (Some block) = vec_capacity block.spares
+
+-- for how many pages there is memory in a block, and for how many spare areas
+abbrev pub block_room_at : List EraseBlock → ℕ → ℕ
+block_room_at blocks block = block_room_of (slice_get blocks block)
+
+abbrev pub spare_room_at : List EraseBlock → ℕ → ℕ
+spare_room_at blocks block = spare_room_of (slice_get blocks block)
 
 -- in a block that is ready, each page from the next one on is blank
 pub ahead_at : (blocks : List EraseBlock) (at : Place) (next : ℕ) → next_at blocks at.block ≡ Some next → next ≤ at.page → page_at blocks at ≡ page.Blank

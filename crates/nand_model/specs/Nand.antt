@@ -8,7 +8,7 @@ use Rattle.ft_base.specs.declared.block.Page.TheVariants as page
 use Rattle.ft_base.specs.Contents.{Flash}
 use Rattle.device_calls.specs.declared.calls.Calls.{Calls}
 use Rattle.nand_model.specs.declared.nand.MemNand.{MemNand}
-use Rattle.nand_model.specs.Blocks.{page_at, next_of_block, next_at, ahead_at}
+use Rattle.nand_model.specs.Blocks.{page_at, next_of_block, next_at, ahead_at, block_room_at, spare_room_at}
 
 -- the erase blocks, and the pages of each
 abbrev pub block_count : MemNand → ℕ
@@ -20,6 +20,11 @@ page_count nand = nand.pages
 -- its pages, and for each block the page to program next
 abbrev pub flash_of : MemNand → Flash
 flash_of nand = record { page = page_at nand.blocks.items; next = next_at nand.blocks.items }
+
+-- each of the first so many blocks has memory for just so many pages and spare areas
+pub record HasRoom (nand : MemNand) (blocks pages : ℕ) : Type 0 where
+  pub of_blocks : (b : ℕ) → b < blocks → block_room_at nand.blocks.items b ≡ pages
+  pub of_spares : (b : ℕ) → b < blocks → spare_room_at nand.blocks.items b ≡ pages
 
 -- its calls, and those that failed
 abbrev pub calls_of : MemNand → Calls

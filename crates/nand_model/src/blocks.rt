@@ -3,7 +3,7 @@ ghost use Rattle.ft_base.specs.declared.block.Place.{Place};
 ghost use Rattle.ft_base.specs.declared.block.Page.TheVariants as content;
 ghost use Rattle.ft_base.specs.Contents.{set, set_page};
 ghost use Rattle.ft_media.specs.Media.{Found, UnlessWhole};
-ghost use Rattle.nand_model.specs.Blocks.{page_at, next_at, pages_at};
+ghost use Rattle.nand_model.specs.Blocks.{page_at, next_at, pages_at, block_room_at, spare_room_at};
 ghost use Rattle.nand_model.specs.Steps.{cut_program, cut_erase};
 
 use crate::erase_block::EraseBlock;
@@ -18,6 +18,8 @@ pub(crate) fn fresh(alloc: Global, blocks: u32, pages: u32) -> Result<Vec<EraseB
     ensures pages { IfOk result (λ made. (b : ℕ) → b < blocks → pages_at made.items b ≡ pages) }
     ensures page { IfOk result (λ made. (q : Place) → page_at made.items q ≡ content.Blank) }
     ensures next { IfOk result (λ made. (b : ℕ) → next_at made.items b ≡ (if nat_lt b blocks then Some 0 else None)) }
+    ensures block_room { IfOk result (λ made. (b : ℕ) → b < blocks → block_room_at made.items b ≡ pages) }
+    ensures spare_room { IfOk result (λ made. (b : ℕ) → b < blocks → spare_room_at made.items b ≡ pages) }
 {
     let mut made = Vec::new(alloc);
     for _ in 0..blocks {

@@ -40,6 +40,8 @@ impl EraseBlock {
         ensures pages { IfOk result (λ b. b.pages ≡ pages) }
         ensures blank { IfOk result (λ b. (p : ℕ) → page_in b p ≡ content.Blank) }
         ensures next { IfOk result (λ b. b.next ≡ Some 0) }
+        ensures block_room { IfOk result (λ b. vec_capacity b.blocks ≡ pages) }
+        ensures spare_room { IfOk result (λ b. vec_capacity b.spares ≡ pages) }
     {
         let mut found = Vec::new(alloc);
         found.resize(pages as usize, PageRead::Blank)?;

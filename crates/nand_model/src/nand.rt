@@ -30,7 +30,7 @@ impl MemNand {
     ghost use Rattle.ft_media.specs.Media.{Found, UnlessWhole};
     ghost use Rattle.ft_media.specs.Rig.{new_contents};
     ghost use Rattle.device_calls.specs.Calls.{calls_made, fault_count, failing_numbers, is_listed, ending_of, bumped_if_done, CountsRead, CountsWrite};
-    ghost use Rattle.nand_model.specs.Nand.{block_count, page_count, flash_of, calls_of, programs_of, erases_of, SameNumbers};
+    ghost use Rattle.nand_model.specs.Nand.{block_count, page_count, flash_of, calls_of, programs_of, erases_of, HasRoom, SameNumbers};
     ghost use Rattle.nand_model.specs.Steps.{program_left, erase_left, unready};
 
     /// A flash without a block. The calls with these numbers will fail, from 1.
@@ -53,13 +53,14 @@ impl MemNand {
         }
     }
 
-    /// Makes the flash anew, with each page blank and each block ready. Counts stay. Refused, all is as
-    /// before. No other call takes memory.
+    /// Makes the flash anew, with each page blank and each block ready. Counts stay. The memory of all pages
+    /// is taken here, once. Refused, all is as before. No other call takes memory.
     pub fn fit(&mut self, alloc: Global, blocks: u32, pages: u32) -> Result<(), AllocError>
         ensures flash { OnOk result (flash_of self.new ≡ (new_contents blocks pages 0).flash) }
         ensures blocks { OnOk result (block_count self.new ≡ blocks) }
         ensures pages { OnOk result (page_count self.new ≡ pages) }
         ensures numbers { SameNumbers self.old self.new }
+        ensures room { OnOk result (HasRoom self.new blocks pages) }
         ensures err { OnErr result (self.new ≡ self.old) }
     {
         let blocks = fresh(alloc, blocks, pages)?;

@@ -10,7 +10,7 @@ use Rattle.cache_model.specs.Entries.{Fits, fits}
 use Rattle.cache_model.specs.Loading.{after_all}
 use Rattle.cache_model.proofs.FitsLemmas.{fits-true, fits-from}
 use Rattle.mapping.specs.MapValue.{MapValue, pages_taken, groups_taken}
-use Rattle.op_log.specs.Walk.{pages_needed, groups_needed}
+use Rattle.op_log.specs.Walk.{pages_needed, groups_needed, TakesRoom, HasNoMoreRoom}
 
 page_taken : (r : Record) → cond (pages_taken r == 1) 1 0 ≡ pages_taken r
 page_taken (SetPage lba place dirty) = refl
@@ -32,6 +32,8 @@ pub record AppliedSoFar (changes : List Record) (i : ℕ) (first now : MapValue)
   pub entries : after_all first.geometry changes first.entries ≡ after_all first.geometry (drop i changes) now.entries
   pub pages : pages_needed (drop i changes) ≤ now.spare_pages
   pub groups : groups_needed (drop i changes) ≤ now.spare_groups
+  pub pages_gone : now.spare_pages + pages_needed changes ≡ first.spare_pages + pages_needed (drop i changes)
+  pub groups_gone : now.spare_groups + groups_needed changes ≡ first.spare_groups + groups_needed (drop i changes)
 
 -- the record that is next fits
 fits_here : (changes : List Record) (i : ℕ) (r : Record) (first now : MapValue) → AppliedSoFar changes i first now → Fits now.geometry r now.entries → fits first.geometry r now.entries ≡ true
@@ -66,6 +68,8 @@ module _ (changes : List Record) (i : ℕ) (d : Record) (within : i < length cha
       let r = get_or changes i d in
       let some = so.pages in
       let others = so.groups in
+      let gone = so.pages_gone in
+      let gone' = so.groups_gone in
       let here : next.entries ≡ after first.geometry r now.entries = entries ∙ ap (λ g. after g r now.entries) so.geometry in
       record {
         geometry = geometry ∙ so.geometry;
@@ -75,7 +79,30 @@ module _ (changes : List Record) (i : ℕ) (d : Record) (within : i < length cha
             ∙ ap (λ m. after_all first.geometry (drop (i + 1) changes) m) (sym here);
         pages = omega (arith, pages_left);
         groups = omega (arith, groups_left);
+        pages_gone = omega (arith, pages_left);
+        groups_gone = omega (arith, groups_left);
       }
 
 pub applied_all : (changes : List Record) (i : ℕ) (first now : MapValue) → length changes ≤ i → AppliedSoFar changes i first now → after_all first.geometry changes first.entries ≡ Some now.entries
 applied_all changes i first now beyond so = so.entries ∙ at_drop_all (λ rs. after_all first.geometry rs now.entries) changes i beyond
+
+-- all of them took their room
+pub all_pages_gone : (changes : List Record) (i : ℕ) (first now : MapValue) → length changes ≤ i → AppliedSoFar changes i first now → now.spare_pages + pages_needed changes ≡ first.spare_pages
+all_pages_gone changes i first now beyond so =
+    let none : pages_needed (drop i changes) ≡ 0 = at_drop_all pages_needed changes i beyond in
+    let gone = so.pages_gone in
+    omega arith
+
+pub all_groups_gone : (changes : List Record) (i : ℕ) (first now : MapValue) → length changes ≤ i → AppliedSoFar changes i first now → now.spare_groups + groups_needed changes ≡ first.spare_groups
+all_groups_gone changes i first now beyond so =
+    let none : groups_needed (drop i changes) ≡ 0 = at_drop_all groups_needed changes i beyond in
+    let gone = so.groups_gone in
+    omega arith
+
+-- ---- the room that is left
+
+pub no_more_room : (old : MapValue) → HasNoMoreRoom old old
+no_more_room old = record { pages = omega arith; groups = omega arith }
+
+pub room_taken : (changes : List Record) (first old new : MapValue) → HasNoMoreRoom first old → TakesRoom changes old new → HasNoMoreRoom first new
+room_taken changes first old new so took = let p = so.pages in let q = so.groups in let p' = took.pages in let q' = took.groups in record { pages = omega arith; groups = omega arith }

@@ -13,7 +13,7 @@ use Rattle.cache_model.specs.declared.format.PageKind.{PageKind}
 use Rattle.cache_model.specs.declared.format.PageKind.TheVariants.{Log}
 use Rattle.cache_model.specs.declared.format.Header.{Header}
 use Rattle.cache_model.specs.Records.{Entries}
-use Rattle.cache_model.specs.Reading.{read_header, read_records}
+use Rattle.cache_model.specs.Reading.{read_page_header, read_records}
 use Rattle.cache_model.specs.Loading.{Refusal, ◌>>=◌, pages_from, log_region, said, when, is_page, header_at, after_all, after_pages}
 use Rattle.cache_model.specs.Loading.Refusal.{Damaged}
 use Rattle.op_log.specs.declared.error.OpenError.{OpenError}
@@ -44,11 +44,11 @@ module _ (g : Geometry) (kind : PageKind) (era sequence : ℕ) (at : Place) (m :
   step_unread (Whole b s) block is = absurd (cc)
   step_unread Torn block is = refl
 
-  pub step_absent : (page : Page) (block : Block) → IsReadAs true page block → when (is_page kind era sequence) (read_header block.0) ≡ None → page_step g kind era sequence at page m ≡ None
+  pub step_absent : (page : Page) (block : Block) → IsReadAs true page block → when (is_page kind era sequence) (read_page_header block.0) ≡ None → page_step g kind era sequence at page m ≡ None
   step_absent page block is none =
       ap (λ p. page_step g kind era sequence at p m) is.1 ∙ ap (λ o. option_map (step_of (Whole block is.0)) o) none
 
-  pub step_there : (page : Page) (block : Block) (h : Header) (left : Option Entries) → IsReadAs true page block → when (is_page kind era sequence) (read_header block.0) ≡ Some h → after_records g h block.0 m ≡ left → page_step g kind era sequence at page m ≡ Some (ok_or left (Damaged at))
+  pub step_there : (page : Page) (block : Block) (h : Header) (left : Option Entries) → IsReadAs true page block → when (is_page kind era sequence) (read_page_header block.0) ≡ Some h → after_records g h block.0 m ≡ left → page_step g kind era sequence at page m ≡ Some (ok_or left (Damaged at))
   step_there page block h left is head all =
       ap (λ p. page_step g kind era sequence at p m) is.1
       ∙ ap (λ o. option_map (step_of (Whole block is.0)) o) head

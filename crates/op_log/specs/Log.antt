@@ -1,9 +1,11 @@
 -- The operation log: what is buffered, and the page that takes it.
 use Rattle.std.specs.Prelude.{◌≡◌, ◌⊎◌, ◌≤◌, ◌+◌, ℕ, List, [], ◌∷◌, ◌++◌, length, Some}
 use Rattle.ft_base.specs.declared.geometry.Geometry.{Geometry}
+use Rattle.ft_base.specs.declared.block.Block.{Block}
+use Rattle.ft_base.specs.declared.block.Spare.{Spare}
 use Rattle.ft_base.specs.declared.block.Place.{Place}
 use Rattle.ft_base.specs.declared.block.Page.{Page}
-use Rattle.ft_base.specs.declared.block.Page.TheVariants.{Torn}
+use Rattle.ft_base.specs.declared.block.Page.TheVariants.{Whole, Torn}
 use Rattle.ft_base.specs.declared.record.Record.{Record}
 use Rattle.ft_base.specs.Contents.{Flash, Shape, set, set_page}
 use Rattle.ft_base.specs.Layout.{blocks, log_at}
@@ -11,6 +13,8 @@ use Rattle.ft_media.specs.declared.rig.Counts.{Counts}
 use Rattle.ft_media.specs.Media.{program_counted}
 use Rattle.cache_model.specs.declared.format.Header.{Header}
 use Rattle.cache_model.specs.declared.format.PageKind.TheVariants.{Log}
+use Rattle.cache_model.specs.declared.format.SpareKind.TheVariants.{Log as LogSpare}
+use Rattle.cache_model.specs.Spelling.{spelled_spare, spare_fields}
 use Rattle.cache_model.specs.Reading.{read_records}
 use Rattle.cache_model.specs.Loading.{header_at, said}
 
@@ -80,3 +84,11 @@ flush_counted log counts = if_buffered log.buffered (program_counted counts) cou
 -- the header of a page of a log with these records
 abbrev pub log_header : ℕ → ℕ → List Record → Header
 log_header era sequence changes = record { kind = Log; era = era; sequence = sequence; count = length changes }
+
+-- the spare bytes of a log page of this era and sequence
+abbrev pub log_spare : ℕ → ℕ → Spare
+log_spare era sequence = record { 0 = spelled_spare (spare_fields LogSpare era sequence) }
+
+-- the page is whole, with these spare bytes
+abbrev pub HasSpare : Spare → Page → Type 0
+HasSpare spare page = (block : Block) × (page ≡ Whole block spare)

@@ -1,6 +1,6 @@
 -- One page of records after another, as loading goes over them.
-use Rattle.std.specs.Prelude.{◌≡◌, ◌==◌, ⊤, Bool, true, false, ℕ, suc, ◌+◌, List, [], ◌∷◌, count_by, Option, None, Some, option_map, option_and_then, ok_or, Result, Ok, Err}
-use Rattle.std.specs.Option.{option_map_or}
+use Rattle.std.specs.Prelude.{◌≡◌, ◌==◌, ⊤, Bool, true, false, ℕ, suc, ◌+◌, ◌-◌, ◌≤◌, List, [], ◌∷◌, count_by, Option, None, Some, option_map, option_and_then, ok_or, Result, Ok, Err}
+use Rattle.std.specs.Option.{option_map_or, unwrap_or}
 use Rattle.ft_base.specs.declared.geometry.Geometry.{Geometry}
 use Rattle.ft_base.specs.declared.block.Place.{Place}
 use Rattle.ft_base.specs.declared.block.Block.{Block}
@@ -15,7 +15,7 @@ use Rattle.cache_model.specs.declared.format.Header.{Header}
 use Rattle.cache_model.specs.Records.{Entries}
 use Rattle.cache_model.specs.Reading.{read_records}
 use Rattle.cache_model.specs.Loading.{Refusal, Damaged, header_at, said, is_whole, after_all}
-use Rattle.mapping.specs.MapValue.{pages_taken, groups_taken}
+use Rattle.mapping.specs.MapValue.{MapValue, pages_taken, groups_taken}
 use Rattle.op_log.specs.declared.error.OpenError.{OpenError}
 use Rattle.op_log.specs.declared.error.OpenError.TheVariants as refused
 
@@ -62,3 +62,17 @@ groups_needed changes = count_by (λ r. groups_taken r == 1) changes
 -- what the records of a page make of the entries
 abbrev pub after_records : Geometry → Header → List ℕ → Entries → Option Entries
 after_records g h bytes m = option_and_then (λ changes. after_all g changes m) (read_records h bytes)
+
+-- the records of a page of this kind and era, at its own place; none where it is no such page
+abbrev pub records_at : PageKind → ℕ → ℕ → Page → List Record
+records_at kind era sequence page = unwrap_or (option_and_then (λ h. said (read_records h) page) (header_at kind era sequence page)) []
+
+-- the records took their room; where there was too little of it, just enough was made
+pub record TakesRoom (changes : List Record) (old new : MapValue) : Type 0 where
+  pub pages : new.spare_pages ≡ old.spare_pages - pages_needed changes
+  pub groups : new.spare_groups ≡ old.spare_groups - groups_needed changes
+
+-- there is no more room than there was
+pub record HasNoMoreRoom (old new : MapValue) : Type 0 where
+  pub pages : new.spare_pages ≤ old.spare_pages
+  pub groups : new.spare_groups ≤ old.spare_groups

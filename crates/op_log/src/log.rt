@@ -6,7 +6,7 @@ ghost use Rattle.ft_media.specs.Passes.{Spends};
 ghost use Rattle.ft_media.specs.Drives.{DrivesFlash};
 ghost use Rattle.cache_model.specs.declared.format.PageKind.TheVariants.{Log as log_page};
 ghost use Rattle.cache_model.specs.Spelling.{may_stand_in, IsPage};
-ghost use Rattle.op_log.specs.Log.{FitsOn, IsNextReady, LeavesLog, AppendedReady, log_header, restarted, pushed, flushed, flush_counted};
+ghost use Rattle.op_log.specs.Log.{FitsOn, IsNextReady, LeavesLog, AppendedReady, log_header, next_place, log_spare, HasSpare, restarted, pushed, flushed, flush_counted};
 
 use crate::ring::{MOST, Ring};
 use cache_model::{Header, PageKind, SpareKind};
@@ -126,6 +126,7 @@ impl OpLog {
         requires ready { self.old.buffered ≢ [] → IsNextReady self.old (M.state media.old).contents.flash }
         ensures nothing { self.old.buffered ≡ [] → IsOk result × (M.state media.new ≡ M.state media.old) }
         ensures done { OnOk result (self.old.buffered ≢ [] → AppendedReady self.old (M.state media.old).contents.flash (M.state media.new).contents.flash) }
+        ensures spare { OnOk result (self.old.buffered ≢ [] → HasSpare (log_spare self.old.era self.old.next) ((M.state media.new).contents.flash.page (next_place self.old))) }
         ensures log { OnOk result (self.new ≡ flushed self.old) }
         ensures refused { OnErr result (self.new ≡ self.old) }
         // Whatever is answered, and wherever power went off, the page is whole or the log ends before it.

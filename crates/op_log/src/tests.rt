@@ -139,12 +139,12 @@ fn walk(
     alloc: Global,
     geometry: &Geometry,
     era: u8,
-) -> Option<(Result<u32, OpenError>, Map)> {
+) -> Result<Option<(Result<u32, OpenError>, Map)>, AllocError> {
     if !has_room(rig, geometry) {
-        return None;
+        return Ok(None);
     }
-    let mut map = Map::new(alloc, geometry);
-    Some((roll(rig, geometry, 0, era, &mut map), map))
+    let mut map = Map::new(alloc, geometry)?;
+    Ok(Some((roll(rig, geometry, 0, era, &mut map), map)))
 }
 
 /// A log page of one record.
@@ -171,7 +171,7 @@ fn walk_over(
 ) -> Result<Option<Result<u32, OpenError>>, AllocError> {
     let mut rig = small_rig(alloc)?;
     program(&mut rig, 2, 0, page);
-    Ok(walk(&mut rig, alloc, geometry, 1).map(|found| found.0))
+    Ok(walk(&mut rig, alloc, geometry, 1)?.map(|found| found.0))
 }
 
 #[test]
@@ -226,7 +226,7 @@ fn a_log_is_walked_to_its_end(rt: HostRuntime) -> Result<(), Fail> {
         note(&mut rig, &mut log, &geometry, set_page(8, 0)),
         Some(Ok(()))
     );
-    let (pages, map) = walk(&mut rig, alloc, &geometry, 1).ok_or("room")?;
+    let (pages, map) = walk(&mut rig, alloc, &geometry, 1)?.ok_or("room")?;
     assert_eq!(rt;
         pages,
         Ok(5),
@@ -235,7 +235,7 @@ fn a_log_is_walked_to_its_end(rt: HostRuntime) -> Result<(), Fail> {
     assert_eq!(rt; map.held(), 2);
     assert_eq!(rt; map.place(5), Some((Place { block: 9, page: 3 }, true)));
     assert_eq!(rt; map.place(8), Some((Place { block: 9, page: 0 }, true)));
-    let (pages, map) = walk(&mut rig, alloc, &geometry, 2).ok_or("room")?;
+    let (pages, map) = walk(&mut rig, alloc, &geometry, 2)?.ok_or("room")?;
     assert_eq!(rt; pages, Ok(0), "pages of another era");
     assert_eq!(rt; map.held(), 0);
     Ok(())
@@ -288,7 +288,7 @@ fn a_flush_that_is_cut_ends_the_log(rt: HostRuntime) -> Result<(), Fail> {
     assert_eq!(rt; (log.buffered(), log.room()), (1, 7));
     rig.turn_on();
     assert!(rt; read(&mut rig, 2, 1).is_none());
-    let (pages, map) = walk(&mut rig, alloc, &geometry, 1).ok_or("room")?;
+    let (pages, map) = walk(&mut rig, alloc, &geometry, 1)?.ok_or("room")?;
     assert_eq!(rt; pages, Ok(1));
     assert_eq!(rt; map.held(), 1);
     Ok(())

@@ -1,12 +1,14 @@
-ghost use Rattle.std.specs.Prelude.{◌≡◌, ◌==◌, ◌<◌, ◌≤◌, IfOk, IfErr, IfSome, if◌then◌else◌, Some, None, Ok, length};
+ghost use Rattle.std.specs.Prelude.{◌≡◌, ◌==◌, ◌<◌, ◌≤◌, ◌+◌, IfOk, IfErr, IfSome, if◌then◌else◌, IsTrue, Some, None, Ok, [], length};
+ghost use Rattle.std.specs.Bool.{OnTrue};
+ghost use Rattle.std.specs.Option.{unwrap_or};
 ghost use Rattle.ft_base.specs.Layout.{log_at, blocks};
 ghost use Rattle.ft_media.specs.Reads.{ReadsFlash};
 ghost use Rattle.cache_model.specs.declared.format.PageKind.TheVariants.{Log as log_page};
 ghost use Rattle.cache_model.specs.Loading.{after_all, after_pages, is_page, log_region, when};
-ghost use Rattle.cache_model.specs.Reading.{read_header as header_read};
+ghost use Rattle.cache_model.specs.Reading.{read_page_header as header_read, read_records as records_read};
 ghost use Rattle.mapping.specs.MapValue.{pages_taken, groups_taken};
 ghost use Rattle.op_log.specs.Log.{FitsOn};
-ghost use Rattle.op_log.specs.Walk.{page_step, pages_of, Stepped, IsReadAs, found_whole, pages_needed, groups_needed, after_records};
+ghost use Rattle.op_log.specs.Walk.{page_step, pages_of, Stepped, IsReadAs, found_whole, pages_needed, groups_needed, after_records, records_at, TakesRoom, HasNoMoreRoom};
 ghost use Rattle.op_log.specs.Refusals.{open_failed, open_lost, IsRefusal, IsOfFlash, IsOfPages};
 
 use crate::OpenError;
@@ -15,7 +17,7 @@ use cache_model::PageKind;
 use ft_base::{Block, Geometry, Place, Record, Spare, zero_block};
 use ft_media::{Media, PageRead};
 use mapping::Map;
-use record_codec::{Header, read_header, read_records};
+use record_codec::{Header, read_page_header, read_records};
 use std::alloc::AllocError;
 
 /// Reads a page, and applies its records to the map where it is one of this kind and era with this
@@ -35,6 +37,7 @@ pub fn apply_page<M: Media>(
     requires map { map.old.geometry ≡ geometry.now }
     ensures geometry { map.new.geometry ≡ map.old.geometry }
     ensures kinds { IfErr result IsOfPages }
+    ensures room { IfOk result (λ applied. TakesRoom (records_at kind era sequence ((M.state media.old).contents.flash.page at)) map.old map.new) }
     ensures answers { Stepped result map.old.entries map.new.entries (page_step geometry.now kind era sequence at ((M.state media.old).contents.flash.page at) map.old.entries) }
     ensures reads { ReadsFlash (M.state media.old) (M.state media.new) (open_failed result) (open_lost result) }
 {
@@ -84,7 +87,7 @@ fn header_of(block: &Block, kind: PageKind, era: u8, sequence: u32) -> Option<He
     ensures value { result ≡ when (is_page kind era sequence) (header_read block.now.0) }
     ensures read { IfSome result (λ h. header_read block.now.0 ≡ Some h) }
 {
-    let header = read_header(block)?;
+    let header = read_page_header(block)?;
     if !is_page(&header, kind, era, sequence) {
         return None;
     }
@@ -103,6 +106,7 @@ fn is_page(header: &Header, kind: PageKind, era: u8, sequence: u32) -> bool
 fn apply_records(page: &Block, header: &Header, map: &mut Map) -> Result<bool, AllocError>
     requires header { header_read page.now.0 ≡ Some header.now }
     ensures geometry { map.new.geometry ≡ map.old.geometry }
+    ensures room { IfOk result (λ applied. IsTrue applied → TakesRoom (unwrap_or (records_read header.now page.now.0) []) map.old map.new) }
     ensures value { IfOk result (λ applied. after_records map.old.geometry header.now page.now.0 map.old.entries ≡ (if applied then Some map.new.entries else None)) }
 {
     let mut buffer = [Record::Remove { lba: 0 }; 127];
@@ -150,6 +154,8 @@ fn apply_all(changes: &[Record], map: &mut Map) -> bool
     requires pages { pages_needed changes.now ≤ map.old.spare_pages }
     requires groups { groups_needed changes.now ≤ map.old.spare_groups }
     ensures geometry { map.new.geometry ≡ map.old.geometry }
+    ensures pages { OnTrue result (map.new.spare_pages + pages_needed changes.now ≡ map.old.spare_pages) }
+    ensures groups { OnTrue result (map.new.spare_groups + groups_needed changes.now ≡ map.old.spare_groups) }
     ensures value { after_all map.old.geometry changes.now map.old.entries ≡ (if result then Some map.new.entries else None) }
 {
     for change in changes {
@@ -175,6 +181,7 @@ pub fn roll<M: Media>(
     ensures geometry { map.new.geometry ≡ map.old.geometry }
     ensures applied { IfOk result (λ n. after_pages geometry.now log_page era (log_at geometry.now region) 0 (log_region geometry.now (M.state media.old).contents.flash.page region) map.old.entries ≡ Ok map.new.entries) }
     ensures count { IfOk result (λ n. n ≡ pages_of log_page era 0 (log_region geometry.now (M.state media.old).contents.flash.page region)) }
+    ensures room { IfOk result (λ n. HasNoMoreRoom map.old map.new) }
     ensures refused { IfErr result (λ e. IsRefusal geometry.now e (after_pages geometry.now log_page era (log_at geometry.now region) 0 (log_region geometry.now (M.state media.old).contents.flash.page region) map.old.entries)) }
     ensures kinds { IfErr result IsOfPages }
     ensures reads { ReadsFlash (M.state media.old) (M.state media.new) (open_failed result) (open_lost result) }

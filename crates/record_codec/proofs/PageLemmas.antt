@@ -10,8 +10,8 @@ use Rattle.ft_base.specs.declared.record.Record.TheVariants.{SetPage, Remove, Cl
 use Rattle.cache_model.specs.declared.format.PageKind.{PageKind}
 use Rattle.cache_model.specs.declared.format.PageKind.TheVariants.{Log, Map, Seal as SealPage}
 use Rattle.cache_model.specs.declared.format.Header.{Header}
-use Rattle.cache_model.specs.Spelling.{zeros, spelled_header, spelled_record, rest_of_page, has_widths, is_sound, goes_on, may_stand_in, header_in_range, is_log_or_map, count_in_range, IsHeaderOf, IsPage}
-use Rattle.cache_model.specs.Reading.{record_in, read_header, read_records}
+use Rattle.cache_model.specs.Spelling.{zeros, spelled_header, spelled_record, rest_of_page, has_widths, is_sound, goes_on, may_stand_in, header_in_range, is_log_or_map, count_in_range, IsPageHeaderOf, IsPage}
+use Rattle.cache_model.specs.Reading.{record_in, read_page_header, read_records}
 use Rattle.cache_model.proofs.ReadingLemmas.{read_is, read_again}
 use Rattle.cache_model.proofs.SpellingLemmas.{record-again, take-record, drop-record, page_read, page_spelled}
 use Rattle.record_codec.specs.Lines.{HasShortPage, BeginsWith, read_record}
@@ -208,7 +208,7 @@ begins_more kind page line out i r good within at reads test t begins =
 -- ---- the page
 
 -- a page, by its header, its records and what is behind them
-pub page_from : (bytes : List ℕ) (h : Header) (rs : List Record) → IsHeaderOf bytes h → h.count ≡ length rs → BeginsWith h.kind rs (drop 32 bytes) → drop (32 * (1 + length rs)) bytes ≡ zeros (4096 - 32 * (1 + length rs)) → IsPage bytes h rs
+pub page_from : (bytes : List ℕ) (h : Header) (rs : List Record) → IsPageHeaderOf bytes h → h.count ≡ length rs → BeginsWith h.kind rs (drop 32 bytes) → drop (32 * (1 + length rs)) bytes ≡ zeros (4096 - 32 * (1 + length rs)) → IsPage bytes h rs
 page_from bytes h rs head count begins rest =
     let n = 32 * length rs in
     let behind : drop n (drop 32 bytes) ≡ rest_of_page (length rs) = drop-drop n 32 bytes ∙ ap (λ k. drop k bytes) (there (length rs)) ∙ rest ∙ ap zeros (left (length rs)) in
@@ -228,7 +228,7 @@ page_from bytes h rs head count begins rest =
     left k = omega arith
 
 pub record PageParts (bytes : List ℕ) (h : Header) (rs : List Record) : Type 0 where
-  pub head : IsHeaderOf bytes h
+  pub head : IsPageHeaderOf bytes h
   pub begins : BeginsWith h.kind rs (drop 32 bytes)
   pub behind : drop (32 * (1 + length rs)) bytes ≡ zeros (4096 - 32 * (1 + length rs))
 
@@ -256,7 +256,7 @@ count_low Map n t u = leb-true _ _ (and_parts _ _ u).1
 count_low SealPage n t u = absurd (cc)
 
 -- so many records as the header says
-pub counted : (bytes : List ℕ) (h : Header) (out : List Record) → IsHeaderOf bytes h → length out ≡ 127 → h.count ≡ length (take h.count out)
+pub counted : (bytes : List ℕ) (h : Header) (out : List Record) → IsPageHeaderOf bytes h → length out ≡ 127 → h.count ≡ length (take h.count out)
 counted bytes h out head long =
     let p = and_parts _ _ head.header in
     let low : h.count ≤ 127 = count_low h.kind h.count p.1 (and_parts _ _ p.0).1 in
@@ -265,7 +265,7 @@ counted bytes h out head long =
 -- ---- what the last test says
 
 module _ (bytes : List ℕ) (h : Header) (rs : List Record) (count : h.count ≡ length rs) where
-  pub when_read : (b : Bool) → IsHeaderOf bytes h → BeginsWith h.kind rs (drop 32 bytes) → (IsTrue b ↔ (drop (32 * (1 + h.count)) bytes ≡ zeros (4096 - 32 * (1 + h.count)))) → OnTrue b (IsPage bytes h rs)
+  pub when_read : (b : Bool) → IsPageHeaderOf bytes h → BeginsWith h.kind rs (drop 32 bytes) → (IsTrue b ↔ (drop (32 * (1 + h.count)) bytes ≡ zeros (4096 - 32 * (1 + h.count)))) → OnTrue b (IsPage bytes h rs)
   when_read true head begins test = page_from bytes h rs head count begins (subst (λ n. drop (32 * (1 + n)) bytes ≡ zeros (4096 - 32 * (1 + n))) count (test.0 refl))
   when_read false head begins test = tt
 
@@ -276,13 +276,13 @@ when_refused bytes h false test = λ rs is.
     let both : false ≡ true = test.1 zero in
     absurd (cc)
 
-pub no_records : (bytes : List ℕ) (h : Header) → ((rs : List Record) → IsPage bytes h rs → ⊥) → read_header bytes ≡ Some h → read_records h bytes ≡ None
+pub no_records : (bytes : List ℕ) (h : Header) → ((rs : List Record) → IsPage bytes h rs → ⊥) → read_page_header bytes ≡ Some h → read_records h bytes ≡ None
 no_records bytes h not head = by_answer (read_records h bytes) refl
   where
     by_answer : (o : Option (List Record)) → read_records h bytes ≡ o → o ≡ None
     by_answer None is = refl
     by_answer (Some rs) is = absurd (not rs (page_spelled bytes h rs head is))
 
-pub value_from : (bytes : List ℕ) (h : Header) (rs : List Record) (b : Bool) → OnTrue b (IsPage bytes h rs) → OnFalse b ((rs : List Record) → IsPage bytes h rs → ⊥) → read_header bytes ≡ Some h → read_records h bytes ≡ cond b (Some rs) None
+pub value_from : (bytes : List ℕ) (h : Header) (rs : List Record) (b : Bool) → OnTrue b (IsPage bytes h rs) → OnFalse b ((rs : List Record) → IsPage bytes h rs → ⊥) → read_page_header bytes ≡ Some h → read_records h bytes ≡ cond b (Some rs) None
 value_from bytes h rs true read refused head = (page_read bytes h rs read).1
 value_from bytes h rs false read refused head = no_records bytes h refused head

@@ -1,7 +1,7 @@
 ghost use Rattle.std.specs.Prelude.{◌≡◌, ◌↔◌, ◌≤◌, ◌<◌, ◌^◌, ◌&&◌, IsTrue, MatchOption};
 ghost use Rattle.cache_model.specs.declared.format.Header.{Header as HeaderValue};
-ghost use Rattle.cache_model.specs.Spelling.{spelled_header, header_in_range, is_log_or_map, kind_byte, IsHeaderOf};
-ghost use Rattle.cache_model.specs.Reading.{header_in, kind_of, read_header};
+ghost use Rattle.cache_model.specs.Spelling.{spelled_header, header_in_range, is_log_or_map, kind_byte, IsHeaderOf, IsPageHeaderOf};
+ghost use Rattle.cache_model.specs.Reading.{header_in, kind_of, read_header, read_page_header};
 
 use crate::line::{line_at, put_bytes, put_u32, u32_at};
 use cache_model::{Header, PageKind};
@@ -68,19 +68,29 @@ pub fn header_in(line: &[u8; 32]) -> Header
     }
 }
 
-/// Whether the numbers are those of a page of records.
+/// Whether the numbers are in their ranges: of a page of records, 1 to 127 of them; of a seal any number.
 fn is_in_range(header: &Header) -> bool
-    ensures { result ≡ (header_in_range header.now && is_log_or_map header.now.kind) }
+    ensures { result ≡ header_in_range header.now }
 {
     let _sequence = header.sequence;
     let count = header.count;
     match header.kind {
         PageKind::Log | PageKind::Map => header.era <= 2 && 1 <= count && count <= 127,
+        PageKind::Seal => header.era <= 2,
+    }
+}
+
+/// Whether a header is one of a page of records.
+fn is_log_or_map(header: &Header) -> bool
+    ensures { result ≡ is_log_or_map header.now.kind }
+{
+    match header.kind {
+        PageKind::Log | PageKind::Map => true,
         PageKind::Seal => false,
     }
 }
 
-/// Whether the page begins with this header, and it is one of a page of records.
+/// Whether the page begins with this header.
 pub fn has_header(page: &Block, header: &Header) -> bool
     ensures { IsTrue result ↔ IsHeaderOf page.now.0 header.now }
 {
@@ -91,13 +101,35 @@ pub fn has_header(page: &Block, header: &Header) -> bool
     is_in_range(header)
 }
 
-/// The header of a page of records: exactly where the page begins with one.
+/// Whether the page begins with this header, and it is one of a page of records.
+pub fn has_page_header(page: &Block, header: &Header) -> bool
+    ensures { IsTrue result ↔ IsPageHeaderOf page.now.0 header.now }
+{
+    if !is_log_or_map(header) {
+        return false;
+    }
+    has_header(page, header)
+}
+
+/// The header of a page, of records or of a seal: exactly where the page begins with one.
 pub fn read_header(page: &Block) -> Option<Header>
     ensures value { result ≡ read_header page.now.0 }
     ensures grammar { MatchOption result ((h : HeaderValue) → ¬ IsHeaderOf page.now.0 h) (λ h. IsHeaderOf page.now.0 h) }
 {
     let header = header_in(&line_at(page, 0));
     if has_header(page, &header) {
+        return Some(header);
+    }
+    None
+}
+
+/// The header of a page of records: exactly where the page begins with one.
+pub fn read_page_header(page: &Block) -> Option<Header>
+    ensures value { result ≡ read_page_header page.now.0 }
+    ensures grammar { MatchOption result ((h : HeaderValue) → ¬ IsPageHeaderOf page.now.0 h) (λ h. IsPageHeaderOf page.now.0 h) }
+{
+    let header = header_in(&line_at(page, 0));
+    if has_page_header(page, &header) {
         return Some(header);
     }
     None

@@ -13,7 +13,7 @@ mod page;
 mod seal;
 
 pub use cache_model::{Header, PageKind, Seal};
-pub use header::read_header;
+pub use header::{read_header, read_page_header};
 pub use page::{read_records, write_page};
 pub use seal::{read_seal, write_seal};
 

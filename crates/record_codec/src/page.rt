@@ -3,11 +3,11 @@ ghost use Rattle.std.specs.Bool.{OnTrue, OnFalse};
 ghost use Rattle.std.specs.List.{list_all};
 ghost use Rattle.ft_base.specs.declared.record.Record.{Record as RecordValue};
 ghost use Rattle.cache_model.specs.Spelling.{spelled_record, has_widths, is_log_or_map, may_stand_in, IsPage};
-ghost use Rattle.cache_model.specs.Reading.{read_header as header_read, read_records as records_read};
+ghost use Rattle.cache_model.specs.Reading.{read_page_header as header_read, read_records as records_read};
 ghost use Rattle.record_codec.specs.Lines.{BeginsWith};
 
 use crate::change::{goes_on, read_record, spelled_record};
-use crate::header::{has_header, spelled_header};
+use crate::header::{has_page_header, spelled_header};
 use crate::line::{is_zero_from, line_at, put_line, put_zero_lines};
 use cache_model::{Header, PageKind};
 use ft_base::{Block, Record};
@@ -49,7 +49,7 @@ pub fn read_records(page: &Block, header: &Header, out: &mut [Record; 127]) -> b
     ensures outside { OnFalse result ((rs : List RecordValue) → ¬ IsPage page.now.0 header.now rs) }
     ensures value { header_read page.now.0 ≡ Some header.now → records_read header.now page.now.0 ≡ (if result then Some (take header.now.count out.new) else None) }
 {
-    if !has_header(page, header) {
+    if !has_page_header(page, header) {
         return false;
     }
     let count = header.count as usize;

@@ -1,5 +1,8 @@
 use crate::line::line_at;
-use crate::{Header, PageKind, Seal, read_header, read_records, read_seal, write_page, write_seal};
+use crate::{
+    Header, PageKind, Seal, read_header, read_page_header, read_records, read_seal, write_page,
+    write_seal,
+};
 use ft_base::{Place, Record, zero_block};
 
 const LOG_LINE: [u8; 32] = *b"FTSCPAGE\x01\x03\x01\0\0\0\0\0\0\0\0\x01\0\0\0\0\0\0\0\0\0\0\0\0";
@@ -28,6 +31,7 @@ fn pages_have_the_bytes_written_down(rt: HostRuntime) {
     write_page(&mut page, &log, [set_page].as_slice());
     assert!(rt; line_at(&page, 0) == LOG_LINE);
     assert!(rt; line_at(&page, 1) == SET_PAGE_LINE);
+    assert_eq!(rt; read_page_header(&page), Some(log));
     assert_eq!(rt; read_header(&page), Some(log));
     assert!(rt; read_records(&page, &log, &mut out));
     assert_eq!(rt; out[0], set_page);
@@ -37,10 +41,10 @@ fn pages_have_the_bytes_written_down(rt: HostRuntime) {
         "a byte behind the last record"
     );
     page.0[19] = 0;
-    assert_eq!(rt; read_header(&page), None, "no record");
+    assert_eq!(rt; read_page_header(&page), None, "no record");
     page.0[19] = 128;
     assert_eq!(rt;
-        read_header(&page),
+        read_page_header(&page),
         None,
         "more records than a page has room for"
     );
@@ -81,7 +85,12 @@ fn groups_and_seals_are_read_as_written(rt: HostRuntime) {
     };
     write_seal(&mut page, &header, &seal);
     assert_eq!(rt; read_seal(&page), Some((header, seal)));
-    assert_eq!(rt; read_header(&page), None, "a seal is no page of records");
+    assert_eq!(rt;
+        read_page_header(&page),
+        None,
+        "a seal is no page of records"
+    );
+    assert_eq!(rt; read_header(&page), Some(header), "it has a header");
     page.0[56] = 1;
     assert_eq!(rt; read_seal(&page), None, "a byte behind the numbers");
 }

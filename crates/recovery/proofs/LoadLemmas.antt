@@ -1,17 +1,22 @@
 -- The steps of a loading, one after the other.
-use Rattle.std.proofs.Common.{◌≡◌, ℕ, ◌≤◌, Result, Ok, sym, ◌∙◌, ap, ap₂, subst}
+use Rattle.std.proofs.Common.{◌≡◌, ℕ, ◌≤◌, Result, Ok, Err, false, sym, ◌∙◌, ap, ap₂, subst}
 use Rattle.std.specs.FinMap.{entries}
+use Rattle.std.specs.Result.{IsErrAnd}
 use Rattle.ft_base.specs.declared.geometry.Geometry.{Geometry}
 use Rattle.ft_base.specs.declared.block.Place.{Place}
 use Rattle.ft_base.specs.declared.block.Page.{Page}
 use Rattle.ft_base.specs.Layout.{checkpoint_at, checkpoint_pages, log_at}
+use Rattle.ft_media.specs.State.{State}
+use Rattle.ft_media.specs.Reads.{ReadsFlash}
+use Rattle.ft_media.proofs.DrivesLemmas.{reads_then}
 use Rattle.cache_model.specs.declared.format.PageKind.TheVariants.{Log, Map}
 use Rattle.cache_model.specs.Records.{Entries, no_entries}
 use Rattle.cache_model.specs.Entries.{IsMap}
 use Rattle.cache_model.specs.Loading.{Refusal, ◌>>=◌, Complete, pages_from, after_pages, log_region, checkpoint_of, replayed, entries_of, all_whole, load}
 use Rattle.cache_model.proofs.FitsLemmas.{replayed-map}
 use Rattle.op_log.specs.declared.error.OpenError.{OpenError}
-use Rattle.op_log.specs.Refusals.{IsRefusal}
+use Rattle.op_log.specs.declared.error.OpenError.TheVariants.{NotFormatted, OtherGeometry, Damaged, FlashFault, DiskFault, PowerLost, OutOfMemory}
+use Rattle.op_log.specs.Refusals.{IsRefusal, open_failed, open_lost}
 use Rattle.recovery.proofs.RefusalLemmas.{bind_refused, then_refused}
 use Rattle.recovery.proofs.WalkLemmas.{take_pages}
 
@@ -66,3 +71,17 @@ module _ (g : Geometry) (page : Place → Page) (c : ℕ × Complete) (there : c
       pub places_whole : all_whole page'' (entries m) m ≡ Ok m → load g page ≡ Ok m
       unfolding load
       places_whole is = ap (λ r. r >>= λ n. all_whole page (entries n) n) entries_are ∙ ap (λ (p : Place → Page). all_whole p (entries m) m) (sym pages') ∙ is
+
+-- a call that was refused after others that only read
+pub reads_refused : (U : Type 0) {T : Type 0} (a b c : State) (r : Result T OpenError) (e : OpenError) → IsErrAnd r (λ x. x ≡ e) → ReadsFlash a b false false → ReadsFlash b c (open_failed {T = U} (Err e)) (open_lost {T = U} (Err e)) → ReadsFlash a c (open_failed r) (open_lost r)
+reads_refused U a b c (Ok v) e is first later = absurd is
+reads_refused U {T} a b c (Err x) e is first later = subst (λ (y : OpenError). ReadsFlash a c (open_failed {T = T} (Err y)) (open_lost {T = T} (Err y))) (sym is) (told e (reads_then a b c _ _ first later))
+  where
+    told : (e : OpenError) → ReadsFlash a c (open_failed {T = U} (Err e)) (open_lost {T = U} (Err e)) → ReadsFlash a c (open_failed {T = T} (Err e)) (open_lost {T = T} (Err e))
+    told NotFormatted is = is
+    told (OtherGeometry found wanted) is = is
+    told (Damaged block page) is = is
+    told FlashFault is = is
+    told DiskFault is = is
+    told PowerLost is = is
+    told OutOfMemory is = is

@@ -1,78 +1,213 @@
--- The places of entries, looked at in order.
-use Rattle.std.proofs.Common.{◌≡◌, ℕ, zero, suc, ◌+◌, ◌≤◌, true, false, cond, List, [], ◌∷◌, length, drop, Some, None, Ok, Err, refl, sym, ◌∙◌, ap, subst, arith, add-one}
-use Rattle.std.specs.Option.{option_map}
-use Rattle.std.specs.List.{slice_get, AllByRecursion}
-use Rattle.std.specs.FinMap.{entries}
+-- The places of entries, looked at in ascending order of address.
+use Rattle.std.proofs.Common.{◌≡◌, ℕ, ◌+◌, ◌-◌, ◌/◌, ◌%◌, ◌<◌, ◌≤◌, ◌==◌, Bool, true, false, cond, T, List, [], ◌∷◌, ◌++◌, length, get_or, Option, Some, None, Result, Ok, Err, refl, sym, ◌∙◌, ap, ap₂, subst, arith, inl, inr, nat_cmp}
+use Rattle.std.specs.Option.{option_map, IfSome, IfNone}
+use Rattle.std.specs.List.{AllByRecursion, AllWithin, Contains}
+use Rattle.std.specs.List.Sorted.{IsNonDecreasing, IsPermutation, IsSorted}
+use Rattle.std.specs.Ordering.{is_lt}
+use Rattle.std.specs.FinMap.{get, entries, find, is_sorted, entries_sorted, get-entries}
+use Rattle.std.specs.FinMap.Entries.{below_all}
+use Rattle.std.proofs.lemmas.Bool.{cases_Bool, cases_lt, and_parts}
+use Rattle.std.proofs.lemmas.Bool.Decides.{nat_tests}
+use Rattle.std.proofs.lemmas.List.{get_or_default}
+use Rattle.std.proofs.lemmas.List.Elements.{AllWithin-more, AllWithin-none, AllWithin-upto, All-from_all_within, All-contains, Contains-push, Contains-append_left}
+use Rattle.std.proofs.lemmas.List.Sorted.{Contains-permutation, IsNonDecreasingBy-from_sort}
+use Rattle.std.proofs.lemmas.Nat.{div-mul-add, mod-mul-add}
 use Rattle.ft_base.specs.declared.geometry.Geometry.{Geometry}
 use Rattle.ft_base.specs.declared.block.Place.{Place}
 use Rattle.ft_base.specs.declared.block.Page.{Page}
+use Rattle.ft_base.specs.Layout.{first_pool}
 use Rattle.cache_model.specs.declared.entry.Entry.{Entry}
 use Rattle.cache_model.specs.Records.{Entries}
 use Rattle.cache_model.specs.Entries.{IsMap, InPool}
-use Rattle.cache_model.specs.Loading.{is_whole, all_whole}
+use Rattle.cache_model.specs.Loading.{Refusal, is_whole, all_whole}
 use Rattle.cache_model.specs.Loading.Refusal.{Damaged as damaged}
-use Rattle.cache_model.proofs.MapLemmas.{all_entries}
-use Rattle.mapping.specs.Counts.{address_and_place}
+use Rattle.cache_model.proofs.MapLemmas.{eq_key, all_entries}
+use Rattle.mapping.specs.Counts.{place_and_mark}
+use Rattle.mapping.specs.Numbers.{number_of, HasNumber, HasNone, AreNumbered}
 use Rattle.op_log.specs.declared.error.OpenError.{OpenError}
 use Rattle.op_log.specs.Refusals.{IsRefusal}
+use Rattle.recovery.specs.Addresses.{HasAddresses}
 use Rattle.recovery.proofs.RefusalLemmas.{test_refused}
 
--- the places of the first i entries are whole
-pub record Looked (page : Place → Page) (es : List (ℕ × Entry)) (x : Entries) (i : ℕ) : Type 0 where
-  pub same : all_whole page es x ≡ all_whole page (drop i es) x
+-- ---- the addresses, in the order of the pages
 
-pub looked_none : (page : Place → Page) (es : List (ℕ × Entry)) (x : Entries) → Looked page es x 0
-looked_none page es x = record { same = refl }
+abbrev place_at : ℕ → ℕ → Place
+place_at block page = record { block = block; page = page }
 
-pub looked_all : (page : Place → Page) (es : List (ℕ × Entry)) (x : Entries) (i : ℕ) → length es ≤ i → Looked page es x i → all_whole page es x ≡ Ok x
-looked_all page es x i past looked = looked.same ∙ ap (λ (l : List (ℕ × Entry)). all_whole page l x) (none_left es i past)
-  where
-    none_left : (es : List (ℕ × Entry)) (i : ℕ) → length es ≤ i → drop i es ≡ []
-    none_left [] zero past = refl
-    none_left [] (suc i) past = refl
-    none_left (e ∷ es) zero past = absurd (omega arith)
-    none_left (e ∷ es) (suc i) past = none_left es i (omega arith)
+-- two places of the pool with one number are one
+same_place : (g : Geometry) (p q : Place) → InPool g p → InPool g q → number_of g p ≡ number_of g q → p ≡ q
+same_place g p q in_p in_q same =
+    let b = p.block - first_pool g in
+    let d = q.block - first_pool g in
+    let blocks : b ≡ d = sym (div-mul-add b g.p p.page in_p.page) ∙ ap (λ n. n / g.p) same ∙ div-mul-add d g.p q.page in_q.page in
+    let page : p.page ≡ q.page = sym (mod-mul-add b g.p p.page in_p.page) ∙ ap (λ n. n % g.p) same ∙ mod-mul-add d g.p q.page in_q.page in
+    let block : p.block ≡ q.block = omega (arith, in_p.above, in_q.above, blocks) in
+    ap₂ place_at block page
 
--- the entry of a number, before those behind it
-at_number : (page : Place → Page) (es : List (ℕ × Entry)) (x : Entries) (i a : ℕ) (at : Place) → Some (a, at) ≡ option_map address_and_place (slice_get es i) → all_whole page (drop i es) x ≡ cond (is_whole (page at)) (all_whole page (drop (suc i) es) x) (Err (damaged at))
-at_number page [] x i a at is = absurd (cc)
-at_number page (e ∷ es) x zero a at is =
-    let pair : address_and_place e ≡ (a, at) = cc in
-    let place : e.1.place ≡ at = ap (λ (q : ℕ × Place). q.1) pair in
-    ap (λ q. cond (is_whole (page q)) (all_whole page es x) (Err (damaged q))) place
-at_number page (e ∷ es) x (suc i) a at is = at_number page es x i a at is
+-- the addresses whose pages have numbers below i are in the list
+pub record Gathered (g : Geometry) (m : Entries) (addresses : List ℕ) (i : ℕ) : Type 0 where
+  pub each : (a : ℕ) (e : Entry) → get m a ≡ Some e → number_of g e.place < i → Contains addresses a
 
-pub looked_more : (page page' : Place → Page) (es : List (ℕ × Entry)) (x : Entries) (i a : ℕ) (at : Place) → page' ≡ page → Looked page es x i → Some (a, at) ≡ option_map address_and_place (slice_get es i) → is_whole (page' at) ≡ true → Looked page es x (i + 1)
-looked_more page page' es x i a at pages looked is whole = record {
-  same =
-      looked.same ∙ at_number page es x i a at is ∙ ap (λ b. cond b (all_whole page (drop (suc i) es) x) (Err (damaged at))) (ap (λ (p : Place → Page). is_whole (p at)) (sym pages) ∙ whole)
-      ∙ ap (λ k. all_whole page (drop k es) x) (sym (add-one i));
+pub gathered_none : (g : Geometry) (m : Entries) (addresses : List ℕ) → Gathered g m addresses 0
+gathered_none g m addresses = record { each = λ a e is low. absurd (omega (arith, low)) }
+
+pub gathered_more : (g : Geometry) (m : Entries) (addresses new : List ℕ) (i lba : ℕ) (at : Place) (o : Option (ℕ × Place)) → IsMap g m → Gathered g m addresses i → IfSome o (HasNumber g m i) → o ≡ Some (lba, at) → new ≡ addresses ++ lba ∷ [] → Gathered g m new (i + 1)
+gathered_more g m addresses new i lba at o is_map so here is pushed = record {
+  each = λ a e held low. subst (λ (l : List ℕ). Contains l a) (sym pushed) (elim (cases_lt (number_of g e.place) i) [
+    | inl before ↦ Contains-append_left addresses (lba ∷ []) a (so.each a e held before)
+    | inr past ↦
+        let has : HasNumber g m i (lba, at) = subst (λ (x : Option (ℕ × Place)). IfSome x (HasNumber g m i)) is here in
+        let f = has.owns.0 in
+        let place : f.place ≡ at = has.owns.2 in
+        let number : number_of g e.place ≡ i = omega (arith, low, past) in
+        let number' : number_of g f.place ≡ i = ap (number_of g) place ∙ has.number in
+        let places = same_place g e.place f.place (is_map.in_pool a e held) (is_map.in_pool lba f has.owns.1) (number ∙ sym number') in
+        let same : a ≡ lba = is_map.apart a lba e f held has.owns.1 places in
+        subst (λ n. Contains (addresses ++ lba ∷ []) n) (sym same) (Contains-push addresses lba)
+  ]);
 }
 
-pub looked_past : (page : Place → Page) (es : List (ℕ × Entry)) (x : Entries) (i : ℕ) → Looked page es x i → None ≡ option_map address_and_place (slice_get es i) → Looked page es x (i + 1)
-looked_past page es x i looked none = record { same = looked.same ∙ ap (λ (l : List (ℕ × Entry)). all_whole page l x) (as_before es i none) ∙ ap (λ k. all_whole page (drop k es) x) (sym (add-one i)) }
+pub gathered_past : (g : Geometry) (m : Entries) (addresses : List ℕ) (i : ℕ) (o : Option (ℕ × Place)) → Gathered g m addresses i → IfNone o (HasNone g m i) → o ≡ None → Gathered g m addresses (i + 1)
+gathered_past g m addresses i o so here is =
+    let none : HasNone g m i = subst (λ (x : Option (ℕ × Place)). IfNone x (HasNone g m i)) is here in
+    record {
+      each = λ a e held low. elim (cases_lt (number_of g e.place) i) [
+        | inl before ↦ so.each a e held before
+        | inr past ↦ let number : number_of g e.place ≡ i = omega (arith, low, past) in absurd (none a e held number)
+      ];
+    }
+
+pub gathered_all : (g : Geometry) (m : Entries) (addresses : List ℕ) (numbers i : ℕ) → AreNumbered g m numbers → numbers ≤ i → Gathered g m addresses i → HasAddresses m addresses
+gathered_all g m addresses numbers i all past so a e held = let low = all a e held in so.each a e held (omega (arith, low, past))
+
+-- and so they are once they are sorted
+pub has_sorted : (m : Entries) (addresses sorted items : List ℕ) → IsPermutation addresses sorted → items ≡ sorted → HasAddresses m addresses → HasAddresses m items
+has_sorted m addresses sorted items moved is has a e held = subst (λ (l : List ℕ). Contains l a) (sym is) (Contains-permutation addresses sorted a moved (has a e held))
+
+pub rises : (sorted items : List ℕ) → items ≡ sorted → IsSorted nat_cmp sorted → IsNonDecreasing items
+rises sorted items is up = subst (λ (l : List ℕ). IsNonDecreasing l) (sym is) (IsNonDecreasingBy-from_sort (λ x. x) sorted up)
+
+-- ---- an address
+
+-- the entry of an address that has a place
+held_at : (m : Entries) (a : ℕ) (at : Place) (dirty : Bool) → Some (at, dirty) ≡ option_map place_and_mark (get m a) → (e : Entry) × (get m a ≡ Some e) × (e.place ≡ at)
+held_at m a at dirty is = by_case (get m a) refl is
   where
-    as_before : (es : List (ℕ × Entry)) (i : ℕ) → None ≡ option_map address_and_place (slice_get es i) → drop i es ≡ drop (suc i) es
-    as_before [] zero none = refl
-    as_before [] (suc i) none = refl
-    as_before (e ∷ es) zero none = absurd (cc)
-    as_before (e ∷ es) (suc i) none = as_before es i none
+    by_case : (o : Option Entry) → get m a ≡ o → Some (at, dirty) ≡ option_map place_and_mark o → (e : Entry) × (get m a ≡ Some e) × (e.place ≡ at)
+    by_case None there is' = absurd (cc)
+    by_case (Some e) there is' =
+        let pair : place_and_mark e ≡ (at, dirty) = cc in
+        (e, there, ap (λ (q : Place × Bool). q.0) pair)
 
-pub looked_refused : (g : Geometry) (page page' : Place → Page) (es : List (ℕ × Entry)) (x : Entries) (i a : ℕ) (at : Place) (e : OpenError) → page' ≡ page → Looked page es x i → Some (a, at) ≡ option_map address_and_place (slice_get es i) → IsRefusal g e (cond (is_whole (page' at)) (Ok at) (Err (damaged at))) → IsRefusal g e (all_whole page es x)
-looked_refused g page page' es x i a at e pages looked is refused =
-    let refused' = subst (λ (p : Place → Page). IsRefusal g e (cond (is_whole (p at)) (Ok at) (Err (damaged at)))) pages refused in
-    subst (λ r. IsRefusal g e r) (sym (looked.same ∙ at_number page es x i a at is)) (test_refused g e (is_whole (page at)) at (all_whole page (drop (suc i) es) x) (damaged at) refused')
+pub place_in_pool : (g : Geometry) (m : Entries) (a : ℕ) (at : Place) (dirty : Bool) → IsMap g m → Some (at, dirty) ≡ option_map place_and_mark (get m a) → InPool g at
+place_in_pool g m a at dirty is_map is = let held = held_at m a at dirty is in subst (λ q. InPool g q) held.2 (is_map.in_pool a held.0 held.1)
 
-pub looked_damaged : (page : Place → Page) (es : List (ℕ × Entry)) (x : Entries) (i a : ℕ) (at : Place) → Looked page es x i → Some (a, at) ≡ option_map address_and_place (slice_get es i) → is_whole (page at) ≡ false → all_whole page es x ≡ Err (damaged at)
-looked_damaged page es x i a at looked is torn = looked.same ∙ at_number page es x i a at is ∙ ap (λ b. cond b (all_whole page (drop (suc i) es) x) (Err (damaged at))) torn
+-- ---- the addresses, in ascending order
 
--- the place of each entry lies in the pool
-pub place_in_pool : (g : Geometry) (m : Entries) (i a : ℕ) (at : Place) → IsMap g m → Some (a, at) ≡ option_map address_and_place (slice_get (entries m) i) → InPool g at
-place_in_pool g m i a at is_map is = of_number (entries m) i (all_entries m (λ a e. InPool g e.place) is_map.in_pool) is
+-- the page of the address is whole, if it has one
+abbrev pub IsWholeAt : (Place → Page) → Entries → ℕ → Type 0
+IsWholeAt page m a = (e : Entry) → get m a ≡ Some e → is_whole (page e.place) ≡ true
+
+-- the pages of the first i addresses are whole
+pub record Looked (page : Place → Page) (m : Entries) (addresses : List ℕ) (i : ℕ) : Type 0 where
+  pub whole : AllWithin (IsWholeAt page m) addresses 0 i
+
+pub looked_none : (page : Place → Page) (m : Entries) (addresses : List ℕ) → Looked page m addresses 0
+looked_none page m addresses = record { whole = AllWithin-none (IsWholeAt page m) addresses 0 }
+
+same_value : (x y : Entry) → Some x ≡ Some y → x ≡ y
+same_value x y is = cc
+
+module _ (page : Place → Page) (m : Entries) (addresses : List ℕ) (i d : ℕ) (looked : Looked page m addresses i) (within : i < length addresses) where
+  -- an address by any default
+  by_default : IsWholeAt page m (get_or addresses i d) → (e : ℕ) → IsWholeAt page m (get_or addresses i e)
+  by_default here e = subst (λ n. IsWholeAt page m n) (get_or_default addresses i d e within) here
+
+  pub looked_more : (page' : Place → Page) (at : Place) (dirty : Bool) → page' ≡ page → Some (at, dirty) ≡ option_map place_and_mark (get m (get_or addresses i d)) → is_whole (page' at) ≡ true → Looked page m addresses (i + 1)
+  looked_more page' at dirty pages is whole =
+      let held = held_at m (get_or addresses i d) at dirty is in
+      let here : is_whole (page at) ≡ true = ap (λ (p : Place → Page). is_whole (p at)) (sym pages) ∙ whole in
+      record {
+        whole = AllWithin-more (IsWholeAt page m) addresses 0 i looked.whole (by_default (λ e is'.
+            let same = same_value e held.0 (sym is' ∙ held.1) in
+            ap (λ (v : Entry). is_whole (page v.place)) same ∙ ap (λ q. is_whole (page q)) held.2 ∙ here));
+      }
+
+  pub looked_past : None ≡ option_map place_and_mark (get m (get_or addresses i d)) → Looked page m addresses (i + 1)
+  looked_past none = record { whole = AllWithin-more (IsWholeAt page m) addresses 0 i looked.whole (by_default (λ e is'. absurd (no_value e (none ∙ ap (option_map place_and_mark) is')))) }
+    where
+      no_value : (e : Entry) → None ≡ Some (place_and_mark e) → ⊥
+      no_value e is = cc
+
+-- ---- what is answered
+
+all_from : (page : Place → Page) (es : List (ℕ × Entry)) (x : Entries) → AllByRecursion (λ e. is_whole (page e.1.place) ≡ true) es → all_whole page es x ≡ Ok x
+all_from page [] x all = refl
+all_from page (e ∷ es) x all = ap (λ b. cond b (all_whole page es x) (Err (damaged e.1.place))) all.0 ∙ all_from page es x all.1
+
+find_above : (k : ℕ) (es : List (ℕ × Entry)) → below_all nat_cmp k es ≡ true → (a : ℕ) (v : Entry) → find nat_cmp a es ≡ Some v → k < a
+find_above k [] below a v is = absurd (cc)
+find_above k (e ∷ es) below a v is =
+    let parts = and_parts (is_lt (nat_cmp k e.0)) (below_all nat_cmp k es) below in
+    elim (cases_Bool (a == e.0)) [
+      | inl t ↦ let same : a ≡ e.0 = grind (arith, nat_tests) in let low : k < e.0 = less_key k e.0 parts.0 in omega (arith, same, low)
+      | inr f ↦ find_above k es parts.1 a v (sym (ap (λ b. cond b (Some e.1) (find nat_cmp a es)) (eq_key a e.0 ∙ f)) ∙ is)
+    ]
   where
-    of_number : (es : List (ℕ × Entry)) (i : ℕ) → AllByRecursion (λ e. InPool g e.1.place) es → Some (a, at) ≡ option_map address_and_place (slice_get es i) → InPool g at
-    of_number [] i all is = absurd (cc)
-    of_number (e ∷ es) zero all is =
-        let pair : address_and_place e ≡ (a, at) = cc in
-        subst (λ q. InPool g q) (ap (λ (q : ℕ × Place). q.1) pair) all.0
-    of_number (e ∷ es) (suc i) all is = of_number es i all.1 is
+    less_key : (x y : ℕ) → is_lt (nat_cmp x y) ≡ true → x < y
+    less_key x y e = grind (arith, nat_tests)
+
+-- where all before an address are whole, its own page decides
+module _ (page : Place → Page) (x : Entries) (a : ℕ) (v : Entry) where
+  decided : (es : List (ℕ × Entry)) → is_sorted nat_cmp es ≡ true → AllByRecursion (λ e. e.0 < a → is_whole (page e.1.place) ≡ true) es → find nat_cmp a es ≡ Some v → (r : Result Entries Refusal) × (all_whole page es x ≡ cond (is_whole (page v.place)) r (Err (damaged v.place)))
+  decided [] sorted before is = absurd (cc)
+  decided (e ∷ es) sorted before is =
+      let parts = and_parts (below_all nat_cmp e.0 es) (is_sorted nat_cmp es) sorted in
+      elim (cases_Bool (a == e.0)) [
+        | inl t ↦
+            let value : Some e.1 ≡ Some v = sym (ap (λ b. cond b (Some e.1) (find nat_cmp a es)) (eq_key a e.0 ∙ t)) ∙ is in
+            (all_whole page es x, ap (λ (w : Entry). cond (is_whole (page w.place)) (all_whole page es x) (Err (damaged w.place))) (same_value e.1 v value))
+        | inr f ↦
+            let there : find nat_cmp a es ≡ Some v = sym (ap (λ b. cond b (Some e.1) (find nat_cmp a es)) (eq_key a e.0 ∙ f)) ∙ is in
+            let rest = decided es parts.1 before.1 there in
+            (rest.0, ap (λ b. cond b (all_whole page es x) (Err (damaged e.1.place))) (before.0 (find_above e.0 es parts.0 a v there)) ∙ rest.1)
+      ]
+
+holds : (b : Bool) → T b → b ≡ true
+holds true h = refl
+holds false h = absurd h
+
+module _ (page : Place → Page) (m : Entries) (addresses : List ℕ) (has : HasAddresses m addresses) (i : ℕ) (looked : Looked page m addresses i) where
+  pub looked_all : length addresses ≤ i → all_whole page (entries m) m ≡ Ok m
+  looked_all past = all_from page (entries m) m (all_entries m (λ a e. is_whole (page e.place) ≡ true) (λ a e is. whole_at a (has a e is) e is))
+    where
+      whole_at : (a : ℕ) → Contains addresses a → IsWholeAt page m a
+      whole_at a there = All-contains (IsWholeAt page m) addresses a (All-from_all_within (IsWholeAt page m) addresses (AllWithin-upto (IsWholeAt page m) addresses 0 i (length addresses) past looked.whole)) there
+
+  module _ (up : IsNonDecreasing addresses) (d : ℕ) (within : i < length addresses) (at : Place) (dirty : Bool) (is : Some (at, dirty) ≡ option_map place_and_mark (get m (get_or addresses i d))) where
+    -- those below the address stand before it
+    whole_below : (a : ℕ) (e : Entry) → get m a ≡ Some e → a < get_or addresses i d → is_whole (page e.place) ≡ true
+    whole_below a e held low =
+        let there = has a e held in
+        elim (cases_lt there.0 i) [
+          | inl before ↦ subst (λ n. IsWholeAt page m n) there.2 (looked.whole there.0 a (omega arith) before) e held
+          | inr past ↦
+              let high : get_or addresses i a ≤ get_or addresses there.0 a = up i there.0 a past there.1 in
+              let same = get_or_default addresses i d a within in
+              absurd (omega (arith, low, high, same, there.2))
+        ]
+
+    next_place : (r : Result Entries Refusal) × (all_whole page (entries m) m ≡ cond (is_whole (page at)) r (Err (damaged at)))
+    next_place =
+        let a = get_or addresses i d in
+        let held = held_at m a at dirty is in
+        let found = decided page m a held.0 (entries m) (holds _ (entries_sorted m)) (all_entries m (λ b e. b < a → is_whole (page e.place) ≡ true) whole_below) (sym (get-entries m a) ∙ held.1) in
+        (found.0, found.1 ∙ ap (λ q. cond (is_whole (page q)) found.0 (Err (damaged q))) held.2)
+
+    pub looked_refused : (g : Geometry) (page' : Place → Page) (e : OpenError) → page' ≡ page → IsRefusal g e (cond (is_whole (page' at)) (Ok at) (Err (damaged at))) → IsRefusal g e (all_whole page (entries m) m)
+    looked_refused g page' e pages refused =
+        let refused' = subst (λ (p : Place → Page). IsRefusal g e (cond (is_whole (p at)) (Ok at) (Err (damaged at)))) pages refused in
+        subst (λ r. IsRefusal g e r) (sym next_place.1) (test_refused g e (is_whole (page at)) at next_place.0 (damaged at) refused')
+
+    pub looked_damaged : is_whole (page at) ≡ false → all_whole page (entries m) m ≡ Err (damaged at)
+    looked_damaged torn = next_place.1 ∙ ap (λ b. cond b next_place.0 (Err (damaged at))) torn

@@ -33,7 +33,7 @@ pub struct Loaded {
 }
 
 /// Loads the map from the flash: the newest checkpoint, its log, and a look at each entry's page. It
-/// writes nothing.
+/// writes nothing. It takes the time of the pages that it reads, and of one sort of the addresses held.
 pub fn load<M: Media>(
     alloc: Global,
     media: &mut M,
@@ -45,9 +45,9 @@ pub fn load<M: Media>(
     ensures reads { ReadsFlash (M.state media.old) (M.state media.new) (open_failed result) (open_lost result) }
 {
     let newest = find_checkpoint(media, geometry)?;
-    let mut map = Map::new(alloc, geometry);
+    let mut map = Map::new(alloc, geometry)?;
     replay(media, geometry, &newest, &mut map)?;
-    look_at_places(media, geometry, &map)?;
+    look_at_places(alloc, media, geometry, &map)?;
     Ok(Loaded {
         map,
         region: newest.region,

@@ -1,4 +1,4 @@
-ghost use Rattle.std.specs.Prelude.{◌≡◌, ◌<◌, true, Ok, Err, IfErr, OnOk, if◌then◌else◌};
+ghost use Rattle.std.specs.Prelude.{◌≡◌, ◌<◌, true, Ok, Err, IfOk, IfErr, OnOk, if◌then◌else◌};
 ghost use Rattle.std.specs.FinMap.{entries};
 ghost use Rattle.ft_base.specs.Layout.{blocks};
 ghost use Rattle.ft_media.specs.Reads.{ReadsFlash};
@@ -6,15 +6,18 @@ ghost use Rattle.cache_model.specs.Entries.{IsMap};
 ghost use Rattle.cache_model.specs.Loading.{all_whole, is_whole, Damaged as damaged};
 ghost use Rattle.op_log.specs.Log.{FitsOn};
 ghost use Rattle.op_log.specs.Refusals.{open_failed, open_lost, IsRefusal};
+ghost use Rattle.recovery.specs.Addresses.{HasAddresses};
 
 use crate::finding::of_media;
 use ft_base::{Geometry, Place, Spare, zero_block};
 use ft_media::{Media, PageRead};
 use mapping::Map;
 use op_log::OpenError;
+use std::alloc::{AllocError, Global};
 
 /// Reads the place of each entry, in ascending order of address, up to the first that isn't whole.
 pub(crate) fn look_at_places<M: Media>(
+    alloc: Global,
     media: &mut M,
     geometry: &Geometry,
     map: &Map,
@@ -25,12 +28,27 @@ pub(crate) fn look_at_places<M: Media>(
     ensures refused { IfErr result (λ e. IsRefusal geometry.now e (all_whole (M.state media.old).contents.flash.page (entries map.now.entries) map.now.entries)) }
     ensures reads { ReadsFlash (M.state media.old) (M.state media.new) (open_failed result) (open_lost result) }
 {
-    for i in 0..map.held() {
-        if let Some((_, at)) = map.nth(i) {
+    let mut addresses = held_addresses(alloc, map)?;
+    addresses.sort()?;
+    for lba in &addresses {
+        if let Some((at, _)) = map.place(*lba) {
             look_at(media, geometry, at)?;
         }
     }
     Ok(())
+}
+
+/// The addresses of the entries, in the order of their pages.
+fn held_addresses(alloc: Global, map: &Map) -> Result<Vec<u64>, AllocError>
+    ensures { IfOk result (λ addresses. HasAddresses map.now.entries addresses.items) }
+{
+    let mut addresses = Vec::new(alloc);
+    for i in 0..map.numbers() {
+        if let Some((lba, _)) = map.nth(i) {
+            addresses.push(lba)?;
+        }
+    }
+    Ok(addresses)
 }
 
 /// Reads a page, which has to be whole.

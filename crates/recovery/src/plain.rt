@@ -9,10 +9,12 @@ ghost use Rattle.recovery.specs.Plain.{page_in, IsPlainLoad};
 
 mod applying;
 mod pages;
+mod places;
 mod regions;
 
-use crate::plain::applying::{first_not_whole, replay};
+use crate::plain::applying::replay;
 use crate::plain::pages::is_wanted;
+use crate::plain::places::first_not_whole;
 use crate::plain::regions::newest;
 use cache_model::Seal;
 use ft_base::{Geometry, Page, Place};
@@ -47,11 +49,11 @@ pub fn plain_load(
     if !is_wanted(geometry, &sealed.seal) {
         return Ok(PlainLoad::OtherGeometry(sealed.seal));
     }
-    let mut map = Map::new(alloc, geometry);
+    let mut map = Map::new(alloc, geometry)?;
     if let Some(at) = replay(pages, geometry, region, &sealed, &mut map)? {
         return Ok(PlainLoad::Damaged(at));
     }
-    if let Some(at) = first_not_whole(pages, geometry, &map) {
+    if let Some(at) = first_not_whole(alloc, pages, geometry, &map)? {
         return Ok(PlainLoad::Damaged(at));
     }
     Ok(PlainLoad::Loaded(map))

@@ -304,7 +304,7 @@ fn is_same_map(one: &Map, other: &Map) -> bool {
     if one.data_blocks() != other.data_blocks() {
         return false;
     }
-    for i in 0..one.held() {
+    for i in 0..one.numbers() {
         if one.nth(i) != other.nth(i) {
             return false;
         }
@@ -613,6 +613,8 @@ fn the_first_address_without_a_whole_page_is_told(rt: HostRuntime) -> Result<(),
         (set_page(5, 4, 1), set_page(9, 4, 2), damaged(4, 1)),
         (set_page(5, 4, 0), set_page(9, 5, 0), damaged(5, 0)),
         (set_page(5, 5, 0), set_page(9, 4, 0), damaged(5, 0)),
+        (set_page(9, 4, 3), set_page(5, 5, 0), damaged(5, 0)),
+        (set_page(5, 5, 1), set_page(9, 4, 1), damaged(5, 1)),
     ];
     for (first, second, want) in rows {
         let steps = [

@@ -1,3 +1,4 @@
 pub mod GroupLemmas
 pub mod EntryLemmas
 pub mod PlainLemmas
+pub mod VictimLemmas

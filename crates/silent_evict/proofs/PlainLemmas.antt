@@ -1,35 +1,37 @@
 -- What the plain programs know of the entries that they have looked at.
-use Rattle.std.proofs.Common.{◌≡◌, ℕ, ◌+◌, ◌/◌, ◌<◌, ◌≤◌, ◌⊎◌, Bool, true, false, length, Some, refl, subst, arith, inl, inr}
-use Rattle.std.specs.Option.{option_map}
-use Rattle.std.specs.List.{slice_get}
-use Rattle.std.specs.FinMap.{get, entries}
+use Rattle.std.proofs.Common.{◌≡◌, ℕ, ◌+◌, ◌/◌, ◌<◌, ◌≤◌, ◌⊎◌, Bool, true, false, Some, refl, subst, arith, inl, inr}
+use Rattle.std.specs.FinMap.{get}
 use Rattle.std.proofs.lemmas.Bool.{cases_Bool, cases_lt, both_ways}
 use Rattle.ft_base.specs.declared.geometry.Geometry.{Geometry}
 use Rattle.ft_base.specs.declared.block.Place.{Place}
 use Rattle.cache_model.specs.declared.entry.Entry.{Entry}
 use Rattle.cache_model.specs.Records.{Entries}
+use Rattle.cache_model.specs.Entries.{IsMap}
 use Rattle.mapping.specs.declared.bits.Choice.TheVariants.{Mapped}
-use Rattle.mapping.specs.Counts.{address_and_place}
+use Rattle.mapping.specs.Numbers.{HasNumber, HasNone, AreNumbered}
 use Rattle.silent_evict.specs.Candidates.{IsWhollyClean, IsCandidate, IsVictim, IsDirtyAt, pages_held}
 use Rattle.silent_evict.proofs.GroupLemmas.{chosen_some, pages_held-none}
-use Rattle.silent_evict.proofs.EntryLemmas.{EachBefore, each_none, each_more, each_entry, entry_at_number}
+use Rattle.silent_evict.proofs.EntryLemmas.{EachBefore, each_none, each_more, each_passed, each_entry}
 
 -- ---- a wholly clean group
 
--- of the first i entries those of the group are clean, and there is one exactly where `held`
+-- of the entries with the first i numbers those of the group are clean, and there is one exactly where `held`
 pub record CleanSoFar (g : Geometry) (m : Entries) (group i : ℕ) (held : Bool) : Type 0 where
-  pub clean : EachBefore m (λ a e. a / g.p ≡ group → e.dirty ≡ false) i
+  pub clean : EachBefore g m (λ a e. a / g.p ≡ group → e.dirty ≡ false) i
   pub some : held ≡ true → (a : ℕ) × (e : Entry) × (get m a ≡ Some e) × (a / g.p ≡ group)
-  pub none : held ≡ false → EachBefore m (λ a e. a / g.p ≡ group → ⊥) i
+  pub none : held ≡ false → EachBefore g m (λ a e. a / g.p ≡ group → ⊥) i
 
 pub clean_none : (g : Geometry) (m : Entries) (group : ℕ) → CleanSoFar g m group 0 false
-clean_none g m group = record { clean = each_none m _; some = λ t. absurd (both_ways false refl t); none = λ f. each_none m _ }
+clean_none g m group = record { clean = each_none g m _; some = λ t. absurd (both_ways false refl t); none = λ f. each_none g m _ }
 
-module _ (g : Geometry) (m : Entries) (group i lba : ℕ) (at : Place) (held : Bool) (is : Some (lba, at) ≡ option_map address_and_place (slice_get (entries m) i)) (so_far : CleanSoFar g m group i held) where
+pub clean_passed : (g : Geometry) (m : Entries) (group i : ℕ) (held : Bool) → CleanSoFar g m group i held → HasNone g m i → CleanSoFar g m group (i + 1) held
+clean_passed g m group i held so_far none = record { clean = each_passed g m _ i so_far.clean none; some = so_far.some; none = λ f. each_passed g m _ i (so_far.none f) none }
+
+module _ (g : Geometry) (m : Entries) (is_map : IsMap g m) (group i lba : ℕ) (at : Place) (held : Bool) (has : HasNumber g m i (lba, at)) (so_far : CleanSoFar g m group i held) where
   pub clean_here : lba / g.p ≡ group → (IsDirtyAt m lba → ⊥) → CleanSoFar g m group (i + 1) true
   clean_here here clean = record {
-    clean = each_more m _ _ i lba at so_far.clean (λ a e was. was) is (λ e there _. not_dirty e there (cases_Bool e.dirty));
-    some = λ t. let found = entry_at_number m i lba at is in (lba, found.0, found.1, here);
+    clean = each_more g m is_map _ _ i lba at so_far.clean (λ a e was. was) has (λ e there _. not_dirty e there (cases_Bool e.dirty));
+    some = λ t. (lba, has.owns.0, has.owns.1, here);
     none = λ f. absurd (both_ways true f refl);
   }
     where
@@ -39,22 +41,22 @@ module _ (g : Geometry) (m : Entries) (group i lba : ℕ) (at : Place) (held : B
 
   pub clean_elsewhere : (lba / g.p ≡ group → ⊥) → CleanSoFar g m group (i + 1) held
   clean_elsewhere other = record {
-    clean = each_more m _ _ i lba at so_far.clean (λ a e was. was) is (λ e there here. absurd (other here));
+    clean = each_more g m is_map _ _ i lba at so_far.clean (λ a e was. was) has (λ e there here. absurd (other here));
     some = so_far.some;
-    none = λ f. each_more m _ _ i lba at (so_far.none f) (λ a e was. was) is (λ e there here. other here);
+    none = λ f. each_more g m is_map _ _ i lba at (so_far.none f) (λ a e was. was) has (λ e there here. other here);
   }
 
 pub never_clean : (g : Geometry) (m : Entries) (group lba : ℕ) → lba / g.p ≡ group → IsDirtyAt m lba → IsWhollyClean g m group → ⊥
 never_clean g m group lba here dirty clean = both_ways dirty.0.dirty (clean.clean lba dirty.0 dirty.1 here) dirty.2
 
-module _ (g : Geometry) (m : Entries) (group i : ℕ) (held : Bool) (past : length (entries m) ≤ i) (so_far : CleanSoFar g m group i held) where
+module _ (g : Geometry) (m : Entries) (group i numbers : ℕ) (held : Bool) (all : AreNumbered g m numbers) (past : numbers ≤ i) (so_far : CleanSoFar g m group i held) where
   pub clean_all : held ≡ true → IsWhollyClean g m group
-  clean_all t = record { held = so_far.some t; clean = each_entry m (λ a e. a / g.p ≡ group → e.dirty ≡ false) i past so_far.clean }
+  clean_all t = record { held = so_far.some t; clean = each_entry g m (λ a e. a / g.p ≡ group → e.dirty ≡ false) i numbers all past so_far.clean }
 
   pub clean_held : IsWhollyClean g m group → held ≡ true
   clean_held clean = elim (cases_Bool held) [
     | inl t ↦ t
-    | inr f ↦ let found = clean.held in absurd (each_entry m (λ a e. a / g.p ≡ group → ⊥) i past (so_far.none f) found.0 found.1 found.2 found.3)
+    | inr f ↦ let found = clean.held in absurd (each_entry g m (λ a e. a / g.p ≡ group → ⊥) i numbers all past (so_far.none f) found.0 found.1 found.2 found.3)
   ]
 
 -- ---- a candidate
@@ -67,24 +69,26 @@ clean_candidate g m group candidate = record { held = let found = candidate.some
 
 -- ---- a victim
 
--- of the groups of the first i entries, no candidate has fewer pages
+-- of the groups of the entries with the first i numbers, no candidate has fewer pages
 pub record LeastSoFar (g : Geometry) (m : Entries) (group i : ℕ) : Type 0 where
-  pub least : EachBefore m (λ a _. pages_held g m (a / g.p) < pages_held g m group → IsCandidate g m (a / g.p) → ⊥) i
+  pub least : EachBefore g m (λ a _. pages_held g m (a / g.p) < pages_held g m group → IsCandidate g m (a / g.p) → ⊥) i
 
 pub least_none : (g : Geometry) (m : Entries) (group : ℕ) → LeastSoFar g m group 0
-least_none g m group = record { least = each_none m _ }
+least_none g m group = record { least = each_none g m _ }
 
-pub least_more : (g : Geometry) (m : Entries) (group i lba : ℕ) (at : Place) → Some (lba, at) ≡ option_map address_and_place (slice_get (entries m) i) → LeastSoFar g m group i → (pages_held g m (lba / g.p) < pages_held g m group → IsCandidate g m (lba / g.p) → ⊥)
-    → LeastSoFar g m group (i + 1)
-least_more g m group i lba at is so_far here = record { least = each_more m _ _ i lba at so_far.least (λ a e was. was) is (λ e there. here) }
+pub least_passed : (g : Geometry) (m : Entries) (group i : ℕ) → LeastSoFar g m group i → HasNone g m i → LeastSoFar g m group (i + 1)
+least_passed g m group i so_far none = record { least = each_passed g m _ i so_far.least none }
 
-pub least_all : (g : Geometry) (m : Entries) (group i : ℕ) → length (entries m) ≤ i → LeastSoFar g m group i → IsCandidate g m group → IsVictim g m group
-least_all g m group i past so_far candidate = record {
+pub least_more : (g : Geometry) (m : Entries) → IsMap g m → (group i lba : ℕ) (at : Place) → HasNumber g m i (lba, at) → LeastSoFar g m group i → (pages_held g m (lba / g.p) < pages_held g m group → IsCandidate g m (lba / g.p) → ⊥) → LeastSoFar g m group (i + 1)
+least_more g m is_map group i lba at has so_far here = record { least = each_more g m is_map _ _ i lba at so_far.least (λ a e was. was) has (λ e there. here) }
+
+pub least_all : (g : Geometry) (m : Entries) (group i numbers : ℕ) → AreNumbered g m numbers → numbers ≤ i → LeastSoFar g m group i → IsCandidate g m group → IsVictim g m group
+least_all g m group i numbers all past so_far candidate = record {
   candidate = candidate;
   least = λ other may. elim (cases_lt (pages_held g m other) (pages_held g m group)) [
     | inl fewer ↦
         let found = may.some in
-        let never = each_entry m (λ a _. pages_held g m (a / g.p) < pages_held g m group → IsCandidate g m (a / g.p) → ⊥) i past so_far.least found.0 found.1 found.2 in
+        let never = each_entry g m (λ a _. pages_held g m (a / g.p) < pages_held g m group → IsCandidate g m (a / g.p) → ⊥) i numbers all past so_far.least found.0 found.1 found.2 in
         absurd (subst (λ n. pages_held g m n < pages_held g m group → IsCandidate g m n → ⊥) found.3 never fewer may)
     | inr most ↦ most
   ];

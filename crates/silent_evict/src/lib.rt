@@ -6,7 +6,6 @@
 //! such group. Which of several equals is answered is left open. Choosing takes no memory.
 #![tactic(auto)]
 
-mod candidate;
 pub mod laws;
 pub mod plain;
 mod victims;

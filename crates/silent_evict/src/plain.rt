@@ -1,6 +1,6 @@
 //! The plain programs: one entry after another.
 ghost use Rattle.std.specs.Prelude.{◌≡◌, ◌↔◌, IsTrue};
-ghost use Rattle.silent_evict.specs.Candidates.{IsCandidate, IsVictim, IsWhollyClean, IsDirtyAt, pages_held};
+ghost use Rattle.silent_evict.specs.Candidates.{IsCandidate, IsVictim, IsWhollyClean, IsDirtyAt, GivesWayBefore, pages_held};
 
 use ft_base::Geometry;
 use mapping::Map;
@@ -11,9 +11,9 @@ pub fn is_wholly_clean(geometry: &Geometry, map: &Map, group: u64) -> bool
     ensures { IsTrue result ↔ IsWhollyClean map.now.geometry map.now.entries group }
 {
     let mut held = false;
-    for i in 0..map.held() {
+    for i in 0..map.numbers() {
         let Some((lba, _)) = map.nth(i) else {
-            unreachable!()
+            continue;
         };
         if lba / geometry.p as u64 == group {
             if is_dirty(map, lba) {
@@ -53,17 +53,24 @@ pub fn is_candidate(geometry: &Geometry, map: &Map, group: u64) -> bool
     pages_held(map, group) > 0 && is_wholly_clean(geometry, map, group)
 }
 
+/// Whether a group may give way, and has fewer held pages in its data block than another.
+fn gives_way_before(geometry: &Geometry, map: &Map, group: u64, other: u64) -> bool
+    requires { geometry.now ≡ map.now.geometry }
+    ensures { IsTrue result ↔ GivesWayBefore map.now.geometry map.now.entries group other }
+{
+    pages_held(map, group) < pages_held(map, other) && is_candidate(geometry, map, group)
+}
+
 /// Whether the group may give way, and no other that may has fewer held pages in its data block.
 pub fn is_victim(geometry: &Geometry, map: &Map, group: u64) -> bool
     requires { geometry.now ≡ map.now.geometry }
     ensures { IsTrue result ↔ IsVictim map.now.geometry map.now.entries group }
 {
-    for i in 0..map.held() {
+    for i in 0..map.numbers() {
         let Some((lba, _)) = map.nth(i) else {
-            unreachable!()
+            continue;
         };
-        let other = lba / geometry.p as u64;
-        if pages_held(map, other) < pages_held(map, group) && is_candidate(geometry, map, other) {
+        if gives_way_before(geometry, map, lba / geometry.p as u64, group) {
             return false;
         }
     }

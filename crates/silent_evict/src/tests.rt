@@ -39,7 +39,7 @@ fn make(map: &mut Map, change: &Record) -> Result<(), Fail>
 #[test]
 fn nothing_gives_way_where_nothing_is_held(rt: HostRuntime) -> Result<(), Fail> {
     let geometry = Geometry::new(4, 4, 2, 1, 64)?;
-    let map = Map::new(rt.alloc(), &geometry);
+    let map = Map::new(rt.alloc(), &geometry)?;
     let mut victims = Victims::new(rt.alloc(), &geometry)?;
     assert_eq!(rt; victims.victim(&map), None);
     assert!(rt; !plain::is_wholly_clean(&geometry, &map, 0));
@@ -49,7 +49,7 @@ fn nothing_gives_way_where_nothing_is_held(rt: HostRuntime) -> Result<(), Fail> 
 #[test]
 fn dirty_groups_stay(rt: HostRuntime) -> Result<(), Fail> {
     let geometry = Geometry::new(4, 4, 2, 1, 64)?;
-    let mut map = Map::new(rt.alloc(), &geometry);
+    let mut map = Map::new(rt.alloc(), &geometry)?;
     let mut victims = Victims::new(rt.alloc(), &geometry)?;
     let half_dirty = Record::SetGroup {
         group: 2,
@@ -69,7 +69,7 @@ fn dirty_groups_stay(rt: HostRuntime) -> Result<(), Fail> {
 #[test]
 fn a_dirty_page_in_a_log_block_keeps_its_group(rt: HostRuntime) -> Result<(), Fail> {
     let geometry = Geometry::new(4, 4, 2, 1, 64)?;
-    let mut map = Map::new(rt.alloc(), &geometry);
+    let mut map = Map::new(rt.alloc(), &geometry)?;
     let mut victims = Victims::new(rt.alloc(), &geometry)?;
     make(&mut map, &clean_group(1, 6, 0b0111))?;
     assert_eq!(rt; victims.victim(&map), Some(1));
@@ -83,7 +83,7 @@ fn a_dirty_page_in_a_log_block_keeps_its_group(rt: HostRuntime) -> Result<(), Fa
 #[test]
 fn a_clean_group_without_a_data_block_stays(rt: HostRuntime) -> Result<(), Fail> {
     let geometry = Geometry::new(4, 4, 2, 1, 64)?;
-    let mut map = Map::new(rt.alloc(), &geometry);
+    let mut map = Map::new(rt.alloc(), &geometry)?;
     let mut victims = Victims::new(rt.alloc(), &geometry)?;
     make(&mut map, &log_page(9, 0, false))?;
     assert_eq!(rt; victims.victim(&map), None);
@@ -96,7 +96,7 @@ fn a_clean_group_without_a_data_block_stays(rt: HostRuntime) -> Result<(), Fail>
 #[test]
 fn the_group_of_the_fewest_pages_gives_way(rt: HostRuntime) -> Result<(), Fail> {
     let geometry = Geometry::new(4, 4, 2, 1, 64)?;
-    let mut map = Map::new(rt.alloc(), &geometry);
+    let mut map = Map::new(rt.alloc(), &geometry)?;
     let mut victims = Victims::new(rt.alloc(), &geometry)?;
     make(&mut map, &clean_group(0, 5, 0b0111))?;
     make(&mut map, &clean_group(3, 6, 0b1010))?;
@@ -113,7 +113,7 @@ fn the_group_of_the_fewest_pages_gives_way(rt: HostRuntime) -> Result<(), Fail> 
 #[test]
 fn any_of_two_equals_gives_way(rt: HostRuntime) -> Result<(), Fail> {
     let geometry = Geometry::new(4, 4, 2, 1, 64)?;
-    let mut map = Map::new(rt.alloc(), &geometry);
+    let mut map = Map::new(rt.alloc(), &geometry)?;
     let mut victims = Victims::new(rt.alloc(), &geometry)?;
     make(&mut map, &clean_group(0, 5, 0b1111))?;
     make(&mut map, &clean_group(1, 6, 0b0110))?;
@@ -129,7 +129,7 @@ fn any_of_two_equals_gives_way(rt: HostRuntime) -> Result<(), Fail> {
 #[test]
 fn pages_of_log_blocks_do_not_count(rt: HostRuntime) -> Result<(), Fail> {
     let geometry = Geometry::new(4, 4, 2, 1, 64)?;
-    let mut map = Map::new(rt.alloc(), &geometry);
+    let mut map = Map::new(rt.alloc(), &geometry)?;
     let mut victims = Victims::new(rt.alloc(), &geometry)?;
     make(&mut map, &clean_group(0, 5, 0b0011))?;
     make(&mut map, &clean_group(1, 6, 0b0001))?;

@@ -1,8 +1,8 @@
 ghost use Rattle.std.specs.Prelude.{◌≡◌, ℕ, IfOk, IfSome, IfNone};
 ghost use Rattle.silent_evict.specs.Candidates.{IsCandidate, IsVictim};
 
-use crate::candidate::{candidate_of, fewer};
 use ft_base::Geometry;
+use lanes::least;
 use mapping::Map;
 use std::alloc::{AllocError, Global};
 use std::marker::Model;
@@ -39,20 +39,13 @@ impl Victims {
         ensures some { IfSome result (IsVictim map.now.geometry map.now.entries) }
         ensures none { IfNone result ((group : ℕ) → IsCandidate map.now.geometry map.now.entries group → ⊥) }
     {
-        let mut fewest = None;
-        let mut last = None;
-        for i in 0..map.held() {
-            let Some((lba, _)) = map.nth(i) else {
-                unreachable!()
-            };
-            // Entries of a group stand side by side, so each group is looked at once.
-            let group = lba / self.geometry.p as u64;
-            if last != Some(group) {
-                fewest = fewer(fewest, candidate_of(map, group));
-                last = Some(group);
-            }
+        let counts = map.candidates();
+        let place = least(counts)?;
+        let fewest = counts[place];
+        if fewest == u16::MAX {
+            return None;
         }
-        let found = fewest?;
-        Some(found.group)
+        let block = self.geometry.first_pool() + place as u32;
+        map.group_in(block)
     }
 }

@@ -14,6 +14,7 @@ use Rattle.sparse_map.specs.Slots.{slot_at, key_at, items_of}
 use Rattle.sparse_map.specs.Groups.{slots_of, small_groups}
 use Rattle.sparse_map.specs.Packed.{IsPacked, Table, map_of}
 use Rattle.sparse_map.specs.Kept.{IsKept}
+use Rattle.sparse_map.specs.Seen.{seen_of}
 use Rattle.sparse_map.specs.Probe.{IsFreeFor}
 use Rattle.sparse_map.proofs.TableLemmas.{length-slots_of}
 use Rattle.sparse_map.proofs.HomeLemmas.{home_below}
@@ -84,7 +85,7 @@ pub written : {X Z : Type 0} (v : Vec X Z) (ws : List X) → length ws ≡ vec_l
 written v ws long = with_items_is v ws long
 
 module _ {V : Type 0} (m : Inside V) (t : Table V) (kept : IsKept m.bits m.len m.spare (vec_len m.stock) m.groups.items)
-    (is : ◌≡◌ {A = Table V} (record { slots = slots_of m.groups.items; spare = m.spare }) t) where
+    (is : ◌≡◌ {A = Table V} (seen_of m.groups.items m.spare (vec_len m.stock) m.grown) t) where
   pub seen_ready : (key : ℕ) → ((map.contains_key (map_of t) key ≡ true) ⊎ (1 ≤ t.spare)) → 0 < m.bits
   seen_ready key ready =
       ready_has_buckets m.bits m.len m.spare (vec_len m.stock) m.groups.items kept t key (ap (λ (x : Table V). x.slots) is) (ap (λ (x : Table V). x.spare) is) ready
@@ -109,21 +110,21 @@ module _ {V : Type 0} (m : Inside V) (t : Table V) (kept : IsKept m.bits m.len m
       let same : slots_of m.groups.items ≡ t.slots = ap (λ (x : Table V). x.slots) is in
       get-map_of t key ∙ ap (λ s. find nat_cmp key (items_of s)) (sym same) ∙ not_found (slots_of m.groups.items) key absent
 
-  pub map_changed : (ws : List (Group V)) (spare key : ℕ) (v : V)
+  pub map_changed : (u : Table V) (ws : List (Group V)) → u.slots ≡ slots_of ws → (key : ℕ) (v : V)
       → ((q : ℕ) → find nat_cmp q (items_of (slots_of ws)) ≡ cond (eqb q key) (Some v) (find nat_cmp q (items_of (slots_of m.groups.items))))
-      → map_of (record { slots = slots_of ws; spare = spare }) ≡ map.insert (map_of t) key v
-  map_changed ws spare key v found =
+      → map_of u ≡ map.insert (map_of t) key v
+  map_changed u ws at key v found =
       let same : slots_of m.groups.items ≡ t.slots = ap (λ (x : Table V). x.slots) is in
-      map_of-insert t (record { slots = slots_of ws; spare = spare }) key v
-      (λ q. found q ∙ ap (λ s. cond (eqb q key) (Some v) (find nat_cmp q (items_of s))) same)
+      map_of-insert t u key v
+      (λ q. ap (λ s. find nat_cmp q (items_of s)) at ∙ found q ∙ ap (λ s. cond (eqb q key) (Some v) (find nat_cmp q (items_of s))) same)
 
-  pub map_without : (ws : List (Group V)) (spare key : ℕ)
+  pub map_without : (u : Table V) (ws : List (Group V)) → u.slots ≡ slots_of ws → (key : ℕ)
       → ((q : ℕ) → find nat_cmp q (items_of (slots_of ws)) ≡ cond (eqb q key) None (find nat_cmp q (items_of (slots_of m.groups.items))))
-      → map_of (record { slots = slots_of ws; spare = spare }) ≡ map.remove (map_of t) key
-  map_without ws spare key found =
+      → map_of u ≡ map.remove (map_of t) key
+  map_without u ws at key found =
       let same : slots_of m.groups.items ≡ t.slots = ap (λ (x : Table V). x.slots) is in
-      map_of-remove t (record { slots = slots_of ws; spare = spare }) key
-      (λ q. found q ∙ ap (λ s. cond (eqb q key) None (find nat_cmp q (items_of s))) same)
+      map_of-remove t u key
+      (λ q. ap (λ s. find nat_cmp q (items_of s)) at ∙ found q ∙ ap (λ s. cond (eqb q key) None (find nat_cmp q (items_of s))) same)
 
   module _ (ws : List (Group V)) (b key : ℕ) (v : V) (e : slots_of ws ≡ set (slots_of m.groups.items) b (Some (key, v))) where
     same_long : length (slots_of ws) ≡ length (slots_of m.groups.items)
@@ -137,9 +138,9 @@ module _ {V : Type 0} (m : Inside V) (t : Table V) (kept : IsKept m.bits m.len m
         (omega arith)
         (subst (λ n. min m.spare n ≤ vec_len m.stock) (sym small) kept.stocked)
 
-    pub map_value : (spare : ℕ) → key_at (slots_of m.groups.items) b ≡ Some key → map_of (record { slots = slots_of ws; spare = spare }) ≡ map.insert (map_of t) key v
-    map_value spare has =
-        map_changed ws spare key v (λ q. ap (λ s. find nat_cmp q (items_of s)) e ∙ value_found (slots_of m.groups.items) b key v kept.packed has q)
+    pub map_value : (u : Table V) → u.slots ≡ slots_of ws → key_at (slots_of m.groups.items) b ≡ Some key → map_of u ≡ map.insert (map_of t) key v
+    map_value u at has =
+        map_changed u ws at key v (λ q. ap (λ s. find nat_cmp q (items_of s)) e ∙ value_found (slots_of m.groups.items) b key v kept.packed has q)
 
     pub kept_new_key : (blanks : ℕ) → IsFreeFor (slots_of m.groups.items) key b → 1 ≤ m.spare → vec_len m.stock ≤ blanks + 1
         → vec_len m.stock + small_groups ws ≤ blanks + small_groups m.groups.items → IsKept m.bits (m.len + 1) (m.spare - 1) blanks ws
@@ -151,9 +152,9 @@ module _ {V : Type 0} (m : Inside V) (t : Table V) (kept : IsKept m.bits m.len m
         (omega arith)
         (omega (arith, kept.stocked, one_less, one_widened))
 
-    pub map_new_key : (spare : ℕ) → IsFreeFor (slots_of m.groups.items) key b → map_of (record { slots = slots_of ws; spare = spare }) ≡ map.insert (map_of t) key v
-    map_new_key spare place =
-        map_changed ws spare key v (λ q. ap (λ s. find nat_cmp q (items_of s)) e ∙ new_found (slots_of m.groups.items) b key v kept.packed place q)
+    pub map_new_key : (u : Table V) → u.slots ≡ slots_of ws → IsFreeFor (slots_of m.groups.items) key b → map_of u ≡ map.insert (map_of t) key v
+    map_new_key u at place =
+        map_changed u ws at key v (λ q. ap (λ s. find nat_cmp q (items_of s)) e ∙ new_found (slots_of m.groups.items) b key v kept.packed place q)
 
   pub kept_removed : (ws : List (Group V)) → length ws ≡ vec_len m.groups → IsPacked (slots_of ws) → length (items_of (slots_of ws)) + 1 ≡ length (items_of (slots_of m.groups.items))
       → small_groups ws ≡ small_groups m.groups.items → IsKept m.bits (m.len - 1) m.spare (vec_len m.stock) ws

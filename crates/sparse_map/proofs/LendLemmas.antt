@@ -10,12 +10,15 @@ use Rattle.sparse_map.specs.Slots.{rank, slot_at, key_at}
 use Rattle.sparse_map.specs.Groups.{slots_in, slots_of}
 use Rattle.sparse_map.specs.Packed.{Table, map_of}
 use Rattle.sparse_map.specs.Kept.{IsKept}
+use Rattle.sparse_map.specs.Places.{sizes_of, places_of, loose_of}
+use Rattle.sparse_map.specs.Seen.{seen_of}
 use Rattle.sparse_map.specs.Lending.{with_value, EndsWithValue}
 use Rattle.sparse_map.proofs.GroupLemmas.{taken, get_or-group_slots, unpacked_item, slots-replace}
 use Rattle.sparse_map.proofs.SlotLemmas.{slot_of_key}
 use Rattle.sparse_map.proofs.TableLemmas.{length-slots_of, slot_of_bucket, set_bucket, small_groups-same}
+use Rattle.sparse_map.proofs.PlacesLemmas.{sizes-same}
 use Rattle.sparse_map.proofs.PackedLemmas.{key_inside}
-use Rattle.sparse_map.proofs.ViewLemmas.{seen_slots, seen_spare}
+use Rattle.sparse_map.proofs.ViewLemmas.{seen_slots, seen_spare, seen_places, seen_blanks, seen_loose}
 use Rattle.sparse_map.proofs.ChangeLemmas.{get_there, kept_value, map_value}
 
 module _ {V : Type 0} where
@@ -34,7 +37,7 @@ module _ {V : Type 0} where
   group_of_key m b key has = omega (arith, key_inside (slots_of m.groups.items) b key has, length-slots_of m.groups.items, m.groups.ok.0)
 
   module _ (m : Inside V) (t : Table V) (kept : IsKept m.bits m.len m.spare (vec_len m.stock) m.groups.items)
-      (view : ◌≡◌ {A = Table V} (record { slots = slots_of m.groups.items; spare = m.spare }) t)
+      (view : ◌≡◌ {A = Table V} (seen_of m.groups.items m.spare (vec_len m.stock) m.grown) t)
       (b key : ℕ) (u : Group V) (has : key_at (slots_of m.groups.items) b ≡ Some key) (is : u ≡ get_or m.groups.items (b / 32) u) where
     inside : b < 32 * length m.groups.items
     inside = omega (arith, key_inside (slots_of m.groups.items) b key has, length-slots_of m.groups.items)
@@ -62,13 +65,20 @@ module _ {V : Type 0} where
         kept_value m t kept view (ends w) b key w (ends_slots w) has
         (small_groups-same m.groups.items (b / 32) u u (with_value u (b % 32) w) (omega (arith, inside)) is refl)
 
-    pub lent_ends : (w : V) → EndsWithValue t (record { slots = slots_of (set m.groups.items (b / 32) (with_value u (b % 32) w)); spare = m.spare }) key w
+    ends_sizes : (w : V) → sizes_of (ends w) ≡ sizes_of m.groups.items
+    unfolding ends
+    ends_sizes w = sizes-same m.groups.items (b / 32) u u (with_value u (b % 32) w) (omega (arith, inside)) is refl refl
+
+    pub lent_ends : (w : V) → EndsWithValue t (seen_of (set m.groups.items (b / 32) (with_value u (b % 32) w)) m.spare (vec_len m.stock) m.grown) key w
     unfolding ends
     lent_ends w =
         record {
-          map = map_value m t kept view (ends w) b key w (ends_slots w) m.spare has;
+          map = map_value m t kept view (ends w) b key w (ends_slots w) (seen_of (ends w) m.spare (vec_len m.stock) m.grown) refl has;
           buckets = ap length (ends_slots w) ∙ length-set (slots_of m.groups.items) b (Some (key, w)) ∙ ap length (seen_slots m t kept view);
           spare = seen_spare m t kept view;
+          places = ap places_of (ends_sizes w) ∙ seen_places m t kept view;
+          blanks = seen_blanks m t kept view;
+          loose = ap (loose_of m.grown) (ends_sizes w) ∙ seen_loose m t kept view;
         }
 
     pub lent_value : (v : V) → option_map (λ e. e.1) (slot_at (slots_in u) (b % 32)) ≡ Some v → Some v ≡ map.get (map_of t) key

@@ -1,5 +1,5 @@
 -- The finite map that a table of buckets holds.
-use Rattle.std.proofs.Common.{◌≡◌, ℕ, ◌+◌, ◌*◌, ◌^◌, ◌<◌, ◌≤◌, List, [], ◌∷◌, Option, Some, None, length, cond, eqb, refl, sym, ap, ◌∙◌, subst, inl, inr, arith, add-one, false}
+use Rattle.std.proofs.Common.{◌≡◌, ℕ, ◌+◌, ◌^◌, ◌<◌, List, [], ◌∷◌, Option, Some, None, length, cond, eqb, refl, sym, ap, ◌∙◌, subst, inl, inr, arith, add-one, false}
 use Rattle.std.specs.Prelude.{is_some}
 use Rattle.std.specs.Ordering.{nat_cmp}
 use Rattle.std.specs.Cmp.{unsigned_tied, nat_cmp_total}
@@ -77,15 +77,17 @@ module _ {V : Type 0} where
     pub kept_some : 0 < length (slots_of groups) → 0 < bits
     kept_some some = elim (cases_eq bits 0) [ inl e ↦ absurd (let none = kept_none e in omega arith) | inr ne ↦ omega arith ]
 
-    pub kept_len : len_of (record { slots = slots_of groups; spare = spare }) ≡ len
-    kept_len = len_of-items (record { slots = slots_of groups; spare = spare }) kept.packed.once ∙ sym kept.counted
+    pub kept_len : (u : Table V) → u.slots ≡ slots_of groups → len_of u ≡ len
+    kept_len u same =
+        len_of-items u (subst (λ s. Once s) (sym same) kept.packed.once) ∙ ap (λ s. length (items_of s)) same ∙ sym kept.counted
 
-    pub kept_sound : IsSound (record { slots = slots_of groups; spare = spare })
-    kept_sound =
+    pub kept_sound : (u : Table V) → u.slots ≡ slots_of groups → u.spare ≡ spare → IsSound u
+    kept_sound u same ready =
+        let long = ap length same in
         record {
-          packed = kept.packed;
-          room = subst (λ n. 4 * (n + spare) ≤ 3 * length (slots_of groups)) (sym kept_len) kept.room;
-          buckets = λ some. let b = kept_some some in (bits, kept.many b, kept_buckets b);
+          packed = subst (λ s. IsPacked s) (sym same) kept.packed;
+          room = omega (arith, kept.room, kept_len u same, ready, long);
+          buckets = λ some. let b = kept_some (omega (arith, some, long)) in (bits, kept.many b, long ∙ kept_buckets b);
         }
 
     -- a key in a bucket: there are buckets
@@ -105,9 +107,9 @@ module _ {V : Type 0} where
   pub buckets-new : (us : List (Group V)) → us ≡ [] → length (slots_of us) ≡ 0
   buckets-new us e = ap length (no_slots us e)
 
-  pub map_of-new : (us : List (Group V)) (spare : ℕ) → us ≡ [] → map_of (record { slots = slots_of us; spare = spare }) ≡ map.empty
+  pub map_of-new : (u : Table V) (us : List (Group V)) → u.slots ≡ slots_of us → us ≡ [] → map_of u ≡ map.empty
   unfolding map_of items_of
-  map_of-new us spare e = ap (λ s. map.from_entries {R = nat_cmp} (items_of s)) (no_slots us e)
+  map_of-new u us same e = ap (λ s. map.from_entries {R = nat_cmp} (items_of s)) (same ∙ no_slots us e)
 
   pub kept_new : (us : List (Group V)) (blanks : ℕ) → us ≡ [] → IsKept 0 0 0 blanks us
   unfolding items_of

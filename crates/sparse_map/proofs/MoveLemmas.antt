@@ -2,53 +2,21 @@
 use Rattle.std.proofs.Common.{◌≡◌, ℕ, suc, ◌+◌, ◌-◌, ◌*◌, ◌^◌, ◌≤◌, min, List, [], ◌∷◌, ◌++◌, Option, Some, None, true, false, length, cond, eqb, refl, sym, ap, ◌∙◌, subst, inl, inr, arith}
 use Rattle.std.specs.Prelude.{is_some}
 use Rattle.std.specs.Ordering.{nat_cmp}
-use Rattle.std.specs.Cmp.{unsigned_tied, nat_cmp_total}
-use Rattle.std.specs.FinMap as map
-use Rattle.std.specs.FinMap.{find, get-insert}
+use Rattle.std.specs.FinMap.{find}
 use Rattle.std.specs.List.{flat_map}
 use Rattle.std.proofs.lemmas.List.{append-nil, get_or_append_left, get_or-append_right}
 use Rattle.std.proofs.lemmas.List.Concat.{flat_map-append}
-use Rattle.std.proofs.lemmas.Bool.{cases_lt, cases_eq, cases_Bool, eq-eqb, ne_eqb, cond-true, cond-false, false≢true}
+use Rattle.std.proofs.lemmas.Bool.{cases_lt, cases_eq, cases_Bool, ne_eqb, cond-true, cond-false, false≢true}
 use Rattle.sparse_map.specs.declared.group.Group.{Group}
 use Rattle.sparse_map.specs.Slots.{slot_at, key_at, items_of}
 use Rattle.sparse_map.specs.Groups.{slots_in, slots_of}
-use Rattle.sparse_map.specs.Packed.{IsPacked, Table, map_of}
+use Rattle.sparse_map.specs.Packed.{IsPacked}
 use Rattle.sparse_map.specs.Kept.{IsKept}
 use Rattle.sparse_map.specs.Moved.{IsDistinct, after_items}
 use Rattle.sparse_map.proofs.SlotLemmas.{find_here, find_later, items_of-none, items_of-nil, is_some-key_at}
 use Rattle.sparse_map.proofs.TableLemmas.{length-slots_of, small_groups-at_most}
 
 module _ {V : Type 0} where
-  get-inserted : (t u : Table V) (k : ℕ) (v : V) → map_of u ≡ map.insert (map_of t) k v → (q : ℕ) → map.get (map_of u) q ≡ cond (eqb q k) (Some v) (map.get (map_of t) q)
-  get-inserted t u k v e q =
-      ap (λ m. map.get m q) e ∙ get-insert nat_cmp_total (map_of t) k v q ∙ ap (λ b. cond b (Some v) (map.get (map_of t) q)) (unsigned_tied q k)
-
-  -- one item more in the map
-  module _ (t u : Table V) (k : ℕ) (v : V) (es : List (ℕ × V)) (e : map_of u ≡ map.insert (map_of t) k v) (own : find nat_cmp k es ≡ None) where
-    pub moved_fresh : ((q : ℕ) → is_some (find nat_cmp q ((k, v) ∷ es)) ≡ true → map.get (map_of t) q ≡ None) → (q : ℕ) → is_some (find nat_cmp q es) ≡ true → map.get (map_of u) q ≡ None
-    moved_fresh fresh q there = elim (cases_eq q k) [
-      | inl same ↦ absurd (false≢true (sym (ap is_some (ap (λ x. find nat_cmp x es) same ∙ own)) ∙ there))
-      | inr ne ↦
-          get-inserted t u k v e q ∙ cond-false (eqb q k) _ _ (ne_eqb q k ne)
-          ∙ fresh q (ap is_some (find_later q k v es ne) ∙ there)
-    ]
-
-    pub moved_found : (q : ℕ) → after_items es (map.get (map_of u) q) q ≡ after_items ((k, v) ∷ es) (map.get (map_of t) q) q
-    moved_found q = elim (cases_eq q k) [
-      | inl same ↦
-          let none : find nat_cmp q es ≡ None = ap (λ x. find nat_cmp x es) same ∙ own in
-          let here : find nat_cmp q ((k, v) ∷ es) ≡ Some v = find_here q k v es same in
-          ap (λ o. cond (is_some o) o (map.get (map_of u) q)) none
-          ∙ get-inserted t u k v e q ∙ cond-true (eqb q k) _ _ (eq-eqb q k same)
-          ∙ sym (ap (λ o. cond (is_some o) o (map.get (map_of t) q)) here)
-      | inr ne ↦
-          ap (λ o. cond (is_some (find nat_cmp q es)) (find nat_cmp q es) o) (get-inserted t u k v e q ∙ cond-false (eqb q k) _ _ (ne_eqb q k ne))
-          ∙ sym (ap (λ o. cond (is_some o) o (map.get (map_of t) q)) (find_later q k v es ne))
-    ]
-
-  pub fresh_here : (t : Table V) (k : ℕ) (v : V) (es : List (ℕ × V)) → ((q : ℕ) → is_some (find nat_cmp q ((k, v) ∷ es)) ≡ true → map.get (map_of t) q ≡ None) → map.get (map_of t) k ≡ None
-  fresh_here t k v es fresh = fresh k (ap is_some (find_here k k v es refl))
-
   -- ---- a group's items and those of the groups after it
   find-append : (q : ℕ) (xs ys : List (ℕ × V)) → find nat_cmp q (xs ++ ys) ≡ cond (is_some (find nat_cmp q xs)) (find nat_cmp q xs) (find nat_cmp q ys)
   find-append q [] ys = refl
@@ -87,33 +55,34 @@ module _ {V : Type 0} where
     | inr ne ↦ find_later q k v xs ne ∙ distinct_apart xs ys q d.1 there
   ]
 
-  module _ (t u : Table V) (xs ys : List (ℕ × V)) (d : IsDistinct (xs ++ ys)) (moved : (q : ℕ) → map.get (map_of u) q ≡ after_items xs (map.get (map_of t) q) q) where
-    pub group_fresh : ((q : ℕ) → is_some (find nat_cmp q (xs ++ ys)) ≡ true → map.get (map_of t) q ≡ None) → (q : ℕ) → is_some (find nat_cmp q ys) ≡ true → map.get (map_of u) q ≡ None
+  -- what keys have before and after the items of xs went in
+  module _ (before after : ℕ → Option V) (xs ys : List (ℕ × V)) (d : IsDistinct (xs ++ ys)) (moved : (q : ℕ) → after q ≡ after_items xs (before q) q) where
+    pub group_fresh : ((q : ℕ) → is_some (find nat_cmp q (xs ++ ys)) ≡ true → before q ≡ None) → (q : ℕ) → is_some (find nat_cmp q ys) ≡ true → after q ≡ None
     group_fresh fresh q there =
         let none = distinct_apart xs ys q d there in
         let both : is_some (find nat_cmp q (xs ++ ys)) ≡ true = ap is_some (find-append q xs ys ∙ ap (λ o. cond (is_some o) o (find nat_cmp q ys)) none) ∙ there in
-        moved q ∙ ap (λ o. cond (is_some o) o (map.get (map_of t) q)) none ∙ fresh q both
+        moved q ∙ ap (λ o. cond (is_some o) o (before q)) none ∙ fresh q both
 
-    pub group_found : (q : ℕ) → after_items ys (map.get (map_of u) q) q ≡ after_items (xs ++ ys) (map.get (map_of t) q) q
+    pub group_found : (q : ℕ) → after_items ys (after q) q ≡ after_items (xs ++ ys) (before q) q
     group_found q =
         elim (cases_Bool (is_some (find nat_cmp q ys))) [
           | inl there ↦
               let none = distinct_apart xs ys q d there in
               let both : find nat_cmp q (xs ++ ys) ≡ find nat_cmp q ys = find-append q xs ys ∙ ap (λ o. cond (is_some o) o (find nat_cmp q ys)) none in
               cond-true (is_some (find nat_cmp q ys)) _ _ there
-              ∙ sym (ap (λ o. cond (is_some o) o (map.get (map_of t) q)) both ∙ cond-true (is_some (find nat_cmp q ys)) _ _ there)
+              ∙ sym (ap (λ o. cond (is_some o) o (before q)) both ∙ cond-true (is_some (find nat_cmp q ys)) _ _ there)
           | inr away ↦
               cond-false (is_some (find nat_cmp q ys)) _ _ away
               ∙ moved q
-              ∙ sym (ap (λ o. cond (is_some o) o (map.get (map_of t) q)) (find-append q xs ys) ∙ away_too (find nat_cmp q xs) (find nat_cmp q ys) (map.get (map_of t) q) away)
+              ∙ sym (ap (λ o. cond (is_some o) o (before q)) (find-append q xs ys) ∙ away_too (find nat_cmp q xs) (find nat_cmp q ys) (before q) away)
         ] where
           away_too : (a b o : Option V) → is_some b ≡ false → cond (is_some (cond (is_some a) a b)) (cond (is_some a) a b) o ≡ cond (is_some a) a o
           away_too (Some x) b o e = refl
           away_too None None o e = refl
           away_too None (Some x) o e = absurd (false≢true (sym e))
 
-  pub group_fresh_first : (t : Table V) (xs ys : List (ℕ × V)) → ((q : ℕ) → is_some (find nat_cmp q (xs ++ ys)) ≡ true → map.get (map_of t) q ≡ None) → (q : ℕ) → is_some (find nat_cmp q xs) ≡ true → map.get (map_of t) q ≡ None
-  group_fresh_first t xs ys fresh q there = fresh q (ap is_some (find-append q xs ys) ∙ is_some_first (find nat_cmp q xs) (find nat_cmp q ys) there)
+  pub group_fresh_first : (before : ℕ → Option V) (xs ys : List (ℕ × V)) → ((q : ℕ) → is_some (find nat_cmp q (xs ++ ys)) ≡ true → before q ≡ None) → (q : ℕ) → is_some (find nat_cmp q xs) ≡ true → before q ≡ None
+  group_fresh_first before xs ys fresh q there = fresh q (ap is_some (find-append q xs ys) ∙ is_some_first (find nat_cmp q xs) (find nat_cmp q ys) there)
 
   -- ---- groups anew
   pub slots_of-push : (us : List (Group V)) (u : Group V) → slots_of (us ++ u ∷ []) ≡ slots_of us ++ slots_in u
@@ -145,16 +114,15 @@ module _ {V : Type 0} where
         reached = λ b key q is. absurd (false≢true (sym (no_key b) ∙ ap is_some is));
       }
 
-  pub kept_free_groups : (bits spare blanks : ℕ) (us : List (Group V)) → 5 ≤ bits → bits ≤ 31 → 4 * spare ≤ 3 * 2 ^ bits → 32 * length us ≡ 2 ^ bits → min spare (length us) ≤ blanks
-      → ((b : ℕ) → slot_at (slots_of us) b ≡ None) → IsKept bits 0 spare blanks us
-  kept_free_groups bits spare blanks us many few room long stocked free =
-      let size = length-slots_of us ∙ long in
+  pub kept_groups : (bits len spare blanks : ℕ) (us : List (Group V)) → 5 ≤ bits → bits ≤ 31 → length (slots_of us) ≡ 2 ^ bits → IsPacked (slots_of us) → len ≡ length (items_of (slots_of us))
+      → 4 * (len + spare) ≤ 3 * 2 ^ bits → min spare (length us) ≤ blanks → IsKept bits len spare blanks us
+  kept_groups bits len spare blanks us many few size packed counted room stocked =
       record {
         few = few;
         many = λ _. many;
         buckets = size ∙ sym (cond-false (eqb bits 0) _ _ (ne_eqb bits 0 (λ e. omega arith)));
-        packed = packed-free (slots_of us) free;
-        counted = sym (ap length (items_of-free (slots_of us) free));
+        packed = packed;
+        counted = counted;
         room = omega (arith, room, size);
         stocked = omega (arith, stocked, small_groups-at_most us);
       }

@@ -19,11 +19,14 @@ module _ {V : Type 0} where
       let item : ℕ × V = ((slice_index_or u.items.items place (0, w)).0, w) in
       record { occupied = u.occupied; items = with_item u.items place item; fits = u.fits; counted = length-set u.items.items place item ∙ u.counted }
 
-  -- the map ends with the value of the key set to w, and with the same buckets and room
+  -- the map ends with the value of the key set to w, and with the same buckets, room and memory
   pub record EndsWithValue (old new : Table V) (key : ℕ) (w : V) : Type 0 where
     pub map : map_of new ≡ map.insert (map_of old) key w
     pub buckets : buckets_of new ≡ buckets_of old
     pub spare : new.spare ≡ old.spare
+    pub places : new.places ≡ old.places
+    pub blanks : new.blanks ≡ old.blanks
+    pub loose : new.loose ≡ old.loose
 
 module _ (V : RattleType) where
   abbrev pub LendsGroupValue : MutBor (Group V.Denot) → ℕ → MutBor V.Denot → Fml

@@ -3,7 +3,11 @@ pub mod Slots
 pub mod Groups
 pub mod Packed
 pub mod Kept
+pub mod Plan
 pub mod Moved
 pub mod Probe
+pub mod Removal
 pub mod Lending
 pub mod Trimmed
+pub mod Places
+pub mod Seen

@@ -17,6 +17,18 @@ pub record IsFreeFor {V : Type 0} (slots : List (Option (ℕ × V))) (key b : �
       → IsSome (key_at slots q)
   pub absent : (q : ℕ) → key_at slots q ≢ Some key
 
+-- a new key went into the first free bucket from its home on, and no other bucket changed
+pub record IsPut {V : Type 0} (old new : List (Option (ℕ × V))) (key : ℕ) (value : V) : Type 0 where
+  pub bucket : ℕ
+  pub place : IsFreeFor old key bucket
+  pub slots : new ≡ slice_set old bucket (Some (key, value))
+
+-- a key has another value in the bucket where it stood, and no other bucket changed
+pub record IsReplaced {V : Type 0} (old new : List (Option (ℕ × V))) (key : ℕ) (value : V) : Type 0 where
+  pub bucket : ℕ
+  pub has : key_at old bucket ≡ Some key
+  pub slots : new ≡ slice_set old bucket (Some (key, value))
+
 -- the bucket that has the key, or the free one where it would go
 abbrev pub IsPlaceOf : {V : Type 0} → List (Option (ℕ × V)) → ℕ → Place → Type 0
 IsPlaceOf slots key (Found b) = key_at slots b ≡ Some key

@@ -1,5 +1,5 @@
 //! A group of 32 buckets: a number whose bit k says that bucket k is occupied, and the items of the occupied ones.
-ghost use Rattle.std.specs.Prelude.{◌≡◌, ◌+◌, ◌^◌, ◌<◌, ◌≤◌, ◌↔◌, [], length, vec_len, Some, None, IfOk, IfSome, IsTrue, count_ones, option_map, option_copied, slice_set, ℕ};
+ghost use Rattle.std.specs.Prelude.{◌≡◌, ◌+◌, ◌++◌, ◌^◌, ◌<◌, ◌≤◌, ◌↔◌, [], length, vec_len, Some, None, IfOk, IfSome, IsTrue, count_ones, option_map, option_copied, slice_set, ℕ};
 ghost use Rattle.std.specs.Vec.{vec_capacity};
 ghost use Rattle.sparse_map.specs.Slots.{rank};
 
@@ -14,7 +14,7 @@ const SLACK: usize = 4;
 pub struct Blank<V> {
     list: Vec<(u64, V)>,
     ghost is_empty: { vec_len list ≡ 0 },
-    ghost has_room: { 32 ≤ vec_capacity list },
+    ghost has_room: { vec_capacity list ≡ 32 },
 }
 
 impl<V: Drop> Blank<V> {
@@ -47,6 +47,17 @@ fn rank_in(occupied: u32, k: u32) -> usize
     (occupied & ((1 << k) - 1)).count_ones() as usize
 }
 
+/// Moves items to the end of a list that has room for them.
+fn move_items<V: Drop>(items: Vec<(u64, V)>, list: &mut Vec<(u64, V)>)
+    requires room { vec_len list.old + vec_len items ≤ vec_capacity list.old }
+    ensures items { list.new.items ≡ list.old.items ++ items.items }
+    ensures capacity { vec_capacity list.new ≡ vec_capacity list.old }
+{
+    for item in items {
+        list.push_reserved(item);
+    }
+}
+
 impl<V: Drop> Group<V> {
     ghost use Rattle.std.specs.Prelude.{◌≡◌, ◌<◌, ◌≤◌, ◌↔◌, ℕ, vec_len, Some, None, IsSome, IsTrue, OnOk, OnErr, is_some, option_map, slice_set};
     ghost use Rattle.std.specs.Vec.{vec_capacity};
@@ -65,6 +76,16 @@ impl<V: Drop> Group<V> {
             occupied: 0,
             items: Vec::new(alloc),
         }
+    }
+
+    /// A group with no item, whose list has so many places.
+    pub fn with_places(alloc: Global, places: usize) -> Result<Self, AllocError>
+        ensures slots { IfOk result (λ g. (k : ℕ) → slot_at (slots_in g) k ≡ None) }
+        ensures len { IfOk result (λ g. vec_len g.items ≡ 0) }
+        ensures places { IfOk result (λ g. vec_capacity g.items ≡ places) }
+    {
+        let items = Vec::with_capacity(alloc, places)?;
+        Ok(Group { occupied: 0, items })
     }
 
     /// Whether bucket `k` is occupied.
@@ -119,6 +140,7 @@ impl<V: Drop> Group<V> {
         requires free { slot_at (slots_in self.old) k ≡ None }
         requires room { vec_len self.old.items < vec_capacity self.old.items }
         ensures slots { slots_in self.new ≡ slice_set (slots_in self.old) k (Some item) }
+        ensures len { vec_len self.new.items ≡ vec_len self.old.items + 1 }
         ensures capacity { vec_capacity self.new.items ≡ vec_capacity self.old.items }
     {
         let place = rank_in(self.occupied, k);
@@ -135,6 +157,7 @@ impl<V: Drop> Group<V> {
         requires occupied { IsSome (slot_at (slots_in self.old) k) }
         ensures item { slot_at (slots_in self.old) k ≡ Some result }
         ensures slots { slots_in self.new ≡ slice_set (slots_in self.old) k None }
+        ensures len { vec_len self.new.items + 1 ≡ vec_len self.old.items }
         ensures capacity { vec_capacity self.new.items ≡ vec_capacity self.old.items }
         ensures room { vec_len self.new.items < vec_capacity self.new.items }
     {
@@ -157,22 +180,19 @@ impl<V: Drop> Group<V> {
     }
 
     /// Moves the items into the blank list, which has room for all that the group can hold.
-    pub fn move_to(&mut self, blank: Blank<V>)
+    pub fn move_to(&mut self, alloc: Global, blank: Blank<V>)
         ensures occupied { self.new.occupied ≡ self.old.occupied }
         ensures items { self.new.items.items ≡ self.old.items.items }
-        ensures capacity { 32 ≤ vec_capacity self.new.items }
+        ensures capacity { vec_capacity self.new.items ≡ 32 }
     {
         let Blank { mut list } = blank;
-        match list.append(&mut self.items) {
-            Ok(()) => {}
-            Err(_) => unreachable!(),
-        }
+        move_items(mem::replace(&mut self.items, Vec::new(alloc)), &mut list);
         self.items = list;
     }
 
-    /// Gives back what the list holds beyond its items and a little room. Refused where the allocator can't make the
-    /// list's memory smaller.
-    pub fn trim(&mut self) -> Result<(), AllocError>
+    /// Gives back what the list holds beyond its items and a little room: a list of just that length takes its place.
+    /// Refused, for want of memory for it, the group is as before.
+    pub fn trim(&mut self, alloc: Global) -> Result<(), AllocError>
         ensures occupied { self.new.occupied ≡ self.old.occupied }
         ensures items { self.new.items.items ≡ self.old.items.items }
         ensures capacity { vec_capacity self.new.items ≤ vec_capacity self.old.items }
@@ -180,10 +200,12 @@ impl<V: Drop> Group<V> {
         ensures err { OnErr result (vec_len self.new.items + 4 < vec_capacity self.new.items) }
     {
         let wanted = self.items.len() + SLACK;
-        self.items.shrink_to(wanted);
-        if self.items.capacity() > wanted {
-            return Err(AllocError);
+        if self.items.capacity() <= wanted {
+            return Ok(());
         }
+        let mut list = Vec::with_capacity(alloc, wanted)?;
+        move_items(mem::replace(&mut self.items, Vec::new(alloc)), &mut list);
+        self.items = list;
         Ok(())
     }
 }

@@ -9,6 +9,8 @@
 mod group;
 mod home;
 mod map;
+mod moving;
+mod plan;
 mod table;
 #[cfg(test)]
 mod tests;

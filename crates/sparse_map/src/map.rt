@@ -1,5 +1,5 @@
 //! The map.
-ghost use Rattle.std.specs.Prelude.{◌≡◌, ◌≢◌, ◌⊎◌, ◌↔◌, ℕ, ◌+◌, ◌-◌, ◌*◌, ◌^◌, ◌<◌, ◌≤◌, ◌==◌, true, length, min, max, vec_len, [], Some, None, IsSome, IfSome, IfNone, IfOk, OnOk, OnErr, is_some, count_ones, option_map, option_copied, MatchOption, if◌then◌else◌};
+ghost use Rattle.std.specs.Prelude.{◌≡◌, ◌≢◌, ◌⊎◌, ◌↔◌, ℕ, ◌+◌, ◌-◌, ◌*◌, ◌/◌, ◌^◌, ◌<◌, ◌≤◌, ◌==◌, true, length, min, max, vec_len, [], Some, None, IsSome, IfSome, IfNone, IfOk, OnOk, OnErr, is_some, count_ones, option_map, option_copied, MatchOption, if◌then◌else◌};
 ghost use Rattle.std.specs.Int.{bit_at};
 ghost use Rattle.std.specs.Ordering.{nat_cmp};
 ghost use Rattle.std.specs.FinMap as map;
@@ -7,12 +7,14 @@ ghost use Rattle.std.specs.FinMap.{find};
 ghost use Rattle.sparse_map.specs.Home.{IsDoubledFor};
 ghost use Rattle.sparse_map.specs.Slots.{slot_at, key_at, items_of, unpacked, group};
 ghost use Rattle.sparse_map.specs.Groups.{slots_of};
-ghost use Rattle.sparse_map.specs.Moved.{IsDistinct, after_items, items_in};
-ghost use Rattle.sparse_map.specs.Packed.{map_of, len_of, buckets_of, IsSound};
+ghost use Rattle.sparse_map.specs.Packed.{map_of, len_of, buckets_of, memory_of, IsSound};
+ghost use Rattle.sparse_map.specs.Probe.{IsPut, IsReplaced};
+ghost use Rattle.sparse_map.specs.Removal.{IsTaken};
 
 use crate::group::{Blank, Group};
-use crate::home::{bits_for, bucket_count};
-use crate::table::{Grown, Place, probe, put, remove_at, replace, trim_all, trim_grown, value_at};
+use crate::home::bits_for;
+use crate::moving::{groups_ahead, place_groups};
+use crate::table::{Grown, Place, places_of, probe, put, remove_at, replace, trim_grown, value_at};
 use std::alloc::{AllocError, Global};
 use std::marker::Model;
 use std::mem;
@@ -33,14 +35,14 @@ pub struct SparseMap<V> {
 impl<V> Model for SparseMap<V> {
     ghost use Rattle.std.specs.Prelude.{vec_len};
     ghost use Rattle.sparse_map.specs.Packed.{Table, table_code};
-    ghost use Rattle.sparse_map.specs.Groups.{slots_of};
+    ghost use Rattle.sparse_map.specs.Seen.{seen_of};
     ghost use Rattle.sparse_map.specs.Kept.{IsKept};
 
     ghost Value = { Table V };
 
     ghost coded = { table_code V.code };
 
-    ghost view = { λ m. record { slots = slots_of m.groups.items; spare = m.spare } };
+    ghost view = { λ m. seen_of m.groups.items m.spare (vec_len m.stock) m.grown };
 
     ghost invariant = { λ m. IsKept m.bits m.len m.spare (vec_len m.stock) m.groups.items };
 }
@@ -55,6 +57,8 @@ impl<V: Drop> SparseMap<V> {
         ensures none { buckets_of result ≡ 0 }
         ensures spare { result.spare ≡ 0 }
         ensures empty { map_of result ≡ map.empty }
+        ensures memory { memory_of result ≡ 0 }
+        ensures loose { result.loose ≡ 0 }
         ensures sound { IsSound result }
     {
         SparseMap {
@@ -105,6 +109,15 @@ impl<V: Drop> SparseMap<V> {
         ensures { result ≡ self.now.spare }
     {
         self.spare
+    }
+
+    /// How many items the map has memory for: the places of all groups' lists, free ones included, and 32 for each blank
+    /// list that is kept ready.
+    pub fn places(&self) -> u64
+        ensures { result ≡ min (memory_of self.now) (2 ^ 64 - 1) }
+    {
+        let blanks = self.stock.len() as u64;
+        places_of(self.groups.as_slice()).saturating_add(blanks.saturating_mul(32))
     }
 
     /// Group `i` as it is packed: a number whose bit k says whether bucket k of the group is occupied, and the items of
@@ -164,6 +177,9 @@ impl<V: Drop> SparseMap<V> {
         ensures map { map_of self.new ≡ map.insert (map_of self.old) key value }
         ensures buckets { buckets_of self.new ≡ buckets_of self.old }
         ensures spare { self.new.spare ≡ (if is_some result then self.old.spare else self.old.spare - 1) }
+        ensures placed { MatchOption result (IsPut self.old.slots self.new.slots key value) (λ _. IsReplaced self.old.slots self.new.slots key value) }
+        ensures memory { memory_of self.new ≤ memory_of self.old }
+        ensures loose { self.new.loose ≤ self.old.loose }
         ensures sound { IsSound self.new }
     {
         match probe(self.groups.as_slice(), self.bits, key) {
@@ -172,7 +188,8 @@ impl<V: Drop> SparseMap<V> {
                 Some(old)
             }
             Place::Free(bucket) => {
-                put(
+                let grew = put(
+                    self.alloc,
                     self.groups.as_mut_slice(),
                     &mut self.stock,
                     bucket,
@@ -180,19 +197,23 @@ impl<V: Drop> SparseMap<V> {
                 );
                 self.len += 1;
                 self.spare -= 1;
-                self.grown = self.grown.with(bucket);
+                let grown = self.grown.with(grew, bucket);
+                self.grown = grown;
                 None
             }
         }
     }
 
-    /// Takes a key out of the map, and gives its value. The buckets and the room stay.
+    /// Takes a key out of the map, and gives its value. The buckets and the room stay, and so do the places of the lists.
     pub fn remove(&mut self, key: u64) -> Option<V>
         ensures value { result ≡ map.get (map_of self.old) key }
         ensures map { map_of self.new ≡ map.remove (map_of self.old) key }
         ensures absent { IfNone result (self.new ≡ self.old) }
+        ensures shifts { IfSome result (λ _. IsTaken self.old.slots self.new.slots key) }
         ensures buckets { buckets_of self.new ≡ buckets_of self.old }
         ensures spare { self.new.spare ≡ self.old.spare }
+        ensures memory { memory_of self.new ≡ memory_of self.old }
+        ensures loose { self.new.loose ≤ self.old.loose + 1 }
         ensures sound { IsSound self.new }
     {
         let bucket = self.find(key)?;
@@ -202,13 +223,20 @@ impl<V: Drop> SparseMap<V> {
     }
 
     /// Makes room for `n` new keys. From no bucket the map goes to 32; then the buckets double just as often as more than
-    /// three quarters of them would be taken. Refused, for want of memory, map, buckets and room are as before.
+    /// three quarters of them would be taken. Where they don't double, each item stays in its bucket. Refused, for want of
+    /// memory, map, buckets and room are as before.
     pub fn reserve(&mut self, n: u32) -> Result<(), AllocError>
         requires { len_of self.old + n ≤ 2 ^ 30 }
         ensures map { map_of self.new ≡ map_of self.old }
         ensures buckets { OnOk result (IsDoubledFor (len_of self.old + n) (buckets_of self.old) (buckets_of self.new)) }
         ensures spare { OnOk result (self.new.spare ≡ max self.old.spare n) }
-        ensures err { OnErr result (self.new ≡ self.old) }
+        ensures stays { buckets_of self.new ≡ buckets_of self.old → self.new.slots ≡ self.old.slots }
+        ensures memory { OnOk result (self.new.places ≤ len_of self.new + buckets_of self.new / 8 + self.new.loose) }
+        ensures exact { OnOk result (buckets_of self.new ≢ buckets_of self.old → self.new.places ≤ len_of self.new + buckets_of self.new / 32) }
+        ensures blanks { OnOk result (self.new.blanks ≤ self.new.spare) }
+        ensures loose { self.new.loose ≤ self.old.loose }
+        ensures err { OnErr result ((self.new.slots ≡ self.old.slots) × (self.new.spare ≡ self.old.spare)) }
+        ensures refused { OnErr result ((self.new.places ≤ self.old.places) × (self.new.blanks ≤ max self.old.blanks (max self.old.spare n))) }
         ensures sound { IsSound self.new }
     {
         let n = u64::from(n);
@@ -226,19 +254,24 @@ impl<V: Drop> SparseMap<V> {
         requires { 4 * (len_of self.old + n) ≤ 3 * buckets_of self.old }
         ensures slots { self.new.slots ≡ self.old.slots }
         ensures spare { OnOk result (self.new.spare ≡ max self.old.spare n) }
-        ensures err { OnErr result (self.new ≡ self.old) }
+        ensures memory { OnOk result (self.new.places ≤ len_of self.new + buckets_of self.new / 8 + self.new.loose) }
+        ensures blanks { OnOk result (self.new.blanks ≤ self.new.spare) }
+        ensures loose { self.new.loose ≤ self.old.loose }
+        ensures err { OnErr result (self.new.spare ≡ self.old.spare) }
+        ensures refused { OnErr result ((self.new.places ≤ self.old.places) × (self.new.blanks ≤ max self.old.blanks (max self.old.spare n))) }
     {
         let spare = self.spare.max(n);
         let wanted = spare.min(self.groups());
         add_blanks(self.alloc, &mut self.stock, wanted)?;
-        trim_grown(self.groups.as_mut_slice(), self.grown)?;
+        trim_grown(self.alloc, self.groups.as_mut_slice(), self.grown)?;
         self.grown = Grown::Nowhere;
+        self.stock.truncate(wanted as usize);
         self.spare = spare;
         Ok(())
     }
 
-    /// Places every item anew in `2^bits` buckets, in the order of the old ones. All memory is taken before the first
-    /// item moves.
+    /// Places every item anew in `2^bits` buckets, in the order of the old ones. What goes where is counted first, so that
+    /// lists are taken that fit, and all memory is taken before the first item moves.
     fn widen(&mut self, bits: u32, n: u64) -> Result<(), AllocError>
         requires many { 5 ≤ bits }
         requires few { bits ≤ 31 }
@@ -247,95 +280,25 @@ impl<V: Drop> SparseMap<V> {
         ensures map { map_of self.new ≡ map_of self.old }
         ensures buckets { OnOk result (buckets_of self.new ≡ 2 ^ bits) }
         ensures spare { OnOk result (self.new.spare ≡ max self.old.spare n) }
+        ensures memory { OnOk result (self.new.places ≤ len_of self.new + buckets_of self.new / 32) }
+        ensures blanks { OnOk result (self.new.blanks ≤ self.new.spare) }
+        ensures loose { OnOk result (self.new.loose ≡ 0) }
         ensures err { OnErr result (self.new ≡ self.old) }
         ensures sound { OnOk result (IsSound self.new) }
     {
         let spare = self.spare.max(n);
-        let mut wider = SparseMap::with_room(self.alloc, bits, self.len + spare)?;
+        let mut groups = groups_ahead(self.alloc, self.groups.as_slice(), bits)?;
         let mut stock = Vec::new(self.alloc);
-        add_blanks(self.alloc, &mut stock, spare.min(wider.groups()))?;
-        let groups = mem::replace(&mut self.groups, Vec::new(self.alloc));
-        wider.take_groups(groups);
-        wider.trim(stock);
-        *self = wider;
+        add_blanks(self.alloc, &mut stock, spare.min(groups.len() as u64))?;
+        let old = mem::replace(&mut self.groups, Vec::new(self.alloc));
+        place_groups(groups.as_mut_slice(), bits, old);
+        self.bits = bits;
+        self.groups = groups;
+        self.spare = spare;
+        self.stock = stock;
+        self.grown = Grown::Nowhere;
         Ok(())
     }
-
-    /// An empty map with `2^bits` buckets and room for `spare` keys.
-    fn with_room(alloc: Global, bits: u32, spare: u64) -> Result<Self, AllocError>
-        requires many { 5 ≤ bits }
-        requires few { bits ≤ 31 }
-        requires room { 4 * spare ≤ 3 * 2 ^ bits }
-        ensures buckets { IfOk result (λ m. buckets_of m ≡ 2 ^ bits) }
-        ensures spare { IfOk result (λ m. m.spare ≡ spare) }
-        ensures empty { IfOk result (λ m. items_of m.slots ≡ []) }
-    {
-        let count = bucket_count(bits - 5);
-        let groups = new_groups(alloc, count)?;
-        let mut stock = Vec::new(alloc);
-        add_blanks(alloc, &mut stock, spare.min(count))?;
-        Ok(SparseMap {
-            alloc,
-            bits,
-            groups,
-            len: 0,
-            spare,
-            stock,
-            grown: Grown::Nowhere,
-        })
-    }
-
-    /// Puts in the items of all these groups, whose keys the map doesn't have.
-    fn take_groups(&mut self, groups: Vec<Group<V>>)
-        requires distinct { IsDistinct (items_in groups.items) }
-        requires fresh { (q : ℕ) → IsSome (find nat_cmp q (items_in groups.items)) → map.get (map_of self.old) q ≡ None }
-        requires room { length (items_in groups.items) ≤ self.old.spare }
-        ensures found { (q : ℕ) → map.get (map_of self.new) q ≡ after_items (items_in groups.items) (map.get (map_of self.old) q) q }
-        ensures buckets { buckets_of self.new ≡ buckets_of self.old }
-        ensures spare { self.new.spare + length (items_in groups.items) ≡ self.old.spare }
-    {
-        for group in groups {
-            let Group { occupied: _, items } = group;
-            self.take_items(items);
-        }
-    }
-
-    /// Puts in these items, whose keys the map doesn't have.
-    fn take_items(&mut self, items: Vec<(u64, V)>)
-        requires distinct { IsDistinct items.items }
-        requires fresh { (q : ℕ) → IsSome (find nat_cmp q items.items) → map.get (map_of self.old) q ≡ None }
-        requires room { length items.items ≤ self.old.spare }
-        ensures found { (q : ℕ) → map.get (map_of self.new) q ≡ after_items items.items (map.get (map_of self.old) q) q }
-        ensures buckets { buckets_of self.new ≡ buckets_of self.old }
-        ensures spare { self.new.spare + length items.items ≡ self.old.spare }
-    {
-        for (key, value) in items {
-            let _ = self.insert_ready(key, value);
-        }
-    }
-
-    /// Gives back the memory that no group needs, with blank lists ready for all that may need one now.
-    fn trim(&mut self, stock: Vec<Blank<V>>)
-        requires { min (32 * self.old.spare) (buckets_of self.old) ≤ 32 * vec_len stock }
-        ensures same { self.new ≡ self.old }
-        ensures sound { IsSound self.old }
-    {
-        let trimmed = trim_all(self.groups.as_mut_slice());
-        self.grown = Grown::after(trimmed);
-        self.stock = stock;
-    }
-}
-
-/// Groups with no item.
-fn new_groups<V: Drop>(alloc: Global, count: u64) -> Result<Vec<Group<V>>, AllocError>
-    ensures count { IfOk result (λ us. vec_len us ≡ count) }
-    ensures free { IfOk result (λ us. (b : ℕ) → slot_at (slots_of us.items) b ≡ None) }
-{
-    let mut groups = Vec::with_capacity(alloc, count as usize)?;
-    for _made in 0..count {
-        groups.push(Group::new(alloc))?;
-    }
-    Ok(groups)
 }
 
 /// Adds blank lists until there are `wanted`.
@@ -344,8 +307,9 @@ fn add_blanks<V: Drop>(
     stock: &mut Vec<Blank<V>>,
     wanted: u64,
 ) -> Result<(), AllocError>
-    ensures ok { OnOk result (wanted ≤ vec_len stock.new) }
+    ensures ok { OnOk result (vec_len stock.new ≡ max (vec_len stock.old) wanted) }
     ensures kept { vec_len stock.old ≤ vec_len stock.new }
+    ensures few { vec_len stock.new ≤ max (vec_len stock.old) wanted }
 {
     for _have in stock.len() as u64..wanted {
         let blank = Blank::new(alloc)?;

@@ -1,5 +1,5 @@
 //! The buckets of all groups as one table: bucket b is bucket b % 32 of group b / 32.
-ghost use Rattle.std.specs.Prelude.{◌≡◌, ◌≢◌, ℕ, ◌+◌, ◌*◌, ◌^◌, ◌<◌, ◌≤◌, length, vec_len, Some, None, IsSome, option_map, OnOk, is_ok, slice_set, ◌/◌, ◌⊎◌, ◌==◌, if◌then◌else◌};
+ghost use Rattle.std.specs.Prelude.{◌≡◌, ◌≢◌, ℕ, ◌+◌, ◌*◌, ◌^◌, ◌<◌, ◌≤◌, length, vec_len, Some, None, IsSome, option_map, OnOk, is_ok, slice_set, ◌/◌, ◌-◌, ◌⊎◌, ◌==◌, if◌then◌else◌, IsTrue, true, false, min};
 ghost use Rattle.std.specs.List.{All};
 ghost use Rattle.std.specs.Ordering.{nat_cmp};
 ghost use Rattle.std.specs.FinMap.{find};
@@ -8,12 +8,15 @@ ghost use Rattle.sparse_map.specs.Slots.{slot_at, key_at, items_of, exchanged};
 ghost use Rattle.sparse_map.specs.Groups.{slots_in, slots_of, small_groups};
 ghost use Rattle.sparse_map.specs.Packed.{IsPacked};
 ghost use Rattle.sparse_map.specs.Probe.{IsPlaceOf, IsShifted};
+ghost use Rattle.sparse_map.specs.Removal.{shifted_back};
 ghost use Rattle.sparse_map.specs.Trimmed.{IsTrimmed, AreTrimmed, MayHaveGrown};
+ghost use Rattle.sparse_map.specs.Places.{sizes_of, places_of, loose_of};
+ghost use Rattle.sparse_map.specs.declared.table.Grown.{Grown};
 ghost use Rattle.sparse_map.specs.declared.table.Grown.TheVariants.{Nowhere, In, Anywhere};
 
 use crate::group::{Blank, Group};
 use crate::home::{bucket_count, home_of, leads_over, next_bucket};
-use std::alloc::AllocError;
+use std::alloc::{AllocError, Global};
 
 /// The bucket that has a key, or the one where it would go.
 #[derive(Clone, Copy)]
@@ -36,26 +39,20 @@ pub enum Grown {
 }
 
 impl Grown {
-    /// The same once a new key went into a bucket.
-    pub fn with(self, bucket: u64) -> Self
-        ensures added { MayHaveGrown result (bucket / 32) }
+    /// The same once a new key went into a bucket, and the list of its group grew for it or not.
+    pub fn with(self, grew: bool, bucket: u64) -> Self
+        ensures added { IsTrue grew → MayHaveGrown result (bucket / 32) }
         ensures kept { (i : ℕ) → MayHaveGrown self i → MayHaveGrown result i }
-        ensures first { self ≡ Nowhere → result ≡ In bucket }
+        ensures first { IsTrue grew → self ≡ Nowhere → result ≡ In bucket }
+        ensures same { grew ≡ false → result ≡ self }
     {
+        if !grew {
+            return self;
+        }
         match self {
             Grown::Nowhere => Grown::In(bucket),
             Grown::In(last) if last / 32 == bucket / 32 => self,
             _ => Grown::Anywhere,
-        }
-    }
-
-    /// What is left to trim after all groups were.
-    pub fn after(trimmed: Result<(), AllocError>) -> Self
-        ensures { result ≡ (if is_ok trimmed then Nowhere else Anywhere) }
-    {
-        match trimmed {
-            Ok(()) => Grown::Nowhere,
-            Err(_) => Grown::Anywhere,
         }
     }
 }
@@ -77,36 +74,50 @@ pub fn value_at<V: Drop>(groups: &[Group<V>], bucket: u64) -> &V
     groups[(bucket / 32) as usize].value((bucket % 32) as u32)
 }
 
-/// Makes room for one item in a group that has a free bucket: a list that is full gives way to a blank one.
-fn make_room<V: Drop>(group: &mut Group<V>, stock: &mut Vec<Blank<V>>)
+/// Makes room for one item in a group that has a free bucket: a list that is full gives way to a blank one. Answers
+/// whether it did.
+fn make_room<V: Drop>(alloc: Global, group: &mut Group<V>, stock: &mut Vec<Blank<V>>) -> bool
     requires below { vec_len group.old.items < 32 }
     requires stocked { vec_capacity group.old.items < 32 → 0 < vec_len stock.old }
     ensures slots { slots_in group.new ≡ slots_in group.old }
     ensures room { vec_len group.new.items < vec_capacity group.new.items }
-    ensures widened { ((vec_capacity group.new.items ≡ vec_capacity group.old.items) × (vec_len stock.new ≡ vec_len stock.old))
-        ⊎ ((vec_capacity group.old.items < 32) × (32 ≤ vec_capacity group.new.items) × (vec_len stock.old ≡ vec_len stock.new + 1)) }
+    ensures len { vec_len group.new.items ≡ vec_len group.old.items }
+    ensures widened { ((result ≡ false) × (vec_capacity group.new.items ≡ vec_capacity group.old.items) × (vec_len stock.new ≡ vec_len stock.old))
+        ⊎ ((result ≡ true) × (vec_capacity group.old.items < 32) × (vec_capacity group.new.items ≡ 32) × (vec_len stock.old ≡ vec_len stock.new + 1)) }
 {
     if !group.is_full() {
-        return;
+        return false;
     }
     match stock.pop() {
-        Some(blank) => group.move_to(blank),
+        Some(blank) => group.move_to(alloc, blank),
         None => unreachable!(),
     }
+    true
 }
 
-/// Sets the item of a free bucket, with a blank list for a group whose own is full.
-pub fn put<V: Drop>(groups: &mut [Group<V>], stock: &mut Vec<Blank<V>>, bucket: u64, item: (u64, V))
+/// Sets the item of a free bucket, with a blank list for a group whose own is full. Answers whether the group took one.
+pub fn put<V: Drop>(
+    alloc: Global,
+    groups: &mut [Group<V>],
+    stock: &mut Vec<Blank<V>>,
+    bucket: u64,
+    item: (u64, V),
+) -> bool
     requires within { bucket < 32 * length groups.old }
     requires free { slot_at (slots_of groups.old) bucket ≡ None }
     requires stocked { 0 < small_groups groups.old → 0 < vec_len stock.old }
     ensures slots { slots_of groups.new ≡ slice_set (slots_of groups.old) bucket (Some item) }
     ensures one_less { vec_len stock.old ≤ vec_len stock.new + 1 }
     ensures one_widened { vec_len stock.old + small_groups groups.new ≤ vec_len stock.new + small_groups groups.old }
+    ensures taken { IsTrue result → vec_len stock.old ≡ vec_len stock.new + 1 }
+    ensures places { places_of (sizes_of groups.new) + 32 * vec_len stock.new ≤ places_of (sizes_of groups.old) + 32 * vec_len stock.old }
+    ensures loose { (before after : Grown) → (IsTrue result → MayHaveGrown after (bucket / 32)) → ((i : ℕ) → MayHaveGrown before i → MayHaveGrown after i)
+        → loose_of after (sizes_of groups.new) ≤ loose_of before (sizes_of groups.old) }
 {
     let group = &mut groups[(bucket / 32) as usize];
-    make_room(group, stock);
+    let grew = make_room(alloc, group, stock);
     group.insert((bucket % 32) as u32, item);
+    grew
 }
 
 /// Sets the item of an occupied bucket, and gives the old one.
@@ -115,6 +126,7 @@ pub fn replace<V: Drop>(groups: &mut [Group<V>], bucket: u64, item: (u64, V)) ->
     requires occupied { IsSome (slot_at (slots_of groups.old) bucket) }
     ensures item { slot_at (slots_of groups.old) bucket ≡ Some result }
     ensures slots { slots_of groups.new ≡ slice_set (slots_of groups.old) bucket (Some item) }
+    ensures sizes { sizes_of groups.new ≡ sizes_of groups.old }
     ensures small { small_groups groups.new ≡ small_groups groups.old }
 {
     groups[(bucket / 32) as usize].replace((bucket % 32) as u32, item)
@@ -127,6 +139,8 @@ fn take<V: Drop>(groups: &mut [Group<V>], bucket: u64) -> (u64, V)
     ensures item { slot_at (slots_of groups.old) bucket ≡ Some result }
     ensures slots { slots_of groups.new ≡ slice_set (slots_of groups.old) bucket None }
     ensures small { small_groups groups.new ≡ small_groups groups.old }
+    ensures places { places_of (sizes_of groups.new) ≡ places_of (sizes_of groups.old) }
+    ensures loose { (grown : Grown) → loose_of grown (sizes_of groups.new) ≤ loose_of grown (sizes_of groups.old) + 1 }
 {
     groups[(bucket / 32) as usize].remove((bucket % 32) as u32)
 }
@@ -139,6 +153,7 @@ pub fn exchange<V: Drop>(groups: &mut [Group<V>], a: u64, b: u64)
     requires a_occupied { IsSome (slot_at (slots_of groups.old) a) }
     requires b_occupied { IsSome (slot_at (slots_of groups.old) b) }
     ensures slots { slots_of groups.new ≡ exchanged (slots_of groups.old) a b }
+    ensures sizes { sizes_of groups.new ≡ sizes_of groups.old }
     ensures small { small_groups groups.new ≡ small_groups groups.old }
 {
     let first = groups[(a / 32) as usize].remove((a % 32) as u32);
@@ -182,6 +197,8 @@ fn shift_back<V: Drop>(groups: &mut [Group<V>], bits: u32, bucket: u64) -> u64
     requires within { bucket < 2 ^ bits }
     requires occupied { IsSome (slot_at (slots_of groups.old) bucket) }
     ensures shifted { IsShifted (slots_of groups.old) (slots_of groups.new) bucket result }
+    ensures walk { slice_set (slots_of groups.new) result None ≡ shifted_back (2 ^ bits) (2 ^ bits - 1) bucket bucket (slice_set (slots_of groups.old) bucket None) }
+    ensures sizes { sizes_of groups.new ≡ sizes_of groups.old }
     ensures small { small_groups groups.new ≡ small_groups groups.old }
 {
     let buckets = bucket_count(bits);
@@ -215,46 +232,73 @@ pub fn remove_at<V: Drop>(groups: &mut [Group<V>], bits: u32, bucket: u64) -> (u
     ensures found { (key : ℕ) → find nat_cmp key (items_of (slots_of groups.new)) ≡ (if key == result.0 then None else find nat_cmp key (items_of (slots_of groups.old))) }
     ensures count { length (items_of (slots_of groups.new)) + 1 ≡ length (items_of (slots_of groups.old)) }
     ensures packed { IsPacked (slots_of groups.new) }
+    ensures walk { slots_of groups.new ≡ shifted_back (2 ^ bits) (2 ^ bits - 1) bucket bucket (slice_set (slots_of groups.old) bucket None) }
     ensures small { small_groups groups.new ≡ small_groups groups.old }
+    ensures places { places_of (sizes_of groups.new) ≡ places_of (sizes_of groups.old) }
+    ensures loose { (grown : Grown) → loose_of grown (sizes_of groups.new) ≤ loose_of grown (sizes_of groups.old) + 1 }
 {
     let hole = shift_back(groups, bits, bucket);
     take(groups, hole)
 }
 
-/// Gives back the memory that the groups' lists hold beyond their items and a little room. Refused at the first list
-/// whose memory the allocator can't make smaller.
-pub fn trim_all<V: Drop>(groups: &mut [Group<V>]) -> Result<(), AllocError>
+/// Gives back the memory that the groups' lists hold beyond their items and a little room. Refused at the first list for
+/// whose shorter one there is no memory.
+pub fn trim_all<V: Drop>(alloc: Global, groups: &mut [Group<V>]) -> Result<(), AllocError>
     ensures slots { slots_of groups.new ≡ slots_of groups.old }
+    ensures fewer { places_of (sizes_of groups.new) ≤ places_of (sizes_of groups.old) }
+    ensures loose { (g : Grown) → loose_of g (sizes_of groups.new) ≤ loose_of g (sizes_of groups.old) }
     ensures ok { OnOk result (All IsTrimmed groups.new) }
+    ensures none_loose { OnOk result (loose_of Nowhere (sizes_of groups.new) ≡ 0) }
 {
     for group in groups.iter_mut() {
-        group.trim()?;
+        group.trim(alloc)?;
     }
     Ok(())
 }
 
 /// Gives back what the groups hold that may have grown.
 #[tactic(auto, using(crate::proofs::TableLemmas::slots_of_trimmed))]
-pub fn trim_grown<V: Drop>(groups: &mut [Group<V>], grown: Grown) -> Result<(), AllocError>
+pub fn trim_grown<V: Drop>(
+    alloc: Global,
+    groups: &mut [Group<V>],
+    grown: Grown,
+) -> Result<(), AllocError>
     ensures slots { slots_of groups.new ≡ slots_of groups.old }
+    ensures fewer { places_of (sizes_of groups.new) ≤ places_of (sizes_of groups.old) }
+    ensures loose { (g : Grown) → loose_of g (sizes_of groups.new) ≤ loose_of g (sizes_of groups.old) }
     ensures ok { OnOk result (AreTrimmed grown groups.new) }
+    ensures none_grown { OnOk result (loose_of Nowhere (sizes_of groups.new) ≤ loose_of grown (sizes_of groups.old)) }
 {
     match grown {
         Grown::Nowhere => Ok(()),
-        Grown::In(bucket) => trim_one(groups, bucket),
-        Grown::Anywhere => trim_all(groups),
+        Grown::In(bucket) => trim_one(alloc, groups, bucket),
+        Grown::Anywhere => trim_all(alloc, groups),
     }
 }
 
 /// Gives back what the group of a bucket holds beyond its items and a little room.
 #[tactic(auto, using(crate::proofs::TableLemmas::slots_of_trimmed))]
-fn trim_one<V: Drop>(groups: &mut [Group<V>], bucket: u64) -> Result<(), AllocError>
+fn trim_one<V: Drop>(alloc: Global, groups: &mut [Group<V>], bucket: u64) -> Result<(), AllocError>
     ensures slots { slots_of groups.new ≡ slots_of groups.old }
+    ensures fewer { places_of (sizes_of groups.new) ≤ places_of (sizes_of groups.old) }
+    ensures loose { (g : Grown) → loose_of g (sizes_of groups.new) ≤ loose_of g (sizes_of groups.old) }
     ensures ok { OnOk result (AreTrimmed (In bucket) groups.new) }
+    ensures none_grown { OnOk result (loose_of Nowhere (sizes_of groups.new) ≤ loose_of (In bucket) (sizes_of groups.old)) }
 {
     let i = (bucket / 32) as usize;
     if i >= groups.len() {
         return Ok(());
     }
-    groups[i].trim()
+    groups[i].trim(alloc)
+}
+
+/// How many places the lists of all groups have, free ones included.
+pub fn places_of<V: Drop>(groups: &[Group<V>]) -> u64
+    ensures { result ≡ min (places_of (sizes_of groups.now)) (2 ^ 64 - 1) }
+{
+    let mut places = 0u64;
+    for group in groups {
+        places = places.saturating_add(group.items.capacity() as u64);
+    }
+    places
 }

@@ -3,7 +3,9 @@ pub mod DirtyLemmas
 pub mod CommandLemmas
 pub mod StepLemmas
 pub mod ListLemmas
+pub mod NumberLemmas
 pub mod ListedLemmas
+pub mod ScrubLemmas
 pub mod OpenLemmas
 pub mod PlaceLemmas
 pub mod WrittenLemmas

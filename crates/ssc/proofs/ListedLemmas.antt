@@ -1,117 +1,324 @@
 -- The dirty addresses of a range, told from the entries.
-use Rattle.std.proofs.Common.{◌≡◌, ℕ, zero, suc, ◌+◌, ◌<◌, ◌≤◌, ◌&&◌, nat_le, nat_lt, Bool, true, false, cond, T, List, [], ◌∷◌, ◌++◌, length, take, map, filter, Option, Some, None, refl, sym, ◌∙◌, ap, subst, arith, add-one, nat_cmp, inl, inr, le-leb, lt-ltb}
-use Rattle.std.specs.Option.{option_map}
-use Rattle.std.specs.List.{slice_get, AllByRecursion}
+use Rattle.std.proofs.Common.{◌≡◌, ℕ, zero, suc, ◌+◌, ◌*◌, ◌-◌, ◌<◌, ◌≤◌, ◌&&◌, nat_le, nat_lt, ◌==◌, Bool, true, false, cond, T, List, [], ◌∷◌, ◌++◌, length, get_or, take, drop, map, filter, count_by, Option, Some, None, refl, sym, ◌∙◌, ap, subst, arith, nat_cmp, inl, inr, lt-ltb, eqb-true, ne_eqb, eq-eqb, append_assoc, length-append}
+use Rattle.std.specs.Option.{option_map, unwrap_or}
+use Rattle.std.specs.List.{AllByRecursion}
+use Rattle.std.specs.List.Sorted.{IsPermutation, IsNonDecreasingBy}
 use Rattle.std.specs.Ordering.{eq_by_cmp, is_lt}
 use Rattle.std.specs.Cmp.{nat_cmp_total}
-use Rattle.std.proofs.lemmas.Bool.{cases_Bool}
+use Rattle.std.proofs.lemmas.Bool.{cases_Bool, and_parts, both_ways, false≢true}
+use Rattle.std.proofs.lemmas.Bool.Decides.{nat_tests}
+use Rattle.std.proofs.lemmas.List.Sums.{sum_by-cons, sum_by_push}
+use Rattle.std.proofs.lemmas.List.Sorted.{sum_by-IsPermutation}
+use Rattle.std.proofs.Math.ListN.{drop_of_length-le}
+use Rattle.std.proofs.Math.Seq.{drop-append_seam, take-append_seam}
+use Rattle.std.proofs.lemmas.List.{append-nil}
+use borrow.Rule.Slice.PartMut.{mid_of, post_of, put_mid}
 use Rattle.std.specs.FinMap.{FinMap, get, entries, entries_sorted, find, is_sorted, get-entries, nat_cmp-IsAntisymmetric}
 use Rattle.std.specs.FinMap.Entries.{below_all, same_entries}
+use Rattle.ft_base.specs.declared.geometry.Geometry.{Geometry}
 use Rattle.ft_base.specs.declared.block.Place.{Place}
 use Rattle.ft_base.specs.Contents.{Contents}
 use Rattle.cache_model.specs.declared.entry.Entry.{Entry}
 use Rattle.cache_model.specs.Records.{Entries}
+use Rattle.cache_model.specs.Entries.{IsMap}
 use Rattle.cache_model.specs.Cache.{Held, CacheList, dirty_between}
-use Rattle.cache_model.proofs.MapLemmas.{all_entries}
-use Rattle.mapping.specs.Counts.{address_and_place}
+use Rattle.cache_model.proofs.MapLemmas.{eq_key}
+use Rattle.mapping.specs.Numbers.{number_of, HasNumber, AreNumbered}
 use Rattle.ssc.specs.declared.cache.Ssc.{Ssc}
 use Rattle.ssc.specs.CacheState.{Holds, entries_of}
-use Rattle.ssc.specs.Listed.{is_listed, listed, listed_at, shown}
+use Rattle.mapping.specs.declared.bits.Choice.TheVariants.{Dirty}
+use Rattle.mapping.specs.Bits.{chosen_of, is_chosen, set_of}
+use Rattle.ssc.specs.Listed.{dirty_pages, is_held_dirty, is_listed, listed, times_listed, AddsListed, AddsNumber, IsListedAt}
 use Rattle.ssc.proofs.HoldsLemmas.{held_none, held_some}
+use Rattle.ssc.proofs.NumberLemmas.{less_key, one_address, one_if, sorted_entries, the_entry}
 
 -- ---- one entry
-
-at_index : {A : Type 0} (P : A → Type 0) (xs : List A) (i : ℕ) (x : A) → AllByRecursion P xs → slice_get xs i ≡ Some x → P x
-at_index P [] i x all is = absurd (cc)
-at_index P (y ∷ ys) zero x all is = let same : y ≡ x = cc in subst P same all.0
-at_index P (y ∷ ys) (suc i) x all is = at_index P ys i x all.1 is
-
--- the entry of a number is that of its address
-nth_entry : (m : Entries) (i a : ℕ) (at : Place) → Some (a, at) ≡ option_map address_and_place (slice_get (entries m) i) → (e : Entry) × (slice_get (entries m) i ≡ Some (a, e)) × (get m a ≡ Some e)
-nth_entry m i a at is = by (slice_get (entries m) i) refl is
-  where
-    by : (o : Option (ℕ × Entry)) → slice_get (entries m) i ≡ o → Some (a, at) ≡ option_map address_and_place o → (e : Entry) × (slice_get (entries m) i ≡ Some (a, e)) × (get m a ≡ Some e)
-    by None there is = absurd (cc)
-    by (Some x) there is =
-        let address : a ≡ x.0 = first is in
-        let here = at_index (λ y. get m y.0 ≡ Some y.1) (entries m) i x (all_entries m (λ a e. get m a ≡ Some e) (λ a e at. at)) there in
-        (x.1, there ∙ ap (λ k. Some (k, x.1)) (sym address), ap (λ k. get m k) address ∙ here)
-      where
-        first : ◌≡◌ {A = Option (ℕ × Place)} (Some (a, at)) (Some (address_and_place x)) → a ≡ x.0
-        first is = ap (λ (o : Option (ℕ × Place)). address_of o) is
-          where
-            address_of : Option (ℕ × Place) → ℕ
-            address_of None = 0
-            address_of (Some y) = y.0
 
 abbrev IsDirtyIn : Entries → ℕ → Type 0
 IsDirtyIn m a = (e : Entry) × (get m a ≡ Some e) × (e.dirty ≡ true)
 
-module _ (m : Entries) (i a from end : ℕ) (at : Place) (is : Some (a, at) ≡ option_map address_and_place (slice_get (entries m) i)) where
-  pub not_listed : (IsDirtyIn m a → ⊥) → None ≡ listed_at from end (slice_get (entries m) i)
-  not_listed never =
-      let e = nth_entry m i a at is in
-      elim (cases_Bool e.0.dirty) [
-        | inl t ↦ absurd (never (e.0, e.2, t))
-        | inr f ↦ sym (ap (listed_at from end) e.1 ∙ ap (λ b. cond (b && nat_le from a && nat_lt a end) (Some a) None) f)
-      ]
+module _ (g : Geometry) (m : Entries) (is_map : IsMap g m) (i a from end : ℕ) (at : Place) (is : HasNumber g m i (a, at)) where
+  pub not_dirty : (IsDirtyIn m a → ⊥) → IsListedAt g m from end i None
+  not_dirty never = the_entry g m is_map i a at is (λ x. is_listed from end x ≡ false) (elim (cases_Bool is.owns.0.dirty) [
+    | inl t ↦ absurd (never (is.owns.0, is.owns.1, t))
+    | inr f ↦ ap (λ b. b && nat_le from a && nat_lt a end) f
+  ])
 
-  pub is_listed_there : IsDirtyIn m a → from ≤ a → a < end → Some a ≡ listed_at from end (slice_get (entries m) i)
-  is_listed_there dirty low high =
-      let e = nth_entry m i a at is in
-      let both : Some e.0 ≡ Some dirty.0 = sym e.2 ∙ dirty.1 in
-      let same : e.0 ≡ dirty.0 = cc in
-      let mark : e.0.dirty ≡ true = ap (λ (x : Entry). x.dirty) same ∙ dirty.2 in
-      sym (ap (listed_at from end) e.1 ∙ ap (λ b. cond (b && nat_le from a && nat_lt a end) (Some a) None) mark ∙ ap (λ b. cond (b && nat_lt a end) (Some a) None) (le-leb _ _ low) ∙ ap (λ b. cond b (Some a) None) (lt-ltb _ _ high))
+  pub not_low : a < from → IsListedAt g m from end i None
+  not_low low = the_entry g m is_map i a at is (λ x. is_listed from end x ≡ false) (outside is.owns.0.dirty)
+    where
+      outside : (dirty : Bool) → (dirty && nat_le from a && nat_lt a end) ≡ false
+      outside dirty = grind (arith, nat_tests)
 
--- ---- along the entries
+  pub not_high : end ≤ a → IsListedAt g m from end i None
+  not_high high = the_entry g m is_map i a at is (λ x. is_listed from end x ≡ false) (outside is.owns.0.dirty)
+    where
+      outside : (dirty : Bool) → (dirty && nat_le from a && nat_lt a end) ≡ false
+      outside dirty = grind (arith, nat_tests)
 
-more_suc : (from end : ℕ) (es : List (ℕ × Entry)) (i : ℕ) → listed from end (take (suc i) es) ≡ listed from end (take i es) ++ shown (listed_at from end (slice_get es i))
-more_suc from end [] zero = refl
-more_suc from end [] (suc i) = refl
-more_suc from end (x ∷ xs) zero = by (is_listed from end x)
-  where
-    by : (b : Bool) → map (λ (y : ℕ × Entry). y.0) (cond b (x ∷ []) []) ≡ [] ++ shown (cond b (Some x.0) None)
-    by true = refl
-    by false = refl
-more_suc from end (x ∷ xs) (suc i) = by (is_listed from end x) (more_suc from end xs i)
-  where
-    by : (b : Bool) → listed from end (take (suc i) xs) ≡ listed from end (take i xs) ++ shown (listed_at from end (slice_get xs i)) → map (λ (y : ℕ × Entry). y.0) (cond b (x ∷ filter (is_listed from end) (take (suc i) xs)) (filter (is_listed from end) (take (suc i) xs))) ≡ map (λ (y : ℕ × Entry). y.0) (cond b (x ∷ filter (is_listed from end) (take i xs)) (filter (is_listed from end) (take i xs))) ++ shown (listed_at from end (slice_get xs i))
-    by true rest = ap (λ l. x.0 ∷ l) rest
-    by false rest = rest
+-- ---- along the numbers
 
--- the addresses that were there, and the listed ones of the first i entries
-pub record ListedSoFar (from end : ℕ) (m : Entries) (old now : List ℕ) (i : ℕ) : Type 0 where
-  pub items : now ≡ old ++ listed from end (take i (entries m))
+-- how often an address is listed, whose page has a number below the end
+abbrev pub times_below : Geometry → ℕ → ℕ → ℕ → ℕ → Option Entry → ℕ
+times_below g from to end a None = 0
+times_below g from to end a (Some e) = one_if (is_listed from to (a, e) && nat_lt (number_of g e.place) end)
 
-pub listed_none : (from end : ℕ) (m : Entries) (old : List ℕ) → ListedSoFar from end m old old 0
-listed_none from end m old = record { items = nothing old }
+-- behind what was there comes each listed address once whose page has a number below the end
+pub record ListedSoFar (g : Geometry) (m : Entries) (from to end : ℕ) (old now : List ℕ) : Type 0 where
+  pub found : List ℕ
+  pub items : now ≡ old ++ found
+  pub each : (a : ℕ) → count_by (λ n. n == a) found ≡ times_below g from to end a (get m a)
+
+pub listed_none : (g : Geometry) (m : Entries) (from to : ℕ) (old : List ℕ) → ListedSoFar g m from to 0 old old
+listed_none g m from to old = record { found = []; items = nothing old; each = λ a. none a (get m a) }
   where
     nothing : (l : List ℕ) → l ≡ l ++ []
     nothing [] = refl
     nothing (x ∷ xs) = ap (λ l. x ∷ l) (nothing xs)
 
-pub listed_more : (from end : ℕ) (m : Entries) (old now new : List ℕ) (i : ℕ) → ListedSoFar from end m old now i → new ≡ now ++ shown (listed_at from end (slice_get (entries m) i)) → ListedSoFar from end m old new (i + 1)
-listed_more from end m old now new i so_far is = record {
-  items =
-      is ∙ ap (λ l. l ++ shown (listed_at from end (slice_get (entries m) i))) so_far.items
-      ∙ assoc old (listed from end (take i (entries m))) (shown (listed_at from end (slice_get (entries m) i)))
-      ∙ ap (λ l. old ++ l) (sym (more_suc from end (entries m) i))
-      ∙ ap (λ k. old ++ listed from end (take k (entries m))) (sym (add-one i));
+    below_zero : (n : ℕ) → nat_lt n 0 ≡ false
+    below_zero n = grind (arith, nat_tests)
+
+    never : (b : Bool) (n : ℕ) → 0 ≡ one_if (b && nat_lt n 0)
+    never true n = sym (ap one_if (below_zero n))
+    never false n = refl
+
+    none : (a : ℕ) (o : Option Entry) → 0 ≡ times_below g from to 0 a o
+    none a None = refl
+    none a (Some e) = never (is_listed from to (a, e)) (number_of g e.place)
+
+-- an address whose page has another number, or that isn't listed
+times_same : (g : Geometry) (from to end a : ℕ) (o : Option Entry) → ((e : Entry) → o ≡ Some e → number_of g e.place ≡ end → is_listed from to (a, e) ≡ false) → times_below g from to (end + 1) a o ≡ times_below g from to end a o
+times_same g from to end a None other = refl
+times_same g from to end a (Some e) other = by (is_listed from to (a, e)) (number_of g e.place) (other e refl)
+  where
+    apart : (n : ℕ) → (n ≡ end → ⊥) → nat_lt n (end + 1) ≡ nat_lt n end
+    apart n other = grind (arith, nat_tests)
+
+    by : (b : Bool) (n : ℕ) → (n ≡ end → b ≡ false) → one_if (b && nat_lt n (end + 1)) ≡ one_if (b && nat_lt n end)
+    by true n other = ap one_if (apart n (λ is. false≢true (sym (other is))))
+    by false n other = refl
+
+times_one : (g : Geometry) (from to end a : ℕ) (e : Entry) → number_of g e.place ≡ end → is_listed from to (a, e) ≡ true → times_below g from to (end + 1) a (Some e) ≡ times_below g from to end a (Some e) + 1
+times_one g from to end a e number shows = by (is_listed from to (a, e)) (number_of g e.place) shows number
+  where
+    here : (n : ℕ) → n ≡ end → one_if (nat_lt n (end + 1)) ≡ one_if (nat_lt n end) + 1
+    here n number = grind (arith, nat_tests)
+
+    by : (b : Bool) (n : ℕ) → b ≡ true → n ≡ end → one_if (b && nat_lt n (end + 1)) ≡ one_if (b && nat_lt n end) + 1
+    by true n is number = here n number
+    by false n is number = absurd (cc)
+
+pub listed_more : (g : Geometry) (m : Entries) (from to end : ℕ) (old now new : List ℕ) → IsMap g m → ListedSoFar g m from to end old now → AddsNumber g m from to end now new → ListedSoFar g m from to (end + 1) old new
+listed_more g m from to end old now new is_map so_far (None, other, is) = record {
+  found = so_far.found;
+  items = is ∙ nothing now ∙ so_far.items;
+  each = λ a. so_far.each a ∙ sym (times_same g from to end a (get m a) (λ e there number. other a e there number));
 }
   where
-    assoc : (a b c : List ℕ) → (a ++ b) ++ c ≡ a ++ (b ++ c)
-    assoc [] b c = refl
-    assoc (x ∷ xs) b c = ap (λ l. x ∷ l) (assoc xs b c)
+    nothing : (l : List ℕ) → l ++ [] ≡ l
+    nothing [] = refl
+    nothing (x ∷ xs) = ap (λ l. x ∷ l) (nothing xs)
+listed_more g m from to end old now new is_map so_far (Some lba, (e, there, number, shows), is) = record {
+  found = so_far.found ++ lba ∷ [];
+  items = is ∙ ap (λ l. l ++ lba ∷ []) so_far.items ∙ append_assoc old so_far.found (lba ∷ []);
+  each = λ a.
+      let push = sum_by_push (λ n. one_if (n == a)) so_far.found lba in
+      let before = so_far.each a in
+      elim (cases_Bool (lba == a)) [
+        | inl t ↦
+            let same : lba ≡ a = eqb-true lba a t in
+            let here : get m a ≡ Some e = ap (get m) (sym same) ∙ there in
+            let one = times_one g from to end a e number (ap (λ n. is_listed from to (n, e)) (sym same) ∙ shows) in
+            let added : one_if (lba == a) ≡ 1 = ap one_if t in
+            let was : times_below g from to end a (get m a) ≡ times_below g from to end a (Some e) = ap (times_below g from to end a) here in
+            let now : times_below g from to (end + 1) a (get m a) ≡ times_below g from to (end + 1) a (Some e) = ap (times_below g from to (end + 1) a) here in
+            omega arith
+        | inr f ↦
+            let same = times_same g from to end a (get m a) (λ f' there' number'. absurd (both_ways (lba == a) f (eq-eqb lba a (one_address g m is_map lba a e f' there there' (number ∙ sym number'))))) in
+            let added : one_if (lba == a) ≡ 0 = ap one_if f in
+            omega arith
+      ];
+}
+
+-- all entries have a number below the end
+pub listed_all : (g : Geometry) (m : Entries) (from to end : ℕ) (old now : List ℕ) → AreNumbered g m end → ListedSoFar g m from to end old now → AddsListed from to m old now
+listed_all g m from to end old now numbered so_far = record {
+  found = so_far.found;
+  items = so_far.items;
+  each = λ a. so_far.each a ∙ whole a (get m a) (λ e there. numbered a e there);
+}
+  where
+    drop_test : (b c : Bool) → c ≡ true → one_if (b && c) ≡ one_if b
+    drop_test true c t = ap one_if t
+    drop_test false c t = refl
+
+    whole : (a : ℕ) (o : Option Entry) → ((e : Entry) → o ≡ Some e → number_of g e.place < end) → times_below g from to end a o ≡ times_listed from to a o
+    whole a None low = refl
+    whole a (Some e) low = drop_test (is_listed from to (a, e)) (nat_lt (number_of g e.place) end) (lt-ltb _ _ (low e refl))
 
 -- what was there is still the front
-pub listed_front : (from end : ℕ) (m : Entries) (old now : List ℕ) (i : ℕ) → ListedSoFar from end m old now i → take (length old) now ≡ old
-listed_front from end m old now i so_far = ap (take (length old)) so_far.items ∙ front old (listed from end (take i (entries m)))
+pub listed_front : (g : Geometry) (m : Entries) (from to end : ℕ) (old now : List ℕ) → ListedSoFar g m from to end old now → take (length old) now ≡ old
+listed_front g m from to end old now so_far = ap (take (length old)) so_far.items ∙ take-append_seam old so_far.found
+
+-- ---- how often each number is in a list
+
+-- what holds of each member holds of one that is counted
+all_counted : (P : ℕ → Type 0) (ns : List ℕ) (a : ℕ) → AllByRecursion P ns → 1 ≤ count_by (λ n. n == a) ns → P a
+all_counted P [] a all some = absurd (omega arith)
+all_counted P (n ∷ ns) a all some = elim (cases_Bool (n == a)) [
+  | inl t ↦ subst P (eqb-true n a t) all.0
+  | inr f ↦ all_counted P ns a all.1 (let cons = sum_by-cons (λ k. one_if (k == a)) n ns in let none : one_if (n == a) ≡ 0 = ap one_if f in omega arith)
+]
+
+-- no number is above one that comes later
+abbrev Rises : List ℕ → Type 0
+Rises [] = Unit {0}
+Rises (n ∷ ns) = AllByRecursion (λ k. n ≤ k) ns × Rises ns
+
+-- the first is counted
+first_counted : (n : ℕ) (ns : List ℕ) → 1 ≤ count_by (λ k. k == n) (n ∷ ns)
+first_counted n ns = let cons = sum_by-cons (λ k. one_if (k == n)) n ns in let one : one_if (n == n) ≡ 1 = ap one_if (eq-eqb n n refl) in omega arith
+
+-- two such lists that have each number as often are one
+same_rising : (ns ks : List ℕ) → Rises ns → Rises ks → ((a : ℕ) → count_by (λ n. n == a) ns ≡ count_by (λ n. n == a) ks) → ns ≡ ks
+same_rising [] [] up up' same = refl
+same_rising [] (k ∷ ks) up up' same = let some = first_counted k ks in let none = same k in absurd (omega arith)
+same_rising (n ∷ ns) [] up up' same = let some = first_counted n ns in let none = same n in absurd (omega arith)
+same_rising (n ∷ ns) (k ∷ ks) up up' same =
+    let low = all_counted (λ a. n ≤ a) (n ∷ ns) k (omega arith, up.0) (let some = first_counted k ks in let is = same k in omega arith) in
+    let low' = all_counted (λ a. k ≤ a) (k ∷ ks) n (omega arith, up'.0) (let some = first_counted n ns in let is = same n in omega arith) in
+    let first : n ≡ k = omega arith in
+    let rest = same_rising ns ks up.1 up'.1 (λ a.
+    let cons = sum_by-cons (λ b. one_if (b == a)) n ns in
+    let cons' = sum_by-cons (λ b. one_if (b == a)) k ks in
+    let is = same a in
+    let one : one_if (n == a) ≡ one_if (k == a) = ap (λ b. one_if (b == a)) first in
+    omega arith) in
+    ap (λ l. n ∷ l) rest ∙ ap (λ b. b ∷ ks) first
+
+-- ---- the listed entries
+
+-- a number, or nothing
+abbrev if_listed : Bool → ℕ → ℕ
+if_listed b n = cond b n 0
+
+module _ (from end : ℕ) where
+  split : (x : ℕ × Entry) (es : List (ℕ × Entry)) (a : ℕ) → count_by (λ n. n == a) (listed from end (x ∷ es)) ≡ if_listed (is_listed from end x) (one_if (x.0 == a)) + count_by (λ n. n == a) (listed from end es)
+  split x es a = by (is_listed from end x)
+    where
+      by : (b : Bool) → count_by (λ n. n == a) (map (λ (y : ℕ × Entry). y.0) (cond b (x ∷ filter (is_listed from end) es) (filter (is_listed from end) es))) ≡ if_listed b (one_if (x.0 == a)) + count_by (λ n. n == a) (listed from end es)
+      by true = sum_by-cons (λ n. one_if (n == a)) x.0 (listed from end es)
+      by false = omega arith
+
+  either_zero : (b : Bool) → if_listed b 0 ≡ 0
+  either_zero true = refl
+  either_zero false = refl
+
+  -- an address below all others
+  none_below : (es : List (ℕ × Entry)) (a k : ℕ) → a ≡ k → below_all nat_cmp k es ≡ true → count_by (λ n. n == a) (listed from end es) ≡ 0
+  none_below [] a k same low = refl
+  none_below (x ∷ es) a k same low =
+      let parts = and_parts (is_lt (nat_cmp k x.0)) (below_all nat_cmp k es) low in
+      let less = less_key k x.0 parts.0 in
+      let rest = none_below es a k same parts.1 in
+      let whole = split x es a in
+      let first : if_listed (is_listed from end x) (one_if (x.0 == a)) ≡ 0 = ap (λ b. if_listed (is_listed from end x) (one_if b)) (ne_eqb x.0 a (λ is. absurd (omega arith))) ∙ either_zero (is_listed from end x) in
+      omega arith
+
+  times_there : (es : List (ℕ × Entry)) → is_sorted nat_cmp es ≡ true → (a : ℕ) → count_by (λ n. n == a) (listed from end es) ≡ times_listed from end a (find nat_cmp a es)
+  times_there [] sorted a = refl
+  times_there (x ∷ es) sorted a =
+      let parts = and_parts (below_all nat_cmp x.0 es) (is_sorted nat_cmp es) sorted in
+      let whole = split x es a in
+      elim (cases_Bool (a == x.0)) [
+        | inl t ↦
+            let same : a ≡ x.0 = eqb-true a x.0 t in
+            let rest = none_below es a x.0 same parts.0 in
+            let found : times_listed from end a (find nat_cmp a (x ∷ es)) ≡ times_listed from end a (Some x.1) = ap (λ b. times_listed from end a (cond b (Some x.1) (find nat_cmp a es))) (eq_key a x.0 ∙ t) in
+            let first : if_listed (is_listed from end x) (one_if (x.0 == a)) ≡ times_listed from end a (Some x.1) = ap (λ b. if_listed (is_listed from end x) (one_if b)) (eq-eqb x.0 a (sym same)) ∙ ap (λ n. one_if (is_listed from end (n, x.1))) (sym same) in
+            omega arith
+        | inr f ↦
+            let rest = times_there es parts.1 a in
+            let found : times_listed from end a (find nat_cmp a (x ∷ es)) ≡ times_listed from end a (find nat_cmp a es) = ap (λ b. times_listed from end a (cond b (Some x.1) (find nat_cmp a es))) (eq_key a x.0 ∙ f) in
+            let first : if_listed (is_listed from end x) (one_if (x.0 == a)) ≡ 0 = ap (λ b. if_listed (is_listed from end x) (one_if b)) (ne_eqb x.0 a (λ is. both_ways (a == x.0) f (eq-eqb a x.0 (sym is)))) ∙ either_zero (is_listed from end x) in
+            omega arith
+      ]
+
+  above_all : (es : List (ℕ × Entry)) (k : ℕ) → below_all nat_cmp k es ≡ true → AllByRecursion (λ n. k ≤ n) (listed from end es)
+  above_all [] k low = tt
+  above_all (x ∷ es) k low =
+      let parts = and_parts (is_lt (nat_cmp k x.0)) (below_all nat_cmp k es) low in
+      by (is_listed from end x) (less_key k x.0 parts.0) (above_all es k parts.1)
+    where
+      by : (b : Bool) → k < x.0 → AllByRecursion (λ n. k ≤ n) (listed from end es) → AllByRecursion (λ n. k ≤ n) (map (λ (y : ℕ × Entry). y.0) (cond b (x ∷ filter (is_listed from end) es) (filter (is_listed from end) es)))
+      by true less rest = (omega arith, rest)
+      by false less rest = rest
+
+  listed_rises : (es : List (ℕ × Entry)) → is_sorted nat_cmp es ≡ true → Rises (listed from end es)
+  listed_rises [] sorted = tt
+  listed_rises (x ∷ es) sorted =
+      let parts = and_parts (below_all nat_cmp x.0 es) (is_sorted nat_cmp es) sorted in
+      by (is_listed from end x) (above_all es x.0 parts.0) (listed_rises es parts.1)
+    where
+      by : (b : Bool) → AllByRecursion (λ n. x.0 ≤ n) (listed from end es) → Rises (listed from end es) → Rises (map (λ (y : ℕ × Entry). y.0) (cond b (x ∷ filter (is_listed from end) es) (filter (is_listed from end) es)))
+      by true low rest = (low, rest)
+      by false low rest = rest
+
+-- what a sort leaves rises
+rises_sorted : (ns : List ℕ) → IsNonDecreasingBy (λ n. n) ns → Rises ns
+rises_sorted [] up = tt
+rises_sorted (n ∷ ns) up = (later ns (λ i low. up 0 (suc i) 0 (omega arith) (omega arith)), rises_sorted ns (λ i j d le low. up (suc i) (suc j) d (omega arith) (omega arith)))
   where
-    front : (a b : List ℕ) → take (length a) (a ++ b) ≡ a
-    front [] [] = refl
-    front [] (y ∷ ys) = refl
-    front (x ∷ xs) b = ap (λ l. x ∷ l) (front xs b)
+    later : (ks : List ℕ) → ((i : ℕ) → i < length ks → n ≤ get_or ks i 0) → AllByRecursion (λ k. n ≤ k) ks
+    later [] each = tt
+    later (k ∷ ks) each = (each 0 (omega arith), later ks (λ i low. each (suc i) (omega arith)))
+
+-- the sorted addresses are those of the entries
+pub sorted_listed : (from end : ℕ) (m : Entries) (found sorted : List ℕ) → ((a : ℕ) → count_by (λ n. n == a) found ≡ times_listed from end a (get m a)) → IsPermutation found sorted → IsNonDecreasingBy (λ n. n) sorted → sorted ≡ listed from end (entries m)
+sorted_listed from end m found sorted each moved up = same_rising sorted (listed from end (entries m)) (rises_sorted sorted up) (listed_rises from end (entries m) (sorted_entries m)) (λ a.
+    sum_by-IsPermutation (λ n. one_if (n == a)) found sorted moved
+    ∙ each a
+    ∙ ap (times_listed from end a) (get-entries m a)
+    ∙ sym (times_there from end (entries m) (sorted_entries m) a))
+
+-- ---- a list whose last part is sorted
+
+whole_front : (ns : List ℕ) (i : ℕ) → length ns ≤ i → take i ns ≡ ns
+whole_front [] zero past = refl
+whole_front [] (suc i) past = refl
+whole_front (n ∷ ns) zero past = absurd (omega arith)
+whole_front (n ∷ ns) (suc i) past = ap (λ l. n ∷ l) (whole_front ns i (omega arith))
+
+module _ (before len : ℕ) (old found now items sorted : List ℕ) (shows : now ≡ items) (is : items ≡ old ++ found) (len_is : len ≡ length items) (before_is : before ≡ length old) where
+  abbrev size : ℕ
+  size = length now - before
+
+  abbrev after : List ℕ
+  after = put_mid before (length now - before) now sorted
+
+  tail : drop before now ≡ found
+  tail = ap (drop before) (shows ∙ is) ∙ ap (λ n. drop n (old ++ found)) before_is ∙ drop-append_seam old found
+
+  count : length now ≡ length old + length found
+  count = ap (λ (l : List ℕ). length l) (shows ∙ is) ∙ length-append old found
+
+  few : length found ≤ length now - before
+  few = let all = count in omega arith
+
+  pub part_is : mid_of before (length now - before) now ≡ found
+  part_is = ap (take (length now - before)) tail ∙ whole_front found (length now - before) few
+
+  pub sorted_part : length sorted ≡ length found → take len (after ++ drop (length after) items) ≡ old ++ sorted
+  sorted_part same =
+      let front : take before now ≡ old = ap (take before) (shows ∙ is) ∙ ap (λ n. take n (old ++ found)) before_is ∙ take-append_seam old found in
+      let past : post_of before (length now - before) now ≡ [] = ap (drop (length now - before)) tail ∙ drop_of_length-le found {i = length now - before} few in
+      let parts : after ≡ old ++ sorted = ap (λ l. l ++ (sorted ++ post_of before (length now - before) now)) front ∙ ap (λ l. old ++ (sorted ++ l)) past ∙ ap (λ l. old ++ l) (append-nil sorted) in
+      let sum : length after ≡ length old + length sorted = ap (λ (l : List ℕ). length l) parts ∙ length-append old sorted in
+      let all = count in
+      let showing : length now ≡ length items = ap (λ (l : List ℕ). length l) shows in
+      let same_len : len ≡ length after = omega arith in
+      ap (λ n. take n (after ++ drop (length after) items)) same_len ∙ take-append_seam after (drop (length after) items) ∙ parts
 
 -- ---- the list of the cache has the same marks
 
@@ -154,6 +361,10 @@ by_marks dirty from end (e ∷ es) = by (dirty e.1 && nat_le from e.0 && nat_lt 
     by true rest = ap (λ l. e.0 ∷ l) rest
     by false rest = rest
 
+length_marks : {X : Type 0} (dirty : X → Bool) (es : List (ℕ × X)) → length (marks dirty es) ≡ length es
+length_marks dirty [] = refl
+length_marks dirty (e ∷ es) = ap suc (length_marks dirty es)
+
 module _ (c : Ssc) (contents : Contents) (s : CacheList) (holds : Holds c contents s) where
   pub dirty_alike : (a : ℕ) → option_map (λ (h : Held). h.dirty) (get s a) ≡ option_map (λ (e : Entry). e.dirty) (get (entries_of c) a)
   dirty_alike a = by (get (entries_of c) a) refl
@@ -168,11 +379,20 @@ module _ (c : Ssc) (contents : Contents) (s : CacheList) (holds : Holds c conten
       ∙ ap (marked_between from (from + count)) (sym (same_marks (entries_of c) s dirty_alike))
       ∙ sym (by_marks (λ (h : Held). h.dirty) from (from + count) (entries s))
 
-  pub listed_all : (from count i : ℕ) (old now : List ℕ) → length (entries (entries_of c)) ≤ i → ListedSoFar from (from + count) (entries_of c) old now i → now ≡ old ++ dirty_between from count s
-  listed_all from count i old now past so_far = so_far.items ∙ ap (λ l. old ++ listed from (from + count) l) (whole (entries (entries_of c)) i past) ∙ ap (λ l. old ++ l) (listed_is from count)
+  -- as many entries as are held
+  pub held_same : length (entries (entries_of c)) ≡ length (entries s)
+  held_same =
+      sym (length_marks (λ (e : Entry). e.dirty) (entries (entries_of c)))
+      ∙ ap (λ (l : List (ℕ × Bool)). length l) (sym (same_marks (entries_of c) s dirty_alike))
+      ∙ length_marks (λ (h : Held). h.dirty) (entries s)
+
+  -- the same pages of a group are dirty
+  pub pages_same : (g : Geometry) (group : ℕ) → chosen_of Dirty g (entries_of c) group ≡ dirty_pages g s group
+  pages_same g group = ap (λ (test : ℕ → Bool). set_of test g.p) (λ k i. alike (group * g.p + i) k)
     where
-      whole : {A : Type 0} (xs : List A) (i : ℕ) → length xs ≤ i → take i xs ≡ xs
-      whole [] zero past = refl
-      whole [] (suc i) past = refl
-      whole (x ∷ xs) zero past = absurd (omega arith)
-      whole (x ∷ xs) (suc i) past = ap (λ l. x ∷ l) (whole xs i (omega arith))
+      chosen_is : (o : Option Entry) → is_chosen Dirty o ≡ unwrap_or (option_map (λ (e : Entry). e.dirty) o) false
+      chosen_is None = refl
+      chosen_is (Some e) = refl
+
+      alike : (a : ℕ) → is_chosen Dirty (get (entries_of c) a) ≡ is_held_dirty s a
+      alike a = chosen_is (get (entries_of c) a) ∙ ap (λ (o : Option Bool). unwrap_or o false) (sym (dirty_alike a))

@@ -1,5 +1,5 @@
 -- A cache is opened: what was loaded is its map, and a checkpoint of it is made.
-use Rattle.std.proofs.Common.{◌≡◌, ◌≢◌, ℕ, ◌+◌, ◌%◌, ◌<◌, ◌≤◌, ◌==◌, Bool, true, false, [], Option, Some, None, Ok, nat_cmp, refl, sym, ◌∙◌, ap, subst, arith, inl, inr}
+use Rattle.std.proofs.Common.{◌≡◌, ◌≢◌, ℕ, ◌+◌, ◌-◌, ◌%◌, ◌<◌, ◌≤◌, ◌==◌, Bool, true, false, [], Option, Some, None, Ok, nat_cmp, refl, sym, ◌∙◌, ap, subst, arith, inl, inr}
 use Rattle.std.specs.Option.{option_and_then}
 use Rattle.std.specs.FinMap.{empty, get-empty}
 use Rattle.std.proofs.lemmas.Bool.{cases_cond}
@@ -7,6 +7,7 @@ use Rattle.ft_base.specs.declared.geometry.Geometry.{Geometry}
 use Rattle.ft_base.specs.declared.block.Place.{Place}
 use Rattle.ft_base.specs.declared.block.Page.{Page}
 use Rattle.ft_base.specs.Contents.{Contents, Image, Now, HasValue}
+use Rattle.ft_base.specs.Layout.{log_pages}
 use Rattle.ft_media.specs.declared.rig.Counts.{Counts}
 use Rattle.ft_media.specs.State.{State}
 use Rattle.ft_media.specs.Media.{Crashed}
@@ -115,6 +116,10 @@ module _ (g : Geometry) (old mid : Contents) (loaded : Loaded) (parts : Parts) (
       by : LoadsOneOf g old.flash.page new.flash.page parts.map.entries → load g new.flash.page ≡ load g old.flash.page
       by (inl done) = done ∙ ap Ok entries_is ∙ sym is.loads
       by (inr same) = same
+
+-- nothing of the log is used
+pub full_room : (parts : Parts) (g : Geometry) → parts.geometry ≡ g → parts.log.next ≡ 0 → log_pages parts.geometry - parts.log.next ≡ log_pages g
+full_room parts g same next = let pages : log_pages parts.geometry ≡ log_pages g = ap (λ (h : Geometry). log_pages h) same in omega arith
 
 -- ---- an empty map
 

@@ -152,6 +152,13 @@ push_some (y ∷ ys) x is = cc
 pub pushed_some : (log log' : LogValue) (change : Record) → log' ≡ pushed change log → log'.buffered ≡ [] → ⊥
 pushed_some log log' change is none = push_some log.buffered change (ap (λ (l : LogValue). l.buffered) (sym is) ∙ none)
 
+-- the log has a page left as before
+pub left_pushed : (old mid : Parts) (change : Record) → mid.log ≡ pushed change old.log → mid.geometry ≡ old.geometry → old.log.next < log_pages old.geometry → mid.log.next < log_pages mid.geometry
+left_pushed old mid change log is left =
+    let next : mid.log.next ≡ old.log.next = ap (λ (l : LogValue). l.next) log in
+    let pages : log_pages mid.geometry ≡ log_pages old.geometry = ap (λ (g : Geometry). log_pages g) is in
+    omega arith
+
 -- one program for the block, and one for what was buffered
 pub counted_twice : (old mid : Parts) (lba : ℕ) (dirty : Bool) → mid.geometry ≡ old.geometry → (a b c : Counts) → IsPushed old lba dirty mid × (b ≡ program_counted a) → (mid.log.buffered ≡ [] → ⊥) → old.log.next < log_pages old.geometry → ((mid.log.buffered ≡ [] → ⊥) → mid.log.next < log_pages mid.geometry → c ≡ program_counted b) → c ≡ program_counted (program_counted a)
 counted_twice old mid lba dirty is a b c pushed waits left one =

@@ -1,5 +1,5 @@
 -- A cache and its flash: the list that they hold, and what of it is only buffered.
-use Rattle.std.specs.Prelude.{◌≡◌, ◌≤◌, ◌-◌, ℕ, Bool, true, false, not, IsTrue, List, [], ◌∷◌}
+use Rattle.std.specs.Prelude.{◌≡◌, ◌≤◌, ◌-◌, ℕ, Bool, true, false, not, max, IsTrue, List, [], ◌∷◌}
 use Rattle.std.specs.List.{list_all}
 use Rattle.ft_base.specs.declared.geometry.Geometry.{Geometry}
 use Rattle.ft_base.specs.declared.record.Record.{Record}
@@ -70,3 +70,13 @@ pub record IsUp (c : Ssc) (contents : Contents) : Type 0 where
   pub list : CacheList
   pub holds : Holds c contents list
   pub up : c.stopped ≡ false
+
+-- the cache is as before, but that its map may have more buckets
+pub record IsAsBefore (old new : Ssc) : Type 0 where
+  pub parts : new ≡ record old { parts = record old.parts { map = new.parts.map } }
+  pub map : new.parts.map ≡ record old.parts.map { records = new.parts.map.records; buckets = new.parts.map.buckets }
+
+-- the room of a write was taken, and no more: for one page, and for the groups of one log block
+pub record TookRoom (old new : Parts) : Type 0 where
+  pub pages : new.map.spare_pages ≡ max old.map.spare_pages 1
+  pub groups : new.map.spare_groups ≡ max old.map.spare_groups old.geometry.p

@@ -3,3 +3,4 @@ pub mod CacheState
 pub mod Commands
 pub mod Steps
 pub mod Listed
+pub mod Scrubbed

@@ -1,10 +1,13 @@
-ghost use Rattle.std.specs.Prelude.{◌≡◌, true, false, OnOk, OnErr, length};
+ghost use Rattle.std.specs.Prelude.{◌≡◌, true, false, IsOk, OnOk, OnErr, length};
+ghost use Rattle.std.specs.FinMap.{entries};
 ghost use Rattle.ft_base.specs.Contents.{Contents};
+ghost use Rattle.cache_model.specs.Buckets.{AreBucketsFor};
 ghost use Rattle.cache_model.specs.Cache.{CacheList, dirty_groups};
 ghost use Rattle.mapping.specs.Bits.{chosen_of};
 ghost use Rattle.mapping.specs.Counts.{held_count};
 ghost use Rattle.mapping.specs.declared.bits.Choice.TheVariants.{Dirty};
-ghost use Rattle.ssc.specs.CacheState.{Holds, HasMemory, entries_of, geometry_of, log_room, open_room, pending};
+ghost use Rattle.ssc.specs.Listed.{dirty_pages};
+ghost use Rattle.ssc.specs.CacheState.{Holds, HasMemory, IsAsBefore, TookRoom, entries_of, geometry_of, log_room, open_room, pending};
 
 use merge_engine::Parts;
 use std::alloc::AllocError;
@@ -36,21 +39,25 @@ impl Ssc {
 
     /// The dirty pages of a group: the bit of value 2^i for its address i.
     pub fn dirty_bits(&self, group: u64) -> u64
-        ensures { (contents : Contents) (s : CacheList) → Holds self.now contents s → result ≡ chosen_of Dirty (geometry_of self.now) (entries_of self.now) group }
+        ensures bits { (contents : Contents) (s : CacheList) → Holds self.now contents s → result ≡ chosen_of Dirty (geometry_of self.now) (entries_of self.now) group }
+        ensures list { (contents : Contents) (s : CacheList) → Holds self.now contents s → result ≡ dirty_pages (geometry_of self.now) s group }
     {
         self.parts.map.dirty_bits(group)
     }
 
     /// How many addresses are held.
     pub fn held(&self) -> u64
-        ensures { result ≡ held_count (entries_of self.now) }
+        ensures count { result ≡ held_count (entries_of self.now) }
+        ensures list { (contents : Contents) (s : CacheList) → Holds self.now contents s → result ≡ length (entries s) }
     {
         self.parts.map.held()
     }
 
-    /// The buckets of the map's page-mapped part, which is a plain list yet.
+    /// The buckets of the map of log pages: none, or a power of two from 32 on, of which at least a
+    /// quarter is free.
     pub fn buckets(&self) -> u64
-        ensures { result ≡ 0 }
+        ensures count { result ≡ self.now.parts.map.buckets }
+        ensures bound { AreBucketsFor (entries_of self.now) result }
     {
         self.parts.map.buckets()
     }
@@ -77,7 +84,7 @@ impl Ssc {
     }
 
     /// Takes the memory of the next write: for its page, and for the groups that it may merge. Refused,
-    /// all is as before.
+    /// all is as before, though the map may have more buckets.
     pub fn reserve(&mut self) -> Result<(), AllocError>
         ensures holds { (contents : Contents) (s : CacheList) → Holds self.old contents s → Holds self.new contents s }
         ensures same { geometry_of self.new ≡ geometry_of self.old }
@@ -87,7 +94,9 @@ impl Ssc {
         ensures stopped { self.new.stopped ≡ self.old.stopped }
         ensures ready { OnOk result (self.new.ready ≡ true) }
         ensures memory { OnOk result (self.old.ready ≡ false → HasMemory self.new.parts) }
-        ensures refused { OnErr result ((self.old.ready ≡ false) × (self.new ≡ self.old)) }
+        ensures room { OnOk result (self.old.ready ≡ false → TookRoom self.old.parts self.new.parts) }
+        ensures there { self.old.ready ≡ true → IsOk result × (self.new ≡ self.old) }
+        ensures refused { OnErr result ((self.old.ready ≡ false) × IsAsBefore self.old self.new) }
     {
         if !self.ready {
             self.parts.map.reserve(1, self.parts.geometry.p())?;

@@ -11,7 +11,7 @@ ghost use Rattle.cache_model.specs.Cache.{CacheList, Inserted, Cleaned, written_
 ghost use Rattle.cache_model.specs.declared.entry.Entry.{Entry};
 ghost use Rattle.merge_engine.specs.Agreement.{Agree, Lists};
 ghost use Rattle.ssc.specs.Errors.{ssc_failed, ssc_lost, stops};
-ghost use Rattle.ssc.specs.CacheState.{HasMemory, Holds, IsUp, entries_of, geometry_of, log_room, open_room, pending};
+ghost use Rattle.ssc.specs.CacheState.{HasMemory, Holds, IsAsBefore, IsUp, entries_of, geometry_of, log_room, open_room, pending};
 ghost use Rattle.ssc.specs.Steps.{IsPushed, PutsBlock, StandsForStep};
 ghost use Rattle.ssc.specs.Commands.{ImagesOf, ImagesOfWrite, FullExactly, HoldsWritten, PendsWith, IsHeldIn, ReadOf, UnlessFound};
 
@@ -37,7 +37,8 @@ impl Ssc {
         ensures geometry { geometry_of self.new ≡ geometry_of self.old }
         ensures full { (s : CacheList) → Holds self.old (M.state media.old).contents s → FullExactly (geometry_of self.old) s lba result }
         ensures full_keeps { (n l : ℕ) → IsErrOf result (SscError.Full n l) → (self.new ≡ self.old) × (M.state media.new ≡ M.state media.old) }
-        ensures memory { IsErrOf result SscError.OutOfMemory → (self.old.ready ≡ false) × (self.new ≡ self.old) × (M.state media.new ≡ M.state media.old) }
+        ensures memory { IsErrOf result SscError.OutOfMemory → (self.old.ready ≡ false) × IsAsBefore self.old self.new × (M.state media.new ≡ M.state media.old) }
+        ensures memory_holds { IsErrOf result SscError.OutOfMemory → (contents : Contents) (s : CacheList) → Holds self.old contents s → Holds self.new contents s }
         ensures stopped { self.new.stopped ≡ stops result }
         ensures done { OnOk result ((s : CacheList) → Holds self.old (M.state media.old).contents s → HoldsWritten self.new (M.state media.new).contents s lba (written_dirty lba block.now)) }
         ensures nothing_waits { OnOk result (pending self.new ≡ []) }
@@ -77,7 +78,8 @@ impl Ssc {
         requires lba { lba < (geometry_of self.old).size }
         ensures geometry { geometry_of self.new ≡ geometry_of self.old }
         ensures full { (n l : ℕ) → IsErrOf result (SscError.Full n l) → ⊥ }
-        ensures memory { IsErrOf result SscError.OutOfMemory → (self.old.ready ≡ false) × (self.new ≡ self.old) × (M.state media.new ≡ M.state media.old) }
+        ensures memory { IsErrOf result SscError.OutOfMemory → (self.old.ready ≡ false) × IsAsBefore self.old self.new × (M.state media.new ≡ M.state media.old) }
+        ensures memory_holds { IsErrOf result SscError.OutOfMemory → (contents : Contents) (s : CacheList) → Holds self.old contents s → Holds self.new contents s }
         ensures stopped { self.new.stopped ≡ stops result }
         ensures done { OnOk result ((s : CacheList) → Holds self.old (M.state media.old).contents s → HoldsWritten self.new (M.state media.new).contents s lba (written_clean lba block.now)) }
         ensures over_held { OnOk result ((s : CacheList) → Holds self.old (M.state media.old).contents s → IsHeldIn s lba → pending self.new ≡ []) }
@@ -177,6 +179,7 @@ impl Ssc {
         ensures held { OnOk result ((s : CacheList) → Holds self.old (M.state media.old).contents s → IsHeldIn s lba → pending self.new ≡ []) }
         ensures absent { OnOk result ((s : CacheList) → Holds self.old (M.state media.old).contents s → get s lba ≡ None → (self.new ≡ self.old) × (M.state media.new ≡ M.state media.old)) }
         ensures images { (s : CacheList) → Holds self.old (M.state media.old).contents s → ImagesOf self.old (M.state media.new).contents s (evicted lba s) }
+        ensures one_program { OnOk result ((s : CacheList) → Holds self.old (M.state media.old).contents s → IsHeldIn s lba → 1 ≤ log_room self.old → (M.state media.new).counts ≡ program_counted (M.state media.old).counts) }
         ensures ready { self.new.ready ≡ self.old.ready }
         ensures drives { DrivesFlash (M.state media.old) (M.state media.new) (ssc_failed result) (ssc_lost result) }
     {
@@ -222,12 +225,12 @@ impl Ssc {
         ensures refused { OnErr result (out.new.items ≡ out.old.items) }
     {
         let before = out.len();
-        for i in 0..self.parts.map.held() {
-            if self.list_dirty(i, from, from + count, out).is_err() {
-                out.truncate(before);
-                return Err(AllocError);
-            }
+        if self.list_dirty(from, from + count, out).is_err() {
+            out.truncate(before);
+            return Err(AllocError);
         }
+        let listed = &mut out[before..];
+        listed.sort_unstable();
         Ok(())
     }
 
@@ -242,6 +245,7 @@ impl Ssc {
         ensures done { OnOk result ((s : CacheList) → Holds self.old (M.state media.old).contents s → Holds self.new (M.state media.new).contents s) }
         ensures nothing_waits { OnOk result (pending self.new ≡ []) }
         ensures images { (s : CacheList) → Holds self.old (M.state media.old).contents s → ImagesOf self.old (M.state media.new).contents s s }
+        ensures one_program { OnOk result (pending self.old ≢ [] → 1 ≤ log_room self.old → (M.state media.new).counts ≡ program_counted (M.state media.old).counts) }
         ensures ready { self.new.ready ≡ self.old.ready }
         ensures drives { DrivesFlash (M.state media.old) (M.state media.new) (ssc_failed result) (ssc_lost result) }
     {

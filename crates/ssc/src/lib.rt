@@ -14,7 +14,12 @@ mod formatting;
 mod listing;
 mod opening;
 mod putting;
+mod scrubbing;
 
 pub use cache::Ssc;
 pub use error::SscError;
 pub use op_log::OpenError;
+pub use scrubbing::Scrub;
+
+#[cfg(test)]
+mod tests;

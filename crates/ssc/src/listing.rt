@@ -1,24 +1,33 @@
-ghost use Rattle.std.specs.Prelude.{◌≡◌, ◌++◌, OnOk, OnErr};
-ghost use Rattle.std.specs.List.{slice_get};
-ghost use Rattle.std.specs.FinMap.{entries};
+ghost use Rattle.std.specs.Prelude.{◌≡◌, ◌++◌, Option, OnOk, OnErr, length, take};
 ghost use Rattle.ssc.specs.CacheState.{entries_of};
-ghost use Rattle.ssc.specs.Listed.{listed_at, shown};
+ghost use Rattle.ssc.specs.Listed.{AddsListed, AddsNumber, IsListedAt};
 
 use crate::Ssc;
 use std::alloc::AllocError;
 
 // The steps of `exists`.
 impl Ssc {
-    /// Adds the address of entry `i`, counted from 0, where it is dirty, at least `from` and below
-    /// `end`. Refused, `out` is as before.
+    /// Adds each address that is dirty, at least `from` and below `end`, in the order of their pages.
+    /// Whatever it answers, what was in `out` stands there still.
     pub(crate) fn list_dirty(
         &self,
-        i: u64,
         from: u64,
         end: u64,
         out: &mut Vec<u64>,
     ) -> Result<(), AllocError>
-        ensures done { OnOk result (out.new.items ≡ out.old.items ++ shown (listed_at from end (slice_get (entries (entries_of self.now)) i))) }
+        ensures done { OnOk result (AddsListed from end (entries_of self.now) out.old.items out.new.items) }
+        ensures front { take (length out.old.items) out.new.items ≡ out.old.items }
+    {
+        for i in 0..self.parts.map.numbers() {
+            self.list_number(i, from, end, out)?;
+        }
+        Ok(())
+    }
+
+    /// Adds the address of the entry of number `i`, where it is dirty, at least `from` and below `end`.
+    /// Refused, `out` is as before.
+    fn list_number(&self, i: u32, from: u64, end: u64, out: &mut Vec<u64>) -> Result<(), AllocError>
+        ensures done { OnOk result (AddsNumber self.now.parts.map.geometry (entries_of self.now) from end i out.old.items out.new.items) }
         ensures refused { OnErr result (out.new.items ≡ out.old.items) }
     {
         match self.dirty_nth(i, from, end) {
@@ -32,9 +41,9 @@ impl Ssc {
         }
     }
 
-    /// The address of entry `i`, where it is dirty, at least `from` and below `end`.
-    fn dirty_nth(&self, i: u64, from: u64, end: u64) -> Option<u64>
-        ensures { result ≡ listed_at from end (slice_get (entries (entries_of self.now)) i) }
+    /// The address of the entry of number `i`, where it is dirty, at least `from` and below `end`.
+    fn dirty_nth(&self, i: u32, from: u64, end: u64) -> Option<u64>
+        ensures { IsListedAt self.now.parts.map.geometry (entries_of self.now) from end i result }
     {
         let (lba, _) = self.parts.map.nth(i)?;
         if lba < from {

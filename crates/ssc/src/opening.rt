@@ -1,6 +1,7 @@
 ghost use Rattle.std.specs.Prelude.{◌≡◌, ◌<◌, ◌≤◌, [], false, Ok, IfOk, IfErr, OnOk};
 ghost use Rattle.ft_base.specs.Count.{Rose};
 ghost use Rattle.ft_base.specs.Contents.{Image, Now};
+ghost use Rattle.ft_base.specs.Layout.{log_pages};
 ghost use Rattle.ft_media.specs.Drives.{DrivesFlash};
 ghost use Rattle.cache_model.specs.Cache.{CacheList};
 ghost use Rattle.cache_model.specs.Entries.{IsMap};
@@ -8,7 +9,7 @@ ghost use Rattle.cache_model.specs.Loading.{load};
 ghost use Rattle.cache_model.specs.Stands.{StandsFor};
 ghost use Rattle.op_log.specs.Log.{FitsOn};
 ghost use Rattle.op_log.specs.Refusals.{open_failed, open_lost, IsRefusal};
-ghost use Rattle.ssc.specs.CacheState.{Holds, IsUp, entries_of, geometry_of, pending};
+ghost use Rattle.ssc.specs.CacheState.{Holds, IsUp, entries_of, geometry_of, log_room, open_room, pending};
 ghost use Rattle.ssc.specs.Steps.{IsLoadedAs};
 
 use crate::Ssc;
@@ -33,6 +34,9 @@ impl Ssc {
         ensures loads { IfOk result (λ c. load geometry.now (M.state media.old).contents.flash.page ≡ Ok (entries_of c)) }
         ensures nothing_waits { IfOk result (λ c. pending c ≡ []) }
         ensures log { IfOk result (λ c. c.parts.log.next ≡ 0) }
+        ensures empty_log { IfOk result (λ c. log_room c ≡ log_pages geometry.now) }
+        // No log block is open.
+        ensures closed { IfOk result (λ c. open_room c ≡ 0) }
         ensures up { IfOk result (λ c. c.stopped ≡ false) }
         // Whatever flash it was, commands may be called.
         ensures is_up { IfOk result (λ c. IsUp c (M.state media.new).contents) }

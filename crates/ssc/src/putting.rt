@@ -171,6 +171,7 @@ pub(crate) fn take_out<M: Media>(
     ensures lists { OnOk result ((list durable : CacheList) → Lists parts.old (M.state media.old).contents.flash.page list durable → Lists parts.new (M.state media.new).contents.flash.page (evicted lba list) (evicted lba list)) }
     // Whatever is answered, and wherever power went off.
     ensures stands { (list durable : CacheList) → Lists parts.old (M.state media.old).contents.flash.page list durable → StandsForEither parts.old.geometry (M.state media.new).contents.flash.page durable (evicted lba list) }
+    ensures one_program { OnOk result (parts.old.log.next < log_pages parts.old.geometry → (M.state media.new).counts ≡ program_counted (M.state media.old).counts) }
     ensures memory { IsErrOf result MediaError.OutOfMemory → ⊥ }
     ensures drives { DrivesFlash (M.state media.old) (M.state media.new) (failed result) (lost result) }
 {

@@ -15,8 +15,11 @@ pub mod BacksLemmas
 mod WentLemmas
 mod WithinLemmas
 pub mod SaidLemmas
+pub mod PieceLemmas
 pub mod InputLemmas
 pub mod MadeLemmas
+pub mod QuietLemmas
+pub mod ToldLemmas
 pub mod PendingLemmas
 pub mod ReaderLemmas
 pub mod StreamLemmas

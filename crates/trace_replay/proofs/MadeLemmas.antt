@@ -1,27 +1,24 @@
 -- A script over a made trace, one event after the other, and what a run of it says.
-use Rattle.std.proofs.Common.{◌≡◌, ◌==◌, ◌+◌, ◌-◌, ◌≤◌, ◌++◌, ℕ, zero, suc, Bool, true, false, not, nat_lt, List, [], ◌∷◌, length, map, refl, sym, ap, ◌∙◌, subst, append_assoc, Option, Some, None, IfSome, Result, Ok, Err, IfErr, IsErrOf, take, inl, inr, arith}
+use Rattle.std.proofs.Common.{◌≡◌, ◌+◌, ◌-◌, ◌≤◌, ◌++◌, ℕ, zero, suc, Bool, true, false, not, nat_lt, List, [], ◌∷◌, length, map, refl, sym, ap, ◌∙◌, subst, append_assoc, Option, Some, None, IfSome, Result, Ok, Err, IfErr, IsErrOf, take, inl, inr, arith}
 use Rattle.std.specs.Io.KnownBytes.{Appends}
-use Rattle.std.specs.List.{list_all, range_with_len}
+use Rattle.std.specs.List.{list_all}
 use Rattle.std.proofs.lemmas.Bool.{and_parts, cases_Bool}
 use Rattle.std.proofs.lemmas.List.{append-nil, map-append}
 use Rattle.std.proofs.lemmas.List.Elements.{filter-append}
 use Rattle.ft_base.specs.declared.block.Block.{Block}
-use Rattle.ft_base.specs.PlainDisk.{PlainDisk}
-use Rattle.ft_base.specs.Pattern.{tag_in}
 use Rattle.ft_base.specs.StreamState.{SinkState, SourceState}
 use Rattle.trace_gen.specs.declared.trace.TraceGen.{TraceGen}
 use Rattle.trace_gen.specs.Left.{lines_left}
 use Rattle.trace_gen.specs.Made as made
 use Rattle.trace_gen.specs.Made.{IsMadeLine, drawn, line_made, line_of_kind, lines_made}
 use Rattle.trace_model.specs.declared.answer.Answer.{Answer}
-use Rattle.trace_model.specs.declared.answer.Answer.TheVariants as answer
 use Rattle.trace_model.specs.declared.line.Line.{Line}
 use Rattle.trace_model.specs.declared.line.Line.TheVariants as line
 use Rattle.trace_model.specs.declared.line.LineError.{LineError}
 use Rattle.trace_model.specs.declared.ran.Ran.{Ran}
 use Rattle.trace_model.specs.Lines.{IsRunnable}
 use Rattle.trace_model.specs.Readings.{Reading, accepted}
-use Rattle.trace_model.specs.Run.{answers_of, disk_without, lines_of, own_answers, stopped, told}
+use Rattle.trace_model.specs.Run.{lines_of}
 use Rattle.trace_model.specs.SoFar.{is_stop, next_refusal}
 use Rattle.trace_model.specs.Text.{text, text_of}
 use Rattle.trace_replay.specs.declared.ended.Ended.{Ended}
@@ -31,8 +28,9 @@ use Rattle.trace_replay.specs.Events.{Event, answers_in, events_of, lines_given}
 use Rattle.trace_replay.specs.Events.Event.{Gave, Took, Touched}
 use Rattle.trace_replay.specs.Made.{BrokeMade, CameMade, lines_named, stand_in}
 use Rattle.trace_replay.specs.Said.{Said, SaidPart, Takes}
-use Rattle.trace_replay.proofs.GivenLemmas.{answers_in-append, answers_in-run, lines_given-append}
+use Rattle.trace_replay.proofs.GivenLemmas.{answers_in-append, lines_given-append}
 use Rattle.trace_replay.proofs.SaidLemmas.{said_none, said_then, said_part-then}
+use Rattle.trace_replay.proofs.ToldLemmas.{SkipsLines, said_of}
 
 -- ---- a line of a made trace
 
@@ -138,39 +136,12 @@ made_first g b = record { lines = refl; said = said_none b }
 
 -- ---- what a run says
 
-none_stopped : (n : ℕ) → ends_in (stopped n) ≡ []
-none_stopped zero = refl
-none_stopped (suc n) = none_stopped n
-
-none_read : (disk : PlainDisk) (addresses : List ℕ) → ends_in (map (λ a. answer.ReadBack a (tag_in (disk a))) addresses) ≡ []
-none_read disk [] = refl
-none_read disk (a ∷ addresses) = none_read disk addresses
-
-none_own : (l : Line) (cuts kept : ℕ) (disk : PlainDisk) → ends_in (own_answers l cuts kept disk) ≡ []
-none_own (line.Write lba count tag) cuts kept disk = elim (cases_Bool (cuts == 0)) [ inl none ↦ rw none refl | inr some ↦ rw some refl ]
-none_own (line.Read lba count) cuts kept disk = none_read disk (range_with_len lba count)
-none_own line.Flush cuts kept disk = refl
-none_own line.Idle cuts kept disk = refl
-none_own (line.Stop after outcome) cuts kept disk = refl
-none_own (line.Cut outcome) cuts kept disk = refl
-none_own line.Nothing cuts kept disk = refl
-
-none_then : (xs ys : List Answer) → ends_in xs ≡ [] → ends_in ys ≡ [] → ends_in (xs ++ ys) ≡ []
-none_then xs ys first next = filter-append is_end xs ys ∙ ap (λ (r : List Answer). r ++ ends_in ys) first ∙ next
-
 -- no line answers an end line
-none_told : (run : List Ran) → ends_in (told run) ≡ []
-none_told [] = refl
-none_told (ran ∷ earlier) =
-    let disk = disk_without ran.lost earlier in
-    none_then (told earlier) (answers_of ran disk) (none_told earlier) (none_then (stopped ran.cuts) (own_answers ran.line ran.cuts ran.kept disk) (none_stopped ran.cuts) (none_own ran.line ran.cuts ran.kept disk))
+no_line : SkipsLines is_end
+no_line = record { wrote = λ lba count. refl; stopped = refl; kept = λ kept count. refl; read = λ lba tag. refl; flushed = refl; idle = refl; cut = refl }
 
 ends_told : (run : List Ran) (answers : List Answer) (more : List Event) → answers_in more ≡ answers → ends_in (answers_in (events_of run ++ more)) ≡ ends_in answers
-ends_told run answers more is =
-    ends_more (events_of run) more
-    ∙ ap (λ (r : List Answer). ends_in r ++ ends_in (answers_in more)) (answers_in-run run)
-    ∙ ap (λ (r : List Answer). r ++ ends_in (answers_in more)) (none_told run)
-    ∙ ap ends_in is
+ends_told run answers more is = said_of is_end no_line run answers more is
 
 -- where the sink took so much in the end
 pub told_end : (x y : SinkState) (taken : Option (List ℕ)) → y.taken ≡ taken → (run : List Ran) (answers : List Answer) (more : List Event) → answers_in more ≡ answers → Said x y (ends_in (answers_in (events_of run ++ more)))

@@ -13,7 +13,7 @@ use Rattle.cache_model.specs.Records.{Entries}
 use Rattle.ft_media.specs.State.{State}
 use Rattle.ft_media.specs.declared.rig.Counts.{Counts}
 use Rattle.ft_volume.specs.Volume.{Call, Costs, Goes, IsOwn, LieIn, VolumeState, backs_of, misses, opened_of, table_after, volume_lost}
-use Rattle.ft_volume.specs.Volume.Call.{Reads, Writes, Flushes, Idles}
+use Rattle.ft_volume.specs.Volume.Call.{Reads, Writes, Flushes, Idles, Reports}
 use Rattle.ft_volume.specs.declared.volume.VolumeError.{VolumeError}
 use Rattle.ft_volume.specs.declared.volume.VolumeError.TheVariants as volume
 use Rattle.ft_volume.proofs.OpenedLemmas.{opened_up}
@@ -261,12 +261,14 @@ step_of (Reads lba block) = Touches lba ∷ []
 step_of (Writes lba block) = Puts lba ∷ []
 step_of Flushes = []
 step_of Idles = Rests ∷ []
+step_of Reports = []
 
 own_or_held : (call : Call) (held : ℕ → Bool) (a : ℕ) → held_after held (step_of call) a ≡ true → (held a ≡ true) ⊎ IsOwn call a
 own_or_held (Reads lba block) held a is = elim (or_cases (lba == a) (held a) is) [ inl here ↦ inr (sym (eqb-true lba a here)) | inr there ↦ inl there ]
 own_or_held (Writes lba block) held a is = elim (or_cases (lba == a) (held a) is) [ inl here ↦ inr (sym (eqb-true lba a here)) | inr there ↦ inl there ]
 own_or_held Flushes held a is = inl is
 own_or_held Idles held a is = inl is
+own_or_held Reports held a is = inl is
 
 same_number : (n a : ℕ) → a ≡ n → (n == a) ≡ true
 same_number n a is = eq-eqb n a (sym is)
@@ -280,24 +282,29 @@ held_or_own Flushes held a (inl is) = is
 held_or_own Flushes held a (inr own) = absurd own
 held_or_own Idles held a (inl is) = is
 held_or_own Idles held a (inr own) = absurd own
+held_or_own Reports held a (inl is) = is
+held_or_own Reports held a (inr own) = absurd own
 
 table_call : (call : Call) (o : Told) (t : Table) → table_after call o t ≡ table_steps o (step_of call) t
 table_call (Reads lba block) o t = refl
 table_call (Writes lba block) o t = refl
 table_call Flushes o t = refl
 table_call Idles o t = refl
+table_call Reports o t = refl
 
 backs_call : (call : Call) (o : Told) (t : Table) → backs_of call o t ≡ backs_steps o (step_of call) t
 backs_call (Reads lba block) o t = refl
 backs_call (Writes lba block) o t = omega arith
 backs_call Flushes o t = refl
 backs_call Idles o t = omega arith
+backs_call Reports o t = refl
 
 misses_call : (call : Call) (held : ℕ → Bool) → misses call held ≡ misses_in held (step_of call)
 misses_call (Reads lba block) held = omega arith
 misses_call (Writes lba block) held = refl
 misses_call Flushes held = refl
 misses_call Idles held = refl
+misses_call Reports held = refl
 
 lie_in : (call : Call) (v : VolumeState) (groups : List ℕ) → StayIn v.told v.held (step_of call) groups → LieIn v.told call v.held groups
 lie_in call v groups lie = record { few = lie.few; all = λ k is. lie.all k (held_or_own call v.held k is) }

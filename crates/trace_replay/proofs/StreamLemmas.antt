@@ -21,7 +21,7 @@ use Rattle.trace_replay.specs.Events.Event.{Gave, Took, Touched}
 use Rattle.trace_replay.specs.Reader.{CameTo, RefusesNext}
 use Rattle.trace_replay.specs.Said.{Said, SaidPart, Takes}
 use Rattle.trace_replay.specs.Stream.{BrokeStream, CameStream}
-use Rattle.trace_replay.proofs.GivenLemmas.{answers_in-append, answers_in-run, lines_given-append}
+use Rattle.trace_replay.proofs.GivenLemmas.{answers_in-append, answers_in-run, answers_in-taking, lines_given-append, lines_given-taking, told_bytes-taking}
 use Rattle.trace_replay.proofs.SaidLemmas.{said_then, said_part-then}
 
 -- ---- the bytes of the digest
@@ -41,6 +41,9 @@ gave_bytes e l = bytes_then e (Gave l ∷ []) ∙ append-nil (told_bytes e)
 
 pub refused_bytes : (e : List Event) (cause : LineError) → told_bytes (e ++ taking (refusal_after e cause ∷ [])) ≡ told_bytes e
 refused_bytes e cause = took_bytes e (refusal_after e cause)
+
+pub takes_bytes : (e : List Event) (given : List Answer) → told_bytes (e ++ taking given) ≡ told_bytes e
+takes_bytes e given = bytes_then e (taking given) ∙ ap (λ (r : List ℕ). told_bytes e ++ r) (told_bytes-taking given) ∙ append-nil (told_bytes e)
 
 -- an address and its block are
 pub touched_bytes : (e : List Event) (lba : ℕ) (block : Block) (x y : List ℕ) → x ≡ to_be_bytes w64 lba → y ≡ block.0 → (told_bytes e ++ x) ++ y ≡ told_bytes (e ++ Touched lba block ∷ [])
@@ -79,6 +82,18 @@ module _ (r : Reader) (a : SourceState) (x : SinkState) (s : SourceState) (b : S
 
   pub came_touched : (lba : ℕ) (block : Block) → CameStream r a x s b (e ++ Touched lba block ∷ [])
   came_touched lba block = came_more r a x (Touched lba block ∷ []) came.read refl (subst (λ (said : List Answer). Said b x said) (sym (answers_in-append e (Touched lba block ∷ []) ∙ append-nil (answers_in e))) came.said)
+
+  -- answers that were said together, all of them
+  pub came_takes : (q : Reader) (z : SourceState) (y : SinkState) (given : List Answer) → CameTo s (lines_given e) z q → Said x y given → CameStream q z y s b (e ++ taking given)
+  came_takes q z y given read said =
+      came_more q z y (taking given) read (lines_given-taking given)
+      (subst (λ (said : List Answer). Said b y said) (sym (answers_in-append e (taking given) ∙ ap (λ (r : List Answer). answers_in e ++ r) (answers_in-taking given))) (said_then b x y (answers_in e) given came.said said))
+
+  -- or some, and a part of the next one
+  pub came_breaks : (y : SinkState) (given : List Answer) (next : Answer) → SaidPart x y given (Some next) → BrokeStream b y (e ++ taking given) (Took next)
+  came_breaks y given next part =
+      subst (λ (said : List Answer). SaidPart b y said (Some next)) (sym (answers_in-append e (taking given) ∙ ap (λ (r : List Answer). answers_in e ++ r) (answers_in-taking given)))
+      (said_part-then b x y (answers_in e) given (Some next) came.said part)
 
   -- and where the sink failed
   pub came_broke : (y : SinkState) (given : Answer) → SaidPart x y [] (Some given) → BrokeStream b y e (Took given)

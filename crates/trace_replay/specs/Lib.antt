@@ -12,3 +12,4 @@ pub mod Made
 pub mod Pending
 pub mod Reader
 pub mod Stream
+pub mod Quiet

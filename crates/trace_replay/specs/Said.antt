@@ -60,6 +60,11 @@ pub record TookPart (e : Ended) (says : List Answer → Type 0) (short : List An
   pub both : due ≡ front ++ rest
   pub taken : Takes e says short front rest
 
+-- the same of what is said, and not all of it was
+pub record SaidFront (e : Ended) (old new : SinkState) (due : List Answer) : Type 0 where
+  pub part : TookPart e (Said old new) (SaidPart old new) due
+  pub proper : part.rest ≡ [] → ⊥
+
 abbrev pub IsDevice : Ended → Type 0
 IsDevice ended.Flash = ⊤
 IsDevice ended.Disk = ⊤

@@ -59,6 +59,9 @@ pub fn replay_script<P: Script, R: Rig, V: Volume<R>>(
     ensures lent { (R.state rig.new).lent ≡ (R.state rig.old).lent }
     ensures script_lent { (P.state script.new).lent ≡ (P.state script.old).lent }
     ensures script_size { (P.state script.new).size ≡ (P.state script.old).size }
+    ensures sink_later { (P.state script.old).sink_faults ≤ (P.state script.new).sink_faults }
+    ensures flash_later { (R.state rig.old).faults.flash ≤ (R.state rig.new).faults.flash }
+    ensures disk_later { (R.state rig.old).faults.disk ≤ (R.state rig.new).faults.disk }
 {
     let mut tally = Tally::new(alloc);
     run_lines(alloc, script, rig, volume, &mut tally)?;

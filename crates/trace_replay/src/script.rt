@@ -10,6 +10,7 @@ ghost use Rattle.trace_model.specs.Readings.{Reading};
 ghost use Rattle.trace_model.specs.SoFar.{is_stop};
 ghost use Rattle.trace_replay.specs.Events.{Came, Event, KnowsGiven, KnowsLines, NextRefused, ScriptState, refusal_after, taking, told_bytes};
 ghost use Rattle.trace_replay.specs.Events.Event.{Gave, Took, Touched};
+ghost use Rattle.trace_replay.specs.Saying.{SaysSo};
 
 use crate::Ended;
 use ft_base::Block;
@@ -70,6 +71,17 @@ pub trait Script {
         ensures size { (state self.new).size ≡ (state self.old).size }
         ensures spare { (state self.new).spare ≡ (state self.old).spare }
         ensures lent { (state self.new).lent ≡ (state self.old).lent };
+
+    /// Takes these answers, one after the other. A script that prints may print them together.
+    fn answers(&mut self, answers: &[Answer]) -> Result<(), Ended>
+        ensures said { SaysSo state came broke knows self.old self.new answers.now result }
+        ensures spare { (state self.new).spare ≡ (state self.old).spare }
+    {
+        for answer in answers {
+            self.answer(answer)?;
+        }
+        Ok(())
+    }
 
     /// Takes an address that the lines named, and its block.
     fn touched(&mut self, lba: u64, block: &Block) -> Result<(), Ended>

@@ -3,7 +3,7 @@ ghost use Rattle.std.specs.Prelude.{◌≡◌, ◌∷◌, ◌++◌, [], length, 
 ghost use Rattle.ft_base.specs.StreamState.{SinkState, SourceState};
 
 use crate::Ended;
-use crate::output::say;
+use crate::output::{say, say_all};
 use crate::reader::{Reader, Unread};
 use crate::script::Script;
 use ft_base::{Block, Sink, Source};
@@ -11,8 +11,8 @@ use sha2::{Digest, Sha256};
 use std::alloc::Global;
 use trace_model::{Answer, Line};
 
-/// Gives the lines of a source, and prints what becomes of them. It holds one piece of the source and one
-/// line at most, and takes memory for nothing but to print.
+/// Gives the lines of a source, and prints what becomes of them. It holds one piece of the source, one line
+/// and one piece of what it prints at most, and takes memory for nothing but to print.
 #[derive(Drop)]
 pub struct StreamScript<'a, I: Source, O: Sink> {
     alloc: Global,
@@ -96,6 +96,10 @@ impl<'a, I: Source, O: Sink> Script for StreamScript<'a, I, O> {
 
     fn answer(&mut self, answer: &Answer) -> Result<(), Ended> {
         say(self.alloc, &mut *self.sink, answer)
+    }
+
+    fn answers(&mut self, answers: &[Answer]) -> Result<(), Ended> {
+        say_all(self.alloc, &mut *self.sink, answers)
     }
 
     fn touched(&mut self, lba: u64, block: &Block) -> Result<(), Ended> {

@@ -1,9 +1,9 @@
 ghost use Rattle.std.specs.Prelude.{◌≤◌};
 
-use crate::output::say;
+use crate::output::{say, say_all};
 use crate::{Ended, Script, StreamScript};
 use ft_base::{MemSink, MemSource};
-use std::alloc::Global;
+use std::alloc::{AllocError, Global};
 use std::process::Abort;
 use std::test::Fail;
 use trace_model::{Answer, Line};
@@ -17,6 +17,45 @@ fn answers_are_printed_as_far_as_there_is_room(rt: HostRuntime) -> Result<(), Fa
     assert_eq!(rt; ended, Err(Ended::Sink));
     assert_eq!(rt; sink.bytes(), b"cut\ns".as_slice());
     assert_eq!(rt; sink.faults(), 1);
+    Ok(())
+}
+
+/// What is answered to a read of so many blocks.
+fn read_backs(alloc: Global, count: u64) -> Result<Vec<Answer>, AllocError> {
+    let mut answers = Vec::new(alloc);
+    for lba in 0..count {
+        answers.push(Answer::ReadBack { lba, tag: u64::MAX })?;
+    }
+    Ok(answers)
+}
+
+#[test]
+fn a_long_read_is_printed_in_fewer_than_a_hundred_writes(rt: HostRuntime) -> Result<(), Fail> {
+    let alloc = rt.alloc();
+    let answers = read_backs(alloc, 65_536)?;
+    // The hundredth write would fail.
+    let mut sink = MemSink::new(alloc, 4_000_000, 100_000, [100].to_vec(alloc)?)?;
+    let ended = say_all(alloc, &mut sink, answers.as_slice());
+    assert_eq!(rt; ended, Ok(()));
+    assert_eq!(rt; sink.faults(), 0);
+    assert!(rt;
+        sink.bytes()
+            .ends_with(b"\nread 65535 18446744073709551615\n")
+    );
+    Ok(())
+}
+
+// Its 3000 lines make two pieces.
+#[test]
+fn the_pieces_before_a_fault_are_printed(rt: HostRuntime) -> Result<(), Fail> {
+    let alloc = rt.alloc();
+    let answers = read_backs(alloc, 3000)?;
+    let mut sink = MemSink::new(alloc, 200_000, 100_000, [2].to_vec(alloc)?)?;
+    let ended = say_all(alloc, &mut sink, answers.as_slice());
+    assert_eq!(rt; ended, Err(Ended::Sink));
+    assert_eq!(rt; sink.faults(), 1);
+    assert!(rt; sink.bytes().len() >= 65_536);
+    assert!(rt; sink.bytes().ends_with(b" 18446744073709551615\n"));
     Ok(())
 }
 

@@ -12,7 +12,7 @@ ghost use Rattle.write_back.specs.Left as left;
 use crate::WriteBack;
 use ft_base::{Block, Geometry, Outcome, pattern, tag_of, zero_block};
 use ft_media::{Media, Rig};
-use ft_volume::{Idled, Options, Volume, VolumeError};
+use ft_volume::{Idled, Options, Report, Volume, VolumeError};
 use mem_rig::MemRig;
 use op_log::OpenError;
 use ssc::Ssc;
@@ -203,6 +203,33 @@ fn a_missed_block_is_read_from_the_disk_once(rt: HostRuntime) -> Result<(), Fail
     assert_eq!(rt; tag, Some(0));
     assert_eq!(rt; read(&mut volume, &mut rig, 6), Ok(Some(0)));
     assert_eq!(rt; rig.counts().disk_reads, 1);
+    Ok(())
+}
+
+#[test]
+fn a_report_counts_what_is_held_and_opens_a_volume_that_is_down(
+    rt: HostRuntime,
+) -> Result<(), Fail> {
+    let alloc = rt.alloc();
+    let options = options()?;
+    let mut rig = fitted(alloc, &options)?;
+    let mut volume = created(alloc, &mut rig, &options)?;
+    assert_eq!(rt; write(&mut volume, &mut rig, 5, 7), Ok(()));
+    assert_eq!(rt; read(&mut volume, &mut rig, 6), Ok(Some(0)));
+    // A dirty block and a clean one, in the first 32 buckets.
+    let told = Report {
+        held: 2,
+        dirty_groups: 1,
+        buckets: 32,
+        scrubbed: 2,
+    };
+    assert_eq!(rt; volume.report(&mut rig), Ok(told));
+    volume.cut(&mut rig, Outcome::Torn);
+    let again = volume.report(&mut rig)?;
+    assert!(rt; !is_down(&volume));
+    assert_eq!(rt; again.held, 2);
+    assert_eq!(rt; again.dirty_groups, 1);
+    assert_eq!(rt; again.scrubbed, 2);
     Ok(())
 }
 

@@ -24,7 +24,7 @@ use cached_disk::CachedDisk;
 use dirty_table::DirtyTable;
 use ft_base::{Block, Outcome};
 use ft_media::{Media, Rig};
-use ft_volume::{Idled, Mode, Options, Volume, VolumeError};
+use ft_volume::{Idled, Mode, Options, Report, Volume, VolumeError};
 use op_log::OpenError;
 use std::alloc::Global;
 
@@ -204,6 +204,13 @@ impl<R: Rig> Volume<R> for WriteBack {
     fn idle(&mut self, rig: &mut R) -> Result<Idled, VolumeError> {
         match self.bring_up(rig) {
             Ok(()) => self.idle_up(rig),
+            Err(error) => Err(error),
+        }
+    }
+
+    fn report(&mut self, rig: &mut R) -> Result<Report, VolumeError> {
+        match self.bring_up(rig) {
+            Ok(()) => self.disk.report(rig),
             Err(error) => Err(error),
         }
     }

@@ -9,7 +9,7 @@ ghost use Rattle.write_through.specs.Left as left;
 use crate::WriteThrough;
 use ft_base::{Block, Geometry, Outcome, pattern, tag_of, zero_block};
 use ft_media::Rig;
-use ft_volume::{Idled, Options, Volume, VolumeError};
+use ft_volume::{Idled, Options, Report, Volume, VolumeError};
 use mem_rig::MemRig;
 use op_log::OpenError;
 use std::alloc::Global;
@@ -125,6 +125,33 @@ fn what_was_written_is_read_after_a_cut(rt: HostRuntime) -> Result<(), Fail> {
     assert!(rt; is_down(&again));
     assert_eq!(rt; read(&mut again, &mut rig, 5), Ok(Some(7)));
     assert!(rt; !is_down(&again));
+    Ok(())
+}
+
+#[test]
+fn a_report_counts_what_is_held_and_opens_a_volume_that_is_down(
+    rt: HostRuntime,
+) -> Result<(), Fail> {
+    let alloc = rt.alloc();
+    let options = options()?;
+    let mut rig = fitted(alloc, &options)?;
+    let mut volume = created(alloc, &mut rig, &options)?;
+    assert_eq!(rt; write(&mut volume, &mut rig, 5, 7), Ok(()));
+    assert_eq!(rt; read(&mut volume, &mut rig, 6), Ok(Some(0)));
+    // The block that was written and the block that was read, both clean, in the first 32 buckets.
+    let told = Report {
+        held: 2,
+        dirty_groups: 0,
+        buckets: 32,
+        scrubbed: 2,
+    };
+    assert_eq!(rt; volume.report(&mut rig), Ok(told));
+    volume.cut(&mut rig, Outcome::Torn);
+    let again = volume.report(&mut rig)?;
+    assert!(rt; !is_down(&volume));
+    assert_eq!(rt; again.held, 2);
+    assert_eq!(rt; again.dirty_groups, 0);
+    assert_eq!(rt; again.scrubbed, 2);
     Ok(())
 }
 

@@ -22,7 +22,7 @@ ghost use Rattle.write_through.specs.Left as left;
 use cached_disk::CachedDisk;
 use ft_base::{Block, Outcome};
 use ft_media::{Media, Rig};
-use ft_volume::{Idled, Mode, Options, Volume, VolumeError};
+use ft_volume::{Idled, Mode, Options, Report, Volume, VolumeError};
 use op_log::OpenError;
 use std::alloc::Global;
 
@@ -155,6 +155,13 @@ impl<R: Rig> Volume<R> for WriteThrough {
     fn idle(&mut self, rig: &mut R) -> Result<Idled, VolumeError> {
         match self.bring_up(rig) {
             Ok(()) => self.disk.checkpoint_if_due(rig),
+            Err(error) => Err(error),
+        }
+    }
+
+    fn report(&mut self, rig: &mut R) -> Result<Report, VolumeError> {
+        match self.bring_up(rig) {
+            Ok(()) => self.disk.report(rig),
             Err(error) => Err(error),
         }
     }

@@ -1,7 +1,7 @@
-ghost use Rattle.std.specs.Prelude.{◌≡◌, ℕ, ◌+◌, ◌*◌, ◌==◌, Option, Some, None, OnOk, if◌then◌else◌, nat_eq};
+ghost use Rattle.std.specs.Prelude.{◌≡◌, ◌↔◌, ℕ, ◌+◌, ◌-◌, ◌*◌, ◌^◌, ◌≤◌, ◌==◌, min, Option, Some, None, OnOk, IsTrue, if◌then◌else◌, nat_eq};
 ghost use Rattle.std.specs.FinMap as map;
 ghost use Rattle.std.specs.HashMap as hash_map;
-ghost use Rattle.sparse_map.specs.Packed.{map_of, len_of, buckets_of};
+ghost use Rattle.sparse_map.specs.Packed.{map_of, len_of, buckets_of, memory_of};
 
 use sparse_map::SparseMap;
 use std::alloc::{AllocError, Global};
@@ -51,6 +51,9 @@ pub(crate) trait Measured: Drop {
         ensures value { result ≡ content self.old key }
         ensures content { (k : ℕ) → content self.new k ≡ (if key == k then None else content self.old k) };
 
+    /// Whether one key more makes it move into new lists, while the old ones are still there.
+    fn moves_next(&self) -> bool;
+
     /// How large it is.
     fn size(&self) -> Size;
 }
@@ -82,19 +85,25 @@ impl Measured for SparseMap<u64> {
         self.remove(key)
     }
 
-    /// The items are there once, and no bucket has a place of its own. The free places at the end of each list
-    /// aren't counted: up to four where it was trimmed, and more where items were removed since.
+    /// A quarter of the buckets stays free: 24 of each group's 32 may be taken.
+    fn moves_next(&self) -> bool
+        ensures { IsTrue result ↔ (3 * buckets_of self.now ≤ 4 * len_of self.now) }
+    {
+        24 * self.groups() <= self.len()
+    }
+
+    /// The map counts the places of its lists, the free ones and those of blank lists with them. No bucket has a place
+    /// of its own.
     fn size(&self) -> Size
         ensures entries { result.entries ≡ len_of self.now }
         ensures buckets { result.buckets ≡ buckets_of self.now }
-        ensures bytes { result.bytes ≡ 16 * len_of self.now + buckets_of self.now }
+        ensures bytes { result.bytes ≡ min (16 * memory_of self.now + buckets_of self.now) (2 ^ 64 - 1) }
     {
-        let groups = self.groups();
-        let entries = self.len();
+        let groups = GROUP * self.groups();
         Size {
-            entries,
+            entries: self.len(),
             buckets: self.buckets(),
-            bytes: ITEM * entries + GROUP * groups,
+            bytes: self.places().saturating_mul(ITEM).saturating_add(groups),
         }
     }
 }
@@ -119,6 +128,11 @@ impl Measured for HashMap<u64, u64> {
 
     fn take(&mut self, key: u64) -> Option<u64> {
         self.remove(&key)
+    }
+
+    /// Its lists grow where they are.
+    fn moves_next(&self) -> bool {
+        false
     }
 
     /// Each place for an entry takes an item and 8 bytes with its hash and where it is indexed. The index has

@@ -3,7 +3,7 @@ ghost use Rattle.std.specs.Option.{option_eq};
 
 use crate::map::keys::Keys;
 use crate::map::measured::{Measured, Size};
-use std::alloc::AllocError;
+use std::alloc::{AllocError, Global};
 use std::io;
 use std::rt::Clock;
 use std::time::{Duration, Instant};
@@ -47,6 +47,28 @@ pub(crate) fn rounds<M: Measured>(
         times = times.and(took);
     }
     Ok((size, times))
+}
+
+/// The most bytes that a map takes while the keys are set, one after another: where a key makes it move into new lists,
+/// those and the old ones are there at once.
+pub(crate) fn peak<M: Measured>(alloc: Global, keys: &[u64]) -> Result<u64, AllocError> {
+    let mut map = M::empty(alloc);
+    let mut most = 0;
+    for key in keys {
+        most = most.max(bytes_while_set(&mut map, *key)?);
+    }
+    Ok(most.max(map.size().bytes))
+}
+
+/// Sets a key, and gives the bytes of the lists before and after where it makes the map move, else 0.
+fn bytes_while_set<M: Measured>(map: &mut M, key: u64) -> Result<u64, AllocError> {
+    if !map.moves_next() {
+        map.set(key, key)?;
+        return Ok(0);
+    }
+    let before = map.size().bytes;
+    map.set(key, key)?;
+    Ok(before.saturating_add(map.size().bytes))
 }
 
 /// Makes a map of the keys, looks each up and takes each out.

@@ -1,75 +1,139 @@
-ghost use Rattle.std.specs.Prelude.{◌≡◌, ◌*◌, ◌/◌, ◌-◌, ◌^◌, min};
-ghost use Rattle.std.specs.Duration.{as_nanos};
+ghost use Rattle.std.specs.Prelude.{◌≡◌};
+ghost use Rattle.bench.specs.Figures.{tenths, nanoseconds, operations};
 
+use crate::map::churn::Churned;
 use crate::map::measured::Size;
 use crate::map::round::Times;
 use std::alloc::{AllocError, Global};
 use std::io;
 use std::time::Duration;
 
-/// A row of the table.
+/// What was measured of one map at one number of entries.
 #[derive(Clone, Copy)]
 pub(crate) struct Row {
-    name: &'static str,
-    size: Size,
-    times: Times,
+    pub(crate) name: &'static str,
+    pub(crate) size: Size,
+    /// The most bytes that the map took while it was filled.
+    pub(crate) peak: u64,
+    pub(crate) times: Times,
     /// How often each operation was done on each entry.
-    rounds: u32,
+    pub(crate) rounds: u32,
+}
+
+/// What a row shows, all in tenths: bytes for each entry, and nanoseconds for each operation.
+#[derive(Clone, Copy, Debug, PartialEq, Eq)]
+pub(crate) struct Figures {
+    pub(crate) bytes: u64,
+    pub(crate) peak: u64,
+    pub(crate) lookup: u64,
+    pub(crate) insertion: u64,
+    pub(crate) removal: u64,
 }
 
 impl Row {
-    /// The row of the map with this name.
-    pub(crate) fn new(name: &'static str, size: Size, times: Times, rounds: u32) -> Row {
-        Row {
-            name,
-            size,
-            times,
-            rounds,
+    /// The means that the row shows.
+    pub(crate) fn figures(&self) -> Figures
+        ensures bytes { result.bytes ≡ tenths self.now.size.bytes self.now.size.entries }
+        ensures peak { result.peak ≡ tenths self.now.peak self.now.size.entries }
+        ensures lookup { result.lookup ≡ tenths (nanoseconds self.now.times.lookups) (operations self.now.size.entries self.now.rounds) }
+        ensures insertion { result.insertion ≡ tenths (nanoseconds self.now.times.insertions) (operations self.now.size.entries self.now.rounds) }
+        ensures removal { result.removal ≡ tenths (nanoseconds self.now.times.removals) (operations self.now.size.entries self.now.rounds) }
+    {
+        let entries = self.size.entries;
+        let operations = entries.saturating_mul(u64::from(self.rounds));
+        Figures {
+            bytes: tenths_of(self.size.bytes, entries),
+            peak: tenths_of(self.peak, entries),
+            lookup: tenths_of(nanoseconds(self.times.lookups), operations),
+            insertion: tenths_of(nanoseconds(self.times.insertions), operations),
+            removal: tenths_of(nanoseconds(self.times.removals), operations),
         }
     }
 
-    /// Prints the row. Bytes are for each entry, and times are nanoseconds for each operation.
-    pub(crate) fn print(&self, rt: &(impl Print + AllocGlobal)) -> io::Result<()> {
-        let alloc = rt.alloc();
-        let size = self.size;
-        let operations = size.entries.saturating_mul(u64::from(self.rounds));
-        println!(rt;
-            "{:<6} {:>8} {:>8} {:>11} {:>10} {:>12} {:>10}",
+    /// The text of the row.
+    pub(crate) fn line(&self, alloc: Global) -> Result<String, AllocError> {
+        let figures = self.figures();
+        format!(in alloc;
+            "{:<6} {:>8} {:>8} {:>11} {:>10} {:>10} {:>12} {:>10}",
             self.name,
-            size.entries,
-            size.buckets,
-            mean(alloc, size.bytes, size.entries)?,
-            mean(alloc, nanoseconds(self.times.lookups), operations)?,
-            mean(alloc, nanoseconds(self.times.insertions), operations)?,
-            mean(alloc, nanoseconds(self.times.removals), operations)?
+            self.size.entries,
+            self.size.buckets,
+            decimal(alloc, figures.bytes)?,
+            decimal(alloc, figures.peak)?,
+            decimal(alloc, figures.lookup)?,
+            decimal(alloc, figures.insertion)?,
+            decimal(alloc, figures.removal)?
         )
     }
+}
+
+/// The text of the row of a map whose entries come and go. Bytes are for each entry, and times are nanoseconds for each
+/// step.
+pub(crate) fn churn_line(
+    alloc: Global,
+    name: &'static str,
+    churned: &Churned,
+) -> Result<String, AllocError> {
+    let size = churned.size;
+    let steps = u64::from(churned.steps);
+    format!(in alloc;
+        "{:<6} {:>8} {:>8} {:>11} {:>10}",
+        name,
+        size.entries,
+        size.buckets,
+        decimal(alloc, tenths_of(size.bytes, size.entries))?,
+        decimal(alloc, tenths_of(nanoseconds(churned.time), steps))?
+    )
+}
+
+/// Prints that row.
+pub(crate) fn print_churn(
+    rt: &(impl Print + AllocGlobal),
+    name: &'static str,
+    churned: &Churned,
+) -> io::Result<()> {
+    let row = churn_line(rt.alloc(), name, churned)?;
+    println!(rt; "{row}")
+}
+
+/// Prints the names of the columns for maps whose entries come and go.
+pub(crate) fn print_churn_head(rt: &(impl Print + AllocGlobal)) -> io::Result<()> {
+    println!(rt;
+        "{:<6} {:>8} {:>8} {:>11} {:>10}",
+        "churn", "entries", "buckets", "bytes/entry", "step ns"
+    )
 }
 
 /// Prints the names of the columns.
 pub(crate) fn print_head(rt: &(impl Print + AllocGlobal)) -> io::Result<()> {
     println!(rt;
-        "{:<6} {:>8} {:>8} {:>11} {:>10} {:>12} {:>10}",
-        "map", "entries", "buckets", "bytes/entry", "look-up ns", "insertion ns", "removal ns"
+        "{:<6} {:>8} {:>8} {:>11} {:>10} {:>10} {:>12} {:>10}",
+        "map",
+        "entries",
+        "buckets",
+        "bytes/entry",
+        "peak/entry",
+        "look-up ns",
+        "insertion ns",
+        "removal ns"
     )
 }
 
 /// A time in nanoseconds.
 fn nanoseconds(time: Duration) -> u64
-    ensures { result ≡ min (as_nanos time) (2 ^ 64 - 1) }
+    ensures { result ≡ nanoseconds time }
 {
     time.as_nanos().min(u128::from(u64::MAX)) as u64
 }
 
-/// A total divided by a count, with one decimal.
-fn mean(alloc: Global, total: u64, count: u64) -> Result<String, AllocError> {
-    let tenths = tenths_of(total, count);
+/// A number of tenths, with one decimal.
+fn decimal(alloc: Global, tenths: u64) -> Result<String, AllocError> {
     format!(in alloc; "{}.{}", tenths / 10, tenths % 10)
 }
 
 /// A total divided by a count, in tenths, rounded down; 0 where nothing was counted.
 fn tenths_of(total: u64, count: u64) -> u64
-    ensures { result ≡ min (10 * total) (2 ^ 64 - 1) / count }
+    ensures { result ≡ tenths total count }
 {
     if count == 0 {
         return 0;

@@ -1,12 +1,11 @@
 ghost use Rattle.std.specs.Prelude.{◌≡◌, ◌<◌, ◌≤◌, Some, None, Ok, Err, IfOk, MatchOption, option_and_then, if◌then◌else◌};
-ghost use Rattle.std.specs.FinMap.{entries};
 ghost use Rattle.ft_base.specs.Layout.{checkpoint_pages};
-ghost use Rattle.cache_model.specs.Reading.{read_records as records_read, read_header as header_read};
+ghost use Rattle.cache_model.specs.Reading.{read_records as records_read, read_page_header as header_read};
 ghost use Rattle.cache_model.specs.Records.{no_entries};
 ghost use Rattle.cache_model.specs.Loading as loading;
 ghost use Rattle.recovery.specs.Plain.{page_in, place_of, region_pages, told};
 
-use crate::plain::pages::{header_at, is_whole, page_at};
+use crate::plain::pages::{header_at, page_at};
 use crate::plain::regions::Sealed;
 use cache_model::{Header, PageKind};
 use ft_base::{Block, Geometry, Page, Place, Record};
@@ -134,20 +133,4 @@ fn apply_records(changes: &[Record], map: &mut Map) -> Result<bool, AllocError>
         map.apply(change);
     }
     Ok(true)
-}
-
-/// The place of the first entry, in ascending order of address, whose page isn't whole.
-pub(crate) fn first_not_whole(pages: &[Page], geometry: &Geometry, map: &Map) -> Option<Place>
-    ensures { MatchOption result
-        (loading.all_whole (page_in geometry.now pages.now) (entries map.now.entries) map.now.entries ≡ Ok map.now.entries)
-        (λ at. loading.all_whole (page_in geometry.now pages.now) (entries map.now.entries) map.now.entries ≡ Err (loading.Damaged at)) }
-{
-    for i in 0..map.held() {
-        if let Some((_, at)) = map.nth(i) {
-            if !is_whole(&page_at(pages, geometry, at)) {
-                return Some(at);
-            }
-        }
-    }
-    None
 }

@@ -4,7 +4,7 @@ ghost use Rattle.recovery.specs.Plain as plain;
 
 use cache_model::{Header, PageKind, Seal};
 use ft_base::{Geometry, Page, Place};
-use record_codec::{read_header, read_seal};
+use record_codec::{read_page_header, read_seal};
 
 /// The page at a place.
 pub(crate) fn page_at(pages: &[Page], geometry: &Geometry, at: Place) -> Page
@@ -42,7 +42,7 @@ pub(crate) fn header_at(page: &Page, kind: PageKind, era: u8, i: u32) -> Option<
     let Page::Whole(block, _) = page else {
         return None;
     };
-    let header = read_header(block)?;
+    let header = read_page_header(block)?;
     if !is_page(&header, kind, era, i) {
         return None;
     }
@@ -70,7 +70,7 @@ pub(crate) fn era_in(page: &Page) -> Option<u8>
     let Page::Whole(block, _) = page else {
         return None;
     };
-    if let Some(header) = read_header(block) {
+    if let Some(header) = read_page_header(block) {
         return Some(header.era);
     }
     let (header, _) = read_seal(block)?;

@@ -4,6 +4,7 @@ use Rattle.ssc.specs.CacheState.{geometry_of}
 use Rattle.cache_history.specs.History.{is_write}
 use Rattle.cache_history.specs.declared.kind.Kind.TheVariants as kinds
 use Rattle.cache_history.proofs.CommandLemmas.{write_dirty_answer, write_clean_answer, evict_answer, clean_answer, commit_answer, checkpoint_answer, up_after, up_written, left_of, left_of_write, full_of}
+use Rattle.cache_history.proofs.RefusedLemmas.{still_of, unchanged_of}
 use Rattle.cache_history.proofs.commands.give.Goals as goal
 
 pub returns-in-WriteDirty-clause-answered : goal.returns-in-WriteDirty-clause-answered
@@ -95,3 +96,39 @@ returns-in-Checkpoint-clause-full g c = λ n k e. absurd (c.checkpoint.ensures.f
 
 pub returns-in-Checkpoint-clause-memory : goal.returns-in-Checkpoint-clause-memory
 returns-in-Checkpoint-clause-memory g c = λ e. absurd (c.checkpoint.ensures.memory e)
+
+pub returns-in-WriteDirty-clause-unchanged : goal.returns-in-WriteDirty-clause-unchanged
+returns-in-WriteDirty-clause-unchanged g c = unchanged_of c.args.cache.now c.write_dirty.new.self (g.M.Media.state c.args.media.now) (g.M.Media.state c.write_dirty.new.media) c.write_dirty.result c.write_dirty.ensures.full_keeps (λ is. let none = c.write_dirty.ensures.memory is in (none.1, none.2))
+
+pub returns-in-WriteDirty-clause-still : goal.returns-in-WriteDirty-clause-still
+returns-in-WriteDirty-clause-still g c = still_of c.args.cache.now c.write_dirty.new.self (g.M.Media.state c.args.media.now) (g.M.Media.state c.write_dirty.new.media) c.write_dirty.result c.write_dirty.ensures.full_keeps (λ is. let none = c.write_dirty.ensures.memory is in (none.1, none.2)) c.write_dirty.ensures.memory_holds
+
+pub returns-in-WriteClean-clause-unchanged : goal.returns-in-WriteClean-clause-unchanged
+returns-in-WriteClean-clause-unchanged g c = unchanged_of c.args.cache.now c.write_clean.new.self (g.M.Media.state c.args.media.now) (g.M.Media.state c.write_clean.new.media) c.write_clean.result (λ n l is. absurd (c.write_clean.ensures.full n l is)) (λ is. let none = c.write_clean.ensures.memory is in (none.1, none.2))
+
+pub returns-in-WriteClean-clause-still : goal.returns-in-WriteClean-clause-still
+returns-in-WriteClean-clause-still g c = still_of c.args.cache.now c.write_clean.new.self (g.M.Media.state c.args.media.now) (g.M.Media.state c.write_clean.new.media) c.write_clean.result (λ n l is. absurd (c.write_clean.ensures.full n l is)) (λ is. let none = c.write_clean.ensures.memory is in (none.1, none.2)) c.write_clean.ensures.memory_holds
+
+pub returns-in-Evict-clause-unchanged : goal.returns-in-Evict-clause-unchanged
+returns-in-Evict-clause-unchanged g c = unchanged_of c.args.cache.now c.evict.new.self (g.M.Media.state c.args.media.now) (g.M.Media.state c.evict.new.media) c.evict.result (λ n l is. absurd (c.evict.ensures.full n l is)) (λ is. absurd (c.evict.ensures.memory is))
+
+pub returns-in-Evict-clause-still : goal.returns-in-Evict-clause-still
+returns-in-Evict-clause-still g c = still_of c.args.cache.now c.evict.new.self (g.M.Media.state c.args.media.now) (g.M.Media.state c.evict.new.media) c.evict.result (λ n l is. absurd (c.evict.ensures.full n l is)) (λ is. absurd (c.evict.ensures.memory is)) (λ is. absurd (c.evict.ensures.memory is))
+
+pub returns-in-Clean-clause-unchanged : goal.returns-in-Clean-clause-unchanged
+returns-in-Clean-clause-unchanged g c = unchanged_of c.args.cache.now c.clean.new.self (g.M.Media.state c.args.media.now) (g.M.Media.state c.clean.new.media) c.clean.result (λ n l is. absurd (c.clean.ensures.full n l is)) (λ is. absurd (c.clean.ensures.memory is))
+
+pub returns-in-Clean-clause-still : goal.returns-in-Clean-clause-still
+returns-in-Clean-clause-still g c = still_of c.args.cache.now c.clean.new.self (g.M.Media.state c.args.media.now) (g.M.Media.state c.clean.new.media) c.clean.result (λ n l is. absurd (c.clean.ensures.full n l is)) (λ is. absurd (c.clean.ensures.memory is)) (λ is. absurd (c.clean.ensures.memory is))
+
+pub returns-in-Commit-clause-unchanged : goal.returns-in-Commit-clause-unchanged
+returns-in-Commit-clause-unchanged g c = unchanged_of c.args.cache.now c.commit.new.self (g.M.Media.state c.args.media.now) (g.M.Media.state c.commit.new.media) c.commit.result (λ n l is. absurd (c.commit.ensures.full n l is)) (λ is. absurd (c.commit.ensures.memory is))
+
+pub returns-in-Commit-clause-still : goal.returns-in-Commit-clause-still
+returns-in-Commit-clause-still g c = still_of c.args.cache.now c.commit.new.self (g.M.Media.state c.args.media.now) (g.M.Media.state c.commit.new.media) c.commit.result (λ n l is. absurd (c.commit.ensures.full n l is)) (λ is. absurd (c.commit.ensures.memory is)) (λ is. absurd (c.commit.ensures.memory is))
+
+pub returns-in-Checkpoint-clause-unchanged : goal.returns-in-Checkpoint-clause-unchanged
+returns-in-Checkpoint-clause-unchanged g c = unchanged_of c.args.cache.now c.checkpoint.new.self (g.M.Media.state c.args.media.now) (g.M.Media.state c.checkpoint.new.media) c.checkpoint.result (λ n l is. absurd (c.checkpoint.ensures.full n l is)) (λ is. absurd (c.checkpoint.ensures.memory is))
+
+pub returns-in-Checkpoint-clause-still : goal.returns-in-Checkpoint-clause-still
+returns-in-Checkpoint-clause-still g c = still_of c.args.cache.now c.checkpoint.new.self (g.M.Media.state c.args.media.now) (g.M.Media.state c.checkpoint.new.media) c.checkpoint.result (λ n l is. absurd (c.checkpoint.ensures.full n l is)) (λ is. absurd (c.checkpoint.ensures.memory is)) (λ is. absurd (c.checkpoint.ensures.memory is))

@@ -1,5 +1,6 @@
 use Rattle.std.proofs.Common.{◌≡◌, false}
 use Rattle.ft_media.specs.Drives.{DrivesFlash}
+use Rattle.checkpoint.specs.Counts.{erases_counted}
 use Rattle.checkpoint.specs.Regions.{AreLost, AreBlank, NextStays}
 use Rattle.checkpoint.proofs.erasing.erase_blocks.Given as goal
 
@@ -12,5 +13,6 @@ invariant-loop-i g l =
       next : NextStays l.first l.i old.contents.flash now.contents.flash;
       pages : AreLost l.first l.i old.contents.flash.page now.contents.flash.page;
       programs : now.counts.programs ≡ old.counts.programs;
+      counts : now.counts ≡ erases_counted l.i old.counts;
       drives : DrivesFlash old now false false;
     }

@@ -1,23 +1,21 @@
-use Rattle.std.proofs.Common.{◌+◌, ◌-◌, ◌/◌, ◌<◌, arith, rules, ap, sym, inl, subst}
-use Rattle.ft_base.specs.Layout.{checkpoint_pages}
-use Rattle.mapping.specs.Checkpoint.{checkpoint_records}
+use Rattle.std.proofs.Common.{◌+◌, ◌-◌, ◌/◌, arith, rules, ap, inl}
 use Rattle.ft_media.proofs.DrivesLemmas.{drives_then}
-use Rattle.checkpoint.proofs.CountingLemmas.{records_bounded, maps_fit}
+use Rattle.checkpoint.proofs.CountsLemmas.{checkpoint_made}
+use Rattle.checkpoint.proofs.CountingLemmas.{records_bounded, listing_here, pages_fit}
 use Rattle.checkpoint.proofs.ProgramLemmas.{drives_err}
 use Rattle.checkpoint.proofs.MapsLemmas.{maps_ready}
-use Rattle.checkpoint.proofs.WrittenLemmas.{records_of, maps_unsealed, seal_left, seal_done}
+use Rattle.checkpoint.proofs.WrittenLemmas.{maps_unsealed, seal_left, seal_done}
 use Rattle.checkpoint.proofs.writing.write_checkpoint.Goals as goal
 
 pub overflow_add-pages : goal.overflow_add-pages
 overflow_add-pages g c =
-    let few = records_bounded c.args.geometry.now c.args.map.now.entries c.requires.is_map in
-    let same = records_of c.args.map.now.geometry c.args.geometry.now c.args.map.now.entries c.checkpoint_len-records.result c.requires.map c.checkpoint_len-records.ensures in
+    let few = records_bounded c.args.geometry.now c.args.map.now.entries c.requires.is_map c.args.map.now.records (listing_here c.args.map.now.geometry c.args.geometry.now c.args.map.now.entries c.args.map.now.records c.requires.map c.checkpoint_len-records.ensures.listing) in
+    let same = c.checkpoint_len-records.ensures.count in
     omega arith
 
 pub program_maps-requires-clause-room : goal.program_maps-requires-clause-room
 program_maps-requires-clause-room g c =
-    let same = records_of c.args.map.now.geometry c.args.geometry.now c.args.map.now.entries c.checkpoint_len-records.result c.requires.map c.checkpoint_len-records.ensures in
-    subst (λ n. (n + 127 - 1) / 127 < checkpoint_pages c.args.geometry.now) (sym same) (maps_fit c.args.geometry.now c.args.map.now.entries c.requires.is_map)
+    pages_fit c.args.map.now.geometry c.args.geometry.now c.args.map.now.entries c.args.map.now.records c.checkpoint_len-records.result c.requires.map c.requires.is_map c.checkpoint_len-records.ensures.listing c.checkpoint_len-records.ensures.count
 
 pub returns-in_err-program_maps-clause-pages : goal.returns-in_err-program_maps-clause-pages
 returns-in_err-program_maps-clause-pages g c =
@@ -29,20 +27,18 @@ returns-in_err-program_maps-clause-drives g c =
 
 pub program_seal-requires-clause-room : goal.program_seal-requires-clause-room
 program_seal-requires-clause-room g c =
-    let same = records_of c.args.map.now.geometry c.args.geometry.now c.args.map.now.entries c.checkpoint_len-records.result c.requires.map c.checkpoint_len-records.ensures in
-    subst (λ n. (n + 127 - 1) / 127 < checkpoint_pages c.args.geometry.now) (sym same) (maps_fit c.args.geometry.now c.args.map.now.entries c.requires.is_map)
+    pages_fit c.args.map.now.geometry c.args.geometry.now c.args.map.now.entries c.args.map.now.records c.checkpoint_len-records.result c.requires.map c.requires.is_map c.checkpoint_len-records.ensures.listing c.checkpoint_len-records.ensures.count
 
 pub program_seal-requires-clause-ready : goal.program_seal-requires-clause-ready
 program_seal-requires-clause-ready g c =
-    let same = records_of c.args.map.now.geometry c.args.geometry.now c.args.map.now.entries c.checkpoint_len-records.result c.requires.map c.checkpoint_len-records.ensures in
-    maps_ready c.args.geometry.now c.args.target.now.region c.args.target.now.era (checkpoint_records c.args.geometry.now c.args.map.now.entries) _ (g.M.Media.state c.erase_regions.new.media).contents.flash (g.M.Media.state c.program_maps.new.media).contents.flash c.in_ok-program_maps.ensures.done
-    (subst (λ n. (n + 127 - 1) / 127 < checkpoint_pages c.args.geometry.now) (sym same) (maps_fit c.args.geometry.now c.args.map.now.entries c.requires.is_map))
+    maps_ready c.args.geometry.now c.args.target.now.region c.args.target.now.era c.args.map.now.records _ (g.M.Media.state c.erase_regions.new.media).contents.flash (g.M.Media.state c.program_maps.new.media).contents.flash c.in_ok-program_maps.ensures.done
+    (pages_fit c.args.map.now.geometry c.args.geometry.now c.args.map.now.entries c.args.map.now.records c.checkpoint_len-records.result c.requires.map c.requires.is_map c.checkpoint_len-records.ensures.listing c.checkpoint_len-records.ensures.count)
 
 pub returns-in_err-program_seal-clause-pages : goal.returns-in_err-program_seal-clause-pages
 returns-in_err-program_seal-clause-pages g c =
-    let same = records_of c.args.map.now.geometry c.args.geometry.now c.args.map.now.entries c.checkpoint_len-records.result c.requires.map c.checkpoint_len-records.ensures in
-    seal_left c.args.geometry.now c.args.target.now.region c.args.target.now.era c.args.map.now.entries c.requires.region _ c.checkpoint_len-records.result (ap (λ n. (n + 127 - 1) / 127) same) same
-    (subst (λ n. (n + 127 - 1) / 127 < checkpoint_pages c.args.geometry.now) (sym same) (maps_fit c.args.geometry.now c.args.map.now.entries c.requires.is_map))
+    let same = c.checkpoint_len-records.ensures.count in
+    seal_left c.args.geometry.now c.args.target.now.region c.args.target.now.era c.args.map.now.records c.requires.region _ c.checkpoint_len-records.result (ap (λ n. (n + 127 - 1) / 127) same) same
+    (pages_fit c.args.map.now.geometry c.args.geometry.now c.args.map.now.entries c.args.map.now.records c.checkpoint_len-records.result c.requires.map c.requires.is_map c.checkpoint_len-records.ensures.listing c.checkpoint_len-records.ensures.count)
     (g.M.Media.state c.args.media.now).contents.flash (g.M.Media.state c.erase_regions.new.media).contents.flash (g.M.Media.state c.program_maps.new.media).contents.flash (g.M.Media.state c.program_seal.new.media).contents.flash c.in_ok-erase_regions.ensures.done c.in_ok-program_maps.ensures.done c.program_seal.ensures.pages
 
 pub returns-in_err-program_seal-clause-drives : goal.returns-in_err-program_seal-clause-drives
@@ -53,14 +49,25 @@ returns-in_err-program_seal-clause-drives g c =
 
 pub returns-clause-done : goal.returns-clause-done
 returns-clause-done g c =
-    let same = records_of c.args.map.now.geometry c.args.geometry.now c.args.map.now.entries c.checkpoint_len-records.result c.requires.map c.checkpoint_len-records.ensures in
-    seal_done c.args.geometry.now c.args.target.now.region c.args.target.now.era c.args.map.now.entries c.requires.region _ c.checkpoint_len-records.result (ap (λ n. (n + 127 - 1) / 127) same) same
-    (subst (λ n. (n + 127 - 1) / 127 < checkpoint_pages c.args.geometry.now) (sym same) (maps_fit c.args.geometry.now c.args.map.now.entries c.requires.is_map))
+    let same = c.checkpoint_len-records.ensures.count in
+    seal_done c.args.geometry.now c.args.target.now.region c.args.target.now.era c.args.map.now.records c.requires.region _ c.checkpoint_len-records.result (ap (λ n. (n + 127 - 1) / 127) same) same
+    (pages_fit c.args.map.now.geometry c.args.geometry.now c.args.map.now.entries c.args.map.now.records c.checkpoint_len-records.result c.requires.map c.requires.is_map c.checkpoint_len-records.ensures.listing c.checkpoint_len-records.ensures.count)
     (g.M.Media.state c.args.media.now).contents.flash (g.M.Media.state c.erase_regions.new.media).contents.flash (g.M.Media.state c.program_maps.new.media).contents.flash (g.M.Media.state c.program_seal.new.media).contents.flash c.in_ok-erase_regions.ensures.done c.in_ok-program_maps.ensures.done c.in_ok-program_seal.ensures.done
 
 pub returns-clause-pages : goal.returns-clause-pages
 returns-clause-pages g c =
-    let same = records_of c.args.map.now.geometry c.args.geometry.now c.args.map.now.entries c.checkpoint_len-records.result c.requires.map c.checkpoint_len-records.ensures in
-    seal_left c.args.geometry.now c.args.target.now.region c.args.target.now.era c.args.map.now.entries c.requires.region _ c.checkpoint_len-records.result (ap (λ n. (n + 127 - 1) / 127) same) same
-    (subst (λ n. (n + 127 - 1) / 127 < checkpoint_pages c.args.geometry.now) (sym same) (maps_fit c.args.geometry.now c.args.map.now.entries c.requires.is_map))
+    let same = c.checkpoint_len-records.ensures.count in
+    seal_left c.args.geometry.now c.args.target.now.region c.args.target.now.era c.args.map.now.records c.requires.region _ c.checkpoint_len-records.result (ap (λ n. (n + 127 - 1) / 127) same) same
+    (pages_fit c.args.map.now.geometry c.args.geometry.now c.args.map.now.entries c.args.map.now.records c.checkpoint_len-records.result c.requires.map c.requires.is_map c.checkpoint_len-records.ensures.listing c.checkpoint_len-records.ensures.count)
     (g.M.Media.state c.args.media.now).contents.flash (g.M.Media.state c.erase_regions.new.media).contents.flash (g.M.Media.state c.program_maps.new.media).contents.flash (g.M.Media.state c.program_seal.new.media).contents.flash c.in_ok-erase_regions.ensures.done c.in_ok-program_maps.ensures.done c.program_seal.ensures.pages
+
+pub returns-clause-counts : goal.returns-clause-counts
+returns-clause-counts g c =
+    checkpoint_made c.args.geometry.now _ _ (g.M.Media.state c.args.media.now).counts (g.M.Media.state c.erase_regions.new.media).counts (g.M.Media.state c.program_maps.new.media).counts (g.M.Media.state c.program_seal.new.media).counts
+    (ap (λ n. (n + 127 - 1) / 127) c.checkpoint_len-records.ensures.count) c.in_ok-erase_regions.ensures.counts c.in_ok-program_maps.ensures.counts c.in_ok-program_seal.ensures.counts
+
+pub returns-clause-drives : goal.returns-clause-drives
+returns-clause-drives g c =
+    drives_then (g.M.Media.state c.args.media.now) (g.M.Media.state c.program_maps.new.media) (g.M.Media.state c.program_seal.new.media) _ _
+    (drives_then (g.M.Media.state c.args.media.now) (g.M.Media.state c.erase_regions.new.media) (g.M.Media.state c.program_maps.new.media) _ _ c.in_ok-erase_regions.ensures.drives c.in_ok-program_maps.ensures.drives)
+    c.in_ok-program_seal.ensures.drives

@@ -1,5 +1,19 @@
-use Rattle.mapping.proofs.CheckpointLemmas.{pages_more}
+use Rattle.std.proofs.Common.{[], ◌∷◌, ◌++◌, subst}
+use Rattle.ft_base.specs.declared.record.Record.{Record}
+use Rattle.mapping.specs.Checkpoint.{HasWindow}
+use Rattle.mapping.specs.Packed.{page_record}
+use Rattle.mapping.proofs.CheckpointLemmas.{items_none, items_more, items_all, items_skipped}
 use Rattle.mapping.proofs.checkpoint.offer_pages.Goals as goal
 
+pub returns-then-is_outside : goal.returns-then-is_outside
+returns-then-is_outside c = items_skipped page_record c.args.items.now c.args.before c.args.from c.args.out.now (c.is_outside.ensures c.if-is_outside.true)
+
+pub loop-item-init : goal.loop-item-init
+loop-item-init c = items_none page_record c.args.items.now c.args.before c.args.from c.args.out.now
+
 pub loop-item-preserved : goal.loop-item-preserved
-loop-item-preserved c = pages_more c.args.items.now c.args.before c.args.from c.args.out.now c.loop-item.out c.loop-item.item-index c.loop-item.at _ c.loop-item-test.true c.loop-item.invariant c.offer.new.out c.if-item.false c.offer.ensures.window
+loop-item-preserved c = items_more page_record c.args.items.now c.args.before c.args.from c.args.out.now c.loop-item.out c.offer.new.out c.loop-item.item-index c.loop-item.at _ c.loop-item-test.true c.loop-item.invariant
+    (λ records long has. subst (λ (r : Record). HasWindow (records ++ r ∷ []) c.args.from c.offer.new.out) c.page_record.ensures (c.offer.ensures.window records long has))
+
+pub returns : goal.returns
+returns c = items_all page_record c.args.items.now c.args.before c.args.from c.args.out.now c.loop-item.out c.loop-item.item-index c.loop-item.at c.loop-item-test.false c.loop-item.invariant

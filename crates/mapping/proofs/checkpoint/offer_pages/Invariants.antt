@@ -1,6 +1,7 @@
-use Rattle.mapping.proofs.CheckpointLemmas.{PagesOffered}
+use Rattle.mapping.specs.Packed.{page_record}
+use Rattle.mapping.proofs.CheckpointLemmas.{ItemsOffered}
 use Rattle.mapping.proofs.checkpoint.offer_pages.Given as goal
 
--- the pages so far
+-- the items so far
 abbrev pub invariant-loop-item : goal.invariant-loop-item
-invariant-loop-item l = PagesOffered l.items l.before l.from l.fn.out l.out l.item-index l.at
+invariant-loop-item l = ItemsOffered page_record l.items l.before l.from l.fn.out l.out l.item-index l.at

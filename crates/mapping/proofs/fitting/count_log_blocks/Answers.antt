@@ -1,16 +1,18 @@
-use Rattle.mapping.specs.Fitting.{would_log}
-use Rattle.mapping.proofs.PageFits.{blocks_none, blocks_hit, blocks_miss, blocks_all}
-use Rattle.mapping.proofs.fitting.count_log_blocks.Goals.{then-is_log_block, else-is_log_block}
+use Rattle.std.proofs.Common.{◌+◌, ◌<◌, ◌^◌, ap, sym, ◌∙◌, arith, rules}
+use Rattle.mapping.proofs.PageFits.{logs_more, logs_same}
+use Rattle.mapping.proofs.TallyLemmas.{without_map}
 use Rattle.mapping.proofs.fitting.count_log_blocks.Goals as goal
 
-pub loop-block-init : goal.loop-block-init
-loop-block-init c = blocks_none c.args.geometry.now (would_log c.args.lba c.args.placed c.args.items.now) c.first_pool-block.result c.first_pool-block.ensures.place
+pub overflow_add-result : goal.overflow_add-result
+overflow_add-result c =
+    let most = (without_map c.args.geometry.now c.args.held.now.entries c.args.lba c.requires.map).log_blocks in
+    let high = c.args.geometry.now.in_range.l_high in
+    let used = c.count_used_beside-used.ensures in
+    let small : c.count_used_beside-used.result + 1 < 2 ^ 32 = omega (arith, most, high, used) in
+    search rules
 
-pub loop-block-preserved : goal.loop-block-preserved
-loop-block-preserved c = elim c.if-is_log_block.branch [
-  | then-is_log_block w ↦ rw w.count-is (blocks_hit c.args.geometry.now (would_log c.args.lba c.args.placed c.args.items.now) c.loop-block.block c.loop-block.count c.blocks-block-end.result c.is_log_block.result c.blocks-block-end.ensures c.loop-block-test.true c.is_log_block.ensures w.if-is_log_block.true c.loop-block.invariant)
-  | else-is_log_block w ↦ rw w.count-is (blocks_miss c.args.geometry.now (would_log c.args.lba c.args.placed c.args.items.now) c.loop-block.block c.loop-block.count c.blocks-block-end.result c.is_log_block.result c.blocks-block-end.ensures c.loop-block-test.true c.is_log_block.ensures w.if-is_log_block.false c.loop-block.invariant)
-]
+pub returns-then-count_beside-eq0 : goal.returns-then-count_beside-eq0
+returns-then-count_beside-eq0 c = λ dirty. ap (λ n. n + 1) c.count_used_beside-used.ensures ∙ logs_more c.args.geometry.now c.args.held.now.entries c.requires.map c.args.lba c.args.at dirty (sym c.count_beside.ensures ∙ c.if-count_beside-eq0.true)
 
 pub returns : goal.returns
-returns c = blocks_all c.args.geometry.now (would_log c.args.lba c.args.placed c.args.items.now) c.loop-block.block c.loop-block.count c.blocks-block-end.result c.blocks-block-end.ensures c.loop-block-test.false c.loop-block.invariant
+returns c = λ dirty. c.count_used_beside-used.ensures ∙ logs_same c.args.geometry.now c.args.held.now.entries c.requires.map c.args.lba c.args.at dirty (λ s. c.if-count_beside-eq0.false (c.count_beside.ensures ∙ s))

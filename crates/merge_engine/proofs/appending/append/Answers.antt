@@ -4,6 +4,7 @@ use Rattle.merge_engine.specs.declared.parts.Parts.{Parts}
 use Rattle.merge_engine.proofs.ResultLemmas.{on_ok_from, ok_at}
 use Rattle.merge_engine.proofs.BesideLemmas.{lists_as}
 use Rattle.merge_engine.proofs.GoesLemmas.{given_then, goes_then}
+use Rattle.merge_engine.proofs.LogRoomLemmas.{keeps_stands, keeps_then}
 use Rattle.merge_engine.proofs.SpendLemmas.{spends_after}
 use Rattle.merge_engine.proofs.appending.append.Goals as goal
 
@@ -30,3 +31,19 @@ returns-clause-spends g c = on_ok_from c.program_next.result (λ v is.
 
 pub returns-clause-drives : goal.returns-clause-drives
 returns-clause-drives g c = drives_then _ _ _ _ _ c.in_ok-open_if_closed.ensures.drives c.program_next.ensures.drives
+
+pub returns-clause-map_stays : goal.returns-clause-map_stays
+returns-clause-map_stays g c = λ room. c.program_next.ensures.map ∙ c.open_if_closed.ensures.map_stays room
+
+pub returns-clause-list_stands : goal.returns-clause-list_stands
+returns-clause-list_stands g c = λ room list durable lists.
+    let mid = c.open_if_closed.new.cache in
+    keeps_stands c.args.cache.now.log mid (g.M.Media.state c.open_if_closed.new.media).contents.flash.page (g.M.Media.state c.program_next.new.media).contents.flash.page list durable c.program_next.ensures.lists
+    c.args.cache.now.geometry c.open_if_closed.ensures.geometry (c.in_ok-open_if_closed.ensures.list_stays room list durable lists)
+
+pub returns-clause-list_stays : goal.returns-clause-list_stays
+returns-clause-list_stays g c = on_ok_from c.program_next.result (λ v is. λ room list durable lists.
+    let mid = c.open_if_closed.new.cache in
+    let made = ok_at c.program_next.result v is c.program_next.ensures.cache in
+    keeps_then c.args.cache.now.log mid (g.M.Media.state c.open_if_closed.new.media).contents.flash.page (g.M.Media.state c.program_next.new.media).contents.flash.page list durable c.program_next.ensures.lists
+    c.program_next.new.cache (ap (λ (p : Parts). p.log) made) (ap (λ (p : Parts). p.map) made) (ap (λ (p : Parts). p.geometry) made) (c.in_ok-open_if_closed.ensures.list_stays room list durable lists))

@@ -1,14 +1,38 @@
-use Rattle.std.proofs.Common.{◌≡◌, ℕ, ◌+◌, ◌-◌, ◌<◌, length, arith}
-use Rattle.merge_engine.proofs.GiveBackLemmas.{gave_back-more, one_fewer}
+use Rattle.std.proofs.Common.{◌≡◌, ◌≤◌, ℕ, ◌+◌, ◌-◌, ◌<◌, false, true, length, inr, refl, ap, subst, arith}
+use Rattle.merge_engine.specs.declared.parts.Parts.{Parts}
+use Rattle.merge_engine.proofs.GiveBackLemmas.{gave_back-more, one_fewer, fewer_given, fewer_passed, fewer_left, no_more_left}
 use Rattle.merge_engine.proofs.appending.free_unheld.Goals as goal
 
-pub loop-i-smaller-then-is_unheld : goal.loop-i-smaller-then-is_unheld
-loop-i-smaller-then-is_unheld c =
+pub loop-i-smaller-then-stands_none_in : goal.loop-i-smaller-then-stands_none_in
+loop-i-smaller-then-stands_none_in c =
     let fewer = one_fewer c.loop-i.cache c.give_back.new.cache c.nth-block.result c.give_back.ensures.cache c.used.ensures.sound c.nth-block.ensures.in_use in
     less (length c.give_back.new.cache.logs.used) (length c.loop-i.cache.logs.used) c.loop-i.i fewer (omega (arith, c.used.ensures.used))
   where
     less : (new old i : ℕ) → new + 1 ≡ old → i < old → new - i < old - i
     less new old i is low = omega arith
 
-pub loop-i-preserved-then-is_unheld : goal.loop-i-preserved-then-is_unheld
-loop-i-preserved-then-is_unheld c = gave_back-more c.args.cache.now c.loop-i.cache c.give_back.new.cache c.nth-block.result c.loop-i.invariant c.give_back.ensures.cache c.give_back.ensures.of_one c.if-is_unheld.ensures c.give_back.ensures.agree
+pub loop-i-init : goal.loop-i-init
+loop-i-init c = record {
+  gave = record { cache = refl; of_one = c.requires.of_one; in_pool = c.requires.in_pool; agree = λ contents was. was };
+  looked = inr (refl, λ k b low is unheld. absurd (omega arith));
+}
+
+pub loop-i-preserved-then-stands_none_in : goal.loop-i-preserved-then-stands_none_in
+loop-i-preserved-then-stands_none_in c = record {
+  gave = gave_back-more c.args.cache.now c.loop-i.cache c.give_back.new.cache c.nth-block.result c.loop-i.invariant.gave c.give_back.ensures.cache c.give_back.ensures.of_one (c.if-stands_none_in.ensures.0 refl) c.give_back.ensures.agree;
+  looked = fewer_given c.args.cache.now c.loop-i.cache c.give_back.new.cache c.loop-i.i
+      (one_fewer c.loop-i.cache c.give_back.new.cache c.nth-block.result c.give_back.ensures.cache c.used.ensures.sound c.nth-block.ensures.in_use) c.loop-i.invariant.looked;
+}
+
+pub loop-i-preserved : goal.loop-i-preserved
+loop-i-preserved c = record {
+  gave = c.loop-i.invariant.gave;
+  looked = fewer_passed c.args.cache.now c.loop-i.cache c.loop-i.i c.nth-block.result (ap (λ (p : Parts). p.map) c.loop-i.invariant.gave.cache) c.nth-block.ensures.nth
+      (λ unheld. let both : false ≡ true = c.if-stands_none_in.ensures.1 unheld in absurd (cc)) c.loop-i.invariant.looked;
+}
+
+pub returns-clause-no_more : goal.returns-clause-no_more
+returns-clause-no_more c = no_more_left c.args.cache.now c.loop-i.cache c.loop-i.i c.loop-i.invariant.looked
+
+pub returns-clause-fewer : goal.returns-clause-fewer
+returns-clause-fewer c = fewer_left c.args.cache.now c.loop-i.cache c.loop-i.i (subst (λ n. n ≤ c.loop-i.i) c.used.ensures.used c.loop-i-test.false) c.loop-i.invariant.looked

@@ -1,9 +1,13 @@
 use Rattle.std.proofs.Common.{◌-◌, length}
-use Rattle.merge_engine.proofs.GiveBackLemmas.{GaveBack}
+use Rattle.merge_engine.proofs.GiveBackLemmas.{FewerOrHeld, GaveBack}
 use Rattle.merge_engine.proofs.appending.free_unheld.Given as goal
 
+-- blocks of the pool alone went out of use, and something stands in each that was passed by
 abbrev pub invariant-loop-i : goal.invariant-loop-i
-invariant-loop-i l = GaveBack l.fn.cache l.cache
+invariant-loop-i l = record {
+  gave : GaveBack l.fn.cache l.cache;
+  looked : FewerOrHeld l.fn.cache l.cache l.i;
+}
 
 abbrev pub decreases-loop-i : goal.decreases-loop-i
 decreases-loop-i l = length l.cache.logs.used - l.i

@@ -6,7 +6,7 @@ use Rattle.merge_engine.specs.Room.{StandsForGiven}
 use Rattle.merge_engine.specs.Steps.{GoesOn}
 use Rattle.merge_engine.proofs.ResultLemmas.{on_ok_from, ok_at}
 use Rattle.merge_engine.proofs.BesideLemmas.{lists_as}
-use Rattle.merge_engine.proofs.GiveBackLemmas.{room_after}
+use Rattle.merge_engine.proofs.GiveBackLemmas.{few_left, room_after}
 use Rattle.merge_engine.proofs.appending.make_room.Goals as goal
 
 pub returns-clause-few : goal.returns-clause-few
@@ -34,3 +34,11 @@ returns-clause-stands g c = λ list durable lists.
     subst (λ (h : Geometry). StandsForGiven h (g.M.Media.state c.free_log_block.new.media).contents.flash.page durable list) (ap (λ (p : Parts). p.geometry) gave)
     (c.free_log_block.ensures.stands list durable
     (lists_as c.args.cache.now mid (g.M.Media.state c.args.media.now).contents.flash.page list durable (ap (λ (p : Parts). p.map) gave) (ap (λ (p : Parts). p.geometry) gave) lists))
+
+pub returns-clause-no_merge : goal.returns-clause-no_merge
+returns-clause-no_merge g c = λ can.
+    let old = c.args.cache.now in
+    let mid = c.free_unheld.new.cache in
+    let s = c.requires.agree.sound in
+    let few = few_left old mid s.logs s.of_one.logs (ap (λ (p : Parts). p.geometry) c.free_unheld.ensures.cache) c.free_unheld.ensures.no_more c.free_unheld.ensures.fewer can in
+    absurd (omega (arith, c.used.ensures.used, c.if-used-cache.false))

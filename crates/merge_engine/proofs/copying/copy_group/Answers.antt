@@ -1,7 +1,8 @@
-use Rattle.std.proofs.Common.{◌+◌, ◌*◌, arith, rules, refl}
+use Rattle.std.proofs.Common.{◌≡◌, ap, ◌∙◌, ◌+◌, ◌*◌, arith, rules, refl}
 use Rattle.ft_media.proofs.DrivesLemmas.{drives_then}
 use Rattle.checkpoint.proofs.ProgramLemmas.{drives_err}
-use Rattle.merge_engine.proofs.CopyLemmas.{copied_more, held_is_below, is_page_of_group}
+use Rattle.merge_engine.specs.Merges.{programs_counted}
+use Rattle.merge_engine.proofs.CopyLemmas.{copied_more, counted_more, filled_more, held_is_below, is_page_of_group, page_before, pages_of_group}
 use Rattle.merge_engine.proofs.copying.copy_group.Goals as goal
 
 pub overflow_mul-lba : goal.overflow_mul-lba
@@ -27,6 +28,9 @@ loop-page-preserved g c = record {
   next = c.in_ok-copy_page.ensures.next;
   copied = copied_more c.args.cache.now (g.M.Media.state c.loop-page.media).contents (g.M.Media.state c.copy_page.new.media).contents.flash c.args.group c.args.block (c.args.group * c.args.cache.now.geometry.p + c.loop-page.page) c.loop-page.page (record { block = c.args.block; page = c.loop-page.page })
       c.loop-page.invariant.agree (g.met.M.Media.blank_ahead c.loop-page.media) refl refl c.loop-page.invariant.next c.loop-page.invariant.copied c.in_ok-copy_page.ensures.others c.in_ok-copy_page.ensures.copied;
+  filled = filled_more c.args.cache.now.geometry c.args.cache.now.map.entries (g.M.Media.state c.loop-page.media).contents.flash (g.M.Media.state c.copy_page.new.media).contents.flash c.args.group c.args.block (c.args.group * c.args.cache.now.geometry.p + c.loop-page.page) c.loop-page.page (record { block = c.args.block; page = c.loop-page.page })
+      refl refl c.loop-page.invariant.filled c.in_ok-copy_page.ensures.others c.in_ok-copy_page.ensures.filler;
+  counts = counted_more c.loop-page.page (g.M.Media.state c.args.media.now).counts (g.M.Media.state c.loop-page.media).counts (g.M.Media.state c.copy_page.new.media).counts c.loop-page.invariant.counts c.in_ok-copy_page.ensures.counts;
   drives = drives_then (g.M.Media.state c.args.media.now) (g.M.Media.state c.loop-page.media) (g.M.Media.state c.copy_page.new.media) _ _ c.loop-page.invariant.drives c.in_ok-copy_page.ensures.drives;
 }
 
@@ -35,3 +39,17 @@ returns-clause-copied g c a e there in_group =
     let low = held_is_below c.args.cache.now c.args.group c.held_bits-held.result c.requires.agree.sound.of_one c.held_bits-held.ensures a e there in_group in
     let past = c.loop-page-test.false in
     c.loop-page.invariant.copied.each a e there in_group (omega arith)
+
+pub returns-clause-filled : goal.returns-clause-filled
+returns-clause-filled g c a b e in_a none in_b there less =
+    let low = held_is_below c.args.cache.now c.args.group c.held_bits-held.result c.requires.agree.sound.of_one c.held_bits-held.ensures b e there in_b in
+    let before = page_before a b c.args.cache.now.geometry.p c.args.group in_a in_b less in
+    let past = c.loop-page-test.false in
+    c.loop-page.invariant.filled.each a none in_a (omega arith)
+
+pub returns-clause-counts : goal.returns-clause-counts
+returns-clause-counts g c pages reach =
+    let all = pages_of_group c.args.cache.now c.args.group c.held_bits-held.result pages c.requires.agree.sound.of_one c.held_bits-held.ensures reach in
+    let past = c.loop-page-test.false in
+    let here : c.loop-page.page ≡ pages = omega arith in
+    c.loop-page.invariant.counts ∙ ap (λ n. programs_counted n (g.M.Media.state c.args.media.now).counts) here

@@ -2,7 +2,8 @@ use Rattle.std.proofs.Common.{◌≡◌, Some, false}
 use Rattle.ft_media.specs.Drives.{DrivesFlash}
 use Rattle.cache_model.specs.Cache.{CacheList}
 use Rattle.merge_engine.specs.Agreement.{Agree, Lists}
-use Rattle.merge_engine.proofs.CopyLemmas.{IsCopiedBelow}
+use Rattle.merge_engine.specs.Merges.{programs_counted}
+use Rattle.merge_engine.proofs.CopyLemmas.{IsCopiedBelow, IsFilledBelow}
 use Rattle.merge_engine.proofs.copying.copy_group.Given as goal
 
 abbrev pub invariant-loop-page : goal.invariant-loop-page
@@ -14,5 +15,7 @@ invariant-loop-page g l =
       lists : (list durable : CacheList) → Lists l.cache old.contents.flash.page list durable → Lists l.cache now.contents.flash.page list durable;
       next : now.contents.flash.next l.block ≡ Some l.page;
       copied : IsCopiedBelow l.cache.geometry l.cache.map.entries l.group l.block l.page now.contents.flash.page;
+      filled : IsFilledBelow l.cache.geometry l.cache.map.entries l.group l.block l.page now.contents.flash.page;
+      counts : now.counts ≡ programs_counted l.page old.counts;
       drives : DrivesFlash old now false false;
     }

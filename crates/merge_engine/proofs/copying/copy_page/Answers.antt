@@ -1,16 +1,18 @@
-use Rattle.std.proofs.Common.{◌≡◌, sym, ap, subst}
+use Rattle.std.proofs.Common.{◌≡◌, None, Some, sym, ◌∙◌, ap, subst}
+use Rattle.std.specs.Option.{option_map}
 use Rattle.ft_base.specs.Contents.{Contents}
-use Rattle.ft_media.specs.Media.{after_program}
+use Rattle.ft_media.specs.Media.{after_program, program_counted}
+use Rattle.mapping.specs.Counts.{place_and_mark}
 use Rattle.merge_engine.specs.Agreement.{Lists}
 use Rattle.merge_engine.proofs.ResultLemmas.{on_ok_from, ok_at}
-use Rattle.merge_engine.proofs.CopyLemmas.{readable, copy_is}
+use Rattle.merge_engine.proofs.CopyLemmas.{readable, copy_is, filler_is}
 use Rattle.merge_engine.proofs.copying.copy_page.Goals as goal
 
 pub read_whole-requires-clause-block : goal.read_whole-requires-clause-block
-read_whole-requires-clause-block g c = (readable c.args.cache.now (g.M.Media.state c.args.media.now).contents c.args.lba c.in-Some.from c.in-Some.field-0-1 c.requires.agree c.in-Some.ensures).block
+read_whole-requires-clause-block g c = (readable c.args.cache.now (g.M.Media.state c.args.media.now).contents c.args.lba c.in-Some.from c.in-Some.field-0-1 c.requires.agree c.in-Some.ensures.place).block
 
 pub read_whole-requires-clause-page : goal.read_whole-requires-clause-page
-read_whole-requires-clause-page g c = (readable c.args.cache.now (g.M.Media.state c.args.media.now).contents c.args.lba c.in-Some.from c.in-Some.field-0-1 c.requires.agree c.in-Some.ensures).page
+read_whole-requires-clause-page g c = (readable c.args.cache.now (g.M.Media.state c.args.media.now).contents c.args.lba c.in-Some.from c.in-Some.field-0-1 c.requires.agree c.in-Some.ensures.place).page
 
 pub returns-clause-lists : goal.returns-clause-lists
 returns-clause-lists g c list durable lists =
@@ -19,7 +21,20 @@ returns-clause-lists g c list durable lists =
 pub returns-clause-copied : goal.returns-clause-copied
 returns-clause-copied g c =
     on_ok_from c.program_unheld-2.result (λ v is.
-    copy_is c.args.cache.now (g.M.Media.state c.args.media.now).contents (g.M.Media.state c.program_unheld-2.new.media).contents c.requires.agree c.args.lba c.in-Some.from c.args.to c.in-Some.field-0-1 c.read_whole.new.buffer c.write_spare-spare-2.result c.requires.ready (g.met.M.Media.blank_ahead c.args.media.now) c.in-Some.ensures
+    copy_is c.args.cache.now (g.M.Media.state c.args.media.now).contents (g.M.Media.state c.program_unheld-2.new.media).contents c.requires.agree c.args.lba c.in-Some.from c.args.to c.in-Some.field-0-1 c.read_whole.new.buffer c.write_spare-spare-2.result c.requires.ready (g.met.M.Media.blank_ahead c.args.media.now) c.in-Some.ensures.place
     c.in_ok-read_whole.ensures.found
     (ap (λ b. record { 0 = b }) c.write_spare-spare-2.ensures.spelled)
     (subst (λ (k : Contents). (g.M.Media.state c.program_unheld-2.new.media).contents.flash ≡ after_program k.flash c.args.to c.read_whole.new.buffer c.write_spare-spare-2.result) c.in_ok-read_whole.ensures.contents (ok_at c.program_unheld-2.result v is c.program_unheld-2.ensures.programmed)))
+
+pub returns-in_default-clause-filler : goal.returns-in_default-clause-filler
+returns-in_default-clause-filler g c = on_ok_from c.program_unheld.result (λ v is. λ none.
+    filler_is (g.M.Media.state c.args.media.now).contents.flash (g.M.Media.state c.program_unheld.new.media).contents.flash c.args.to c.zero_block.result c.write_spare-spare.result c.zero_block.ensures c.write_spare-spare.ensures.spelled
+    (ok_at c.program_unheld.result v is c.program_unheld.ensures.programmed))
+
+pub returns-clause-filler : goal.returns-clause-filler
+returns-clause-filler g c = on_ok_from c.program_unheld-2.result (λ v is. λ none.
+    let both : Some (c.in-Some.from, c.in-Some.field-0-1) ≡ None = c.in-Some.ensures.place ∙ ap (option_map place_and_mark) none in
+    absurd (cc))
+
+pub returns-clause-counts : goal.returns-clause-counts
+returns-clause-counts g c = on_ok_from c.program_unheld-2.result (λ v is. ok_at c.program_unheld-2.result v is c.program_unheld-2.ensures.counts ∙ ap program_counted c.in_ok-read_whole.ensures.counts)

@@ -31,3 +31,6 @@ returns-in-Some-clause-lists g c = on_ok_from c.merge_group.result (λ v is. λ 
 
 pub returns-in-None-clause-unowned : goal.returns-in-None-clause-unowned
 returns-in-None-clause-unowned g c = λ a e is here. c.in-None.ensures.none a (e, is, here)
+
+pub returns-in-Some-clause-nothing : goal.returns-in-Some-clause-nothing
+returns-in-Some-clause-nothing g c = λ none. let owner = c.in-Some.ensures.owner in absurd (none c.in-Some.lba owner.0 owner.1 owner.2)

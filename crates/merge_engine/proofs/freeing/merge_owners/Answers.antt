@@ -1,10 +1,10 @@
-use Rattle.std.proofs.Common.{◌≡◌, rules, sym, ◌∙◌, ap, subst, arith}
+use Rattle.std.proofs.Common.{◌≡◌, false, true, rules, sym, ◌∙◌, ap, subst, arith}
 use Rattle.ft_base.specs.declared.geometry.Geometry.{Geometry}
 use Rattle.ft_media.proofs.DrivesLemmas.{drives_then}
 use Rattle.checkpoint.proofs.ProgramLemmas.{drives_err}
 use Rattle.log_blocks.specs.Logs.{LogBlocksValue, IsInUse}
 use Rattle.merge_engine.proofs.GoesLemmas.{given_then, given_from, goes_then}
-use Rattle.merge_engine.proofs.OwnerLemmas.{none_before-more, none_before-all, unowned_still}
+use Rattle.merge_engine.proofs.OwnerLemmas.{unowned_in, none_before-more, none_before-all, unowned_still}
 use Rattle.merge_engine.proofs.TakeLemmas.{agree_map}
 use Rattle.merge_engine.proofs.freeing.merge_owners.Goals as goal
 
@@ -31,6 +31,7 @@ loop-page-preserved g c =
       groups = let first = k.groups in let then = c.merge_owner.ensures.groups in omega arith;
       agree = e.agree;
       room = e.room;
+      nothing = λ unheld. let was = k.nothing unheld in let now = c.merge_owner.ensures.nothing (unowned_in c.args.cache.now l.cache c.args.block l.page was.0 unheld) in (now.1 ∙ was.0, now.2 ∙ was.1);
       unowned = none_before-more c.merge_owner.new.cache.map.entries c.args.block l.page
           (λ page low. unowned_still l.cache.map.entries c.merge_owner.new.cache (record { block = c.args.block; page = page }) e.agree.sound.roles (subst (λ (b : LogBlocksValue). IsInUse b c.args.block) (sym logs) c.requires.in_use) e.page_mapped (k.unowned page low))
           e.unowned;
@@ -51,3 +52,11 @@ pub returns-clause-stands : goal.returns-clause-stands
 returns-clause-stands g c = λ list durable lists.
     let l = c.loop-page in
     given_from c.args.cache.now.log l.cache (g.M.Media.state l.media).contents.flash.page c.args.cache.now.geometry l.invariant.geometry list durable (l.invariant.lists list durable lists)
+
+pub returns-in_err-merge_owner-clause-nothing : goal.returns-in_err-merge_owner-clause-nothing
+returns-in_err-merge_owner-clause-nothing g c = λ unheld.
+    let l = c.loop-page in
+    let was = l.invariant.nothing unheld in
+    let now = c.in_err-merge_owner.ensures.nothing (unowned_in c.args.cache.now l.cache c.args.block l.page was.0 unheld) in
+    let both : false ≡ true = now.0 in
+    absurd (cc)

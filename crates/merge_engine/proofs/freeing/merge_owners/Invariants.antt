@@ -2,7 +2,7 @@ use Rattle.std.proofs.Common.{◌≡◌, ◌≤◌, ◌<◌, ◌+◌, false, len
 use Rattle.ft_media.specs.Drives.{DrivesFlash}
 use Rattle.cache_model.specs.Cache.{CacheList}
 use Rattle.merge_engine.specs.Agreement.{Agree, Lists}
-use Rattle.merge_engine.specs.Steps.{GoesOn}
+use Rattle.merge_engine.specs.Steps.{GoesOn, IsUnheld}
 use Rattle.merge_engine.proofs.OwnerLemmas.{NoneBefore}
 use Rattle.merge_engine.proofs.freeing.merge_owners.Given as goal
 
@@ -17,6 +17,7 @@ invariant-loop-page g l =
       groups : l.fn.cache.map.spare_groups ≤ l.cache.map.spare_groups + l.page;
       agree : Agree l.cache now.contents;
       room : length l.cache.log.buffered < 127;
+      nothing : IsUnheld l.fn.cache.map.entries l.block → (l.cache ≡ l.fn.cache) × (now ≡ old);
       unowned : NoneBefore l.cache.map.entries l.block l.page;
       lists : (list durable : CacheList) → Lists l.fn.cache old.contents.flash.page list durable → GoesOn l.fn.cache.log l.cache now.contents.flash.page list durable;
       drives : DrivesFlash old now false false;

@@ -1,12 +1,16 @@
 use Rattle.std.proofs.Common.{◌≡◌, sym, ◌∙◌, ap, subst}
 use Rattle.ft_base.specs.declared.geometry.Geometry.{Geometry}
 use Rattle.cache_model.specs.Entries.{IsMap}
+use Rattle.block_pool.specs.Pool.{IsInPool}
 use Rattle.mapping.specs.MapValue.{MapValue}
 use Rattle.merge_engine.specs.declared.parts.Parts.{Parts}
 use Rattle.merge_engine.specs.Loaded.{AreInUse}
 use Rattle.merge_engine.specs.Agreement.{RolesAgree}
 use Rattle.merge_engine.proofs.LoadedLemmas.{roles_loaded}
 use Rattle.merge_engine.proofs.loading.loaded.Goals as goal
+
+pub set_roles-requires-clause-free : goal.set_roles-requires-clause-free
+set_roles-requires-clause-free c = λ b inside. c.in_ok-parts.ensures.free b (subst (λ (g : Geometry). IsInPool g b) c.in_ok-parts.ensures.geometry inside)
 
 pub returns-clause-roles : goal.returns-clause-roles
 returns-clause-roles c =

@@ -1,5 +1,6 @@
-use Rattle.std.proofs.Common.{rules}
+use Rattle.std.proofs.Common.{rules, ◌∙◌, ap}
 use Rattle.ft_media.proofs.DrivesLemmas.{drives_then}
+use Rattle.merge_engine.specs.Merges.{programs_counted}
 use Rattle.merge_engine.proofs.TakeLemmas.{one_is_free, lists_taken}
 use Rattle.merge_engine.proofs.MoveLemmas.{agree_taken, lists_roles, drives_failed}
 use Rattle.merge_engine.proofs.merging.copy_out.Goals as goal
@@ -41,3 +42,6 @@ returns-clause-lists g c = λ list durable lists.
 
 pub returns-clause-drives : goal.returns-clause-drives
 returns-clause-drives g c = drives_then (g.M.Media.state c.args.media.now) (g.M.Media.state c.take.new.media) (g.M.Media.state c.copy_group.new.media) _ _ c.in_ok-block.ensures.drives c.in_ok-copy_group.ensures.drives
+
+pub returns-clause-counts : goal.returns-clause-counts
+returns-clause-counts g c = λ pages reach. c.in_ok-copy_group.ensures.counts pages reach ∙ ap (programs_counted pages) c.in_ok-block.ensures.counts

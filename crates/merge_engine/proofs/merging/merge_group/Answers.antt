@@ -3,6 +3,7 @@ use Rattle.ft_media.proofs.DrivesLemmas.{drives_then}
 use Rattle.merge_engine.specs.declared.parts.Parts.{Parts}
 use Rattle.merge_engine.specs.Merges.{HasBlockOrRoom, list_without}
 use Rattle.merge_engine.proofs.ResultLemmas.{on_ok_from, ok_at}
+use Rattle.merge_engine.proofs.MoveLemmas.{fillers_gone, fillers_still, room_not_lacked}
 use Rattle.merge_engine.proofs.GaveLemmas.{page_mapped_stay, given_either}
 use Rattle.merge_engine.proofs.MergeLemmas.{lists_victims, has_own, has_room, lacks_room, victim_is, no_candidate, victim_gave, victim_way, group_gave, group_way, stays_way, held_then, room_then, merged_then, others_after, mapped_after, merged_gone, others_gone, mapped_gone, given_itself, given_after}
 use Rattle.merge_engine.proofs.merging.merge_group.Goals.{then-own-via-then-own, then-own-via-else-own+then-data_blocks-cache}
@@ -126,3 +127,25 @@ returns-in-None-clause-stands g c =
     given_either c.args.cache.now.geometry (g.M.Media.state c.drop_group-in-None.new.media).contents.flash.page durable list (list_without c.args.cache.now.geometry c.args.group list)
     (group_gave c.args.cache.now (g.M.Media.state c.args.media.now).contents c.requires.agree c.args.group lacks c.requires.held list durable none lists)
     (c.drop_group-in-None.ensures.stands list durable (lists_victims c.args.cache.now c.victim.new.self (g.M.Media.state c.args.media.now).contents.flash.page list durable lists))
+
+pub returns-in_ok-drop_group-in-Some-clause-filled : goal.returns-in_ok-drop_group-in-Some-clause-filled
+returns-in_ok-drop_group-in-Some-clause-filled g c =
+    let same = ap (λ (p : Parts). p.geometry) c.drop_group.ensures.cache in
+    on_ok_from c.move_group-in-Some.result (λ v is. fillers_still c.args.cache.now.geometry c.drop_group.new.cache.geometry c.move_group-in-Some.new.cache.map.entries c.args.group (g.M.Media.state c.move_group-in-Some.new.media).contents.flash.page same (ok_at c.move_group-in-Some.result v is c.move_group-in-Some.ensures.filled))
+
+pub returns-in-None-clause-filled : goal.returns-in-None-clause-filled
+returns-in-None-clause-filled g c =
+    on_ok_from c.drop_group-in-None.result (λ v is. fillers_gone c.args.cache.now.geometry c.args.cache.now.map.entries c.drop_group-in-None.new.cache.map.entries c.args.group (g.M.Media.state c.drop_group-in-None.new.media).contents.flash.page c.drop_group-in-None.ensures.entries)
+
+pub returns-then-own-clause-counts : goal.returns-then-own-clause-counts
+returns-then-own-clause-counts g c = on_ok_from c.move_group.result (λ v is. λ room. ok_at c.move_group.result v is c.move_group.ensures.counts)
+
+pub returns-in_ok-drop_group-in-Some-clause-counts : goal.returns-in_ok-drop_group-in-Some-clause-counts
+returns-in_ok-drop_group-in-Some-clause-counts g c =
+    let lacks = lacks_room c.args.cache.now.geometry c.args.cache.now.map.geometry c.args.cache.now.map.entries c.args.group c.requires.agree.sound.of_one.map c.block_of.result c.is_some-own.result c.data_blocks.result c.is_some-own.ensures c.if-own.false c.block_of.ensures.none c.data_blocks.ensures.count c.data_blocks.ensures.most c.if-data_blocks-cache.false in
+    on_ok_from c.move_group-in-Some.result (λ v is. λ room. absurd (room_not_lacked c.args.cache.now.geometry c.args.cache.now.map.entries c.args.group lacks room))
+
+pub returns-in-None-clause-counts : goal.returns-in-None-clause-counts
+returns-in-None-clause-counts g c =
+    let lacks = lacks_room c.args.cache.now.geometry c.args.cache.now.map.geometry c.args.cache.now.map.entries c.args.group c.requires.agree.sound.of_one.map c.block_of.result c.is_some-own.result c.data_blocks.result c.is_some-own.ensures c.if-own.false c.block_of.ensures.none c.data_blocks.ensures.count c.data_blocks.ensures.most c.if-data_blocks-cache.false in
+    on_ok_from c.drop_group-in-None.result (λ v is. λ room. absurd (room_not_lacked c.args.cache.now.geometry c.args.cache.now.map.entries c.args.group lacks room))

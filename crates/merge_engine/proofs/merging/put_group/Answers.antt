@@ -1,3 +1,6 @@
+use Rattle.std.proofs.Common.{sym, ◌∙◌, ap}
+use Rattle.op_log.specs.Log.{LogValue}
+use Rattle.merge_engine.proofs.MoveLemmas.{pushed_some}
 use Rattle.merge_engine.proofs.PutLemmas.{putting_fits, putting_spelled, put_entries, as_noted, agree_moved, lists_moved}
 use Rattle.merge_engine.proofs.merging.put_group.Goals as goal
 
@@ -29,3 +32,9 @@ returns-clause-lists c =
     let n = c.note.ensures in
     let s = c.set_role.ensures in
     lists_moved c.args.cache.now c.note.new.cache c.set_role.new.self c.args.group c.args.block c.held_bits.result c.dirty_bits.result r.of_one r.is_map r.roles r.held r.block r.free c.held_bits.ensures c.dirty_bits.ensures (as_noted c.args.cache.now c.note.new.cache _ n.cache n.log) n.entries n.of_one n.roles s.geometry s.role s.others
+
+pub returns-clause-waits : goal.returns-clause-waits
+returns-clause-waits c = λ none. pushed_some c.args.cache.now.log.buffered _ (sym (ap (λ (l : LogValue). l.buffered) c.note.ensures.log) ∙ none)
+
+pub returns-clause-next : goal.returns-clause-next
+returns-clause-next c = ap (λ (l : LogValue). l.next) c.note.ensures.log

@@ -6,6 +6,8 @@ pub loop-preserved : goal.loop-preserved
 loop-preserved c = record {
   length = grind arith;
   pages = grind (arith, get_push);
+  block_room = grind (arith, get_push);
+  spare_room = grind (arith, get_push);
   page = grind (arith, get_push);
   next = grind (arith, get_push);
 }

@@ -7,6 +7,7 @@ use Rattle.cache_model.specs.Loading.{after_pages, log_region}
 use Rattle.op_log.specs.declared.error.OpenError.{OpenError}
 use Rattle.op_log.specs.Refusals.{IsRefusal}
 use Rattle.cache_model.proofs.LoadLemmas.{log_below}
+use Rattle.op_log.proofs.ApplyLemmas.{room_taken}
 use Rattle.op_log.proofs.WalkLemmas.{if_err, turn_more, turn_end, turn_refused}
 use Rattle.op_log.proofs.walk.roll.Goals as goal
 
@@ -30,9 +31,13 @@ pub returns-then-not-branch-clause-count : goal.returns-then-not-branch-clause-c
 returns-then-not-branch-clause-count g c =
     (turn_end c.args.geometry.now c.args.region c.args.era (g.M.Media.state c.args.media.now).contents (g.M.Media.state c.loop-i.media).contents c.loop-i.invariant.reads.contents c.args.map.now.entries c.loop-i.map.entries c.apply_page.new.map.entries c.loop-i.i c.log_at-at.result c.log_at-at.ensures c.loop-i-test.true c.loop-i.invariant.rolled c.in_ok-apply_page.field-0 c.if-not-branch.true c.in_ok-apply_page.ensures.answers).1
 
+pub returns-then-not-branch-clause-room : goal.returns-then-not-branch-clause-room
+returns-then-not-branch-clause-room g c = room_taken _ c.args.map.now c.loop-i.map c.apply_page.new.map c.loop-i.invariant.room c.in_ok-apply_page.ensures.room
+
 pub loop-i-preserved : goal.loop-i-preserved
 loop-i-preserved g c = record {
   geometry = search rules;
   rolled = turn_more c.args.geometry.now c.args.region c.args.era (g.M.Media.state c.args.media.now).contents (g.M.Media.state c.loop-i.media).contents c.loop-i.invariant.reads.contents c.args.map.now.entries c.loop-i.map.entries c.apply_page.new.map.entries c.loop-i.i c.log_at-at.result c.log_at-at.ensures c.loop-i-test.true c.loop-i.invariant.rolled c.in_ok-apply_page.field-0 c.if-not-branch.false c.in_ok-apply_page.ensures.answers;
+  room = room_taken _ c.args.map.now c.loop-i.map c.apply_page.new.map c.loop-i.invariant.room c.in_ok-apply_page.ensures.room;
   reads = reads_then (g.M.Media.state c.args.media.now) (g.M.Media.state c.loop-i.media) (g.M.Media.state c.apply_page.new.media) false false c.loop-i.invariant.reads c.in_ok-apply_page.ensures.reads;
 }

@@ -34,15 +34,15 @@ returns-in-Some-2 c =
     let there = found_is g page found (ap (option_map told_in) (sym c.in-Some.is) ∙ c.newest.ensures) (sym c.is_wanted.ensures ∙ c.if-not-is_wanted.false) in
     replay_damaged g page found there c.in-Some-2.at (is_damaged c.in_ok-at.field-0 (replayed g page found) c.replay.new.map.entries c.in-Some-2.at c.in-Some-2.is c.in_ok-at.ensures.replayed)
 
-pub returns-in-Some-first_not_whole : goal.returns-in-Some-first_not_whole
-returns-in-Some-first_not_whole c =
+pub returns-in-Some-3 : goal.returns-in-Some-3
+returns-in-Some-3 c =
     let g = c.args.geometry.now in
     let page = page_in g c.args.pages.now in
     let found : ℕ × Complete = (c.in-Some.region, told c.in-Some.sealed) in
     let there = found_is g page found (ap (option_map told_in) (sym c.in-Some.is) ∙ c.newest.ensures) (sym c.is_wanted.ensures ∙ c.if-not-is_wanted.false) in
     let m = c.replay.new.map.entries in
-    place_damaged g page found there m c.in-Some-first_not_whole.at (is_applied c.in_ok-at.field-0 (replayed g page found) m c.in_default-2.is c.in_ok-at.ensures.replayed)
-    (is_damaged c.first_not_whole.result (all_whole page (entries m) m) m c.in-Some-first_not_whole.at c.in-Some-first_not_whole.is c.first_not_whole.ensures)
+    place_damaged g page found there m c.in-Some-3.at (is_applied c.in_ok-at.field-0 (replayed g page found) m c.in_default-2.is c.in_ok-at.ensures.replayed)
+    (is_damaged c.in_ok-at-2.field-0 (all_whole page (entries m) m) m c.in-Some-3.at c.in-Some-3.is c.in_ok-at-2.ensures)
 
 pub returns : goal.returns
 returns c =
@@ -52,6 +52,6 @@ returns c =
     let there = found_is g page found (ap (option_map told_in) (sym c.in-Some.is) ∙ c.newest.ensures) (sym c.is_wanted.ensures ∙ c.if-not-is_wanted.false) in
     let m = c.replay.new.map.entries in (
       places_whole g page found there page refl m (is_applied c.in_ok-at.field-0 (replayed g page found) m c.in_default-2.is c.in_ok-at.ensures.replayed) page refl
-          (is_applied c.first_not_whole.result (all_whole page (entries m) m) m c.in_default-first_not_whole.is c.first_not_whole.ensures),
-      c.in_ok-at.ensures.geometry ∙ c.new-map.ensures.geometry,
+          (is_applied c.in_ok-at-2.field-0 (all_whole page (entries m) m) m c.in_default-3.is c.in_ok-at-2.ensures),
+      c.in_ok-at.ensures.geometry ∙ c.in_ok-map.ensures.geometry,
     )

@@ -4,6 +4,7 @@ use Rattle.std.proofs.lemmas.List.{length-set, get_or-set_same, get_or-set_other
 use Rattle.sparse_map.specs.Slots.{slot_at}
 use Rattle.sparse_map.specs.Groups.{slots_of}
 use Rattle.sparse_map.proofs.TableLemmas.{length-slots_of, slot_of_bucket, set_bucket, small_groups-same, set_both}
+use Rattle.sparse_map.proofs.PlacesLemmas.{sizes-same, sizes-back}
 use Rattle.sparse_map.proofs.table.exchange.Goals as goal
 
 pub remove-first-requires-clause-occupied : goal.remove-first-requires-clause-occupied
@@ -84,3 +85,23 @@ returns-clause-small g c =
     small_groups-same ws (c.args.a / 32) (get_or ws (c.args.a / 32) again) again c.insert.new.self (omega arith) refl c.insert.ensures.capacity
     ∙ small_groups-same vs (c.args.b / 32) (get_or vs (c.args.b / 32) other) other c.replace-second.new.self (omega arith) refl c.replace-second.ensures.capacity
     ∙ small_groups-same us (c.args.a / 32) (get_or us (c.args.a / 32) read) read c.remove-first.new.self (omega arith) refl c.remove-first.ensures.capacity
+
+pub returns-clause-sizes : goal.returns-clause-sizes
+returns-clause-sizes g c =
+    let us = c.args.groups.now in
+    let read = c.index-groups-a.result in
+    let u = get_or us (c.args.a / 32) read in
+    let v = c.remove-first.new.self in
+    let vs = set us (c.args.a / 32) v in
+    let other = c.index-groups-b.result in
+    let moved = c.replace-second.new.self in
+    let ws = set vs (c.args.b / 32) moved in
+    let again = c.index-groups-a-2.result in
+    let x = get_or ws (c.args.a / 32) again in
+    let long = length-set us (c.args.a / 32) v in
+    let longer = length-set vs (c.args.b / 32) moved in
+    let a_inside = c.requires.a_within in
+    let b_inside = c.requires.b_within in
+    let between = sizes-same vs (c.args.b / 32) (get_or vs (c.args.b / 32) other) other moved (omega arith) refl c.replace-second.ensures.room c.replace-second.ensures.capacity in
+    sizes-back us ws (c.args.a / 32) u read v x again c.insert.new.self (omega arith) refl between (omega arith) refl
+    c.remove-first.ensures.len c.remove-first.ensures.capacity c.insert.ensures.len c.insert.ensures.capacity

@@ -4,6 +4,7 @@ use Rattle.std.specs.Ordering.{nat_cmp}
 use Rattle.std.specs.FinMap.{find}
 use Rattle.sparse_map.specs.Slots.{items_of, slot_at}
 use Rattle.sparse_map.specs.Groups.{slots_of}
+use Rattle.sparse_map.specs.Places.{places_of, loose_of}
 use Rattle.sparse_map.proofs.TableLemmas.{length-slots_of}
 use Rattle.sparse_map.proofs.SlotLemmas.{find-set_none, length-items_of-set}
 use Rattle.sparse_map.proofs.table.remove_at.Goals as goal
@@ -30,3 +31,12 @@ returns-clause-count g c =
     let one : cond (is_some (slot_at now hole)) 1 0 ≡ 1 = ap {B = ℕ} (λ o. cond {A = ℕ} (is_some o) 1 0) c.take.ensures.item in
     let count : length (items_of (slots_of c.take.new.groups)) ≡ length (items_of (set now hole None)) = ap (λ s. length (items_of s)) c.take.ensures.slots in
     omega (arith, count, fewer, one, shifted.count)
+
+pub returns-clause-places : goal.returns-clause-places
+returns-clause-places g c = c.take.ensures.places ∙ ap places_of c.shift_back-hole.ensures.sizes
+
+pub returns-clause-loose : goal.returns-clause-loose
+returns-clause-loose g c = λ grown. omega (arith, c.take.ensures.loose grown, ap (loose_of grown) c.shift_back-hole.ensures.sizes)
+
+pub returns-clause-walk : goal.returns-clause-walk
+returns-clause-walk g c = c.take.ensures.slots ∙ c.shift_back-hole.ensures.walk

@@ -1,6 +1,7 @@
 use Rattle.std.proofs.Common.{refl, ◌∙◌, subst, get_or, arith, ◌/◌, Some}
 use Rattle.std.specs.Prelude.{IsSome}
 use Rattle.sparse_map.proofs.TableLemmas.{slot_of_bucket, set_bucket, small_groups-same}
+use Rattle.sparse_map.proofs.PlacesLemmas.{sizes-same}
 use Rattle.sparse_map.proofs.table.replace.Goals as goal
 
 pub replace-requires-clause-occupied : goal.replace-requires-clause-occupied
@@ -26,3 +27,9 @@ returns-clause-small g c =
     let read = c.index-groups-bucket.result in
     let us = c.args.groups.now in
     small_groups-same us (c.args.bucket / 32) (get_or us (c.args.bucket / 32) read) read c.replace.new.self (omega arith) refl c.replace.ensures.capacity
+
+pub returns-clause-sizes : goal.returns-clause-sizes
+returns-clause-sizes g c =
+    let read = c.index-groups-bucket.result in
+    let us = c.args.groups.now in
+    sizes-same us (c.args.bucket / 32) (get_or us (c.args.bucket / 32) read) read c.replace.new.self (omega arith) refl c.replace.ensures.room c.replace.ensures.capacity

@@ -1,8 +1,11 @@
-use Rattle.std.proofs.Common.{◌≡◌, ◌+◌, ◌<◌, ◌≤◌, ◌^◌, sym, ap, ◌∙◌, subst, refl, arith, inl, inr}
+use Rattle.std.proofs.Common.{◌≡◌, ◌+◌, ◌-◌, suc, set, length, None, ◌<◌, ◌≤◌, ◌^◌, sym, ap, ◌∙◌, subst, refl, arith, inl, inr}
 use Rattle.std.proofs.lemmas.Bool.{cases_lt, false≢true}
 use Rattle.sparse_map.specs.Home.{home, steps}
 use Rattle.sparse_map.specs.Slots.{key_at, exchanged}
 use Rattle.sparse_map.specs.Groups.{slots_of, small_groups}
+use Rattle.sparse_map.specs.Places.{sizes_of}
+use Rattle.sparse_map.specs.Removal.{shifted_back}
+use Rattle.sparse_map.proofs.RemovalLemmas.{back_ends, back_stays, back_moves}
 use Rattle.sparse_map.proofs.RoundLemmas.{next, next_below}
 use Rattle.sparse_map.proofs.TableLemmas.{length-slots_of}
 use Rattle.sparse_map.proofs.PackedLemmas.{PackedAt-from}
@@ -17,7 +20,7 @@ loop-step-init g c =
     let s = slots_of c.args.groups.now in
     let long = c.requires.buckets ∙ sym e in
     let inside = subst (λ m. c.args.bucket < m) (sym e) c.requires.within in
-    record { walked = walked_start n s c.args.bucket (PackedAt-from n s long c.requires.packed) long inside c.requires.occupied; small = refl }
+    record { walked = walked_start n s c.args.bucket (PackedAt-from n s long c.requires.packed) long inside c.requires.occupied; small = refl; back = refl; sizes = refl }
 
 pub key_at-requires : goal.key_at-requires
 key_at-requires g c =
@@ -63,6 +66,9 @@ loop-step-preserved g c =
     let key = c.in-Some.key in
     let hole = c.loop-step.hole in
     let on = c.next_bucket-at.ensures in
+    let apart = apart_from_hole n new c.args.bucket hole c.loop-step.at c.loop-step._step inside w.walk c.loop-step-test.true in
+    let inside_hole : hole < length new = subst (λ m. hole < m) (sym w.long) w.walk.hole_inside in
+    let fewer : suc (n - (c.loop-step._step + 1)) ≡ n - c.loop-step._step = omega (arith, c.loop-step-test.true) in
     elim c.if-leads_over.branch [
       | then-leads_over b ↦
           let over_2 : steps (2 ^ c.args.bits) (home (2 ^ c.args.bits) key) hole ≤ steps (2 ^ c.args.bits) (home (2 ^ c.args.bits) key) c.next_bucket-at.result = c.leads_over.ensures.0 b.if-leads_over.true in
@@ -74,6 +80,12 @@ loop-step-preserved g c =
                 (subst (λ x. Walked n old (exchanged new hole (next n c.loop-step.at)) c.args.bucket x c.next_bucket-at.result (c.loop-step._step + 1)) (sym b.hole-is)
                 (subst (λ x. Walked n old (exchanged new hole (next n c.loop-step.at)) c.args.bucket x x (c.loop-step._step + 1)) (sym on) moved));
             small = ap small_groups b.groups-is ∙ b.exchange.ensures.small ∙ c.loop-step.invariant.small;
+            back =
+                (λ i. shifted_back n (n - (c.loop-step._step + 1)) ((b.hole-is ∙ on) i) (on i) (set (slots i) ((b.hole-is ∙ on) i) None))
+                ∙ sym (back_moves n (n - (c.loop-step._step + 1)) hole c.loop-step.at new apart inside_hole key is over)
+                ∙ ap (λ m. shifted_back n m hole c.loop-step.at (set new hole None)) fewer
+                ∙ c.loop-step.invariant.back;
+            sizes = ap sizes_of b.groups-is ∙ b.exchange.ensures.sizes ∙ c.loop-step.invariant.sizes;
           }
       | else-leads_over b ↦
           let short_2 : steps (2 ^ c.args.bits) (home (2 ^ c.args.bits) key) c.next_bucket-at.result < steps (2 ^ c.args.bits) (home (2 ^ c.args.bits) key) hole =
@@ -88,11 +100,43 @@ loop-step-preserved g c =
                 (subst (λ x. Walked n old new c.args.bucket x c.next_bucket-at.result (c.loop-step._step + 1)) (sym b.hole-is)
                 (subst (λ x. Walked n old new c.args.bucket hole x (c.loop-step._step + 1)) (sym on) stayed));
             small = ap small_groups b.groups-is ∙ c.loop-step.invariant.small;
+            back =
+                (λ i. shifted_back n (n - (c.loop-step._step + 1)) (b.hole-is i) (on i) (set (slots_of (b.groups-is i)) (b.hole-is i) None))
+                ∙ sym (back_stays n (n - (c.loop-step._step + 1)) hole c.loop-step.at new apart inside_hole key is short)
+                ∙ ap (λ m. shifted_back n m hole c.loop-step.at (set new hole None)) fewer
+                ∙ c.loop-step.invariant.back;
+            sizes = ap sizes_of b.groups-is ∙ c.loop-step.invariant.sizes;
           }
     ]
 
 pub returns-clause-shifted : goal.returns-clause-shifted
 returns-clause-shifted g c =
+    let n = c.bucket_count-buckets.result in
+    let e = c.bucket_count-buckets.ensures.count in
+    let inside = subst (λ m. c.args.bucket < m) (sym e) c.requires.within in
+    let w = c.loop-step.invariant.walked in
+    let end : c.loop-step._step ≡ n = omega arith in
+    absurd (walked_full n (slots_of c.args.groups.now) (slots_of c.loop-step.groups) c.args.bucket c.loop-step.hole c.loop-step.at inside (omega (arith, c.requires.room, e))
+    (subst (λ m. Walked n (slots_of c.args.groups.now) (slots_of c.loop-step.groups) c.args.bucket c.loop-step.hole c.loop-step.at m) end w))
+
+pub returns-in-None-clause-walk : goal.returns-in-None-clause-walk
+returns-in-None-clause-walk g c =
+    let n = c.bucket_count-buckets.result in
+    let e = c.bucket_count-buckets.ensures.count in
+    let inside = subst (λ m. c.args.bucket < m) (sym e) c.requires.within in
+    let new = slots_of c.loop-step.groups in
+    let hole = c.loop-step.hole in
+    let w = c.loop-step.invariant.walked in
+    let apart = apart_from_hole n new c.args.bucket hole c.loop-step.at c.loop-step._step inside w.walk c.loop-step-test.true in
+    let inside_hole : hole < length new = subst (λ m. hole < m) (sym w.long) w.walk.hole_inside in
+    let fewer : suc (n - (c.loop-step._step + 1)) ≡ n - c.loop-step._step = omega (arith, c.loop-step-test.true) in
+    sym (back_ends n (n - (c.loop-step._step + 1)) hole c.loop-step.at new apart inside_hole (ap (key_at new) (sym c.next_bucket-at.ensures) ∙ sym c.key_at.ensures ∙ c.in-None.is))
+    ∙ ap (λ m. shifted_back n m hole c.loop-step.at (set new hole None)) fewer
+    ∙ c.loop-step.invariant.back
+    ∙ ap (λ m. shifted_back m (m - 1) c.args.bucket c.args.bucket (set (slots_of c.args.groups.now) c.args.bucket None)) e
+
+pub returns-clause-walk : goal.returns-clause-walk
+returns-clause-walk g c =
     let n = c.bucket_count-buckets.result in
     let e = c.bucket_count-buckets.ensures.count in
     let inside = subst (λ m. c.args.bucket < m) (sym e) c.requires.within in

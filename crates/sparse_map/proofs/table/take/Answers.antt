@@ -1,6 +1,7 @@
 use Rattle.std.proofs.Common.{refl, ◌∙◌, subst, get_or, arith, ◌/◌, None}
 use Rattle.std.specs.Prelude.{IsSome}
 use Rattle.sparse_map.proofs.TableLemmas.{slot_of_bucket, set_bucket, small_groups-same}
+use Rattle.sparse_map.proofs.PlacesLemmas.{extra-most, places_in-set, loose_in-set}
 use Rattle.sparse_map.proofs.table.take.Goals as goal
 
 pub remove-requires-clause-occupied : goal.remove-requires-clause-occupied
@@ -26,3 +27,18 @@ returns-clause-small g c =
     let read = c.index-groups-bucket.result in
     let us = c.args.groups.now in
     small_groups-same us (c.args.bucket / 32) (get_or us (c.args.bucket / 32) read) read c.remove.new.self (omega arith) refl c.remove.ensures.capacity
+
+pub returns-clause-places : goal.returns-clause-places
+returns-clause-places g c =
+    let read = c.index-groups-bucket.result in
+    let us = c.args.groups.now in
+    let changed = places_in-set us (c.args.bucket / 32) (get_or us (c.args.bucket / 32) read) read c.remove.new.self (omega arith) refl in
+    omega (arith, changed, c.remove.ensures.capacity)
+
+pub returns-clause-loose : goal.returns-clause-loose
+returns-clause-loose g c =
+    let read = c.index-groups-bucket.result in
+    let us = c.args.groups.now in
+    let u = get_or us (c.args.bucket / 32) read in
+    let most = extra-most u c.remove.new.self 1 (omega (arith, c.remove.ensures.capacity)) (omega (arith, c.remove.ensures.len)) in
+    λ grown. loose_in-set us (c.args.bucket / 32) u read c.remove.new.self (omega arith) refl grown 1 most

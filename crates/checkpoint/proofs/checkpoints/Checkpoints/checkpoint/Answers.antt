@@ -1,9 +1,13 @@
-use Rattle.std.proofs.Common.{sym, ◌∙◌, subst}
+use Rattle.std.proofs.Common.{◌≡◌, ◌+◌, ◌-◌, ◌%◌, sym, ◌∙◌, subst}
 use Rattle.ft_base.specs.declared.geometry.Geometry.{Geometry}
 use Rattle.cache_model.specs.Entries.{IsMap}
 use Rattle.op_log.specs.Log.{LogValue}
+use Rattle.checkpoint.specs.Counts.{checkpoint_counted}
+use Rattle.checkpoint.specs.Regions.{map_pages}
 use Rattle.checkpoint.specs.Current.{IsCommitted}
+use Rattle.checkpoint.proofs.CountingLemmas.{listing_here}
 use Rattle.checkpoint.proofs.SealedLemmas.{current_map, loads_one_of, log_goes_last, pool_left, ready_left, written_committed, left_of_log, written_of_log, restarted_log}
+use Rattle.checkpoint.proofs.WrittenLemmas.{sealed_spares}
 use Rattle.checkpoint.proofs.checkpoints.Checkpoints.checkpoint.Goals as goal
 
 pub write_checkpoint-requires-clause-is_map : goal.write_checkpoint-requires-clause-is_map
@@ -12,42 +16,51 @@ write_checkpoint-requires-clause-is_map g c =
 
 pub returns-in_err-write_checkpoint-clause-stands : goal.returns-in_err-write_checkpoint-clause-stands
 returns-in_err-write_checkpoint-clause-stands g c =
-    loads_one_of c.args.log.now c.args.map.now.entries (g.M.Media.state c.args.media.now).contents.flash.page (g.M.Media.state c.write_checkpoint.new.media).contents.flash.page c.requires.current c.requires.whole
-    (left_of_log c.args.log.now c.args.map.now.entries c.self.inside.geometry c.region.result c.era.result (c.self.view_is ∙ c.requires.own) c.region.ensures.region c.era.ensures.era (g.M.Media.state c.args.media.now).contents.flash.page (g.M.Media.state c.write_checkpoint.new.media).contents.flash.page c.write_checkpoint.ensures.pages)
+    loads_one_of c.args.log.now c.args.map.now.entries c.args.map.now.records (g.M.Media.state c.args.media.now).contents.flash.page (g.M.Media.state c.write_checkpoint.new.media).contents.flash.page c.requires.current c.requires.whole (listing_here c.self.inside.geometry c.args.log.now.geometry c.args.map.now.entries c.args.map.now.records (c.self.view_is ∙ c.requires.own) c.write_checkpoint.ensures.listing)
+    (left_of_log c.args.log.now c.args.map.now.records c.self.inside.geometry c.region.result c.era.result (c.self.view_is ∙ c.requires.own) c.region.ensures.region c.era.ensures.era (g.M.Media.state c.args.media.now).contents.flash.page (g.M.Media.state c.write_checkpoint.new.media).contents.flash.page c.write_checkpoint.ensures.pages)
 
 pub returns-in_err-write_checkpoint-clause-log_last : goal.returns-in_err-write_checkpoint-clause-log_last
 returns-in_err-write_checkpoint-clause-log_last g c =
-    log_goes_last c.args.log.now c.args.map.now.entries (g.M.Media.state c.args.media.now).contents.flash.page (g.M.Media.state c.write_checkpoint.new.media).contents.flash.page c.requires.current
-    (left_of_log c.args.log.now c.args.map.now.entries c.self.inside.geometry c.region.result c.era.result (c.self.view_is ∙ c.requires.own) c.region.ensures.region c.era.ensures.era (g.M.Media.state c.args.media.now).contents.flash.page (g.M.Media.state c.write_checkpoint.new.media).contents.flash.page c.write_checkpoint.ensures.pages)
+    log_goes_last c.args.log.now c.args.map.now.entries c.args.map.now.records (g.M.Media.state c.args.media.now).contents.flash.page (g.M.Media.state c.write_checkpoint.new.media).contents.flash.page c.requires.current (listing_here c.self.inside.geometry c.args.log.now.geometry c.args.map.now.entries c.args.map.now.records (c.self.view_is ∙ c.requires.own) c.write_checkpoint.ensures.listing)
+    (left_of_log c.args.log.now c.args.map.now.records c.self.inside.geometry c.region.result c.era.result (c.self.view_is ∙ c.requires.own) c.region.ensures.region c.era.ensures.era (g.M.Media.state c.args.media.now).contents.flash.page (g.M.Media.state c.write_checkpoint.new.media).contents.flash.page c.write_checkpoint.ensures.pages)
 
 pub returns-in_err-write_checkpoint-clause-pool : goal.returns-in_err-write_checkpoint-clause-pool
 returns-in_err-write_checkpoint-clause-pool g c =
-    pool_left c.args.log.now c.args.map.now.entries (g.M.Media.state c.args.media.now).contents.flash.page (g.M.Media.state c.write_checkpoint.new.media).contents.flash.page
-    (left_of_log c.args.log.now c.args.map.now.entries c.self.inside.geometry c.region.result c.era.result (c.self.view_is ∙ c.requires.own) c.region.ensures.region c.era.ensures.era (g.M.Media.state c.args.media.now).contents.flash.page (g.M.Media.state c.write_checkpoint.new.media).contents.flash.page c.write_checkpoint.ensures.pages)
+    pool_left c.args.log.now c.args.map.now.records (g.M.Media.state c.args.media.now).contents.flash.page (g.M.Media.state c.write_checkpoint.new.media).contents.flash.page
+    (left_of_log c.args.log.now c.args.map.now.records c.self.inside.geometry c.region.result c.era.result (c.self.view_is ∙ c.requires.own) c.region.ensures.region c.era.ensures.era (g.M.Media.state c.args.media.now).contents.flash.page (g.M.Media.state c.write_checkpoint.new.media).contents.flash.page c.write_checkpoint.ensures.pages)
 
 pub returns-clause-stands : goal.returns-clause-stands
 returns-clause-stands g c =
-    loads_one_of c.args.log.now c.args.map.now.entries (g.M.Media.state c.args.media.now).contents.flash.page (g.M.Media.state c.write_checkpoint.new.media).contents.flash.page c.requires.current c.requires.whole
-    (left_of_log c.args.log.now c.args.map.now.entries c.self.inside.geometry c.region.result c.era.result (c.self.view_is ∙ c.requires.own) c.region.ensures.region c.era.ensures.era (g.M.Media.state c.args.media.now).contents.flash.page (g.M.Media.state c.write_checkpoint.new.media).contents.flash.page c.write_checkpoint.ensures.pages)
+    loads_one_of c.args.log.now c.args.map.now.entries c.args.map.now.records (g.M.Media.state c.args.media.now).contents.flash.page (g.M.Media.state c.write_checkpoint.new.media).contents.flash.page c.requires.current c.requires.whole (listing_here c.self.inside.geometry c.args.log.now.geometry c.args.map.now.entries c.args.map.now.records (c.self.view_is ∙ c.requires.own) c.write_checkpoint.ensures.listing)
+    (left_of_log c.args.log.now c.args.map.now.records c.self.inside.geometry c.region.result c.era.result (c.self.view_is ∙ c.requires.own) c.region.ensures.region c.era.ensures.era (g.M.Media.state c.args.media.now).contents.flash.page (g.M.Media.state c.write_checkpoint.new.media).contents.flash.page c.write_checkpoint.ensures.pages)
 
 pub returns-clause-log_last : goal.returns-clause-log_last
 returns-clause-log_last g c =
-    log_goes_last c.args.log.now c.args.map.now.entries (g.M.Media.state c.args.media.now).contents.flash.page (g.M.Media.state c.write_checkpoint.new.media).contents.flash.page c.requires.current
-    (left_of_log c.args.log.now c.args.map.now.entries c.self.inside.geometry c.region.result c.era.result (c.self.view_is ∙ c.requires.own) c.region.ensures.region c.era.ensures.era (g.M.Media.state c.args.media.now).contents.flash.page (g.M.Media.state c.write_checkpoint.new.media).contents.flash.page c.write_checkpoint.ensures.pages)
+    log_goes_last c.args.log.now c.args.map.now.entries c.args.map.now.records (g.M.Media.state c.args.media.now).contents.flash.page (g.M.Media.state c.write_checkpoint.new.media).contents.flash.page c.requires.current (listing_here c.self.inside.geometry c.args.log.now.geometry c.args.map.now.entries c.args.map.now.records (c.self.view_is ∙ c.requires.own) c.write_checkpoint.ensures.listing)
+    (left_of_log c.args.log.now c.args.map.now.records c.self.inside.geometry c.region.result c.era.result (c.self.view_is ∙ c.requires.own) c.region.ensures.region c.era.ensures.era (g.M.Media.state c.args.media.now).contents.flash.page (g.M.Media.state c.write_checkpoint.new.media).contents.flash.page c.write_checkpoint.ensures.pages)
 
 pub returns-clause-pool : goal.returns-clause-pool
 returns-clause-pool g c =
-    pool_left c.args.log.now c.args.map.now.entries (g.M.Media.state c.args.media.now).contents.flash.page (g.M.Media.state c.write_checkpoint.new.media).contents.flash.page
-    (left_of_log c.args.log.now c.args.map.now.entries c.self.inside.geometry c.region.result c.era.result (c.self.view_is ∙ c.requires.own) c.region.ensures.region c.era.ensures.era (g.M.Media.state c.args.media.now).contents.flash.page (g.M.Media.state c.write_checkpoint.new.media).contents.flash.page c.write_checkpoint.ensures.pages)
+    pool_left c.args.log.now c.args.map.now.records (g.M.Media.state c.args.media.now).contents.flash.page (g.M.Media.state c.write_checkpoint.new.media).contents.flash.page
+    (left_of_log c.args.log.now c.args.map.now.records c.self.inside.geometry c.region.result c.era.result (c.self.view_is ∙ c.requires.own) c.region.ensures.region c.era.ensures.era (g.M.Media.state c.args.media.now).contents.flash.page (g.M.Media.state c.write_checkpoint.new.media).contents.flash.page c.write_checkpoint.ensures.pages)
 
 pub returns-clause-done : goal.returns-clause-done
 returns-clause-done g c =
     subst (λ (log : LogValue). IsCommitted (g.M.Media.state c.write_checkpoint.new.media).contents.flash log c.args.map.now.entries)
-    (sym (restarted_log c.args.log.now c.args.map.now.entries c.self.inside.geometry c.region.result c.era.result (c.self.view_is ∙ c.requires.own) c.region.ensures.region c.era.ensures.era c.restart.new.self c.restart.ensures))
-    (written_committed c.args.log.now c.args.map.now.entries (g.M.Media.state c.args.media.now).contents.flash (g.M.Media.state c.write_checkpoint.new.media).contents.flash c.requires.current c.requires.whole
-    (written_of_log c.args.log.now c.args.map.now.entries c.self.inside.geometry c.region.result c.era.result (c.self.view_is ∙ c.requires.own) c.region.ensures.region c.era.ensures.era (g.M.Media.state c.args.media.now).contents.flash (g.M.Media.state c.write_checkpoint.new.media).contents.flash c.in_ok-write_checkpoint.ensures.done))
+    (sym (restarted_log c.args.log.now c.args.map.now.records c.self.inside.geometry c.region.result c.era.result (c.self.view_is ∙ c.requires.own) c.region.ensures.region c.era.ensures.era c.restart.new.self c.restart.ensures))
+    (written_committed c.args.log.now c.args.map.now.entries c.args.map.now.records (g.M.Media.state c.args.media.now).contents.flash (g.M.Media.state c.write_checkpoint.new.media).contents.flash c.requires.current c.requires.whole (listing_here c.self.inside.geometry c.args.log.now.geometry c.args.map.now.entries c.args.map.now.records (c.self.view_is ∙ c.requires.own) c.write_checkpoint.ensures.listing)
+    (written_of_log c.args.log.now c.args.map.now.records c.self.inside.geometry c.region.result c.era.result (c.self.view_is ∙ c.requires.own) c.region.ensures.region c.era.ensures.era (g.M.Media.state c.args.media.now).contents.flash (g.M.Media.state c.write_checkpoint.new.media).contents.flash c.in_ok-write_checkpoint.ensures.done))
 
 pub returns-clause-pool_ready : goal.returns-clause-pool_ready
 returns-clause-pool_ready g c =
-    ready_left c.args.log.now c.args.map.now.entries (g.M.Media.state c.args.media.now).contents.flash (g.M.Media.state c.write_checkpoint.new.media).contents.flash
-    (written_of_log c.args.log.now c.args.map.now.entries c.self.inside.geometry c.region.result c.era.result (c.self.view_is ∙ c.requires.own) c.region.ensures.region c.era.ensures.era (g.M.Media.state c.args.media.now).contents.flash (g.M.Media.state c.write_checkpoint.new.media).contents.flash c.in_ok-write_checkpoint.ensures.done)
+    ready_left c.args.log.now c.args.map.now.records (g.M.Media.state c.args.media.now).contents.flash (g.M.Media.state c.write_checkpoint.new.media).contents.flash
+    (written_of_log c.args.log.now c.args.map.now.records c.self.inside.geometry c.region.result c.era.result (c.self.view_is ∙ c.requires.own) c.region.ensures.region c.era.ensures.era (g.M.Media.state c.args.media.now).contents.flash (g.M.Media.state c.write_checkpoint.new.media).contents.flash c.in_ok-write_checkpoint.ensures.done)
+
+pub returns-clause-spares : goal.returns-clause-spares
+returns-clause-spares g c =
+    let written = written_of_log c.args.log.now c.args.map.now.records c.self.inside.geometry c.region.result c.era.result (c.self.view_is ∙ c.requires.own) c.region.ensures.region c.era.ensures.era (g.M.Media.state c.args.media.now).contents.flash (g.M.Media.state c.write_checkpoint.new.media).contents.flash c.in_ok-write_checkpoint.ensures.done in
+    sealed_spares c.args.log.now.geometry (1 - c.args.log.now.region) ((c.args.log.now.era + 1) % 3) c.args.map.now.records (g.M.Media.state c.args.media.now).contents.flash.page (g.M.Media.state c.write_checkpoint.new.media).contents.flash.page written.sealed
+
+pub returns-clause-counts : goal.returns-clause-counts
+returns-clause-counts g c =
+    subst (λ (x : Geometry). (g.M.Media.state c.write_checkpoint.new.media).counts ≡ checkpoint_counted x (map_pages c.args.map.now.records) (g.M.Media.state c.args.media.now).counts) (c.self.view_is ∙ c.requires.own) c.in_ok-write_checkpoint.ensures.counts

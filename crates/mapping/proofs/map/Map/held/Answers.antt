@@ -1,6 +1,8 @@
-use Rattle.std.proofs.Common.{arith}
-use Rattle.mapping.proofs.CountsLemmas.{held_is}
+use Rattle.std.proofs.Common.{◌∙◌}
+use Rattle.std.specs.FinMap.{entries}
+use Rattle.mapping.specs.Index.{is_any}
+use Rattle.mapping.proofs.TallyLemmas.{tally_is, all_pass}
 use Rattle.mapping.proofs.map.Map.held.Goals as goal
 
-pub returns : goal.returns
-returns c = rw (← c.self.view_is) (held_is c.self.inside.items.items c.len.result c.self.invariant.order (omega (arith, c.len.ensures, c.self.inside.items.ok.0)))
+pub returns-clause-count : goal.returns-clause-count
+returns-clause-count c = rw (← c.self.view_is) (c.self.invariant.index.held ∙ tally_is is_any c.self.inside.held.entries ∙ all_pass (entries c.self.inside.held.entries))

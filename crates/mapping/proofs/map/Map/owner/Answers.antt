@@ -1,8 +1,7 @@
-use Rattle.std.proofs.Common.{List, ℕ, subst, nat_cmp, IfNone}
-use Rattle.std.specs.FinMap.{from_entries}
-use Rattle.cache_model.specs.declared.entry.Entry.{Entry}
-use Rattle.mapping.specs.Counts.{Owns}
+use Rattle.std.proofs.Common.{true, sym, ◌∙◌}
+use Rattle.mapping.proofs.PageFits.{pool_is}
+use Rattle.mapping.proofs.SeekingLemmas.{owner_some}
 use Rattle.mapping.proofs.map.Map.owner.Goals as goal
 
-pub returns-clause-none : goal.returns-clause-none
-returns-clause-none c = rw (← c.self.view_is) (subst (λ (l : List (ℕ × Entry)). IfNone c.owner_of.result ((a : ℕ) → Owns (from_entries {R = nat_cmp} l) c.args.at a → ⊥)) c.deref.ensures.value c.owner_of.ensures.none)
+pub returns-clause-owner : goal.returns-clause-owner
+returns-clause-owner c = rw (← c.self.view_is) (owner_some c.self.inside.geometry c.self.inside.held.entries c.self.invariant.is_map c.self.inside.index.owners.items c.self.invariant.index.owners c.args.at (pool_is c.self.inside.geometry c.self.inside.held.entries c.self.invariant.is_map 0 c.args.at true (sym c.is_in_pool.ensures ∙ c.if-not-is_in_pool.false)) c.owner.result c.owner.ensures)

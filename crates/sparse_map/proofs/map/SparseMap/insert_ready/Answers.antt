@@ -1,15 +1,16 @@
-use Rattle.std.proofs.Common.{◌≡◌, ◌+◌, ◌-◌, length, set, Some, arith, ap, sym, ◌∙◌, subst}
+use Rattle.std.proofs.Common.{◌≡◌, ◌+◌, ◌-◌, length, refl, set, Some, arith, ap, sym, ◌∙◌, subst}
 use Rattle.std.specs.Prelude.{option_map}
 use Rattle.std.specs.Vec.{vec_len}
 use Rattle.sparse_map.specs.Slots.{slot_at, key_at}
 use Rattle.sparse_map.specs.Groups.{slots_of, small_groups}
-use Rattle.sparse_map.specs.Packed.{map_of, IsSound}
 use Rattle.sparse_map.specs.Kept.{IsKept}
+use Rattle.sparse_map.specs.Places.{sizes_of, places_of, loose_of}
 use Rattle.sparse_map.specs.Probe.{IsFreeFor}
 use Rattle.sparse_map.proofs.SlotLemmas.{slot_of_key}
 use Rattle.sparse_map.proofs.PackedLemmas.{key_inside}
 use Rattle.sparse_map.proofs.TableLemmas.{length-slots_of}
 use Rattle.sparse_map.proofs.MapLemmas.{kept_buckets, kept_sound}
+use Rattle.sparse_map.proofs.ViewLemmas.{seen_slots, seen_memory, seen_loose}
 use Rattle.sparse_map.proofs.ChangeLemmas.{written, seen_ready, absent_needs_room, get_there, get_absent, kept_value, map_value, kept_new_key, map_new_key}
 use Rattle.sparse_map.proofs.map.SparseMap.insert_ready.Goals as goal
 
@@ -39,14 +40,14 @@ invariant_of-self g c =
     subst (λ us. IsKept m.bits m.len m.spare (vec_len m.stock) us) (sym (written m.groups ws long))
     (kept_value m c.args.self.now c.self.invariant c.self.view_is ws c.in-Found.bucket c.args.key c.args.value slots has (c.replace-old.ensures.small ∙ ap small_groups c.as_mut_slice.ensures.value))
 
-pub put-requires-clause-within : goal.put-requires-clause-within
-put-requires-clause-within g c =
+pub put-grew-requires-clause-within : goal.put-grew-requires-clause-within
+put-grew-requires-clause-within g c =
     let place = c.in-Free.ensures in
     let same : length c.as_mut_slice-in-Free.result.now ≡ length c.as_slice.result.now = ap length (c.as_mut_slice-in-Free.ensures.value ∙ sym c.as_slice.ensures.value) in
     omega (arith, place.inside, same, length-slots_of c.as_slice.result.now)
 
-pub put-requires-clause-stocked : goal.put-requires-clause-stocked
-put-requires-clause-stocked g c =
+pub put-grew-requires-clause-stocked : goal.put-grew-requires-clause-stocked
+put-grew-requires-clause-stocked g c =
     let m = c.self.inside in
     let place : IsFreeFor (slots_of m.groups.items) c.args.key c.in-Free.bucket = subst (λ us. IsFreeFor (slots_of us) c.args.key c.in-Free.bucket) c.as_slice.ensures.value c.in-Free.ensures in
     let more = absent_needs_room m c.args.self.now c.self.invariant c.self.view_is c.args.key place.absent c.requires in
@@ -63,14 +64,14 @@ overflow_sub-self g c =
 pub invariant_of-self-in-Free : goal.invariant_of-self-in-Free
 invariant_of-self-in-Free g c =
     let m = c.self.inside in
-    let ws = c.put.new.groups in
-    let long : length ws ≡ vec_len m.groups = c.put.auto.groups ∙ c.as_mut_slice-in-Free.ensures.len in
-    let slots = c.put.ensures.slots ∙ ap (λ us. set (slots_of us) c.in-Free.bucket (Some (c.args.key, c.args.value))) c.as_mut_slice-in-Free.ensures.value in
+    let ws = c.put-grew.new.groups in
+    let long : length ws ≡ vec_len m.groups = c.put-grew.auto.groups ∙ c.as_mut_slice-in-Free.ensures.len in
+    let slots = c.put-grew.ensures.slots ∙ ap (λ us. set (slots_of us) c.in-Free.bucket (Some (c.args.key, c.args.value))) c.as_mut_slice-in-Free.ensures.value in
     let place : IsFreeFor (slots_of m.groups.items) c.args.key c.in-Free.bucket = subst (λ us. IsFreeFor (slots_of us) c.args.key c.in-Free.bucket) c.as_slice.ensures.value c.in-Free.ensures in
     let more = absent_needs_room m c.args.self.now c.self.invariant c.self.view_is c.args.key place.absent c.requires in
     let same : small_groups c.as_mut_slice-in-Free.result.now ≡ small_groups m.groups.items = ap small_groups c.as_mut_slice-in-Free.ensures.value in
-    subst (λ us. IsKept m.bits (m.len + 1) (m.spare - 1) (vec_len c.put.new.stock) us) (sym (written m.groups ws long))
-    (kept_new_key m c.args.self.now c.self.invariant c.self.view_is ws c.in-Free.bucket c.args.key c.args.value slots (vec_len c.put.new.stock) place more c.put.ensures.one_less (omega (arith, c.put.ensures.one_widened, same)))
+    subst (λ us. IsKept m.bits (m.len + 1) (m.spare - 1) (vec_len c.put-grew.new.stock) us) (sym (written m.groups ws long))
+    (kept_new_key m c.args.self.now c.self.invariant c.self.view_is ws c.in-Free.bucket c.args.key c.args.value slots (vec_len c.put-grew.new.stock) place more c.put-grew.ensures.one_less (omega (arith, c.put-grew.ensures.one_widened, same)))
 
 pub returns-in-Found-clause-old : goal.returns-in-Found-clause-old
 returns-in-Found-clause-old g c =
@@ -88,8 +89,7 @@ returns-in-Found-clause-map g c =
     let long : length ws ≡ vec_len m.groups = c.replace-old.auto.groups ∙ c.as_mut_slice.ensures.len in
     let slots = c.replace-old.ensures.slots ∙ ap (λ us. set (slots_of us) c.in-Found.bucket (Some (c.args.key, c.args.value))) c.as_mut_slice.ensures.value in
     let has = ap (λ us. key_at (slots_of us) c.in-Found.bucket) (sym c.as_slice.ensures.value) ∙ c.in-Found.ensures in
-    ap (λ us. map_of (record { slots = slots_of us; spare = m.spare })) (written m.groups ws long)
-    ∙ map_value m c.args.self.now c.self.invariant c.self.view_is ws c.in-Found.bucket c.args.key c.args.value slots m.spare has
+    map_value m c.args.self.now c.self.invariant c.self.view_is ws c.in-Found.bucket c.args.key c.args.value slots _ (ap slots_of (written m.groups ws long)) has
 
 pub returns-in-Found-clause-sound : goal.returns-in-Found-clause-sound
 returns-in-Found-clause-sound g c =
@@ -98,9 +98,9 @@ returns-in-Found-clause-sound g c =
     let long : length ws ≡ vec_len m.groups = c.replace-old.auto.groups ∙ c.as_mut_slice.ensures.len in
     let slots = c.replace-old.ensures.slots ∙ ap (λ us. set (slots_of us) c.in-Found.bucket (Some (c.args.key, c.args.value))) c.as_mut_slice.ensures.value in
     let has = ap (λ us. key_at (slots_of us) c.in-Found.bucket) (sym c.as_slice.ensures.value) ∙ c.in-Found.ensures in
-    subst (λ us. IsSound (record { slots = slots_of us; spare = m.spare })) (sym (written m.groups ws long))
-    (kept_sound m.bits m.len m.spare (vec_len m.stock) ws
-    (kept_value m c.args.self.now c.self.invariant c.self.view_is ws c.in-Found.bucket c.args.key c.args.value slots has (c.replace-old.ensures.small ∙ ap small_groups c.as_mut_slice.ensures.value)))
+    kept_sound m.bits m.len m.spare (vec_len m.stock) ws
+    (kept_value m c.args.self.now c.self.invariant c.self.view_is ws c.in-Found.bucket c.args.key c.args.value slots has (c.replace-old.ensures.small ∙ ap small_groups c.as_mut_slice.ensures.value))
+    _ (ap slots_of (written m.groups ws long)) refl
 
 pub returns-in-Free-clause-old : goal.returns-in-Free-clause-old
 returns-in-Free-clause-old g c =
@@ -111,22 +111,89 @@ returns-in-Free-clause-old g c =
 pub returns-in-Free-clause-map : goal.returns-in-Free-clause-map
 returns-in-Free-clause-map g c =
     let m = c.self.inside in
-    let ws = c.put.new.groups in
-    let long : length ws ≡ vec_len m.groups = c.put.auto.groups ∙ c.as_mut_slice-in-Free.ensures.len in
-    let slots = c.put.ensures.slots ∙ ap (λ us. set (slots_of us) c.in-Free.bucket (Some (c.args.key, c.args.value))) c.as_mut_slice-in-Free.ensures.value in
+    let ws = c.put-grew.new.groups in
+    let long : length ws ≡ vec_len m.groups = c.put-grew.auto.groups ∙ c.as_mut_slice-in-Free.ensures.len in
+    let slots = c.put-grew.ensures.slots ∙ ap (λ us. set (slots_of us) c.in-Free.bucket (Some (c.args.key, c.args.value))) c.as_mut_slice-in-Free.ensures.value in
     let place : IsFreeFor (slots_of m.groups.items) c.args.key c.in-Free.bucket = subst (λ us. IsFreeFor (slots_of us) c.args.key c.in-Free.bucket) c.as_slice.ensures.value c.in-Free.ensures in
-    ap (λ us. map_of (record { slots = slots_of us; spare = m.spare - 1 })) (written m.groups ws long)
-    ∙ map_new_key m c.args.self.now c.self.invariant c.self.view_is ws c.in-Free.bucket c.args.key c.args.value slots (m.spare - 1) place
+    map_new_key m c.args.self.now c.self.invariant c.self.view_is ws c.in-Free.bucket c.args.key c.args.value slots _ (ap slots_of (written m.groups ws long)) place
 
 pub returns-in-Free-clause-sound : goal.returns-in-Free-clause-sound
 returns-in-Free-clause-sound g c =
     let m = c.self.inside in
-    let ws = c.put.new.groups in
-    let long : length ws ≡ vec_len m.groups = c.put.auto.groups ∙ c.as_mut_slice-in-Free.ensures.len in
-    let slots = c.put.ensures.slots ∙ ap (λ us. set (slots_of us) c.in-Free.bucket (Some (c.args.key, c.args.value))) c.as_mut_slice-in-Free.ensures.value in
+    let ws = c.put-grew.new.groups in
+    let long : length ws ≡ vec_len m.groups = c.put-grew.auto.groups ∙ c.as_mut_slice-in-Free.ensures.len in
+    let slots = c.put-grew.ensures.slots ∙ ap (λ us. set (slots_of us) c.in-Free.bucket (Some (c.args.key, c.args.value))) c.as_mut_slice-in-Free.ensures.value in
     let place : IsFreeFor (slots_of m.groups.items) c.args.key c.in-Free.bucket = subst (λ us. IsFreeFor (slots_of us) c.args.key c.in-Free.bucket) c.as_slice.ensures.value c.in-Free.ensures in
     let more = absent_needs_room m c.args.self.now c.self.invariant c.self.view_is c.args.key place.absent c.requires in
     let same : small_groups c.as_mut_slice-in-Free.result.now ≡ small_groups m.groups.items = ap small_groups c.as_mut_slice-in-Free.ensures.value in
-    subst (λ us. IsSound (record { slots = slots_of us; spare = m.spare - 1 })) (sym (written m.groups ws long))
-    (kept_sound m.bits (m.len + 1) (m.spare - 1) (vec_len c.put.new.stock) ws
-    (kept_new_key m c.args.self.now c.self.invariant c.self.view_is ws c.in-Free.bucket c.args.key c.args.value slots (vec_len c.put.new.stock) place more c.put.ensures.one_less (omega (arith, c.put.ensures.one_widened, same))))
+    kept_sound m.bits (m.len + 1) (m.spare - 1) (vec_len c.put-grew.new.stock) ws
+    (kept_new_key m c.args.self.now c.self.invariant c.self.view_is ws c.in-Free.bucket c.args.key c.args.value slots (vec_len c.put-grew.new.stock) place more c.put-grew.ensures.one_less (omega (arith, c.put-grew.ensures.one_widened, same)))
+    _ (ap slots_of (written m.groups ws long)) refl
+
+pub returns-in-Found-clause-placed : goal.returns-in-Found-clause-placed
+returns-in-Found-clause-placed g c =
+    let m = c.self.inside in
+    let t = c.args.self.now in
+    let ws = c.replace-old.new.groups in
+    let long : length ws ≡ vec_len m.groups = c.replace-old.auto.groups ∙ c.as_mut_slice.ensures.len in
+    let slots = c.replace-old.ensures.slots ∙ ap (λ us. set (slots_of us) c.in-Found.bucket (Some (c.args.key, c.args.value))) c.as_mut_slice.ensures.value in
+    let has = ap (λ us. key_at (slots_of us) c.in-Found.bucket) (sym c.as_slice.ensures.value) ∙ c.in-Found.ensures in
+    let seen = seen_slots m t c.self.invariant c.self.view_is in
+    record {
+      bucket = c.in-Found.bucket;
+      has = ap (λ s. key_at s c.in-Found.bucket) (sym seen) ∙ has;
+      slots = ap slots_of (written m.groups ws long) ∙ slots ∙ ap (λ s. set s c.in-Found.bucket (Some (c.args.key, c.args.value))) seen;
+    }
+
+pub returns-in-Found-clause-memory : goal.returns-in-Found-clause-memory
+returns-in-Found-clause-memory g c =
+    let m = c.self.inside in
+    let t = c.args.self.now in
+    let ws = c.replace-old.new.groups in
+    let long : length ws ≡ vec_len m.groups = c.replace-old.auto.groups ∙ c.as_mut_slice.ensures.len in
+    let sizes = ap sizes_of (written m.groups ws long) ∙ c.replace-old.ensures.sizes ∙ ap sizes_of c.as_mut_slice.ensures.value in
+    omega (arith, ap places_of sizes, seen_memory m t c.self.invariant c.self.view_is)
+
+pub returns-in-Found-clause-loose : goal.returns-in-Found-clause-loose
+returns-in-Found-clause-loose g c =
+    let m = c.self.inside in
+    let t = c.args.self.now in
+    let ws = c.replace-old.new.groups in
+    let long : length ws ≡ vec_len m.groups = c.replace-old.auto.groups ∙ c.as_mut_slice.ensures.len in
+    let sizes = ap sizes_of (written m.groups ws long) ∙ c.replace-old.ensures.sizes ∙ ap sizes_of c.as_mut_slice.ensures.value in
+    omega (arith, ap (loose_of m.grown) sizes, seen_loose m t c.self.invariant c.self.view_is)
+
+pub returns-in-Free-clause-placed : goal.returns-in-Free-clause-placed
+returns-in-Free-clause-placed g c =
+    let m = c.self.inside in
+    let t = c.args.self.now in
+    let ws = c.put-grew.new.groups in
+    let long : length ws ≡ vec_len m.groups = c.put-grew.auto.groups ∙ c.as_mut_slice-in-Free.ensures.len in
+    let slots = c.put-grew.ensures.slots ∙ ap (λ us. set (slots_of us) c.in-Free.bucket (Some (c.args.key, c.args.value))) c.as_mut_slice-in-Free.ensures.value in
+    let seen = seen_slots m t c.self.invariant c.self.view_is in
+    record {
+      bucket = c.in-Free.bucket;
+      place = subst (λ s. IsFreeFor s c.args.key c.in-Free.bucket) (ap slots_of c.as_slice.ensures.value ∙ seen) c.in-Free.ensures;
+      slots = ap slots_of (written m.groups ws long) ∙ slots ∙ ap (λ s. set s c.in-Free.bucket (Some (c.args.key, c.args.value))) seen;
+    }
+
+pub returns-in-Free-clause-memory : goal.returns-in-Free-clause-memory
+returns-in-Free-clause-memory g c =
+    let m = c.self.inside in
+    let t = c.args.self.now in
+    let ws = c.put-grew.new.groups in
+    let long : length ws ≡ vec_len m.groups = c.put-grew.auto.groups ∙ c.as_mut_slice-in-Free.ensures.len in
+    let sizes = ap sizes_of (written m.groups ws long) in
+    let old = ap sizes_of c.as_mut_slice-in-Free.ensures.value in
+    omega (arith, ap places_of sizes, ap places_of old, c.put-grew.ensures.places, seen_memory m t c.self.invariant c.self.view_is)
+
+pub returns-in-Free-clause-loose : goal.returns-in-Free-clause-loose
+returns-in-Free-clause-loose g c =
+    let m = c.self.inside in
+    let t = c.args.self.now in
+    let ws = c.put-grew.new.groups in
+    let long : length ws ≡ vec_len m.groups = c.put-grew.auto.groups ∙ c.as_mut_slice-in-Free.ensures.len in
+    let sizes = ap sizes_of (written m.groups ws long) in
+    let old = ap sizes_of c.as_mut_slice-in-Free.ensures.value in
+    let less = c.put-grew.ensures.loose m.grown c.with-grown.result c.with-grown.ensures.added c.with-grown.ensures.kept in
+    omega (arith, ap (loose_of c.with-grown.result) sizes, ap (loose_of m.grown) old, less, seen_loose m t c.self.invariant c.self.view_is)

@@ -1,16 +1,18 @@
-use Rattle.std.proofs.Common.{◌≡◌, ◌+◌, ◌-◌, ◌*◌, length, cond, eqb, Some, None, ap, sym, ◌∙◌, subst}
+use Rattle.std.proofs.Common.{◌≡◌, ◌+◌, ◌-◌, ◌*◌, ◌^◌, ◌<◌, set, length, refl, arith, cond, eqb, Some, None, ap, sym, ◌∙◌, subst}
 use Rattle.std.specs.Prelude.{option_map}
 use Rattle.std.specs.Vec.{vec_len}
 use Rattle.std.specs.Ordering.{nat_cmp}
 use Rattle.std.specs.FinMap.{find}
 use Rattle.sparse_map.specs.Slots.{slot_at, key_at, items_of}
 use Rattle.sparse_map.specs.Groups.{slots_of, small_groups}
-use Rattle.sparse_map.specs.Packed.{map_of, IsSound}
 use Rattle.sparse_map.specs.Kept.{IsKept}
+use Rattle.sparse_map.specs.Places.{sizes_of, places_of, loose_of}
 use Rattle.sparse_map.proofs.SlotLemmas.{slot_of_key, not_found}
 use Rattle.sparse_map.proofs.TableLemmas.{length-slots_of}
-use Rattle.sparse_map.proofs.MapLemmas.{kept_sound, get-map_of}
-use Rattle.sparse_map.proofs.ViewLemmas.{seen_slots, seen_sound}
+use Rattle.sparse_map.specs.Removal.{shifted_back}
+use Rattle.sparse_map.proofs.PackedLemmas.{key_inside}
+use Rattle.sparse_map.proofs.MapLemmas.{kept_some, kept_buckets, kept_sound, get-map_of}
+use Rattle.sparse_map.proofs.ViewLemmas.{seen_slots, seen_sound, seen_memory, seen_loose}
 use Rattle.sparse_map.proofs.ChangeLemmas.{written, get_there, map_without, kept_removed, absent_stays}
 use Rattle.sparse_map.proofs.map.SparseMap.remove.Goals as goal
 
@@ -54,8 +56,7 @@ returns-clause-map g c =
     let key : Some c.args.key ≡ Some c.remove_at-value.result.0 =
     ap (option_map (λ e. e.0)) (sym at.1 ∙ ap (λ us. slot_at (slots_of us) b) (sym c.as_mut_slice.ensures.value) ∙ c.remove_at-value.ensures.item) in
     let same_key : c.remove_at-value.result.0 ≡ c.args.key = cc in
-    ap (λ us. map_of (record { slots = slots_of us; spare = m.spare })) (written m.groups ws long)
-    ∙ map_without m c.args.self.now c.self.invariant c.self.view_is ws m.spare c.args.key
+    map_without m c.args.self.now c.self.invariant c.self.view_is _ ws (ap slots_of (written m.groups ws long)) c.args.key
     (λ q. c.remove_at-value.ensures.found q
     ∙ (λ i. cond (eqb q (same_key i)) None (find nat_cmp q (items_of (slots_of (c.as_mut_slice.ensures.value i))))))
 
@@ -76,6 +77,45 @@ returns-clause-sound g c =
     let ws = c.remove_at-value.new.groups in
     let long : length ws ≡ vec_len m.groups = c.remove_at-value.auto.groups ∙ c.as_mut_slice.ensures.len in
     let count : length (items_of (slots_of ws)) + 1 ≡ length (items_of (slots_of m.groups.items)) = c.remove_at-value.ensures.count ∙ ap (λ us. length (items_of (slots_of us))) c.as_mut_slice.ensures.value in
-    subst (λ us. IsSound (record { slots = slots_of us; spare = m.spare })) (sym (written m.groups ws long))
-    (kept_sound m.bits (m.len - 1) m.spare (vec_len m.stock) ws
-    (kept_removed m c.args.self.now c.self.invariant c.self.view_is ws long c.remove_at-value.ensures.packed count (c.remove_at-value.ensures.small ∙ ap small_groups c.as_mut_slice.ensures.value)))
+    kept_sound m.bits (m.len - 1) m.spare (vec_len m.stock) ws
+    (kept_removed m c.args.self.now c.self.invariant c.self.view_is ws long c.remove_at-value.ensures.packed count (c.remove_at-value.ensures.small ∙ ap small_groups c.as_mut_slice.ensures.value))
+    _ (ap slots_of (written m.groups ws long)) refl
+
+pub returns-clause-memory : goal.returns-clause-memory
+returns-clause-memory g c =
+    let m = c.self.inside in
+    let ws = c.remove_at-value.new.groups in
+    let long : length ws ≡ vec_len m.groups = c.remove_at-value.auto.groups ∙ c.as_mut_slice.ensures.len in
+    let sizes = ap sizes_of (written m.groups ws long) in
+    let old = ap sizes_of c.as_mut_slice.ensures.value in
+    omega (arith, ap places_of sizes, ap places_of old, c.remove_at-value.ensures.places, seen_memory m c.args.self.now c.self.invariant c.self.view_is)
+
+pub returns-clause-loose : goal.returns-clause-loose
+returns-clause-loose g c =
+    let m = c.self.inside in
+    let ws = c.remove_at-value.new.groups in
+    let long : length ws ≡ vec_len m.groups = c.remove_at-value.auto.groups ∙ c.as_mut_slice.ensures.len in
+    let sizes = ap sizes_of (written m.groups ws long) in
+    let old = ap sizes_of c.as_mut_slice.ensures.value in
+    omega (arith, ap (loose_of m.grown) sizes, ap (loose_of m.grown) old, c.remove_at-value.ensures.loose m.grown, seen_loose m c.args.self.now c.self.invariant c.self.view_is)
+
+pub returns-clause-shifts : goal.returns-clause-shifts
+returns-clause-shifts g c =
+    let m = c.self.inside in
+    let t = c.args.self.now in
+    let b = c.in_ok-bucket.bucket in
+    let ws = c.remove_at-value.new.groups in
+    let long : length ws ≡ vec_len m.groups = c.remove_at-value.auto.groups ∙ c.as_mut_slice.ensures.len in
+    let seen = seen_slots m t c.self.invariant c.self.view_is in
+    let slots : slots_of c.as_mut_slice.result.now ≡ t.slots = ap slots_of c.as_mut_slice.ensures.value ∙ seen in
+    let some : 0 < length (slots_of m.groups.items) = omega (arith, key_inside t.slots b c.args.key c.in_ok-bucket.ensures, ap length seen) in
+    let bits = kept_some m.bits m.len m.spare (vec_len m.stock) m.groups.items c.self.invariant some in
+    let size : 2 ^ m.bits ≡ length t.slots = sym (kept_buckets m.bits m.len m.spare (vec_len m.stock) m.groups.items c.self.invariant bits) ∙ ap length seen in
+    record {
+      bucket = b;
+      has = c.in_ok-bucket.ensures;
+      slots =
+          ap slots_of (written m.groups ws long)
+          ∙ c.remove_at-value.ensures.walk
+          ∙ (λ i. shifted_back (size i) (size i - 1) b b (set (slots i) b None));
+    }

@@ -1,11 +1,12 @@
-use Rattle.std.proofs.Common.{◌≡◌, ◌+◌, ◌^◌, ◌<◌, ◌≤◌, length, cond, eqb, ap, sym, ◌∙◌, subst, arith}
+use Rattle.std.proofs.Common.{◌≡◌, ◌≢◌, ◌+◌, ◌/◌, ◌^◌, ◌<◌, ◌≤◌, max, length, cond, eqb, ap, sym, ◌∙◌, subst, arith}
+use Rattle.std.specs.Prelude.{OnErr}
 use Rattle.std.specs.Vec.{vec_len}
 use Rattle.sparse_map.specs.Home.{IsDoubledFor}
 use Rattle.sparse_map.specs.Groups.{slots_of}
 use Rattle.sparse_map.specs.Packed.{len_of, buckets_of}
 use Rattle.sparse_map.proofs.MapLemmas.{kept_buckets}
 use Rattle.sparse_map.proofs.ViewLemmas.{seen_len, seen_slots, seen_sound}
-use Rattle.sparse_map.proofs.ReserveLemmas.{on_ok, on_ok_then, doubled_grows, map_of-slots, sound_stocked, sound_either}
+use Rattle.sparse_map.proofs.ReserveLemmas.{on_ok, on_ok_then, on_ok_always, on_err_both, doubled_grows, other_buckets, map_of-slots, sound_stocked, sound_either, loose_either, stays_either, as_before, no_more}
 use Rattle.sparse_map.proofs.map.SparseMap.reserve.Goals as goal
 
 pub bits_for-bits-requires-clause-room : goal.bits_for-bits-requires-clause-room
@@ -85,3 +86,47 @@ returns-else-bits-self-clause-buckets g c =
 pub returns-else-bits-self-clause-sound : goal.returns-else-bits-self-clause-sound
 returns-else-bits-self-clause-sound g c =
     sound_either c.widen.result c.args.self.now c.widen.new.self (seen_sound c.self.inside c.args.self.now c.self.invariant c.self.view_is) c.widen.ensures.sound c.widen.ensures.err
+
+pub returns-then-bits-self-clause-exact : goal.returns-then-bits-self-clause-exact
+returns-then-bits-self-clause-exact g c =
+    let t = c.args.self.now in
+    let u = c.stock_up.new.self in
+    let level : buckets_of u ≡ buckets_of t = ap length c.stock_up.ensures.slots in
+    on_ok c.stock_up.result (buckets_of u ≢ buckets_of t → u.places ≤ len_of u + buckets_of u / 32) (λ other. absurd (other level))
+
+pub returns-then-bits-self-clause-err : goal.returns-then-bits-self-clause-err
+returns-then-bits-self-clause-err g c =
+    on_err_both c.stock_up.result (c.stock_up.new.self.slots ≡ c.args.self.now.slots) (c.stock_up.new.self.spare ≡ c.args.self.now.spare) c.stock_up.ensures.slots c.stock_up.ensures.err
+
+pub returns-then-bits-self-clause-refused : goal.returns-then-bits-self-clause-refused
+returns-then-bits-self-clause-refused g c =
+    let t = c.args.self.now in
+    let u = c.stock_up.new.self in
+    subst (λ n. OnErr c.stock_up.result ((u.places ≤ t.places) × (u.blanks ≤ max t.blanks (max t.spare n)))) c.from-n.ensures c.stock_up.ensures.refused
+
+pub returns-else-bits-self-clause-stays : goal.returns-else-bits-self-clause-stays
+returns-else-bits-self-clause-stays g c =
+    let m = c.self.inside in
+    let t = c.args.self.now in
+    let narrow : cond (eqb m.bits 0) 0 (2 ^ m.bits) ≡ buckets_of t = sym c.self.invariant.buckets ∙ ap length (seen_slots m t c.self.invariant c.self.view_is) in
+    let other : buckets_of t ≢ 2 ^ c.bits_for-bits.result = subst (λ n. n ≢ 2 ^ c.bits_for-bits.result) narrow (other_buckets m.bits c.bits_for-bits.result (λ e. c.if-bits-self.false (sym e))) in
+    stays_either c.widen.result t c.widen.new.self c.widen.ensures.err (2 ^ c.bits_for-bits.result) other c.widen.ensures.buckets
+
+pub returns-else-bits-self-clause-memory : goal.returns-else-bits-self-clause-memory
+returns-else-bits-self-clause-memory g c =
+    let u = c.widen.new.self in
+    on_ok_then c.widen.result (u.places ≤ len_of u + buckets_of u / 32) (u.places ≤ len_of u + buckets_of u / 8 + u.loose) (λ few. omega (arith, few)) c.widen.ensures.memory
+
+pub returns-else-bits-self-clause-exact : goal.returns-else-bits-self-clause-exact
+returns-else-bits-self-clause-exact g c =
+    let u = c.widen.new.self in
+    on_ok_always c.widen.result (buckets_of u ≢ buckets_of c.args.self.now) (u.places ≤ len_of u + buckets_of u / 32) c.widen.ensures.memory
+
+pub returns-else-bits-self-clause-loose : goal.returns-else-bits-self-clause-loose
+returns-else-bits-self-clause-loose g c = loose_either c.widen.result c.args.self.now c.widen.new.self c.widen.ensures.err c.widen.ensures.loose
+
+pub returns-else-bits-self-clause-err : goal.returns-else-bits-self-clause-err
+returns-else-bits-self-clause-err g c = as_before c.widen.result c.args.self.now c.widen.new.self c.widen.ensures.err
+
+pub returns-else-bits-self-clause-refused : goal.returns-else-bits-self-clause-refused
+returns-else-bits-self-clause-refused g c = no_more c.widen.result c.args.self.now c.widen.new.self c.widen.ensures.err (max c.args.self.now.spare c.args.n)

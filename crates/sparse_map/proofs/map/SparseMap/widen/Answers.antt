@@ -1,58 +1,137 @@
-use Rattle.std.proofs.Common.{◌≡◌, length, ap, sym, ◌∙◌, subst, arith}
+use Rattle.std.proofs.Common.{◌≡◌, ◌^◌, length, refl, ap, sym, ◌∙◌, subst, arith}
+use Rattle.std.specs.Ordering.{nat_cmp}
+use Rattle.std.specs.FinMap.{find}
+use Rattle.std.specs.Vec.{vec_len}
+use Rattle.std.specs.Vec as vec
+use Rattle.std.proofs.lemmas.Nat.{pow_pos}
+use Rattle.sparse_map.proofs.HomeLemmas.{shifted_one}
+use Rattle.sparse_map.specs.declared.table.Grown.TheVariants.{Nowhere}
 use Rattle.sparse_map.specs.Slots.{items_of}
 use Rattle.sparse_map.specs.Groups.{slots_of}
-use Rattle.sparse_map.specs.Packed.{map_of, buckets_of}
-use Rattle.sparse_map.specs.Moved.{IsDistinct, items_in}
+use Rattle.sparse_map.specs.Packed.{buckets_of}
+use Rattle.sparse_map.specs.Kept.{IsKept}
+use Rattle.sparse_map.specs.Places.{sizes_of, places_of, loose_of}
+use Rattle.sparse_map.specs.Seen.{seen_of}
+use Rattle.sparse_map.proofs.TableLemmas.{length-slots_of}
 use Rattle.sparse_map.proofs.ItemLemmas.{items_of-slots_of}
-use Rattle.sparse_map.proofs.ViewLemmas.{seen_len, seen_slots, seen_spare}
-use Rattle.sparse_map.proofs.ReserveLemmas.{items_in-IsDistinct, get-empty_slots, moved_map}
+use Rattle.sparse_map.proofs.MapLemmas.{map_of-same, kept_len, kept_sound}
+use Rattle.sparse_map.proofs.ViewLemmas.{seen_len, seen_slots}
+use Rattle.sparse_map.proofs.ChangeLemmas.{written}
+use Rattle.sparse_map.proofs.MoveLemmas.{kept_groups}
+use Rattle.sparse_map.proofs.PlanLemmas.{exact-loose, exact-places}
+use Rattle.sparse_map.proofs.TakingLemmas.{can_widen, widened}
 use Rattle.sparse_map.proofs.map.SparseMap.widen.Goals as goal
 
-pub with_room-requires-clause-room : goal.with_room-requires-clause-room
-with_room-requires-clause-room g c =
+pub groups_ahead-requires-clause-small : goal.groups_ahead-requires-clause-small
+groups_ahead-requires-clause-small g c =
+    let m = c.self.inside in
+    let len = seen_len m c.args.self.now c.self.invariant c.self.view_is in
+    let read = ap (λ us. length (items_of (slots_of us))) c.as_slice.ensures.value in
+    let count = ap length (items_of-slots_of c.as_slice.result.now) in
+    let most = (shifted_one c.args.bits c.requires.few).1 in
+    omega (arith, len, read, count, most, c.self.invariant.counted, c.requires.room)
+
+pub place_groups-requires-clause-ready : goal.place_groups-requires-clause-ready
+place_groups-requires-clause-ready g c =
+    let m = c.self.inside in
+    let new = c.in_ok-groups.groups in
+    let len = seen_len m c.args.self.now c.self.invariant c.self.view_is in
+    let some = pow_pos c.args.bits in
+    can_widen (2 ^ c.args.bits) m.groups.items c.as_slice.result.now c.replace-old.result.items new.items c.as_mut_slice.result.now
+    c.as_slice.ensures.value (ap (λ v. v.items) c.replace-old.ensures.value) c.as_mut_slice.ensures.value c.in_ok-groups.ensures.free c.in_ok-groups.ensures.rooms
+    c.self.invariant.packed (omega (arith, c.in_ok-groups.ensures.count, new.ok.0)) (omega (arith, len, some, c.self.invariant.counted, c.requires.room))
+
+pub invariant_of-self : goal.invariant_of-self
+invariant_of-self g c =
     let m = c.self.inside in
     let t = c.args.self.now in
+    let new = c.in_ok-groups.groups in
+    let ws = c.place_groups.new.groups in
+    let long : length ws ≡ vec_len new = c.place_groups.auto.groups ∙ c.as_mut_slice.ensures.len in
+    let w = widened (2 ^ c.args.bits) m.groups.items c.as_slice.result.now c.replace-old.result.items new.items c.as_mut_slice.result.now
+    c.as_slice.ensures.value (ap (λ v. v.items) c.replace-old.ensures.value) c.as_mut_slice.ensures.value c.in_ok-groups.ensures.free c.in_ok-groups.ensures.rooms
+    ws c.place_groups.ensures in
     let len = seen_len m t c.self.invariant c.self.view_is in
-    let long : length (slots_of m.groups.items) ≡ buckets_of t = ap length (seen_slots m t c.self.invariant c.self.view_is) in
-    omega (arith, c.requires.room, c.requires.wider, c.max-spare.ensures, len, long, c.self.invariant.room)
-
-pub take_groups-requires-clause-distinct : goal.take_groups-requires-clause-distinct
-take_groups-requires-clause-distinct g c =
-    let same : c.self.inside.groups.items ≡ c.replace-groups.result.items = ap (λ v. v.items) (sym c.replace-groups.ensures.value) in
-    subst (λ us. IsDistinct (items_in us)) same (items_in-IsDistinct c.self.inside.groups.items c.self.invariant.packed)
-
-pub take_groups-requires-clause-fresh : goal.take_groups-requires-clause-fresh
-take_groups-requires-clause-fresh g c = λ q there. get-empty_slots c.in_ok-wider.wider c.in_ok-wider.ensures.empty q
-
-pub take_groups-requires-clause-room : goal.take_groups-requires-clause-room
-take_groups-requires-clause-room g c =
-    let m = c.self.inside in
-    let same : length (items_in c.replace-groups.result.items) ≡ length (items_in m.groups.items) = ap (λ v. length (items_in v.items)) c.replace-groups.ensures.value in
-    let count : length (items_of (slots_of m.groups.items)) ≡ length (items_in m.groups.items) = ap length (items_of-slots_of m.groups.items) in
-    omega (arith, same, count, c.self.invariant.counted, c.in_ok-wider.ensures.spare)
-
-pub trim-requires : goal.trim-requires
-trim-requires g c =
-    let m = c.self.inside in
-    let same : length (items_in c.replace-groups.result.items) ≡ length (items_in m.groups.items) = ap (λ v. length (items_in v.items)) c.replace-groups.ensures.value in
-    let count : length (items_of (slots_of m.groups.items)) ≡ length (items_in m.groups.items) = ap length (items_of-slots_of m.groups.items) in
-    omega (arith, same, count, c.self.invariant.counted, c.in_ok-wider.ensures.spare, c.take_groups.ensures.spare, c.take_groups.ensures.buckets, c.in_ok-add_blanks.ensures.ok, c.min.ensures, c.groups.ensures.groups)
+    let size : length (slots_of ws) ≡ 2 ^ c.args.bits = length-slots_of ws ∙ omega (arith, long, c.in_ok-groups.ensures.count) in
+    let before : length (slots_of m.groups.items) ≡ buckets_of t = ap length (seen_slots m t c.self.invariant c.self.view_is) in
+    subst (λ us. IsKept c.args.bits m.len c.max-spare.result (vec_len c.add_blanks.new.stock) us) (sym (written new ws long))
+    (kept_groups c.args.bits m.len c.max-spare.result (vec_len c.add_blanks.new.stock) ws c.requires.many c.requires.few size w.packed
+    (c.self.invariant.counted ∙ sym w.count)
+    (omega (arith, c.requires.room, c.requires.wider, c.max-spare.ensures, len, before, c.self.invariant.room))
+    (omega (arith, c.in_ok-add_blanks.ensures.ok, c.min.ensures, c.len.ensures, long)))
 
 pub returns-clause-map : goal.returns-clause-map
 returns-clause-map g c =
     let m = c.self.inside in
-    let us = c.replace-groups.result.items in
-    let same : us ≡ m.groups.items = ap (λ v. v.items) c.replace-groups.ensures.value in
-    let slots = ap slots_of same ∙ seen_slots m c.args.self.now c.self.invariant c.self.view_is in
-    ap map_of c.wider-2.view_is
-    ∙ ap map_of c.trim.ensures.same
-    ∙ moved_map us c.args.self.now c.in_ok-wider.wider c.take_groups.new.self slots c.in_ok-wider.ensures.empty c.take_groups.ensures.found
+    let t = c.args.self.now in
+    let new = c.in_ok-groups.groups in
+    let ws = c.place_groups.new.groups in
+    let long : length ws ≡ vec_len new = c.place_groups.auto.groups ∙ c.as_mut_slice.ensures.len in
+    let w = widened (2 ^ c.args.bits) m.groups.items c.as_slice.result.now c.replace-old.result.items new.items c.as_mut_slice.result.now
+    c.as_slice.ensures.value (ap (λ v. v.items) c.replace-old.ensures.value) c.as_mut_slice.ensures.value c.in_ok-groups.ensures.free c.in_ok-groups.ensures.rooms
+    ws c.place_groups.ensures in
+    map_of-same t _ (λ q.
+    ap (λ us. find nat_cmp q (items_of (slots_of us))) (written new ws long)
+    ∙ w.found q
+    ∙ ap (λ s. find nat_cmp q (items_of s)) (seen_slots m t c.self.invariant c.self.view_is))
 
-pub returns-clause-spare : goal.returns-clause-spare
-returns-clause-spare g c =
+pub returns-clause-buckets : goal.returns-clause-buckets
+returns-clause-buckets g c =
+    let new = c.in_ok-groups.groups in
+    let ws = c.place_groups.new.groups in
+    let long : length ws ≡ vec_len new = c.place_groups.auto.groups ∙ c.as_mut_slice.ensures.len in
+    ap (λ us. length (slots_of us)) (written new ws long) ∙ length-slots_of ws ∙ omega (arith, long, c.in_ok-groups.ensures.count)
+
+pub returns-clause-memory : goal.returns-clause-memory
+returns-clause-memory g c =
     let m = c.self.inside in
-    let us : length (items_in c.replace-groups.result.items) ≡ length (items_in m.groups.items) = ap (λ v. length (items_in v.items)) c.replace-groups.ensures.value in
-    let count : length (items_of (slots_of m.groups.items)) ≡ length (items_in m.groups.items) = ap length (items_of-slots_of m.groups.items) in
-    let last : c.wider-2.inside.spare ≡ c.take_groups.new.self.spare = ap (λ t. t.spare) (c.wider-2.view_is ∙ c.trim.ensures.same) in
-    let spare = seen_spare m c.args.self.now c.self.invariant c.self.view_is in
-    omega (arith, us, count, last, spare, c.self.invariant.counted, c.in_ok-wider.ensures.spare, c.take_groups.ensures.spare, c.max-spare.ensures)
+    let t = c.args.self.now in
+    let new = c.in_ok-groups.groups in
+    let ws = c.place_groups.new.groups in
+    let long : length ws ≡ vec_len new = c.place_groups.auto.groups ∙ c.as_mut_slice.ensures.len in
+    let w = widened (2 ^ c.args.bits) m.groups.items c.as_slice.result.now c.replace-old.result.items new.items c.as_mut_slice.result.now
+    c.as_slice.ensures.value (ap (λ v. v.items) c.replace-old.ensures.value) c.as_mut_slice.ensures.value c.in_ok-groups.ensures.free c.in_ok-groups.ensures.rooms
+    ws c.place_groups.ensures in
+    let len = seen_len m t c.self.invariant c.self.view_is in
+    let size : length (slots_of ws) ≡ 2 ^ c.args.bits = length-slots_of ws ∙ omega (arith, long, c.in_ok-groups.ensures.count) in
+    let before : length (slots_of m.groups.items) ≡ buckets_of t = ap length (seen_slots m t c.self.invariant c.self.view_is) in
+    let kept : IsKept c.args.bits m.len c.max-spare.result (vec_len c.add_blanks.new.stock) ws =
+    kept_groups c.args.bits m.len c.max-spare.result (vec_len c.add_blanks.new.stock) ws c.requires.many c.requires.few size w.packed
+    (c.self.invariant.counted ∙ sym w.count)
+    (omega (arith, c.requires.room, c.requires.wider, c.max-spare.ensures, len, before, c.self.invariant.room))
+    (omega (arith, c.in_ok-add_blanks.ensures.ok, c.min.ensures, c.len.ensures, long)) in
+    let now = written new ws long in
+    let count = kept_len c.args.bits m.len c.max-spare.result (vec_len c.add_blanks.new.stock) ws kept (seen_of (vec.with_items new ws).items c.max-spare.result (vec_len c.add_blanks.new.stock) Nowhere) (ap slots_of now) in
+    let all = ap length (items_of-slots_of ws) in
+    omega (arith, exact-places ws w.exact, ap (λ us. places_of (sizes_of us)) now, ap (λ us. length (slots_of us)) now, length-slots_of ws, all, count, kept.counted)
+
+pub returns-clause-loose : goal.returns-clause-loose
+returns-clause-loose g c =
+    let m = c.self.inside in
+    let new = c.in_ok-groups.groups in
+    let ws = c.place_groups.new.groups in
+    let long : length ws ≡ vec_len new = c.place_groups.auto.groups ∙ c.as_mut_slice.ensures.len in
+    let w = widened (2 ^ c.args.bits) m.groups.items c.as_slice.result.now c.replace-old.result.items new.items c.as_mut_slice.result.now
+    c.as_slice.ensures.value (ap (λ v. v.items) c.replace-old.ensures.value) c.as_mut_slice.ensures.value c.in_ok-groups.ensures.free c.in_ok-groups.ensures.rooms
+    ws c.place_groups.ensures in
+    ap (λ us. loose_of Nowhere (sizes_of us)) (written new ws long) ∙ exact-loose ws w.exact
+
+pub returns-clause-sound : goal.returns-clause-sound
+returns-clause-sound g c =
+    let m = c.self.inside in
+    let t = c.args.self.now in
+    let new = c.in_ok-groups.groups in
+    let ws = c.place_groups.new.groups in
+    let long : length ws ≡ vec_len new = c.place_groups.auto.groups ∙ c.as_mut_slice.ensures.len in
+    let w = widened (2 ^ c.args.bits) m.groups.items c.as_slice.result.now c.replace-old.result.items new.items c.as_mut_slice.result.now
+    c.as_slice.ensures.value (ap (λ v. v.items) c.replace-old.ensures.value) c.as_mut_slice.ensures.value c.in_ok-groups.ensures.free c.in_ok-groups.ensures.rooms
+    ws c.place_groups.ensures in
+    let len = seen_len m t c.self.invariant c.self.view_is in
+    let size : length (slots_of ws) ≡ 2 ^ c.args.bits = length-slots_of ws ∙ omega (arith, long, c.in_ok-groups.ensures.count) in
+    let before : length (slots_of m.groups.items) ≡ buckets_of t = ap length (seen_slots m t c.self.invariant c.self.view_is) in
+    let kept : IsKept c.args.bits m.len c.max-spare.result (vec_len c.add_blanks.new.stock) ws =
+    kept_groups c.args.bits m.len c.max-spare.result (vec_len c.add_blanks.new.stock) ws c.requires.many c.requires.few size w.packed
+    (c.self.invariant.counted ∙ sym w.count)
+    (omega (arith, c.requires.room, c.requires.wider, c.max-spare.ensures, len, before, c.self.invariant.room))
+    (omega (arith, c.in_ok-add_blanks.ensures.ok, c.min.ensures, c.len.ensures, long)) in
+    kept_sound c.args.bits m.len c.max-spare.result (vec_len c.add_blanks.new.stock) ws kept _ (ap slots_of (written new ws long)) refl

@@ -1,8 +1,8 @@
-use Rattle.std.proofs.Common.{ap}
+use Rattle.std.proofs.Common.{ap, arith}
 use Rattle.std.proofs.lemmas.Bool.{false≢true}
 use Rattle.cache_model.specs.Cache.{undo}
 use Rattle.merge_engine.specs.declared.parts.Parts.{Parts}
-use Rattle.ssc.specs.CacheState.{pending, geometry_of}
+use Rattle.ssc.specs.CacheState.{pending, geometry_of, waiting}
 use Rattle.ssc.proofs.HoldsLemmas.{holds_committed, memory_logged, waiting-none}
 use Rattle.ssc.proofs.CommandLemmas.{images_before}
 use Rattle.ssc.proofs.cache.Ssc.commit.Goals as goal
@@ -22,3 +22,6 @@ returns-in-Err-clause-images g c = λ s holds. images_before (geometry_of c.args
 
 pub returns-in-Err-clause-nothing : goal.returns-in-Err-clause-nothing
 returns-in-Err-clause-nothing g c = λ none. absurd (false≢true (c.in-Err.ensures.nothing (waiting-none c.args.self.now.parts.log.buffered none)).0)
+
+pub returns-in-Ok-clause-one_program : goal.returns-in-Ok-clause-one_program
+returns-in-Ok-clause-one_program g c = λ some room. c.in-Ok.ensures.one_page (λ none. some (ap waiting none)) (omega arith)

@@ -1,4 +1,4 @@
-use Rattle.std.proofs.Common.{refl, sym, subst}
+use Rattle.std.proofs.Common.{◌≡◌, ◌∙◌, None, Some, refl, sym, subst, arith}
 use Rattle.std.proofs.lemmas.Bool.{false≢true}
 use Rattle.cache_model.specs.Cache.{CacheList, undo, evicted}
 use Rattle.ssc.specs.CacheState.{Holds, pending, geometry_of}
@@ -29,3 +29,11 @@ returns-in-Ok-clause-images g c = λ s holds. images_after (geometry_of c.args.s
 
 pub returns-in-Err-clause-images : goal.returns-in-Err-clause-images
 returns-in-Err-clause-images g c = λ s holds. images_after (geometry_of c.args.self.now) (g.M.Media.state c.take_out.new.media).contents (undo (pending c.args.self.now) s) s (evicted c.args.lba s) (c.take_out.ensures.stands s (undo (pending c.args.self.now) s) holds.lists)
+
+pub returns-then-not-is_held-clause-one_program : goal.returns-then-not-is_held-clause-one_program
+returns-then-not-is_held-clause-one_program g c = λ s holds there room.
+    let absent = no_entry c.args.self.now (g.M.Media.state c.args.media.now).contents s c.args.lba holds (λ e. false≢true (c.if-not-is_held.ensures.1 e)) in
+    absurd (let both : None ≡ Some there.0 = sym absent ∙ there.1 in cc)
+
+pub returns-in-Ok-clause-one_program : goal.returns-in-Ok-clause-one_program
+returns-in-Ok-clause-one_program g c = λ s holds there room. c.in-Ok.ensures.one_program (omega arith)

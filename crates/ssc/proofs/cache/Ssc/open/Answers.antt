@@ -1,4 +1,4 @@
-use Rattle.std.proofs.Common.{Err, true, false, refl, ap, subst}
+use Rattle.std.proofs.Common.{Err, true, false, refl, ◌∙◌, ap, subst}
 use Rattle.std.proofs.lemmas.Bool.{false≢true}
 use Rattle.ft_base.specs.Count.{Rose}
 use Rattle.ft_media.specs.declared.rig.Counts.{Counts}
@@ -7,7 +7,8 @@ use Rattle.ft_media.specs.State.{failed, lost}
 use Rattle.ft_media.specs.Drives.{DrivesFlash}
 use Rattle.ft_media.proofs.DrivesLemmas.{drives_then}
 use Rattle.op_log.specs.Log.{LogValue}
-use Rattle.ssc.proofs.OpenLemmas.{loaded_era, reads_drives, sound_loaded, lists_loaded, images_loaded, load-loaded}
+use Rattle.merge_engine.specs.declared.parts.Parts.{Parts}
+use Rattle.ssc.proofs.OpenLemmas.{full_room, loaded_era, reads_drives, sound_loaded, lists_loaded, images_loaded, load-loaded}
 use Rattle.ssc.proofs.HoldsLemmas.{holds_committed}
 use Rattle.ssc.proofs.ListLemmas.{stands_some}
 use Rattle.ssc.proofs.cache.Ssc.open.Goals as goal
@@ -71,3 +72,9 @@ returns-in-Err-PowerLost-clause-drives g c =
 
 pub returns-in-Ok-clause-log : goal.returns-in-Ok-clause-log
 returns-in-Ok-clause-log g c = ap (λ (l : LogValue). l.next) c.in-Ok.ensures.log
+
+pub returns-in-Ok-clause-empty_log : goal.returns-in-Ok-clause-empty_log
+returns-in-Ok-clause-empty_log g c = full_room c.make_checkpoint.new.cache c.args.geometry.now (ap (λ (p : Parts). p.geometry) c.make_checkpoint.ensures.cache ∙ c.in_ok-parts.ensures.geometry) (ap (λ (l : LogValue). l.next) c.in-Ok.ensures.log)
+
+pub returns-in-Ok-clause-closed : goal.returns-in-Ok-clause-closed
+returns-in-Ok-clause-closed g c = ap (λ (p : Parts). p.logs.room) c.make_checkpoint.ensures.cache ∙ c.in_ok-parts.ensures.closed

@@ -18,6 +18,14 @@ make_room-requires-clause-left g c =
     let taken = c.reserve.ensures in
     reserved_left c.args.self.now c.reserve.new.self taken.entries taken.stopped old c.requires.left (taken.holds old) taken.same taken.pending
 
+-- its memory was refused
+
+pub returns-then-is_err-clause-left : goal.returns-then-is_err-clause-left
+returns-then-is_err-clause-left g c =
+    let old = (g.M.Media.state c.args.media.now).contents in
+    let taken = c.reserve.ensures in
+    reserved_left c.args.self.now c.reserve.new.self taken.entries taken.stopped old c.requires.left (taken.holds old) taken.same taken.pending
+
 -- room was made
 
 pub returns-in-Ok-clause-was : goal.returns-in-Ok-clause-was

@@ -1,0 +1,47 @@
+-- A command that was refused, and gave nothing up: the cache was full, or memory was wanting.
+use Rattle.std.proofs.Common.{◌≡◌, ℕ, false, List, Result, Ok, Err, OnErr, refl, sym, ◌∙◌, ap, subst}
+use Rattle.std.specs.Prelude.{IsErrOf}
+use Rattle.std.proofs.lemmas.Bool.{false≢true}
+use Rattle.ft_base.specs.Contents.{Contents}
+use Rattle.ft_media.specs.State.{State}
+use Rattle.cache_model.specs.Cache.{Buffered, CacheList, undo}
+use Rattle.ssc.specs.declared.cache.Ssc.{Ssc}
+use Rattle.ssc.specs.declared.error.SscError.{SscError}
+use Rattle.ssc.specs.declared.error.SscError.TheVariants.{Full, FlashFault, PowerLost, OutOfMemory}
+use Rattle.ssc.specs.Errors.{stops}
+use Rattle.ssc.specs.CacheState.{Holds, IsAsBefore, pending}
+use Rattle.cache_history.specs.History.{Lists}
+use Rattle.cache_history.specs.Moment.{IsMoment}
+
+as_itself : (c d : Ssc) → d ≡ c → IsAsBefore c d
+as_itself c d same = subst (λ (k : Ssc). IsAsBefore c k) (sym same) (record { parts = refl; map = refl })
+
+module _ (c d : Ssc) (s t : State) where
+  abbrev Unchanged : Type 0
+  Unchanged = IsAsBefore c d × (t ≡ s)
+
+  pub unchanged_of : (r : Result (Unit {0}) SscError) → ((n l : ℕ) → IsErrOf r (Full n l) → (d ≡ c) × (t ≡ s)) → (IsErrOf r OutOfMemory → Unchanged) → OnErr r (stops r ≡ false → Unchanged)
+  unchanged_of (Ok done) full memory = tt
+  unchanged_of (Err (Full n l)) full memory = λ goes. let same = full n l refl in (as_itself c d same.0, same.1)
+  unchanged_of (Err FlashFault) full memory = λ goes. absurd (false≢true (sym goes))
+  unchanged_of (Err PowerLost) full memory = λ goes. absurd (false≢true (sym goes))
+  unchanged_of (Err OutOfMemory) full memory = λ goes. memory refl
+
+  abbrev Still : Type 0
+  Still = (l : Lists) → IsMoment c s.contents l → IsMoment d t.contents l
+
+  full_still : (d ≡ c) × (t ≡ s) → Still
+  full_still same l moment = subst (λ (k : Ssc). IsMoment k t.contents l) (sym same.0) (subst (λ (x : State). IsMoment c x.contents l) (sym same.1) moment)
+
+  memory_still : Unchanged → ((contents : Contents) (list : CacheList) → Holds c contents list → Holds d contents list) → Still
+  memory_still same holds l moment = subst (λ (x : State). IsMoment d x.contents l) (sym same.1) (record {
+    holds = holds s.contents l.now moment.holds;
+    durable = moment.durable ∙ ap (λ (q : List Buffered). undo q l.now) (sym (ap pending same.0.parts));
+  })
+
+  pub still_of : (r : Result (Unit {0}) SscError) → ((n l : ℕ) → IsErrOf r (Full n l) → (d ≡ c) × (t ≡ s)) → (IsErrOf r OutOfMemory → Unchanged) → (IsErrOf r OutOfMemory → (contents : Contents) (list : CacheList) → Holds c contents list → Holds d contents list) → OnErr r (stops r ≡ false → Still)
+  still_of (Ok done) full memory holds = tt
+  still_of (Err (Full n l)) full memory holds = λ goes. full_still (full n l refl)
+  still_of (Err FlashFault) full memory holds = λ goes. absurd (false≢true (sym goes))
+  still_of (Err PowerLost) full memory holds = λ goes. absurd (false≢true (sym goes))
+  still_of (Err OutOfMemory) full memory holds = λ goes. memory_still (memory refl) (holds refl)

@@ -1,0 +1,570 @@
+-- What two packed maps have at an address, and what a change of them makes of their entries.
+use Rattle.std.proofs.Common.{◌≡◌, ℕ, ◌+◌, ◌-◌, ◌*◌, ◌/◌, ◌%◌, ◌<◌, ◌≤◌, ◌==◌, ◌&&◌, Bool, true, false, cond, not, List, [], ◌∷◌, Option, Some, None, option_map, refl, sym, ◌∙◌, ap, ap₂, subst, arith, inl, inr, nat_cmp, eqb-true, eq-eqb, ne_eqb, ◌||◌, is_some, IfSome, IfNone, length, map, nat_lt, lt-ltb, ltb-true, le-ltb, length-append}
+use Rattle.std.specs.Bool.{then_some}
+use Rattle.std.specs.Cmp.{nat_cmp_total}
+use Rattle.std.specs.FinMap.{get, insert, remove, entries, find, get-entries, get-empty, same_map, nat_cmp-IsAntisymmetric}
+use Rattle.std.proofs.lemmas.Bool.{cases_Bool, cases_eq, both_ways, ltb-false}
+use Rattle.std.proofs.lemmas.Nat.{div-mul-add, mod-mul-add, div-add-mod', mod_below}
+use Rattle.std.proofs.lemmas.Bool.Decides.{nat_tests}
+use Rattle.std.proofs.lemmas.List.{length-map}
+use Rattle.std.proofs.lemmas.Nat.Bits.{same_from_bits, bit_at-lt}
+use Rattle.std.specs.Int.{bit_at}
+use Rattle.ft_base.specs.declared.geometry.Geometry.{Geometry}
+use Rattle.ft_base.specs.declared.record.Record.TheVariants.{SetPage, Remove, Clean, SetGroup, RemoveGroup}
+use Rattle.cache_model.specs.declared.entry.Entry.{Entry}
+use Rattle.cache_model.specs.Records.{Entries, no_entries, after, has_bit, in_log_block, page_of_group, cleaned}
+use Rattle.cache_model.proofs.StepLemmas.{get-after}
+use Rattle.cache_model.proofs.MapLemmas.{eq_key, get_insert, get_remove}
+use Rattle.block_map.specs.PageSets.{BlockPages, IsSound, IsLeftWithout, IsOnlyPage}
+use Rattle.mapping.specs.declared.log_page.LogPage.{LogPage}
+use Rattle.mapping.specs.declared.bits.Choice.TheVariants.{Mapped, MappedDirty}
+use Rattle.mapping.specs.Checkpoint.{set_group_of}
+use Rattle.mapping.specs.Bits.{is_chosen, chosen_of, IsDataBlock}
+use Rattle.sparse_map.specs.Slots.{items_of}
+use Rattle.sparse_map.specs.Packed.{Table, map_of, len_of, buckets_of, IsSound as IsSoundTable}
+use Rattle.sparse_map.proofs.MapLemmas.{len_of-items}
+use Rattle.mapping.specs.Packed.{records_of, Pages, Blocks, page_record, block_record, with_blocks, with_logs, entries_of, page_in, entry_in, AreBlocks, AreApart, IsLeftOut}
+use Rattle.mapping.proofs.BitsLemmas.{bit_of_set, set_of_none}
+
+-- ---- options and tests
+
+some_is : {A : Type 0} (x y : A) → Some x ≡ Some y → x ≡ y
+some_is x y s = cc
+
+pub no_some : {A B : Type 0} (x : A) → None ≡ Some x → B
+no_some x s = absurd (cc)
+
+-- neither a log page nor a page of a data block
+none_in : (o : Option LogPage) (r : Option Entry) → entry_in o r ≡ None → (o ≡ None) × (r ≡ None)
+none_in None r is = (refl, is)
+none_in (Some x) r is = no_some (in_log_block x.place x.dirty) (sym is)
+
+-- a new key takes one of the room
+pub spare_less : {A : Type 0} (o : Option A) (old new : ℕ) → o ≡ None → new ≡ cond (is_some o) old (old - 1) → 1 ≤ old → new + 1 ≡ old
+spare_less o old new none is some =
+    let less : new ≡ old - 1 = is ∙ ap (λ x. cond (is_some x) old (old - 1)) none in
+    omega arith
+
+and_of : (a b c : Bool) → (c ≡ true → (a ≡ true) × (b ≡ true)) → (a ≡ true → b ≡ true → c ≡ true) → c ≡ (a && b)
+and_of true true c p q = q refl refl
+and_of true false true p q = sym (p refl).1
+and_of true false false p q = refl
+and_of false b true p q = sym (p refl).0
+and_of false b false p q = refl
+
+-- an address is told by its group and its page
+pub is_address : (p a lba : ℕ) → (a == lba) ≡ ((a / p == lba / p) && (a % p == lba % p))
+is_address p a lba =
+    let whole = div-add-mod' a p in
+    let whole' = div-add-mod' lba p in
+    and_of _ _ _
+    (λ t. let same : a ≡ lba = eqb-true _ _ t in (eq-eqb _ _ (ap (λ n. n / p) same), eq-eqb _ _ (ap (λ n. n % p) same)))
+    (λ t u. let same : a / p ≡ lba / p = eqb-true _ _ t in let same' : a % p ≡ lba % p = eqb-true _ _ u in eq-eqb _ _ (sym whole ∙ ap₂ (λ x y. x * p + y) same same' ∙ whole'))
+
+module _ (g : Geometry) where
+  some_pages : 0 < g.p
+  some_pages = omega (arith, g.in_range.p_low)
+
+  -- ---- what stands at an address
+
+  get_block_list : (xs : List (ℕ × BlockPages)) (q : ℕ) → get (with_blocks g xs) q ≡ page_in (find nat_cmp (q / g.p) xs) (q % g.p)
+  get_block_list [] q = get-empty nat_cmp q
+  get_block_list (x ∷ xs) q =
+      let new = page_of_group x.1.block x.1.present x.1.dirty (q % g.p) in
+      get-after g (block_record x) (with_blocks g xs) q ∙ elim (cases_Bool (q / g.p == x.0)) [
+        | inl t ↦ ap (λ b. cond b new (get (with_blocks g xs) q)) t ∙ sym (ap (λ b. page_in (cond b (Some x.1) (find nat_cmp (q / g.p) xs)) (q % g.p)) (eq_key (q / g.p) x.0 ∙ t))
+        | inr f ↦ ap (λ b. cond b new (get (with_blocks g xs) q)) f ∙ get_block_list xs q ∙ sym (ap (λ b. page_in (cond b (Some x.1) (find nat_cmp (q / g.p) xs)) (q % g.p)) (eq_key (q / g.p) x.0 ∙ f))
+      ]
+
+  get_log_list : (xs : List (ℕ × LogPage)) (m : Entries) (q : ℕ) → get (with_logs g xs m) q ≡ entry_in (find nat_cmp q xs) (get m q)
+  get_log_list [] m q = refl
+  get_log_list (x ∷ xs) m q =
+      let new = Some (in_log_block x.1.place x.1.dirty) in
+      get-after g (page_record x) (with_logs g xs m) q ∙ elim (cases_Bool (q == x.0)) [
+        | inl t ↦ ap (λ b. cond b new (get (with_logs g xs m) q)) t ∙ sym (ap (λ b. entry_in (cond b (Some x.1) (find nat_cmp q xs)) (get m q)) (eq_key q x.0 ∙ t))
+        | inr f ↦ ap (λ b. cond b new (get (with_logs g xs m) q)) f ∙ get_log_list xs m q ∙ sym (ap (λ b. entry_in (cond b (Some x.1) (find nat_cmp q xs)) (get m q)) (eq_key q x.0 ∙ f))
+      ]
+
+  -- the entry of the log page, or else that of the data block of the group
+  pub get_held : (pages : Pages) (blocks : Blocks) (q : ℕ) → get (entries_of g pages blocks) q ≡ entry_in (get pages q) (page_in (get blocks (q / g.p)) (q % g.p))
+  unfolding entries_of
+  get_held pages blocks q =
+      get_log_list (entries pages) (with_blocks g (entries blocks)) q
+      ∙ ap (entry_in (find nat_cmp q (entries pages))) (get_block_list (entries blocks) q)
+      ∙ ap₂ (λ x y. entry_in x (page_in y (q % g.p))) (sym (get-entries pages q)) (sym (get-entries blocks (q / g.p)))
+
+  same_held : (pages : Pages) (blocks : Blocks) (m : Entries) → ((q : ℕ) → entry_in (get pages q) (page_in (get blocks (q / g.p)) (q % g.p)) ≡ get m q) → entries_of g pages blocks ≡ m
+  same_held pages blocks m same = same_map nat_cmp_total nat_cmp-IsAntisymmetric (entries_of g pages blocks) m (λ q. get_held pages blocks q ∙ same q)
+
+  -- ---- nothing is held
+
+  pub nothing_held : (pages : Pages) (blocks : Blocks) → ((q : ℕ) → get pages q ≡ None) → ((k : ℕ) → get blocks k ≡ None) → entries_of g pages blocks ≡ no_entries
+  nothing_held pages blocks none none' = same_held pages blocks no_entries (λ q. ap₂ (λ x y. entry_in x (page_in y (q % g.p))) (none q) (none' (q / g.p)) ∙ sym (get-empty nat_cmp q))
+
+  pub page_absent : (pages : Pages) (blocks : Blocks) (lba : ℕ) → get (entries_of g pages blocks) lba ≡ None → get pages lba ≡ None
+  page_absent pages blocks lba absent = (none_in (get pages lba) (page_in (get blocks (lba / g.p)) (lba % g.p)) (sym (get_held pages blocks lba) ∙ absent)).0
+
+  -- ---- one log page more
+
+  module _ (pages pages' : Pages) (blocks : Blocks) (lba : ℕ) (x : LogPage) (is : pages' ≡ insert pages lba x) where
+    page_there : (q : ℕ) → get pages' q ≡ cond (q == lba) (Some x) (get pages q)
+    page_there q = ap (λ m. get m q) is ∙ get_insert pages lba x q
+
+    pub page_put : entries_of g pages' blocks ≡ after g (SetPage lba x.place x.dirty) (entries_of g pages blocks)
+    page_put = same_held pages' blocks (after g (SetPage lba x.place x.dirty) (entries_of g pages blocks)) (λ q.
+        ap (λ o. entry_in o (page_in (get blocks (q / g.p)) (q % g.p))) (page_there q)
+        ∙ choose (q == lba) (get pages q) (page_in (get blocks (q / g.p)) (q % g.p))
+        ∙ ap (λ o. cond (q == lba) (Some (in_log_block x.place x.dirty)) o) (sym (get_held pages blocks q))
+        ∙ sym (get-after g (SetPage lba x.place x.dirty) (entries_of g pages blocks) q))
+      where
+        choose : (b : Bool) (o : Option LogPage) (r : Option Entry) → entry_in (cond b (Some x) o) r ≡ cond b (Some (in_log_block x.place x.dirty)) (entry_in o r)
+        choose true o r = refl
+        choose false o r = refl
+
+    page_apart : page_in (get blocks (lba / g.p)) (lba % g.p) ≡ None → AreApart g pages blocks → AreApart g pages' blocks
+    page_apart none apart a y at = elim (cases_eq a lba) [
+      | inl same ↦ ap (λ n. page_in (get blocks (n / g.p)) (n % g.p)) same ∙ none
+      | inr other ↦ apart a y (sym (page_there a ∙ ap (λ b. cond b (Some x) (get pages a)) (ne_eqb a lba other)) ∙ at)
+    ]
+
+    pub page_put_apart : get (entries_of g pages blocks) lba ≡ None → AreApart g pages blocks → AreApart g pages' blocks
+    page_put_apart absent apart = page_apart (none_in (get pages lba) (page_in (get blocks (lba / g.p)) (lba % g.p)) (sym (get_held pages blocks lba) ∙ absent)).1 apart
+
+    -- the log page is clean
+    pub page_cleaned : (y : LogPage) → get pages lba ≡ Some y → x.place ≡ y.place → x.dirty ≡ false → entries_of g pages' blocks ≡ after g (Clean lba) (entries_of g pages blocks)
+    page_cleaned y at place clean = page_put ∙ same_map nat_cmp_total nat_cmp-IsAntisymmetric (after g (SetPage lba x.place x.dirty) (entries_of g pages blocks)) (after g (Clean lba) (entries_of g pages blocks)) (λ q.
+        get-after g (SetPage lba x.place x.dirty) (entries_of g pages blocks) q
+        ∙ elim (cases_Bool (q == lba)) [
+          | inl t ↦
+              let here : get (entries_of g pages blocks) q ≡ Some (in_log_block y.place y.dirty) = ap (get (entries_of g pages blocks)) (eqb-true _ _ t) ∙ get_held pages blocks lba ∙ ap (λ o. entry_in o (page_in (get blocks (lba / g.p)) (lba % g.p))) at in
+              ap (λ b. cond b (Some (in_log_block x.place x.dirty)) (get (entries_of g pages blocks) q)) t
+              ∙ ap₂ (λ p d. Some (in_log_block p d)) place clean ∙ sym (ap (option_map cleaned) here)
+              ∙ sym (ap (λ b. cond b (option_map cleaned (get (entries_of g pages blocks) q)) (get (entries_of g pages blocks) q)) t)
+          | inr f ↦
+              ap (λ b. cond b (Some (in_log_block x.place x.dirty)) (get (entries_of g pages blocks) q)) f
+              ∙ sym (ap (λ b. cond b (option_map cleaned (get (entries_of g pages blocks) q)) (get (entries_of g pages blocks) q)) f)
+        ]
+        ∙ sym (get-after g (Clean lba) (entries_of g pages blocks) q))
+
+    pub page_cleaned_apart : (y : LogPage) → get pages lba ≡ Some y → AreApart g pages blocks → AreApart g pages' blocks
+    page_cleaned_apart y at apart = page_apart (apart lba y at) apart
+
+  -- ---- one data block more
+
+  free_group : (pages : Pages) (blocks : Blocks) (k : ℕ) → ((i : ℕ) → i < g.p → get (entries_of g pages blocks) (k * g.p + i) ≡ None) → (q : ℕ) → q / g.p ≡ k → get pages q ≡ None
+  free_group pages blocks k free q in_group =
+      let whole : k * g.p + q % g.p ≡ q = ap (λ n. n * g.p + q % g.p) (sym in_group) ∙ div-add-mod' q g.p in
+      let here : get (entries_of g pages blocks) q ≡ None = ap (get (entries_of g pages blocks)) (sym whole) ∙ free (q % g.p) (mod_below q g.p some_pages) in
+      (none_in (get pages q) (page_in (get blocks (q / g.p)) (q % g.p)) (sym (get_held pages blocks q) ∙ here)).0
+
+  module _ (pages : Pages) (blocks blocks' : Blocks) (k : ℕ) (b : BlockPages) (is : blocks' ≡ insert blocks k b) where
+    block_there : (j : ℕ) → get blocks' j ≡ cond (j == k) (Some b) (get blocks j)
+    block_there j = ap (λ m. get m j) is ∙ get_insert blocks k b j
+
+    pub block_put : ((i : ℕ) → i < g.p → get (entries_of g pages blocks) (k * g.p + i) ≡ None) → entries_of g pages blocks' ≡ after g (SetGroup k b.block b.present b.dirty) (entries_of g pages blocks)
+    block_put free = same_held pages blocks' (after g (SetGroup k b.block b.present b.dirty) (entries_of g pages blocks)) (λ q.
+        ap (λ o. entry_in (get pages q) (page_in o (q % g.p))) (block_there (q / g.p))
+        ∙ elim (cases_Bool (q / g.p == k)) [
+          | inl t ↦
+              ap (λ c. entry_in (get pages q) (page_in (cond c (Some b) (get blocks (q / g.p))) (q % g.p))) t
+              ∙ ap (λ o. entry_in o (page_of_group b.block b.present b.dirty (q % g.p))) (free_group pages blocks k free q (eqb-true _ _ t))
+              ∙ sym (ap (λ c. cond c (page_of_group b.block b.present b.dirty (q % g.p)) (get (entries_of g pages blocks) q)) t)
+          | inr f ↦
+              ap (λ c. entry_in (get pages q) (page_in (cond c (Some b) (get blocks (q / g.p))) (q % g.p))) f
+              ∙ sym (get_held pages blocks q)
+              ∙ sym (ap (λ c. cond c (page_of_group b.block b.present b.dirty (q % g.p)) (get (entries_of g pages blocks) q)) f)
+        ]
+        ∙ sym (get-after g (SetGroup k b.block b.present b.dirty) (entries_of g pages blocks) q))
+
+    pub block_put_apart : ((i : ℕ) → i < g.p → get (entries_of g pages blocks) (k * g.p + i) ≡ None) → AreApart g pages blocks → AreApart g pages blocks'
+    block_put_apart free apart a x at = elim (cases_eq (a / g.p) k) [
+      | inl same ↦ no_some x (sym (free_group pages blocks k free a same) ∙ at)
+      | inr other ↦ ap (λ o. page_in o (a % g.p)) (block_there (a / g.p) ∙ ap (λ c. cond c (Some b) (get blocks (a / g.p))) (ne_eqb (a / g.p) k other)) ∙ apart a x at
+    ]
+
+    pub blocks_more : IsSound b → ((i : ℕ) → g.p ≤ i → has_bit b.present i ≡ false) → AreBlocks g blocks → AreBlocks g blocks'
+    blocks_more sound below all = record {
+      sound = λ j c at. elim (cases_eq j k) [
+        | inl same ↦ subst (λ (x : BlockPages). IsSound x) (here j c same at) sound
+        | inr other ↦ all.sound j c (there j c other at)
+      ];
+      below = λ j c at. elim (cases_eq j k) [
+        | inl same ↦ subst (λ (x : BlockPages). (i : ℕ) → g.p ≤ i → has_bit x.present i ≡ false) (here j c same at) below
+        | inr other ↦ all.below j c (there j c other at)
+      ];
+    }
+      where
+        here : (j : ℕ) (c : BlockPages) → j ≡ k → get blocks' j ≡ Some c → b ≡ c
+        here j c same at = some_is b c (sym (block_there j ∙ ap (λ t. cond t (Some b) (get blocks j)) (eq-eqb j k same)) ∙ at)
+
+        there : (j : ℕ) (c : BlockPages) → (j ≡ k → ⊥) → get blocks' j ≡ Some c → get blocks j ≡ Some c
+        there j c other at = sym (block_there j ∙ ap (λ t. cond t (Some b) (get blocks j)) (ne_eqb j k other)) ∙ at
+
+    -- ---- a block without one of its pages
+
+    pub left_some : (a : BlockPages) (page : ℕ) → get blocks k ≡ Some a → b.block ≡ a.block → IsLeftWithout a.present page b.present → IsLeftWithout a.dirty page b.dirty → IsSound b → IsLeftOut g blocks blocks' k page
+    left_some a page at block present dirty sound = record {
+      others = λ j i. ap (λ o. page_in o i) (block_there j) ∙ elim (cases_Bool (j == k)) [
+        | inl t ↦
+            ap (λ c. page_in (cond c (Some b) (get blocks j)) i) t
+            ∙ page_left i (i == page) refl
+            ∙ ap (λ o. cond (i == page) None (page_in o i)) (sym (ap (get blocks) (eqb-true _ _ t) ∙ at))
+            ∙ sym (ap (λ c. cond (c && (i == page)) None (page_in (get blocks j) i)) t)
+        | inr f ↦ ap (λ c. page_in (cond c (Some b) (get blocks j)) i) f ∙ sym (ap (λ c. cond (c && (i == page)) None (page_in (get blocks j) i)) f)
+      ];
+      blocks = λ all. blocks_more sound (λ i past. present i ∙ ap (λ c. c && not (i == page)) (all.below k a at i past)) all;
+    }
+      where
+        gone : (c : Bool) → (c && not true) ≡ false
+        gone true = refl
+        gone false = refl
+
+        kept : (c : Bool) → (c && not false) ≡ c
+        kept true = refl
+        kept false = refl
+
+        page_left : (i : ℕ) (c : Bool) → (i == page) ≡ c → page_of_group b.block b.present b.dirty i ≡ cond c None (page_of_group a.block a.present a.dirty i)
+        page_left i true is' = ap (λ t. then_some t (record { place = record { block = b.block; page = i }; dirty = has_bit b.dirty i; block_mapped = true })) (present i ∙ ap (λ c. has_bit a.present i && not c) is' ∙ gone (has_bit a.present i))
+        page_left i false is' = λ t. then_some ((present i ∙ ap (λ c. has_bit a.present i && not c) is' ∙ kept (has_bit a.present i)) t) (record { place = record { block = block t; page = i }; dirty = (dirty i ∙ ap (λ c. has_bit a.dirty i && not c) is' ∙ kept (has_bit a.dirty i)) t; block_mapped = true })
+
+    -- ---- a block with one of its pages clean
+
+    clean_page : (a : BlockPages) (lba : ℕ) → k ≡ lba / g.p → get blocks k ≡ Some a → b.block ≡ a.block → b.present ≡ a.present → IsLeftWithout a.dirty (lba % g.p) b.dirty → (q : ℕ) → page_in (get blocks' (q / g.p)) (q % g.p) ≡ cond (q == lba) (option_map cleaned (page_in (get blocks (q / g.p)) (q % g.p))) (page_in (get blocks (q / g.p)) (q % g.p))
+    clean_page a lba group at block present dirty q =
+        ap (λ o. page_in o (q % g.p)) (block_there (q / g.p)) ∙ elim (cases_Bool (q / g.p == k)) [
+          | inl t ↦
+              let old : get blocks (q / g.p) ≡ Some a = ap (get blocks) (eqb-true _ _ t) ∙ at in
+              let same : (q == lba) ≡ (q % g.p == lba % g.p) = is_address g.p q lba ∙ ap (λ n. (q / g.p == n) && (q % g.p == lba % g.p)) (sym group) ∙ ap (λ c. c && (q % g.p == lba % g.p)) t in
+              ap (λ c. page_in (cond c (Some b) (get blocks (q / g.p))) (q % g.p)) t
+              ∙ cleaned_in (q % g.p) (q % g.p == lba % g.p) refl
+              ∙ ap (λ c. cond c (option_map cleaned (page_of_group a.block a.present a.dirty (q % g.p))) (page_of_group a.block a.present a.dirty (q % g.p))) (sym same)
+              ∙ ap (λ o. cond (q == lba) (option_map cleaned (page_in o (q % g.p))) (page_in o (q % g.p))) (sym old)
+          | inr f ↦
+              let same : (q == lba) ≡ false = is_address g.p q lba ∙ ap (λ n. (q / g.p == n) && (q % g.p == lba % g.p)) (sym group) ∙ ap (λ c. c && (q % g.p == lba % g.p)) f in
+              ap (λ c. page_in (cond c (Some b) (get blocks (q / g.p))) (q % g.p)) f
+              ∙ sym (ap (λ c. cond c (option_map cleaned (page_in (get blocks (q / g.p)) (q % g.p))) (page_in (get blocks (q / g.p)) (q % g.p))) same)
+        ]
+      where
+        gone : (c : Bool) → (c && not true) ≡ false
+        gone true = refl
+        gone false = refl
+
+        kept : (c : Bool) → (c && not false) ≡ c
+        kept true = refl
+        kept false = refl
+
+        clean_of : (c : Bool) (e : Entry) → option_map cleaned (then_some c e) ≡ then_some c (cleaned e)
+        clean_of true e = refl
+        clean_of false e = refl
+
+        cleaned_in : (i : ℕ) (c : Bool) → (i == lba % g.p) ≡ c → page_of_group b.block b.present b.dirty i ≡ cond c (option_map cleaned (page_of_group a.block a.present a.dirty i)) (page_of_group a.block a.present a.dirty i)
+        cleaned_in i true is' =
+            (λ t. then_some (has_bit (present t) i) (record { place = record { block = block t; page = i }; dirty = (dirty i ∙ ap (λ c. has_bit a.dirty i && not c) is' ∙ gone (has_bit a.dirty i)) t; block_mapped = true }))
+            ∙ sym (clean_of (has_bit a.present i) (record { place = record { block = a.block; page = i }; dirty = has_bit a.dirty i; block_mapped = true }))
+        cleaned_in i false is' = λ t. then_some (has_bit (present t) i) (record { place = record { block = block t; page = i }; dirty = (dirty i ∙ ap (λ c. has_bit a.dirty i && not c) is' ∙ kept (has_bit a.dirty i)) t; block_mapped = true })
+
+    pub block_cleaned : (a : BlockPages) (lba : ℕ) → k ≡ lba / g.p → get pages lba ≡ None → get blocks k ≡ Some a → b.block ≡ a.block → b.present ≡ a.present → IsLeftWithout a.dirty (lba % g.p) b.dirty → entries_of g pages blocks' ≡ after g (Clean lba) (entries_of g pages blocks)
+    block_cleaned a lba group none at block present dirty = same_held pages blocks' (after g (Clean lba) (entries_of g pages blocks)) (λ q.
+        ap (entry_in (get pages q)) (clean_page a lba group at block present dirty q)
+        ∙ at_address q (q == lba) refl
+        ∙ ap (λ o. cond (q == lba) (option_map cleaned o) o) (sym (get_held pages blocks q))
+        ∙ sym (get-after g (Clean lba) (entries_of g pages blocks) q))
+      where
+        at_address : (q : ℕ) (c : Bool) → (q == lba) ≡ c → entry_in (get pages q) (cond c (option_map cleaned (page_in (get blocks (q / g.p)) (q % g.p))) (page_in (get blocks (q / g.p)) (q % g.p))) ≡ cond c (option_map cleaned (entry_in (get pages q) (page_in (get blocks (q / g.p)) (q % g.p)))) (entry_in (get pages q) (page_in (get blocks (q / g.p)) (q % g.p)))
+        at_address q true is' =
+            let no : get pages q ≡ None = ap (get pages) (eqb-true q lba is') ∙ none in
+            ap (λ o. entry_in o (option_map cleaned (page_in (get blocks (q / g.p)) (q % g.p)))) no ∙ sym (ap (λ o. option_map cleaned (entry_in o (page_in (get blocks (q / g.p)) (q % g.p)))) no)
+        at_address q false is' = refl
+
+    pub block_cleaned_apart : (a : BlockPages) (lba : ℕ) → k ≡ lba / g.p → get blocks k ≡ Some a → b.block ≡ a.block → b.present ≡ a.present → IsLeftWithout a.dirty (lba % g.p) b.dirty → AreApart g pages blocks → AreApart g pages blocks'
+    block_cleaned_apart a lba group at block present dirty apart q x held =
+        clean_page a lba group at block present dirty q ∙ ap (λ o. cond (q == lba) (option_map cleaned o) o) (apart q x held) ∙ nothing (q == lba)
+      where
+        nothing : (c : Bool) → cond c (option_map cleaned None) None ≡ None
+        nothing true = refl
+        nothing false = refl
+
+    pub block_cleaned_blocks : (a : BlockPages) → get blocks k ≡ Some a → b.present ≡ a.present → IsSound b → AreBlocks g blocks → AreBlocks g blocks'
+    block_cleaned_blocks a at present sound all = blocks_more sound (λ i past. ap (λ n. has_bit n i) present ∙ all.below k a at i past) all
+
+  fewer : (blocks blocks' : Blocks) (k : ℕ) → blocks' ≡ remove blocks k → AreBlocks g blocks → AreBlocks g blocks'
+  fewer blocks blocks' k is all = record {
+    sound = λ j c at. all.sound j c (before j c at);
+    below = λ j c at. all.below j c (before j c at);
+  }
+    where
+      taken : (b : Bool) (o : Option BlockPages) (c : BlockPages) → cond b None o ≡ Some c → o ≡ Some c
+      taken true o c s = no_some c s
+      taken false o c s = s
+
+      before : (j : ℕ) (c : BlockPages) → get blocks' j ≡ Some c → get blocks j ≡ Some c
+      before j c at = taken (j == k) (get blocks j) c (sym (ap (λ m. get m j) is ∙ get_remove blocks k j) ∙ at)
+
+  -- a block of no other page
+  pub left_none : (blocks blocks' : Blocks) (k page : ℕ) (a : BlockPages) → blocks' ≡ remove blocks k → get blocks k ≡ Some a → IsOnlyPage a.present page → IsLeftOut g blocks blocks' k page
+  left_none blocks blocks' k page a is at only = record {
+    others = λ j i. ap (λ o. page_in o i) (ap (λ m. get m j) is ∙ get_remove blocks k j) ∙ elim (cases_Bool (j == k)) [
+      | inl t ↦
+          ap (λ c. page_in (cond c None (get blocks j)) i) t
+          ∙ sym (ap (λ c. cond (c && (i == page)) None (page_in (get blocks j) i)) t
+          ∙ ap (λ o. cond (i == page) None (page_in o i)) (ap (get blocks) (eqb-true _ _ t) ∙ at)
+          ∙ ap (λ c. cond (i == page) None (then_some c (record { place = record { block = a.block; page = i }; dirty = has_bit a.dirty i; block_mapped = true }))) (only i)
+          ∙ nothing (i == page) (record { place = record { block = a.block; page = i }; dirty = has_bit a.dirty i; block_mapped = true }))
+      | inr f ↦ ap (λ c. page_in (cond c None (get blocks j)) i) f ∙ sym (ap (λ c. cond (c && (i == page)) None (page_in (get blocks j) i)) f)
+    ];
+    blocks = fewer blocks blocks' k is;
+  }
+    where
+      nothing : (c : Bool) (e : Entry) → cond c None (then_some c e) ≡ None
+      nothing true e = refl
+      nothing false e = refl
+
+  -- no data block, and so none of its pages
+  pub left_absent : (blocks : Blocks) (k page : ℕ) → get blocks k ≡ None → IsLeftOut g blocks blocks k page
+  left_absent blocks k page none = record {
+    others = λ j i. elim (cases_Bool (j == k)) [
+      | inl t ↦
+          let no : page_in (get blocks j) i ≡ None = ap (λ o. page_in o i) (ap (get blocks) (eqb-true _ _ t) ∙ none) in
+          no ∙ sym (ap (λ o. cond ((j == k) && (i == page)) None o) no ∙ nothing ((j == k) && (i == page)))
+      | inr f ↦ sym (ap (λ c. cond (c && (i == page)) None (page_in (get blocks j) i)) f)
+    ];
+    blocks = λ all. all;
+  }
+    where
+      none_entry : Option Entry
+      none_entry = None
+
+      nothing : (c : Bool) → cond c None none_entry ≡ None
+      nothing true = refl
+      nothing false = refl
+
+  -- ---- an address less
+
+  module _ (pages pages' : Pages) (blocks blocks' : Blocks) (lba : ℕ) (is : pages' ≡ remove pages lba) (left : IsLeftOut g blocks blocks' (lba / g.p) (lba % g.p)) where
+    page_gone : (q : ℕ) → get pages' q ≡ cond (q == lba) None (get pages q)
+    page_gone q = ap (λ m. get m q) is ∙ get_remove pages lba q
+
+    block_gone : (q : ℕ) → page_in (get blocks' (q / g.p)) (q % g.p) ≡ cond (q == lba) None (page_in (get blocks (q / g.p)) (q % g.p))
+    block_gone q = left.others (q / g.p) (q % g.p) ∙ ap (λ c. cond c None (page_in (get blocks (q / g.p)) (q % g.p))) (sym (is_address g.p q lba))
+
+    pub removed : entries_of g pages' blocks' ≡ after g (Remove lba) (entries_of g pages blocks)
+    removed = same_held pages' blocks' (after g (Remove lba) (entries_of g pages blocks)) (λ q.
+        ap₂ entry_in (page_gone q) (block_gone q)
+        ∙ both (q == lba) (get pages q) (page_in (get blocks (q / g.p)) (q % g.p))
+        ∙ ap (λ o. cond (q == lba) None o) (sym (get_held pages blocks q))
+        ∙ sym (get-after g (Remove lba) (entries_of g pages blocks) q))
+      where
+        both : (c : Bool) (o : Option LogPage) (r : Option Entry) → entry_in (cond c None o) (cond c None r) ≡ cond c None (entry_in o r)
+        both true o r = refl
+        both false o r = refl
+
+    pub removed_apart : AreApart g pages blocks → AreApart g pages' blocks'
+    removed_apart apart a x at = block_gone a ∙ by_test (a == lba) (sym (page_gone a) ∙ at)
+      where
+        by_test : (c : Bool) → cond c None (get pages a) ≡ Some x → cond c None (page_in (get blocks (a / g.p)) (a % g.p)) ≡ None
+        by_test true s = refl
+        by_test false s = apart a x s
+
+  -- ---- a group less
+
+  module _ (pages pages' : Pages) (blocks blocks' : Blocks) (k : ℕ) (gone : (q : ℕ) → get pages' q ≡ cond (q / g.p == k) None (get pages q)) (is : blocks' ≡ remove blocks k) where
+    block_less : (j : ℕ) → get blocks' j ≡ cond (j == k) None (get blocks j)
+    block_less j = ap (λ m. get m j) is ∙ get_remove blocks k j
+
+    pub group_removed : entries_of g pages' blocks' ≡ after g (RemoveGroup k) (entries_of g pages blocks)
+    group_removed = same_held pages' blocks' (after g (RemoveGroup k) (entries_of g pages blocks)) (λ q.
+        ap₂ (λ x y. entry_in x (page_in y (q % g.p))) (gone q) (block_less (q / g.p))
+        ∙ both (q / g.p == k) (get pages q) (get blocks (q / g.p)) (q % g.p)
+        ∙ ap (λ o. cond (q / g.p == k) None o) (sym (get_held pages blocks q))
+        ∙ sym (get-after g (RemoveGroup k) (entries_of g pages blocks) q))
+      where
+        both : (c : Bool) (o : Option LogPage) (r : Option BlockPages) (i : ℕ) → entry_in (cond c None o) (page_in (cond c None r) i) ≡ cond c None (entry_in o (page_in r i))
+        both true o r i = refl
+        both false o r i = refl
+
+    pub group_removed_apart : AreApart g pages blocks → AreApart g pages' blocks'
+    group_removed_apart apart a x at = ap (λ o. page_in o (a % g.p)) (block_less (a / g.p)) ∙ by_test (a / g.p == k) (sym (gone a) ∙ at)
+      where
+        by_test : (c : Bool) → cond c None (get pages a) ≡ Some x → page_in (cond c None (get blocks (a / g.p))) (a % g.p) ≡ None
+        by_test true s = refl
+        by_test false s = apart a x s
+
+    pub group_removed_blocks : AreBlocks g blocks → AreBlocks g blocks'
+    group_removed_blocks all = fewer blocks blocks' k is all
+
+  -- ---- no entry to be cleaned
+
+  pub clean_nothing : (pages : Pages) (blocks : Blocks) (lba : ℕ) → get pages lba ≡ None → get blocks (lba / g.p) ≡ None → entries_of g pages blocks ≡ after g (Clean lba) (entries_of g pages blocks)
+  clean_nothing pages blocks lba none none' = same_map nat_cmp_total nat_cmp-IsAntisymmetric (entries_of g pages blocks) (after g (Clean lba) (entries_of g pages blocks)) (λ q.
+      sym (get-after g (Clean lba) (entries_of g pages blocks) q ∙ elim (cases_Bool (q == lba)) [
+        | inl t ↦
+            let here : get (entries_of g pages blocks) q ≡ None = ap (get (entries_of g pages blocks)) (eqb-true _ _ t) ∙ get_held pages blocks lba ∙ ap₂ (λ x y. entry_in x (page_in y (lba % g.p))) none none' in
+            ap (λ b. cond b (option_map cleaned (get (entries_of g pages blocks) q)) (get (entries_of g pages blocks) q)) t ∙ ap (option_map cleaned) here ∙ sym here
+        | inr f ↦ ap (λ b. cond b (option_map cleaned (get (entries_of g pages blocks) q)) (get (entries_of g pages blocks) q)) f
+      ]))
+
+  -- ---- the data block of a group
+
+  module _ (pages : Pages) (blocks : Blocks) (all : AreBlocks g blocks) (apart : AreApart g pages blocks) where
+    abbrev held : Entries
+    held = entries_of g pages blocks
+
+    at_page : (k i : ℕ) → i < g.p → get (entries_of g pages blocks) (k * g.p + i) ≡ entry_in (get pages (k * g.p + i)) (page_in (get blocks k) i)
+    at_page k i low = get_held pages blocks (k * g.p + i) ∙ ap₂ (λ j n. entry_in (get pages (k * g.p + i)) (page_in (get blocks j) n)) (div-mul-add k g.p i low) (mod-mul-add k g.p i low)
+
+    -- a page of a group is in its data block exactly where the block has it
+    mapped_is : (k i : ℕ) → i < g.p → is_chosen Mapped (get (entries_of g pages blocks) (k * g.p + i)) ≡ is_chosen Mapped (page_in (get blocks k) i)
+    mapped_is k i low = ap (is_chosen Mapped) (at_page k i low) ∙ by_log (get pages (k * g.p + i)) refl
+      where
+        by_log : (o : Option LogPage) → get pages (k * g.p + i) ≡ o → is_chosen Mapped (entry_in o (page_in (get blocks k) i)) ≡ is_chosen Mapped (page_in (get blocks k) i)
+        by_log None at = refl
+        by_log (Some x) at = sym (ap (is_chosen Mapped) (ap₂ (λ j n. page_in (get blocks j) n) (sym (div-mul-add k g.p i low)) (sym (mod-mul-add k g.p i low)) ∙ apart (k * g.p + i) x at))
+
+    dirty_is : (k i : ℕ) → i < g.p → is_chosen MappedDirty (get (entries_of g pages blocks) (k * g.p + i)) ≡ is_chosen MappedDirty (page_in (get blocks k) i)
+    dirty_is k i low = ap (is_chosen MappedDirty) (at_page k i low) ∙ by_log (get pages (k * g.p + i)) refl
+      where
+        by_log : (o : Option LogPage) → get pages (k * g.p + i) ≡ o → is_chosen MappedDirty (entry_in o (page_in (get blocks k) i)) ≡ is_chosen MappedDirty (page_in (get blocks k) i)
+        by_log None at = refl
+        by_log (Some x) at = sym (ap (is_chosen MappedDirty) (ap₂ (λ j n. page_in (get blocks j) n) (sym (div-mul-add k g.p i low)) (sym (mod-mul-add k g.p i low)) ∙ apart (k * g.p + i) x at))
+
+    bit_is : (a b i : ℕ) → has_bit a i ≡ has_bit b i → bit_at a i ≡ bit_at b i
+    bit_is a b i same =
+        let low = bit_at-lt a i in
+        let low' = bit_at-lt b i in
+        elim (cases_eq (bit_at a i) 1) [
+          | inl one ↦ one ∙ sym (eqb-true (bit_at b i) 1 (sym same ∙ eq-eqb (bit_at a i) 1 one))
+          | inr other ↦ elim (cases_eq (bit_at b i) 1) [
+            | inl one ↦ absurd (other (eqb-true (bit_at a i) 1 (same ∙ eq-eqb (bit_at b i) 1 one)))
+            | inr other' ↦ omega (arith, low, low')
+          ]
+        ]
+
+    is_low : (i : ℕ) → nat_lt i g.p ≡ true → i < g.p
+    is_low i t = ltb-true i g.p t
+
+    is_past : (i : ℕ) → nat_lt i g.p ≡ false → g.p ≤ i
+    is_past i f = ltb-false i g.p f
+
+    present_is : (k : ℕ) (b : BlockPages) → get blocks k ≡ Some b → b.present ≡ chosen_of Mapped g (entries_of g pages blocks) k
+    present_is k b at = same_from_bits b.present (chosen_of Mapped g (entries_of g pages blocks) k) (λ i. bit_is b.present (chosen_of Mapped g (entries_of g pages blocks) k) i (sym (bit_of_set (λ n. is_chosen Mapped (get (entries_of g pages blocks) (k * g.p + n))) g.p i ∙ by_place i (nat_lt i g.p) refl)))
+      where
+        shown : (i : ℕ) (c : Bool) → is_chosen Mapped (then_some c (record { place = record { block = b.block; page = i }; dirty = has_bit b.dirty i; block_mapped = true })) ≡ c
+        shown i true = refl
+        shown i false = refl
+
+        by_place : (i : ℕ) (c : Bool) → nat_lt i g.p ≡ c → (c && is_chosen Mapped (get (entries_of g pages blocks) (k * g.p + i))) ≡ has_bit b.present i
+        by_place i true low = mapped_is k i (is_low i low) ∙ ap (λ o. is_chosen Mapped (page_in o i)) at ∙ shown i (has_bit b.present i)
+        by_place i false past = sym (all.below k b at i (is_past i past))
+
+    dirty_pages_are : (k : ℕ) (b : BlockPages) → get blocks k ≡ Some b → b.dirty ≡ chosen_of MappedDirty g (entries_of g pages blocks) k
+    dirty_pages_are k b at = same_from_bits b.dirty (chosen_of MappedDirty g (entries_of g pages blocks) k) (λ i. bit_is b.dirty (chosen_of MappedDirty g (entries_of g pages blocks) k) i (sym (bit_of_set (λ n. is_chosen MappedDirty (get (entries_of g pages blocks) (k * g.p + n))) g.p i ∙ by_place i (nat_lt i g.p) refl)))
+      where
+        within : (i : ℕ) → has_bit b.dirty i ≡ true → has_bit b.present i ≡ true
+        within i t = (all.sound k b at).within i t
+
+        shown : (i : ℕ) (c d : Bool) → (d ≡ true → c ≡ true) → is_chosen MappedDirty (then_some c (record { place = record { block = b.block; page = i }; dirty = d; block_mapped = true })) ≡ d
+        shown i true d of = refl
+        shown i false true of = of refl
+        shown i false false of = refl
+
+        none : (d c : Bool) → (d ≡ true → c ≡ true) → c ≡ false → d ≡ false
+        none true c of f = sym (of refl) ∙ f
+        none false c of f = refl
+
+        by_place : (i : ℕ) (c : Bool) → nat_lt i g.p ≡ c → (c && is_chosen MappedDirty (get (entries_of g pages blocks) (k * g.p + i))) ≡ has_bit b.dirty i
+        by_place i true low = dirty_is k i (is_low i low) ∙ ap (λ o. is_chosen MappedDirty (page_in o i)) at ∙ shown i (has_bit b.present i) (has_bit b.dirty i) (within i)
+        by_place i false past = sym (none (has_bit b.dirty i) (has_bit b.present i) (within i) (all.below k b at i (is_past i past)))
+
+    pub data_block_is : (k : ℕ) (b : BlockPages) → get blocks k ≡ Some b → IsDataBlock g (entries_of g pages blocks) k b
+    data_block_is k b at = record {
+      stands = λ a e is mapped in_group. by_log a e in_group mapped (get pages a) (sym (get_held pages blocks a) ∙ is);
+      present = present_is k b at;
+      dirty = dirty_pages_are k b at;
+      some = (all.sound k b at).some;
+    }
+      where
+        of_page : (a : ℕ) (e : Entry) (c : Bool) → then_some c (record { place = record { block = b.block; page = a % g.p }; dirty = has_bit b.dirty (a % g.p); block_mapped = true }) ≡ Some e → e.place.block ≡ b.block
+        of_page a e true s = ap (λ (x : Entry). x.place.block) (sym (some_is _ e s))
+        of_page a e false s = no_some e s
+
+        by_log : (a : ℕ) (e : Entry) → a / g.p ≡ k → e.block_mapped ≡ true → (o : Option LogPage) → entry_in o (page_in (get blocks (a / g.p)) (a % g.p)) ≡ Some e → e.place.block ≡ b.block
+        by_log a e in_group mapped None s = of_page a e (has_bit b.present (a % g.p)) (sym (ap (λ o. page_in o (a % g.p)) (ap (get blocks) in_group ∙ at)) ∙ s)
+        by_log a e in_group mapped (Some x) s = absurd (both_ways e.block_mapped (ap (λ (y : Entry). y.block_mapped) (sym (some_is (in_log_block x.place x.dirty) e s))) mapped)
+
+    pub no_data_block : (k : ℕ) → get blocks k ≡ None → chosen_of Mapped g (entries_of g pages blocks) k ≡ 0
+    no_data_block k none = set_of_none (λ i. is_chosen Mapped (get (entries_of g pages blocks) (k * g.p + i))) g.p (λ i low. mapped_is k i low ∙ ap (λ o. is_chosen Mapped (page_in o i)) none)
+
+  pub block_found : (pages : Pages) (blocks : Blocks) → AreBlocks g blocks → AreApart g pages blocks → (k : ℕ) (o : Option BlockPages) → o ≡ get blocks k → IfSome o (IsDataBlock g (entries_of g pages blocks) k)
+  block_found pages blocks all apart k None is = tt
+  block_found pages blocks all apart k (Some b) is = data_block_is pages blocks all apart k b (sym is)
+
+  pub block_not_found : (pages : Pages) (blocks : Blocks) → AreBlocks g blocks → AreApart g pages blocks → (k : ℕ) (o : Option BlockPages) → o ≡ get blocks k → IfNone o (chosen_of Mapped g (entries_of g pages blocks) k ≡ 0)
+  block_not_found pages blocks all apart k None is = no_data_block pages blocks all apart k (sym is)
+  block_not_found pages blocks all apart k (Some b) is = tt
+
+  -- a group without entries has no data block
+  pub block_absent : (pages : Pages) (blocks : Blocks) → AreBlocks g blocks → AreApart g pages blocks → (k : ℕ) → ((i : ℕ) → i < g.p → get (entries_of g pages blocks) (k * g.p + i) ≡ None) → get blocks k ≡ None
+  block_absent pages blocks all apart k free = by_block (get blocks k) refl
+    where
+      empty_set : chosen_of Mapped g (entries_of g pages blocks) k ≡ 0
+      empty_set = set_of_none (λ i. is_chosen Mapped (get (entries_of g pages blocks) (k * g.p + i))) g.p (λ i low. ap (is_chosen Mapped) (free i low))
+
+      by_block : (o : Option BlockPages) → get blocks k ≡ o → o ≡ None
+      by_block None at = refl
+      by_block (Some b) at = absurd (let some = (all.sound k b at).some in let is = (data_block_is pages blocks all apart k b at).present in omega (arith, some, is, empty_set))
+
+  -- ---- how many records a checkpoint has
+
+  pub records_long : (m : Entries) (pages : Table LogPage) (blocks : Table BlockPages) → IsSoundTable pages → IsSoundTable blocks → length (records_of g m (items_of pages.slots) (items_of blocks.slots)) ≡ len_of blocks + len_of pages
+  records_long m pages blocks sound sound' =
+      length-append (map (λ (x : ℕ × BlockPages). set_group_of g m x.0) (items_of blocks.slots)) (map page_record (items_of pages.slots))
+      ∙ ap₂ (λ x y. x + y)
+      (length-map (items_of blocks.slots) (λ (x : ℕ × BlockPages). set_group_of g m x.0) ∙ sym (len_of-items blocks sound'.packed.once))
+      (length-map (items_of pages.slots) page_record ∙ sym (len_of-items pages sound.packed.once))
+
+  -- ---- the log pages of a group
+
+  -- those before page i are gone
+  pub record PagesGone (group : ℕ) (old new : Table LogPage) (i : ℕ) : Type 0 where
+    pub gone : (q : ℕ) → get (map_of new) q ≡ cond ((q / g.p == group) && nat_lt (q % g.p) i) None (get (map_of old) q)
+    pub spare : new.spare ≡ old.spare
+    pub buckets : buckets_of new ≡ buckets_of old
+    pub sound : IsSoundTable new
+
+  pub none_gone : (group : ℕ) (old : Table LogPage) → IsSoundTable old → PagesGone group old old 0
+  none_gone group old sound = record { gone = λ q. sym (ap (λ c. cond c None (get (map_of old) q)) (ap (λ c. (q / g.p == group) && c) (le-ltb (q % g.p) 0 (omega arith)) ∙ never (q / g.p == group))); spare = refl; buckets = refl; sound = sound }
+    where
+      never : (c : Bool) → (c && false) ≡ false
+      never true = refl
+      never false = refl
+
+  pub one_gone : (group i : ℕ) (old now new : Table LogPage) → i < g.p → PagesGone group old now i → map_of new ≡ remove (map_of now) (group * g.p + i) → new.spare ≡ now.spare → buckets_of new ≡ buckets_of now → IsSoundTable new → PagesGone group old new (i + 1)
+  one_gone group i old now new low so_far is spare buckets sound = record {
+    gone = λ q.
+        ap (λ m. get m q) is ∙ get_remove (map_of now) (group * g.p + i) q
+        ∙ ap₂ (λ c o. cond c None o) (here q) (so_far.gone q)
+        ∙ joined (q / g.p == group) (q % g.p == i) (nat_lt (q % g.p) i) (nat_lt (q % g.p) (i + 1)) (get (map_of old) q) (one_more (q % g.p) i);
+    spare = spare ∙ so_far.spare;
+    buckets = buckets ∙ so_far.buckets;
+    sound = sound;
+  }
+    where
+      here : (q : ℕ) → (q == group * g.p + i) ≡ ((q / g.p == group) && (q % g.p == i))
+      here q = is_address g.p q (group * g.p + i) ∙ ap₂ (λ x y. (q / g.p == x) && (q % g.p == y)) (div-mul-add group g.p i low) (mod-mul-add group g.p i low)
+
+      one_more : (x n : ℕ) → nat_lt x (n + 1) ≡ (nat_lt x n || (x == n))
+      one_more x n = grind (arith, nat_tests)
+
+      joined : (a e l l' : Bool) (o : Option LogPage) → l' ≡ (l || e) → cond (a && e) None (cond (a && l) None o) ≡ cond (a && l') None o
+      joined true true true l' o is' = sym (ap (λ c. cond c None o) is')
+      joined true true false l' o is' = sym (ap (λ c. cond c None o) is')
+      joined true false true l' o is' = sym (ap (λ c. cond c None o) is')
+      joined true false false l' o is' = sym (ap (λ c. cond c None o) is')
+      joined false e l l' o is' = refl
+
+  pub all_gone : (group : ℕ) (old new : Table LogPage) → PagesGone group old new g.p → (q : ℕ) → get (map_of new) q ≡ cond (q / g.p == group) None (get (map_of old) q)
+  all_gone group old new so_far q = so_far.gone q ∙ ap (λ c. cond ((q / g.p == group) && c) None (get (map_of old) q)) (lt-ltb _ _ (mod_below q g.p some_pages)) ∙ ap (λ c. cond c None (get (map_of old) q)) (always (q / g.p == group))
+    where
+      always : (c : Bool) → (c && true) ≡ c
+      always true = refl
+      always false = refl

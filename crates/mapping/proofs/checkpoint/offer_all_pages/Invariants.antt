@@ -1,0 +1,7 @@
+use Rattle.mapping.specs.Packed.{page_record}
+use Rattle.mapping.proofs.CheckpointLemmas.{GroupsOffered}
+use Rattle.mapping.proofs.checkpoint.offer_all_pages.Given as goal
+
+-- the groups so far
+abbrev pub invariant-loop-group : goal.invariant-loop-group
+invariant-loop-group l = GroupsOffered page_record l.pages.slots l.before l.from l.fn.out l.out l.group l.at

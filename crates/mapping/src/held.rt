@@ -1,0 +1,293 @@
+//! The entries in two packed maps: those in log blocks by address, and the data blocks by group.
+ghost use Rattle.std.specs.Prelude.{◌≡◌, ◌<◌, ◌≤◌, ◌+◌, ◌-◌, ◌*◌, ◌/◌, ◌%◌, ◌^◌, ◌==◌, ℕ, None, false, length, max, IfSome, IfNone, OnOk, OnErr, if◌then◌else◌};
+ghost use Rattle.std.specs.FinMap as map;
+ghost use Rattle.cache_model.specs.Records.{no_entries, after, has_bit};
+ghost use Rattle.ft_base.specs.declared.record.Record.TheVariants.{SetPage, Remove, Clean, SetGroup, RemoveGroup};
+ghost use Rattle.block_map.specs.PageSets.{IsSound as IsSoundBlock};
+ghost use Rattle.sparse_map.specs.Packed.{map_of, buckets_of, IsSound};
+ghost use Rattle.mapping.specs.declared.bits.Choice.TheVariants.{Mapped};
+ghost use Rattle.mapping.specs.Bits.{chosen_of, IsDataBlock};
+ghost use Rattle.mapping.specs.Checkpoint.{IsCheckpoint, HasWindow};
+ghost use Rattle.cache_model.specs.Buckets.{AreBucketsFor};
+ghost use Rattle.mapping.specs.Packed.{page_in, IsLeftOut};
+
+use crate::checkpoint::{offer_all_blocks, offer_all_pages};
+use crate::log_page::LogPage;
+use block_map::BlockAt;
+use cache_model::Entry;
+use ft_base::{Geometry, Place, Record};
+use sparse_map::SparseMap;
+use std::alloc::{AllocError, Global};
+use std::marker::Model;
+
+/// The entries of a map, and room for more.
+#[derive(Drop)]
+pub struct Held {
+    geometry: Geometry,
+    pages: SparseMap<LogPage>,
+    blocks: SparseMap<BlockAt>,
+}
+
+impl Model for Held {
+    ghost use Rattle.std.specs.Coded.{codes};
+    ghost use Rattle.ft_base.specs.contracts.geometry.Geometry as geometry_row;
+    ghost use Rattle.ft_base.specs.contracts.record.Record as record_row;
+    ghost use Rattle.sparse_map.specs.Packed.{map_of, buckets_of};
+    ghost use Rattle.sparse_map.specs.Slots.{items_of};
+    ghost use Rattle.mapping.specs.MapValue.{entries_code};
+    ghost use Rattle.mapping.specs.Packed.{HeldValue, entries_of, records_of, IsPackedMap};
+
+    ghost Value = { HeldValue };
+
+    ghost coded = { Prim.hlevel (codes, entries_code, geometry_row.the_row.coded, record_row.the_row.coded) };
+
+    ghost view = { λ h. record { geometry = h.geometry; entries = entries_of h.geometry (map_of h.pages) (map_of h.blocks); spare_pages = h.pages.spare; spare_blocks = h.blocks.spare; records = records_of h.geometry (entries_of h.geometry (map_of h.pages) (map_of h.blocks)) (items_of h.pages.slots) (items_of h.blocks.slots); buckets = buckets_of h.pages } };
+
+    ghost invariant = { λ h. IsPackedMap h.geometry h.pages h.blocks };
+}
+
+impl Held {
+    /// No entries, and no room.
+    pub fn new(alloc: Global, geometry: &Geometry) -> Held
+        ensures geometry { result.geometry ≡ geometry.now }
+        ensures entries { result.entries ≡ no_entries }
+    {
+        Held {
+            geometry: *geometry,
+            pages: SparseMap::new(alloc),
+            blocks: SparseMap::new(alloc),
+        }
+    }
+
+    /// The entry of an address.
+    pub fn entry(&self, lba: u64) -> Option<Entry>
+        ensures { result ≡ map.get self.now.entries lba }
+    {
+        let pages = self.geometry.p as u64;
+        match log_page(&self.pages, lba) {
+            Some(page) => Some(Entry {
+                place: page.place,
+                dirty: page.dirty,
+                block_mapped: false,
+            }),
+            None => page_in(block_at(&self.blocks, lba / pages), (lba % pages) as u32),
+        }
+    }
+
+    /// The data block of a group, with its present and its dirty pages.
+    pub fn block_of(&self, group: u64) -> Option<BlockAt>
+        ensures some { IfSome result (IsDataBlock self.now.geometry self.now.entries group) }
+        ensures none { IfNone result (chosen_of Mapped self.now.geometry self.now.entries group ≡ 0) }
+    {
+        block_at(&self.blocks, group)
+    }
+
+    /// Makes room for so many new log pages.
+    pub fn reserve_pages(&mut self, pages: u32) -> Result<(), AllocError>
+        requires { length (map.entries self.old.entries) + pages ≤ 2 ^ 30 }
+        ensures geometry { self.new.geometry ≡ self.old.geometry }
+        ensures entries { self.new.entries ≡ self.old.entries }
+        ensures pages { OnOk result (self.new.spare_pages ≡ max self.old.spare_pages pages) }
+        ensures blocks { self.new.spare_blocks ≡ self.old.spare_blocks }
+        ensures err { OnErr result (self.new ≡ self.old) }
+    {
+        self.pages.reserve(pages)
+    }
+
+    /// Makes room for so many new data blocks.
+    pub fn reserve_blocks(&mut self, blocks: u32) -> Result<(), AllocError>
+        requires { length (map.entries self.old.entries) + blocks ≤ 2 ^ 30 }
+        ensures geometry { self.new.geometry ≡ self.old.geometry }
+        ensures entries { self.new.entries ≡ self.old.entries }
+        ensures blocks { OnOk result (self.new.spare_blocks ≡ max self.old.spare_blocks blocks) }
+        ensures pages { self.new.spare_pages ≡ self.old.spare_pages }
+        ensures err { OnErr result (self.new ≡ self.old) }
+    {
+        self.blocks.reserve(blocks)
+    }
+
+    /// Puts in a log page of an address that has no entry.
+    pub fn put_page(&mut self, lba: u64, place: Place, dirty: bool)
+        requires absent { map.get self.old.entries lba ≡ None }
+        requires room { 1 ≤ self.old.spare_pages }
+        ensures geometry { self.new.geometry ≡ self.old.geometry }
+        ensures entries { self.new.entries ≡ after self.old.geometry (SetPage lba place dirty) self.old.entries }
+        ensures pages { self.new.spare_pages + 1 ≡ self.old.spare_pages }
+        ensures blocks { self.new.spare_blocks ≡ self.old.spare_blocks }
+        ensures buckets { self.new.buckets ≡ self.old.buckets }
+    {
+        let _ = self.pages.insert_ready(lba, LogPage { place, dirty });
+    }
+
+    /// Puts in the data block of a group that has no entry.
+    pub fn put_block(&mut self, group: u64, block: BlockAt)
+        requires absent { (i : ℕ) → i < self.old.geometry.p → map.get self.old.entries (group * self.old.geometry.p + i) ≡ None }
+        requires sound { IsSoundBlock block }
+        requires below { (i : ℕ) → self.old.geometry.p ≤ i → has_bit block.present i ≡ false }
+        requires room { 1 ≤ self.old.spare_blocks }
+        ensures geometry { self.new.geometry ≡ self.old.geometry }
+        ensures entries { self.new.entries ≡ after self.old.geometry (SetGroup group block.block block.present block.dirty) self.old.entries }
+        ensures pages { self.new.spare_pages ≡ self.old.spare_pages }
+        ensures blocks { self.new.spare_blocks + 1 ≡ self.old.spare_blocks }
+        ensures buckets { self.new.buckets ≡ self.old.buckets }
+    {
+        let _ = self.blocks.insert_ready(group, block);
+    }
+
+    /// Takes out the entry of an address.
+    pub fn remove(&mut self, lba: u64)
+        ensures geometry { self.new.geometry ≡ self.old.geometry }
+        ensures entries { self.new.entries ≡ after self.old.geometry (Remove lba) self.old.entries }
+        ensures pages { self.new.spare_pages ≡ self.old.spare_pages }
+        ensures blocks { self.new.spare_blocks ≡ self.old.spare_blocks }
+        ensures buckets { self.new.buckets ≡ self.old.buckets }
+    {
+        let pages = self.geometry.p as u64;
+        let _ = self.pages.remove(lba);
+        take_out(
+            &self.geometry,
+            &mut self.blocks,
+            lba / pages,
+            (lba % pages) as u32,
+        );
+    }
+
+    /// Makes the entry of an address clean, if there is one.
+    pub fn clean(&mut self, lba: u64)
+        ensures geometry { self.new.geometry ≡ self.old.geometry }
+        ensures entries { self.new.entries ≡ after self.old.geometry (Clean lba) self.old.entries }
+        ensures pages { self.new.spare_pages ≡ self.old.spare_pages }
+        ensures blocks { self.new.spare_blocks ≡ self.old.spare_blocks }
+        ensures buckets { self.new.buckets ≡ self.old.buckets }
+    {
+        let pages = self.geometry.p as u64;
+        match log_page(&self.pages, lba) {
+            Some(page) => {
+                let clean = LogPage {
+                    place: page.place,
+                    dirty: false,
+                };
+                let _ = self.pages.insert_ready(lba, clean);
+            }
+            None => match block_at(&self.blocks, lba / pages) {
+                Some(block) => {
+                    let clean = block.cleaned((lba % pages) as u32);
+                    let _ = self.blocks.insert_ready(lba / pages, clean);
+                }
+                None => {}
+            },
+        }
+    }
+
+    /// Takes out the entries of a group.
+    pub fn remove_group(&mut self, group: u64)
+        requires { group ≤ (self.old.geometry.size - 1) / self.old.geometry.p }
+        ensures geometry { self.new.geometry ≡ self.old.geometry }
+        ensures entries { self.new.entries ≡ after self.old.geometry (RemoveGroup group) self.old.entries }
+        ensures pages { self.new.spare_pages ≡ self.old.spare_pages }
+        ensures blocks { self.new.spare_blocks ≡ self.old.spare_blocks }
+        ensures buckets { self.new.buckets ≡ self.old.buckets }
+    {
+        remove_pages(&mut self.pages, &self.geometry, group);
+        let _ = self.blocks.remove(group);
+    }
+
+    /// The buckets of the log pages: none, or a power of two from 32 on, of which a quarter is free.
+    pub fn buckets(&self) -> u64
+        ensures count { result ≡ self.now.buckets }
+        ensures bound { AreBucketsFor self.now.entries result }
+    {
+        self.pages.buckets()
+    }
+
+    /// How many records a checkpoint has.
+    pub fn checkpoint_len(&self) -> u64
+        ensures count { result ≡ length self.now.records }
+        ensures listing { IsCheckpoint self.now.geometry self.now.entries self.now.records }
+    {
+        self.blocks.len() + self.pages.len()
+    }
+
+    /// Puts the records of a checkpoint into a window that begins with number `from`.
+    pub fn offer_records(&self, from: u32, out: &mut [Record])
+        ensures { HasWindow self.now.records from out.new }
+    {
+        let before = offer_all_blocks(&self.blocks, 0, from as usize, out);
+        let _ = offer_all_pages(&self.pages, before, from as usize, out);
+    }
+}
+
+/// The log page of an address.
+fn log_page(pages: &SparseMap<LogPage>, lba: u64) -> Option<LogPage>
+    ensures { result ≡ map.get (map_of pages.now) lba }
+{
+    match pages.get(lba) {
+        Some(page) => Some(*page),
+        None => None,
+    }
+}
+
+/// The data block of a group.
+fn block_at(blocks: &SparseMap<BlockAt>, group: u64) -> Option<BlockAt>
+    ensures { result ≡ map.get (map_of blocks.now) group }
+{
+    match blocks.get(group) {
+        Some(block) => Some(*block),
+        None => None,
+    }
+}
+
+/// The entry of a page of a data block.
+fn page_in(block: Option<BlockAt>, page: u32) -> Option<Entry>
+    requires { page < 64 }
+    ensures { result ≡ page_in block page }
+{
+    let found = block?;
+    if !found.has(page) {
+        return None;
+    }
+    Some(Entry {
+        place: Place {
+            block: found.block(),
+            page,
+        },
+        dirty: found.is_dirty(page),
+        block_mapped: true,
+    })
+}
+
+/// Leaves a page out of the data block of a group.
+fn take_out(geometry: &Geometry, blocks: &mut SparseMap<BlockAt>, group: u64, page: u32)
+    requires page { page < 64 }
+    requires sound { IsSound blocks.old }
+    ensures left { IsLeftOut geometry.now (map_of blocks.old) (map_of blocks.new) group page }
+    ensures spare { blocks.new.spare ≡ blocks.old.spare }
+    ensures buckets { buckets_of blocks.new ≡ buckets_of blocks.old }
+    ensures sound { IsSound blocks.new }
+{
+    let Some(block) = block_at(blocks, group) else {
+        return;
+    };
+    match block.without(page) {
+        Some(rest) => {
+            let _ = blocks.insert_ready(group, rest);
+        }
+        None => {
+            let _ = blocks.remove(group);
+        }
+    }
+}
+
+/// Takes out the log pages of a group.
+fn remove_pages(pages: &mut SparseMap<LogPage>, geometry: &Geometry, group: u64)
+    requires group { group ≤ (geometry.now.size - 1) / geometry.now.p }
+    requires sound { IsSound pages.old }
+    ensures pages { (q : ℕ) → map.get (map_of pages.new) q ≡ (if q / geometry.now.p == group then None else map.get (map_of pages.old) q) }
+    ensures spare { pages.new.spare ≡ pages.old.spare }
+    ensures buckets { buckets_of pages.new ≡ buckets_of pages.old }
+    ensures sound { IsSound pages.new }
+{
+    for page in 0..geometry.p {
+        let _ = pages.remove(group * geometry.p as u64 + page as u64);
+    }
+}

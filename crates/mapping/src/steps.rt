@@ -1,0 +1,67 @@
+//! What a record makes of the entries.
+ghost use Rattle.std.specs.Prelude.{◌≡◌, ◌<◌, ◌≤◌, ◌+◌, ◌-◌, ◌/◌, ◌^◌};
+ghost use Rattle.ft_base.specs.declared.record.Record.TheVariants.{SetPage, SetGroup};
+ghost use Rattle.cache_model.specs.Records.{after};
+ghost use Rattle.cache_model.specs.Entries.{IsInReach};
+ghost use Rattle.mapping.specs.MapValue.{pages_taken, groups_taken};
+
+use crate::held::Held;
+use block_map::BlockAt;
+use ft_base::{Place, Record};
+
+/// The step of a record. There is room for what it takes.
+pub fn step(held: &mut Held, change: &Record)
+    requires reach { IsInReach held.old.geometry change.now }
+    requires pages { pages_taken change.now ≤ held.old.spare_pages }
+    requires groups { groups_taken change.now ≤ held.old.spare_blocks }
+    ensures geometry { held.new.geometry ≡ held.old.geometry }
+    ensures entries { held.new.entries ≡ after held.old.geometry change.now held.old.entries }
+    ensures pages { held.old.spare_pages ≤ held.new.spare_pages + pages_taken change.now }
+    ensures groups { held.old.spare_blocks ≤ held.new.spare_blocks + groups_taken change.now }
+    ensures buckets { held.new.buckets ≡ held.old.buckets }
+{
+    match *change {
+        Record::SetPage { lba, place, dirty } => set_page(held, lba, place, dirty),
+        Record::Remove { lba } => held.remove(lba),
+        Record::Clean { lba } => held.clean(lba),
+        Record::SetGroup {
+            group,
+            block,
+            present,
+            dirty,
+        } => set_group(held, group, block, present, dirty),
+        Record::RemoveGroup { group } => held.remove_group(group),
+    }
+}
+
+/// The block of an address stands in this log page from now on.
+fn set_page(held: &mut Held, lba: u64, place: Place, dirty: bool)
+    requires { 1 ≤ held.old.spare_pages }
+    ensures geometry { held.new.geometry ≡ held.old.geometry }
+    ensures entries { held.new.entries ≡ after held.old.geometry (SetPage lba place dirty) held.old.entries }
+    ensures pages { held.new.spare_pages + 1 ≡ held.old.spare_pages }
+    ensures blocks { held.new.spare_blocks ≡ held.old.spare_blocks }
+    ensures buckets { held.new.buckets ≡ held.old.buckets }
+{
+    held.remove(lba);
+    held.put_page(lba, place, dirty);
+}
+
+/// The blocks of a group stand in this data block from now on.
+fn set_group(held: &mut Held, group: u64, block: u32, present: u64, dirty: u64)
+    requires group { group ≤ (held.old.geometry.size - 1) / held.old.geometry.p }
+    requires below { present < 2 ^ held.old.geometry.p }
+    requires room { 1 ≤ held.old.spare_blocks }
+    ensures geometry { held.new.geometry ≡ held.old.geometry }
+    ensures entries { held.new.entries ≡ after held.old.geometry (SetGroup group block present dirty) held.old.entries }
+    ensures pages { held.new.spare_pages ≡ held.old.spare_pages }
+    ensures blocks { held.old.spare_blocks ≤ held.new.spare_blocks + 1 }
+    ensures buckets { held.new.buckets ≡ held.old.buckets }
+{
+    held.remove_group(group);
+    if present == 0 {
+        return;
+    }
+    // A dirty page is a present one.
+    held.put_block(group, BlockAt::new(block, present, dirty & present));
+}

@@ -1,0 +1,39 @@
+use Rattle.std.proofs.Common.{◌/◌, ◌<◌, Some, length, get_or, refl, sym, ◌∙◌, arith}
+use Rattle.sparse_map.proofs.TableLemmas.{slot_of_bucket, set_bucket}
+use Rattle.sparse_map.proofs.PlanLemmas.{len_at, room_at, lens_of-set, rooms_of-set}
+use Rattle.sparse_map.proofs.moving.put_ready.Goals as goal
+
+pub insert-requires-clause-free : goal.insert-requires-clause-free
+insert-requires-clause-free g c =
+    let read = c.index-groups-bucket.result in
+    let us = c.args.groups.now in
+    sym (slot_of_bucket us c.args.bucket (get_or us (c.args.bucket / 32) read) read c.requires.within refl) ∙ c.requires.free
+
+pub insert-requires-clause-room : goal.insert-requires-clause-room
+insert-requires-clause-room g c =
+    let read = c.index-groups-bucket.result in
+    let us = c.args.groups.now in
+    let i = c.args.bucket / 32 in
+    let u = get_or us i read in
+    let inside : i < length us = omega (arith, c.requires.within) in
+    omega (arith, c.requires.room, len_at us i u read u inside refl, room_at us i u read u inside refl)
+
+pub returns-clause-slots : goal.returns-clause-slots
+returns-clause-slots g c =
+    let read = c.index-groups-bucket.result in
+    let us = c.args.groups.now in
+    set_bucket us c.args.bucket (get_or us (c.args.bucket / 32) read) read c.requires.within refl c.insert.new.self (Some c.args.item) c.insert.ensures.slots
+
+pub returns-clause-lens : goal.returns-clause-lens
+returns-clause-lens g c =
+    let read = c.index-groups-bucket.result in
+    let us = c.args.groups.now in
+    let i = c.args.bucket / 32 in
+    lens_of-set us i (get_or us i read) read c.insert.new.self (omega (arith, c.requires.within)) refl c.insert.ensures.len
+
+pub returns-clause-rooms : goal.returns-clause-rooms
+returns-clause-rooms g c =
+    let read = c.index-groups-bucket.result in
+    let us = c.args.groups.now in
+    let i = c.args.bucket / 32 in
+    rooms_of-set us i (get_or us i read) read c.insert.new.self (omega (arith, c.requires.within)) refl c.insert.ensures.capacity

@@ -1,0 +1,30 @@
+-- The sizes of the groups' lists: how many items each has, and how many places.
+use Rattle.std.specs.Prelude.{ℕ, ◌+◌, ◌-◌, ◌/◌, List, map, slice_index_or}
+use Rattle.std.specs.List.{sum_by}
+use Rattle.std.specs.Vec.{vec_len, vec_capacity}
+use Rattle.sparse_map.specs.declared.group.Group.{Group}
+use Rattle.sparse_map.specs.declared.table.Grown.{Grown}
+use Rattle.sparse_map.specs.declared.table.Grown.TheVariants.{Nowhere, In, Anywhere}
+
+module _ {V : Type 0} where
+  -- how many items and places a group's list has
+  abbrev pub size_of : Group V → ℕ × ℕ
+  size_of g = (vec_len g.items, vec_capacity g.items)
+
+  -- those of all groups
+  unfoldable pub sizes_of : List (Group V) → List (ℕ × ℕ)
+  sizes_of = map size_of
+
+-- the places of all lists, free ones included
+unfoldable pub places_of : List (ℕ × ℕ) → ℕ
+places_of = sum_by (λ s. s.1)
+
+-- the free places of a list beyond four
+unfoldable pub extra : ℕ × ℕ → ℕ
+extra s = s.1 - (s.0 + 4)
+
+-- the free places beyond four a list, but for the lists that may have grown since they were last trimmed
+unfoldable pub loose_of : Grown → List (ℕ × ℕ) → ℕ
+loose_of Nowhere s = sum_by extra s
+loose_of (In bucket) s = sum_by extra s - extra (slice_index_or s (bucket / 32) (0, 0))
+loose_of Anywhere s = 0

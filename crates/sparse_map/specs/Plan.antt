@@ -1,0 +1,59 @@
+-- Where keys come to stand that go into a table one after another, and how many in each group: found out before any item moves.
+use Rattle.std.specs.Prelude.{ℕ, zero, suc, ◌+◌, ◌/◌, ◌^◌, ◌<◌, ◌≤◌, ◌==◌, Bool, true, false, List, [], ◌∷◌, map, replicate, is_some, slice_index_or, slice_set, if◌then◌else◌}
+use Rattle.std.specs.Vec.{vec_len, vec_capacity}
+use Rattle.sparse_map.specs.declared.group.Group.{Group}
+use Rattle.sparse_map.specs.Home.{home}
+use Rattle.sparse_map.specs.Groups.{slots_of}
+
+-- which buckets are occupied, and how many in each group
+pub record Plan : Type 0 where
+  pub marks : List Bool
+  pub counts : List ℕ
+
+abbrev pub planned : List Bool → List ℕ → Plan
+planned marks counts = record { marks = marks; counts = counts }
+
+-- among n buckets the first one from `at` on, going round, that isn't marked; `more` of them at most are looked at
+unfoldable pub first_unmarked : ℕ → ℕ → ℕ → List Bool → ℕ
+first_unmarked n zero at marks = at
+first_unmarked n (suc more) at marks = if slice_index_or marks at false then first_unmarked n more (if at + 1 == n then 0 else at + 1) marks else at
+
+-- with one key more, at the first bucket from its home on that isn't marked
+unfoldable pub with_key : ℕ → Plan → ℕ → Plan
+with_key n plan key =
+    let b = first_unmarked n n (home n key) plan.marks in
+    planned (slice_set plan.marks b true) (slice_set plan.counts (b / 32) (slice_index_or plan.counts (b / 32) 0 + 1))
+
+-- no count passes its type's end, with so many keys more
+abbrev pub CanCount : ℕ → List ℕ → Type 0
+CanCount more counts = (i : ℕ) → slice_index_or counts i 0 + more < 2 ^ 32
+
+-- n buckets with no key
+abbrev pub blank_plan : ℕ → Plan
+blank_plan n = planned (replicate n false) (replicate (n / 32) 0)
+
+-- the places of a list for so many items: one more, and none for none
+abbrev pub places_for : ℕ → ℕ
+places_for count = if count == 0 then 0 else count + 1
+
+-- a list in each group for what is counted there
+abbrev pub Fits : List ℕ → List ℕ → Type 0
+Fits rooms counts = (i : ℕ) → slice_index_or counts i 0 ≤ slice_index_or rooms i 0
+
+module _ {V : Type 0} where
+  -- with the keys of these items, one after another
+  abbrev pub with_items : ℕ → Plan → List (ℕ × V) → Plan
+  with_items n plan [] = plan
+  with_items n plan (e ∷ es) = with_items n (with_key n plan e.0) es
+
+  -- how many items each group has
+  abbrev pub lens_of : List (Group V) → List ℕ
+  lens_of = map (λ g. vec_len g.items)
+
+  -- how many places each group's list has
+  abbrev pub rooms_of : List (Group V) → List ℕ
+  rooms_of = map (λ g. vec_capacity g.items)
+
+  -- groups as they are
+  abbrev pub plan_of : List (Group V) → Plan
+  plan_of groups = planned (map is_some (slots_of groups)) (lens_of groups)

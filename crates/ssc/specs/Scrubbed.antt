@@ -1,0 +1,63 @@
+-- What a scrub finds.
+use Rattle.std.specs.Prelude.{◌≡◌, ◌≤◌, ◌<◌, nat_lt, ℕ, Bool, true, false, Option, None, Some, count_by}
+use Rattle.std.specs.FinMap.{get, entries}
+use Rattle.ft_base.specs.declared.block.Block.{Block}
+use Rattle.ft_base.specs.declared.block.Place.{Place}
+use Rattle.ft_base.specs.declared.block.Page.{Page}
+use Rattle.ft_base.specs.declared.block.Page.TheVariants.{Whole}
+use Rattle.ft_base.specs.declared.geometry.Geometry.{Geometry}
+use Rattle.cache_model.specs.declared.entry.Entry.{Entry}
+use Rattle.cache_model.specs.Records.{Entries}
+use Rattle.log_blocks.specs.Logs.{data_spare}
+use Rattle.mapping.specs.Counts.{held_count}
+use Rattle.mapping.specs.Numbers.{number_of}
+use Rattle.ssc.specs.declared.scrubbing.Scrub.{Scrub}
+
+-- the page has the spare bytes of a data page of the address
+abbrev pub IsDataPage : (Place → Page) → Place → ℕ → Type 0
+IsDataPage page at a = (b : Block) × (page at ≡ Whole b (data_spare a))
+
+-- each page that an entry names has the spare bytes of a data page of its address
+abbrev pub AreDataPages : (Place → Page) → Entries → Type 0
+AreDataPages page m = (a : ℕ) (e : Entry) → get m a ≡ Some e → IsDataPage page e.place a
+
+-- the page of a held address has other spare bytes than those
+pub record IsStrange (page : Place → Page) (m : Entries) (at : Place) : Type 0 where
+  pub lba : ℕ
+  pub entry : Entry
+  pub held : get m lba ≡ Some entry
+  pub place : entry.place ≡ at
+  pub other : IsDataPage page at lba → ⊥
+
+-- it is the lowest such page; and where there is none each page is a data page of its address
+abbrev pub IsLowestStrange : Geometry → (Place → Page) → Entries → Option Place → Type 0
+IsLowestStrange g page m None = AreDataPages page m
+IsLowestStrange g page m (Some at) = IsStrange page m at × ((other : Place) → IsStrange page m other → number_of g at ≤ number_of g other)
+
+-- as many pages as there are addresses, and the lowest strange one
+pub record IsScrub (g : Geometry) (page : Place → Page) (m : Entries) (scrub : Scrub) : Type 0 where
+  pub pages : scrub.pages ≡ held_count m
+  pub strange : IsLowestStrange g page m scrub.strange
+
+-- ---- while the pages are read, ascending
+
+-- each page of a number below the end that an entry names has the spare bytes of a data page of its address
+abbrev pub AreDataPagesBelow : Geometry → (Place → Page) → Entries → ℕ → Type 0
+AreDataPagesBelow g page m end = (a : ℕ) (e : Entry) → get m a ≡ Some e → number_of g e.place < end → IsDataPage page e.place a
+
+-- it is the lowest strange page; and where there is none yet no page below the end is strange
+abbrev pub IsLowestBelow : Geometry → (Place → Page) → Entries → ℕ → Option Place → Type 0
+IsLowestBelow g page m end None = AreDataPagesBelow g page m end
+IsLowestBelow g page m end (Some at) = IsLowestStrange g page m (Some at)
+
+-- what a scrub finds in the pages below the end
+pub record IsScrubBelow (g : Geometry) (page : Place → Page) (m : Entries) (end : ℕ) (scrub : Scrub) : Type 0 where
+  pub few : scrub.pages ≤ end
+  pub pages : scrub.pages ≡ count_by (λ x. nat_lt (number_of g x.1.place) end) (entries m)
+  pub strange : IsLowestBelow g page m end scrub.strange
+
+-- the lowest strange page, with one more above the others
+abbrev pub lowest_with : Option Place → Place → Bool → Option Place
+lowest_with (Some at) place own = Some at
+lowest_with None place true = None
+lowest_with None place false = Some place

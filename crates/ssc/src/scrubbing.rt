@@ -1,0 +1,100 @@
+//! Reading every page that is held, and its spare bytes.
+ghost use Rattle.std.specs.Prelude.{◌≡◌, ◌+◌, ◌<◌, ◌^◌, ◌↔◌, ℕ, IfOk, IsErrOf, IsTrue};
+ghost use Rattle.ft_media.specs.Reads.{ReadsFlash};
+ghost use Rattle.ssc.specs.Errors.{ssc_failed, ssc_lost};
+ghost use Rattle.ssc.specs.CacheState.{IsUp, entries_of, geometry_of};
+ghost use Rattle.ssc.specs.Scrubbed.{IsDataPage, IsScrub, IsScrubBelow, lowest_with};
+
+use crate::error::of_media;
+use crate::{Ssc, SscError};
+use cache_model::SpareKind;
+use ft_base::{Place, Spare, zero_block};
+use ft_media::{Media, PageRead};
+use page_oob::write_spare;
+
+/// What a scrub found.
+#[derive(Clone, Copy, Debug, PartialEq, Eq)]
+pub struct Scrub {
+    /// The pages that were read: one for each address that is held.
+    pub pages: u64,
+    /// The lowest of them whose spare bytes aren't those of a data page of its address.
+    pub strange: Option<Place>,
+}
+
+impl Ssc {
+    /// Reads every page that is held, and looks at its spare bytes. It changes nothing, and takes no memory.
+    pub fn scrub<M: Media>(&mut self, media: &mut M) -> Result<Scrub, SscError>
+        requires up { IsUp self.old (M.state media.old).contents }
+        ensures same { self.new ≡ self.old }
+        ensures found { IfOk result (IsScrub (geometry_of self.old) (M.state media.old).contents.flash.page (entries_of self.old)) }
+        ensures full { (n l : ℕ) → IsErrOf result (SscError.Full n l) → ⊥ }
+        ensures memory { IsErrOf result SscError.OutOfMemory → ⊥ }
+        ensures reads { ReadsFlash (M.state media.old) (M.state media.new) (ssc_failed result) (ssc_lost result) }
+    {
+        let mut found = Scrub {
+            pages: 0,
+            strange: None,
+        };
+        for i in 0..self.parts.map.numbers() {
+            found = self.scrub_number(media, i, found)?;
+        }
+        Ok(found)
+    }
+
+    /// Looks at the page of number `i` as well, where it is held, after all the lower ones.
+    fn scrub_number<M: Media>(
+        &self,
+        media: &mut M,
+        i: u32,
+        before: Scrub,
+    ) -> Result<Scrub, SscError>
+        requires up { IsUp self.now (M.state media.old).contents }
+        requires before { IsScrubBelow (geometry_of self.now) (M.state media.old).contents.flash.page (entries_of self.now) i before }
+        ensures found { IfOk result (IsScrubBelow (geometry_of self.now) (M.state media.old).contents.flash.page (entries_of self.now) (i + 1)) }
+        ensures full { (n l : ℕ) → IsErrOf result (SscError.Full n l) → ⊥ }
+        ensures memory { IsErrOf result SscError.OutOfMemory → ⊥ }
+        ensures reads { ReadsFlash (M.state media.old) (M.state media.new) (ssc_failed result) (ssc_lost result) }
+    {
+        match self.parts.map.nth(i) {
+            Some((lba, place)) => {
+                let is_own = is_data_page(media, lba, place)?;
+                Ok(Scrub {
+                    pages: before.pages + 1,
+                    strange: lowest_strange(before.strange, place, is_own),
+                })
+            }
+            None => Ok(before),
+        }
+    }
+}
+
+/// Whether the page at a place has the spare bytes of a data page of the address.
+fn is_data_page<M: Media>(media: &mut M, lba: u64, place: Place) -> Result<bool, SscError>
+    requires block { place.block < (M.state media.old).contents.shape.blocks }
+    requires page { place.page < (M.state media.old).contents.shape.pages }
+    ensures found { IfOk result (λ found. IsTrue found ↔ IsDataPage (M.state media.old).contents.flash.page place lba) }
+    ensures full { (n l : ℕ) → IsErrOf result (SscError.Full n l) → ⊥ }
+    ensures memory { IsErrOf result SscError.OutOfMemory → ⊥ }
+    ensures reads { ReadsFlash (M.state media.old) (M.state media.new) (ssc_failed result) (ssc_lost result) }
+{
+    let own = write_spare(SpareKind::Page, 0, lba);
+    let mut block = zero_block();
+    let mut spare = Spare([0; 32]);
+    match media.read_page(place, &mut block, &mut spare) {
+        Ok(PageRead::Whole) => Ok(spare.0 == own.0),
+        Ok(PageRead::Blank) => Ok(false),
+        Ok(PageRead::Torn) => Ok(false),
+        Err(error) => Err(of_media(error)),
+    }
+}
+
+/// The lowest strange page, once one more page was looked at, which lies above the others.
+fn lowest_strange(lowest: Option<Place>, place: Place, is_own: bool) -> Option<Place>
+    ensures { result ≡ lowest_with lowest place is_own }
+{
+    match lowest {
+        Some(at) => Some(at),
+        None if is_own => None,
+        None => Some(place),
+    }
+}

@@ -1,0 +1,103 @@
+use Rattle.std.proofs.Common.{◌≡◌, ◌∙◌, rules}
+use Rattle.trace_replay.proofs.FromLemmas.{before_itself, part_from, refused_from, unread_from, whole_from}
+use Rattle.trace_replay.proofs.StreamLemmas.{known_to, lent_apart, on_err, on_ok}
+use Rattle.trace_replay.proofs.QuietLemmas.{shown_refusal, told_nothing, told_refusal}
+use Rattle.trace_replay.proofs.quiet.replay_quiet.Goals as goal
+
+pub returns-clause-whole : goal.returns-clause-whole
+returns-clause-whole g c =
+    let told = (g.V.Volume.state c.args.volume.now).told in
+    let a = g.I.Source.state c.args.source.now in
+    let x = g.O.Sink.state c.args.sink.now in
+    let script = c.replay_script.new.script in
+    let apart = lent_apart _ _ _ _ _ _ _ _ c.replay_script.ensures.script_lent in
+    let same_source : script.source.ghost_name ≡ c.new-script.result.source.ghost_name = apart.0 in
+    let same_sink : script.sink.ghost_name ≡ c.new-script.result.sink.ghost_name = apart.1 in
+    let size : script.reader.size ≡ told.geometry.size = c.replay_script.ensures.script_size ∙ c.new-script.ensures.size ∙ c.size.ensures in
+    on_ok c.replay_script.result _ _ c.replay_script.ensures.whole (λ whole.
+    whole_from told _ _ _ _ _ _ _ _ _
+    (known_to script.reader.size told.geometry.size a (g.I.Source.state script.source.now) _ size (search (rules, same_source)))
+    (λ run answers says. told_refusal x (g.O.Sink.state script.sink.now) _ (search (rules, same_sink)) run answers says.0 says.1 says.2.said)
+    (λ y d stood. stood)
+    (before_itself _)
+    (whole a x c.new-script.ensures.came))
+
+pub returns-clause-silent : goal.returns-clause-silent
+returns-clause-silent g c =
+    let a = g.I.Source.state c.args.source.now in
+    let x = g.O.Sink.state c.args.sink.now in
+    let script = c.replay_script.new.script in
+    let apart = lent_apart _ _ _ _ _ _ _ _ c.replay_script.ensures.script_lent in
+    let same_sink : script.sink.ghost_name ≡ c.new-script.result.sink.ghost_name = apart.1 in
+    on_ok c.replay_script.result _ _ c.replay_script.ensures.whole (λ whole.
+    let ran = whole a x c.new-script.ensures.came in
+    told_nothing x.taken _ ran.run ran.cuts ran.lost (told_refusal x (g.O.Sink.state script.sink.now) _ (search (rules, same_sink)) ran.run _ ran.printed.0 ran.printed.1 ran.printed.2.said))
+
+pub returns-clause-refused : goal.returns-clause-refused
+returns-clause-refused g c = λ is.
+    let told = (g.V.Volume.state c.args.volume.now).told in
+    let a = g.I.Source.state c.args.source.now in
+    let x = g.O.Sink.state c.args.sink.now in
+    let script = c.replay_script.new.script in
+    let apart = lent_apart _ _ _ _ _ _ _ _ c.replay_script.ensures.script_lent in
+    let same_source : script.source.ghost_name ≡ c.new-script.result.source.ghost_name = apart.0 in
+    let same_sink : script.sink.ghost_name ≡ c.new-script.result.sink.ghost_name = apart.1 in
+    let size : script.reader.size ≡ told.geometry.size = c.replay_script.ensures.script_size ∙ c.new-script.ensures.size ∙ c.size.ensures in
+    refused_from told _ _ _ _ _ _ _ _ _
+    (known_to script.reader.size told.geometry.size a (g.I.Source.state script.source.now) _ size (search (rules, same_source)))
+    (λ run answers says. told_refusal x (g.O.Sink.state script.sink.now) _ (search (rules, same_sink)) run answers says.0 says.1 says.2.said)
+    (λ y d stood. stood)
+    (before_itself _)
+    (c.replay_script.ensures.refused is a x c.new-script.ensures.came)
+
+pub returns-clause-unread : goal.returns-clause-unread
+returns-clause-unread g c = λ is.
+    let told = (g.V.Volume.state c.args.volume.now).told in
+    let a = g.I.Source.state c.args.source.now in
+    let x = g.O.Sink.state c.args.sink.now in
+    let script = c.replay_script.new.script in
+    let apart = lent_apart _ _ _ _ _ _ _ _ c.replay_script.ensures.script_lent in
+    let same_source : script.source.ghost_name ≡ c.new-script.result.source.ghost_name = apart.0 in
+    let same_sink : script.sink.ghost_name ≡ c.new-script.result.sink.ghost_name = apart.1 in
+    let size : script.reader.size ≡ told.geometry.size = c.replay_script.ensures.script_size ∙ c.new-script.ensures.size ∙ c.size.ensures in
+    unread_from told _ _ _ _ _ _ _ _ _
+    (known_to script.reader.size told.geometry.size a (g.I.Source.state script.source.now) _ size (search (rules, same_source)))
+    (λ run answers says. told_refusal x (g.O.Sink.state script.sink.now) _ (search (rules, same_sink)) run answers says.0 says.1 says.2.said)
+    (λ y d stood. stood)
+    (before_itself _)
+    (c.replay_script.ensures.unread is a x c.new-script.ensures.came)
+
+pub returns-clause-part : goal.returns-clause-part
+returns-clause-part g c =
+    let told = (g.V.Volume.state c.args.volume.now).told in
+    let a = g.I.Source.state c.args.source.now in
+    let x = g.O.Sink.state c.args.sink.now in
+    let script = c.replay_script.new.script in
+    let apart = lent_apart _ _ _ _ _ _ _ _ c.replay_script.ensures.script_lent in
+    let same_source : script.source.ghost_name ≡ c.new-script.result.source.ghost_name = apart.0 in
+    let same_sink : script.sink.ghost_name ≡ c.new-script.result.sink.ghost_name = apart.1 in
+    let size : script.reader.size ≡ told.geometry.size = c.replay_script.ensures.script_size ∙ c.new-script.ensures.size ∙ c.size.ensures in
+    on_err c.replay_script.result _ _ c.replay_script.ensures.part (λ e part not_trace not_source.
+    part_from told _ _ _ _ _ _ _ _ _
+    (known_to script.reader.size told.geometry.size a (g.I.Source.state script.source.now) _ size (search (rules, same_source)))
+    (λ run answers says. told_refusal x (g.O.Sink.state script.sink.now) _ (search (rules, same_sink)) run answers says.0 says.1 says.2.said)
+    (λ y d stood. stood)
+    (before_itself _)
+    _ _ (shown_refusal x (g.O.Sink.state script.sink.now) _ (search (rules, same_sink))) e
+    (part not_trace not_source a x c.new-script.ensures.came))
+
+pub returns-clause-source_lent : goal.returns-clause-source_lent
+returns-clause-source_lent g c =
+    let apart = lent_apart _ _ _ _ _ _ _ _ c.replay_script.ensures.script_lent in
+    let script = c.replay_script.new.script in
+    let same_source : script.source.ghost_name ≡ c.new-script.result.source.ghost_name = apart.0 in
+    let lent : (g.I.Source.state script.source.now).lent ≡ (g.I.Source.state c.new-script.result.source.now).lent = apart.2 in
+    search (rules, same_source, lent)
+
+pub returns-clause-sink_lent : goal.returns-clause-sink_lent
+returns-clause-sink_lent g c =
+    let apart = lent_apart _ _ _ _ _ _ _ _ c.replay_script.ensures.script_lent in
+    let script = c.replay_script.new.script in
+    let same_sink : script.sink.ghost_name ≡ c.new-script.result.sink.ghost_name = apart.1 in
+    let lent : (g.O.Sink.state script.sink.now).lent ≡ (g.O.Sink.state c.new-script.result.sink.now).lent = apart.3 in
+    search (rules, same_sink, lent)

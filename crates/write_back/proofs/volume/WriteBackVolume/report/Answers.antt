@@ -1,0 +1,31 @@
+use Rattle.std.proofs.Common.{subst}
+use Rattle.std.specs.Prelude.{IfOk}
+use Rattle.ft_base.specs.Told.{Told}
+use Rattle.ft_volume.specs.Opening.{ImageIs}
+use Rattle.ft_volume.specs.Volume.{IsReport, Reports}
+use Rattle.ft_volume.proofs.UpLemmas.{costs_through, done_refused, done_through, goes_through}
+use Rattle.cache_model.specs.Records.{Entries}
+use Rattle.ssc.specs.CacheState.{entries_of}
+use Rattle.cached_disk.specs.Kept.{Loads, told_of}
+use Rattle.cached_disk.proofs.ReportLemmas.{report_of}
+use Rattle.write_back.specs.Left.{state_of}
+use Rattle.write_back.proofs.volume.WriteBackVolume.report.Goals as goal
+
+pub returns-in-Ok-clause-disk : goal.returns-in-Ok-clause-disk
+returns-in-Ok-clause-disk g c = done_through ImageIs Loads (state_of c.args.self.now) (state_of c.bring_up.new.self) (state_of (record { disk = c.report.new.self; dirty = c.bring_up.new.self.dirty })) (g.R.Media.state c.args.rig.now) (g.R.Media.state c.bring_up.new.media) (g.R.Media.state c.report.new.media) tt c.in-Ok.ensures.comes c.report.result Reports (c.report.ensures.was c.bring_up.new.self.dirty.order)
+
+pub returns-in-Ok-clause-goes : goal.returns-in-Ok-clause-goes
+returns-in-Ok-clause-goes g c = goes_through ImageIs Loads (state_of c.args.self.now) (state_of c.bring_up.new.self) (state_of (record { disk = c.report.new.self; dirty = c.bring_up.new.self.dirty })) (g.R.Media.state c.args.rig.now) (g.R.Media.state c.bring_up.new.media) (g.R.Media.state c.report.new.media) tt c.in-Ok.ensures.comes c.report.result (c.report.ensures.goes c.bring_up.new.self.dirty.order)
+
+pub returns-in-Ok-clause-costs : goal.returns-in-Ok-clause-costs
+returns-in-Ok-clause-costs g c = λ m has. costs_through ImageIs Loads (state_of c.args.self.now) (state_of c.bring_up.new.self) (state_of (record { disk = c.report.new.self; dirty = c.bring_up.new.self.dirty })) (g.R.Media.state c.args.rig.now) (g.R.Media.state c.bring_up.new.media) (g.R.Media.state c.report.new.media) tt c.in-Ok.ensures.comes c.report.result Reports m has (c.report.ensures.costs c.bring_up.new.self.dirty.order)
+
+pub returns-in-Ok-clause-report : goal.returns-in-Ok-clause-report
+returns-in-Ok-clause-report g c =
+    let u = c.bring_up.new.self.disk in
+    let page = (g.R.Media.state c.report.new.media).contents.flash.page in
+    subst (λ (t : Told). IfOk c.report.result (λ report. (m : Entries) → Loads t page m → IsReport t.geometry m report)) c.in-Ok.ensures.comes.told
+    (report_of c.report.result (told_of u) page (entries_of c.report.new.self.cache) c.report.ensures.loads c.report.ensures.report)
+
+pub returns-in-Err-clause-disk : goal.returns-in-Err-clause-disk
+returns-in-Err-clause-disk g c = done_refused ImageIs Loads Reports (state_of c.args.self.now) (state_of c.bring_up.new.self) (g.R.Media.state c.args.rig.now) (g.R.Media.state c.bring_up.new.media) c.in-Err.error c.in-Err.ensures.comes
