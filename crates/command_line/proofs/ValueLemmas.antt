@@ -14,7 +14,7 @@ use Rattle.ft_base.specs.declared.geometry.GeometryError.{GeometryError}
 use Rattle.ft_base.specs.declared.told.Mode.{Mode}
 use Rattle.ft_base.specs.declared.told.Mode.TheVariants.{Back, Through}
 use Rattle.std.specs.List.{list_all}
-use Rattle.command_line.specs.Command.{AreNumbers, IsCommand, IsCount, IsDirty, IsGen, IsGiven, Say, SayMade, Setting, Spells, Text, gen_names, mode_word, option_names, value_in}
+use Rattle.command_line.specs.Command.{AreNumbers, IsCommand, IsCount, IsDirty, IsGen, IsGiven, IsInspect, IsRunOf, Say, SayMade, Setting, Spells, Text, gen_names, mode_word, option_names, value_in}
 use Rattle.command_line.specs.Matching.{is_name}
 use Rattle.command_line.proofs.Pairs.{pair_value, pairs_of}
 use Rattle.command_line.proofs.SettingLemmas.{spelled_options, value_pairs}
@@ -137,8 +137,8 @@ same_values names words settings other are spelled also name =
     let pairs : pairs_of settings ≡ pairs_of other = cc (spelled_options names words settings are spelled, spelled_options names words other are also) in
     sym (value_pairs settings name) ∙ ap (pair_value name) pairs ∙ value_pairs other name
 
-pub same_command : (words : List Text) (o other : Told) → IsCommand words o → IsCommand words other → o ≡ other
-same_command words o other command also =
+pub same_command : (word : Text) (words : List Text) (o other : Told) → IsRunOf word words o → IsRunOf word words other → o ≡ other
+same_command word words o other command also =
     let rest : command.others ≡ also.others = cc (command.first, also.first) in
     let spelled = subst (λ (ws : List Text). Spells option_names ws command.settings) rest command.spelled in
     same_said (value_in also.settings) o other (say_along (value_in command.settings) (value_in also.settings) o (same_values option_names also.others command.settings also.settings refl spelled also.spelled) command.says) also.says
@@ -146,8 +146,8 @@ same_command words o other command also =
 -- the options spell the values that were found
 module _ (others : List Text) (settings : List Setting) (value : Text → Option Text) (values : (name : Text) → value name ≡ value_in settings name) where
   -- words are no command where their options say nothing
-  pub no_command : Spells option_names others settings → ((o : Told) → Say value o → ⊥) → (o : Told) → IsCommand (codes "replay" ∷ others) o → ⊥
-  no_command spelled says o command =
+  pub no_command : Spells option_names others settings → ((o : Told) → Say value o → ⊥) → (word : Text) (o : Told) → IsRunOf word (word ∷ others) o → ⊥
+  no_command spelled says word o command =
       let rest : command.others ≡ others = cc command.first in
       let also = subst (λ (ws : List Text). Spells option_names ws command.settings) rest command.spelled in
       says o (say_along (value_in command.settings) value o (λ name. same_values option_names others command.settings settings refl also spelled name ∙ sym (values name)) command.says)
@@ -195,8 +195,15 @@ same_gen words o other m n lines others gen also =
 pub first_word : (word text name : Text) (equal : Bool) → text ≡ word → equal ≡ bytes_eq text name → equal ≡ true → word ≡ name
 first_word word text name equal same is holds = sym same ∙ (bytes_eq-Decides text name).0 (sym is ∙ holds)
 
-gen_replay : codes "gen" ≡ codes "replay" → ⊥
-gen_replay is = both_ways (bytes_eq (codes "gen") (codes "replay")) refl ((bytes_eq-Decides (codes "gen") (codes "replay")).1 is)
+-- words with different bytes
+differ : (one other : Text) → bytes_eq one other ≡ false → one ≡ other → ⊥
+differ one other not is = both_ways (bytes_eq one other) not ((bytes_eq-Decides one other).1 is)
 
 pub apart : (words : List Text) (o other : Told) (number count : ℕ) → IsCommand words o → IsGen words other number count → ⊥
-apart words o other number count command gen = gen_replay (cc (command.first, gen.first))
+apart words o other number count command gen = differ (codes "replay") (codes "gen") refl (cc (command.first, gen.first))
+
+pub inspected_apart : (words : List Text) (o other : Told) → IsInspect words o → IsCommand words other → ⊥
+inspected_apart words o other inspect command = differ (codes "inspect") (codes "replay") refl (cc (inspect.first, command.first))
+
+pub inspected_made : (words : List Text) (o other : Told) (number count : ℕ) → IsInspect words o → IsGen words other number count → ⊥
+inspected_made words o other number count inspect gen = differ (codes "inspect") (codes "gen") refl (cc (inspect.first, gen.first))

@@ -13,7 +13,7 @@ Text = List ℕ
 
 -- ---- the words
 
--- the options of a replay
+-- the options of a run
 abbrev pub option_names : List Text
 option_names = codes "mode" ∷ codes "pages" ∷ codes "data" ∷ codes "log" ∷ codes "journal" ∷ codes "size" ∷ codes "dirty" ∷ []
 
@@ -106,13 +106,21 @@ pub record SayMade (value : Text → Option Text) (number count : ℕ) : Type 0 
   pub small : number < 2 ^ 64
   pub lines : IsCount value count
 
--- the word replay, and then options that say this
-pub record IsCommand (words : List Text) (o : Told) : Type 0 where
+-- this word, and then options that say this
+pub record IsRunOf (word : Text) (words : List Text) (o : Told) : Type 0 where
   pub others : List Text
-  pub first : words ≡ codes "replay" ∷ others
+  pub first : words ≡ word ∷ others
   pub settings : List Setting
   pub spelled : Spells option_names others settings
   pub says : Say (value_in settings) o
+
+-- a trace is replayed
+abbrev pub IsCommand : List Text → Told → Type 0
+IsCommand words o = IsRunOf (codes "replay") words o
+
+-- a trace is run, and what it leaves in the cache is told
+abbrev pub IsInspect : List Text → Told → Type 0
+IsInspect words o = IsRunOf (codes "inspect") words o
 
 -- the word gen, and then options that say this of the volume and of the trace
 pub record IsGen (words : List Text) (o : Told) (number count : ℕ) : Type 0 where

@@ -1,10 +1,11 @@
 ghost use Rattle.std.specs.Prelude.{◌∷◌, ℕ, IfOk, IfSome, IfNone, codes, map};
 ghost use Rattle.std.specs.String.{string_bytes};
 ghost use Rattle.ft_base.specs.Told.{Told};
-ghost use Rattle.command_line.specs.Command.{IsCommand, IsGen};
+ghost use Rattle.ft_volume.specs.Volume.{told_for};
+ghost use Rattle.command_line.specs.Command.{IsCommand, IsGen, IsInspect, IsRunOf, Text};
 ghost use Rattle.command_line.specs.Spoken.{AreWordsOf};
 
-use crate::matching::{gen_options, replay_options};
+use crate::matching::{gen_options, run_options};
 use crate::settings::{made_of, volume_of};
 use ft_volume::{Mode, Options};
 use std::alloc::{AllocError, Global};
@@ -30,11 +31,18 @@ pub enum Command {
         /// How many lines it has.
         count: u64,
     },
+    /// Over a trace that is read, to tell what it leaves in the cache.
+    Inspect {
+        /// When a block that was written comes to the disk.
+        mode: Mode,
+        /// What the volume is made with.
+        options: Options,
+    },
 }
 
 /// The command that the words after the program's name say, or None where they are none.
 ///
-/// The first word is `replay` or `gen`. After it come options in any order, each at most once, as
+/// The first word is `replay`, `gen` or `inspect`. After it come options in any order, each at most once, as
 /// `--name value` or `--name=value`. A value in a word by itself doesn't begin with `-`. A number is `0`, or
 /// decimal digits of which the first isn't 0. Every other word is refused, also `--` and flags for help or a
 /// version.
@@ -53,6 +61,7 @@ pub enum Command {
 pub fn command_of(alloc: Global, words: &[String]) -> Result<Option<Command>, AllocError>
     ensures command { IfOk result (λ c. IfSome c (AreWordsOf (map string_bytes words.now))) }
     ensures none { IfOk result (λ c. IfNone c ((o : Told) → IsCommand (map string_bytes words.now) o → ⊥)) }
+    ensures none_inspected { IfOk result (λ c. IfNone c ((o : Told) → IsInspect (map string_bytes words.now) o → ⊥)) }
     ensures none_made { IfOk result (λ c. IfNone c ((o : Told) (number count : ℕ) → IsGen (map string_bytes words.now) o number count → ⊥)) }
 {
     let Some((first, others)) = words.split_first() else {
@@ -64,7 +73,24 @@ pub fn command_of(alloc: Global, words: &[String]) -> Result<Option<Command>, Al
     if first.as_str() == "gen" {
         return gen_command(alloc, others);
     }
+    if first.as_str() == "inspect" {
+        return inspect_command(alloc, others);
+    }
     Ok(None)
+}
+
+/// The mode and the options that these words after the word of a command say, or None where they say none.
+fn run_of(alloc: Global, others: &[String]) -> Result<Option<(Mode, Options)>, AllocError>
+    ensures some { IfOk result (λ it. IfSome it (λ it. (word : Text) → IsRunOf word (word ∷ map string_bytes others.now) (told_for it.0 it.1))) }
+    ensures none { IfOk result (λ it. IfNone it ((word : Text) (o : Told) → IsRunOf word (word ∷ map string_bytes others.now) o → ⊥)) }
+{
+    let Some(matches) = run_options(alloc, others)? else {
+        return Ok(None);
+    };
+    let Some(said) = volume_of(&matches) else {
+        return Ok(None);
+    };
+    Ok(Some(said))
 }
 
 /// The command that `replay` and these words after it say, or None where they are none.
@@ -72,13 +98,21 @@ fn replay_command(alloc: Global, others: &[String]) -> Result<Option<Command>, A
     ensures command { IfOk result (λ c. IfSome c (AreWordsOf (codes "replay" ∷ map string_bytes others.now))) }
     ensures none { IfOk result (λ c. IfNone c ((o : Told) → IsCommand (codes "replay" ∷ map string_bytes others.now) o → ⊥)) }
 {
-    let Some(matches) = replay_options(alloc, others)? else {
-        return Ok(None);
-    };
-    let Some((mode, options)) = volume_of(&matches) else {
-        return Ok(None);
-    };
-    Ok(Some(Command::Replay { mode, options }))
+    match run_of(alloc, others)? {
+        Some((mode, options)) => Ok(Some(Command::Replay { mode, options })),
+        None => Ok(None),
+    }
+}
+
+/// The command that `inspect` and these words after it say, or None where they are none.
+fn inspect_command(alloc: Global, others: &[String]) -> Result<Option<Command>, AllocError>
+    ensures command { IfOk result (λ c. IfSome c (AreWordsOf (codes "inspect" ∷ map string_bytes others.now))) }
+    ensures none { IfOk result (λ c. IfNone c ((o : Told) → IsInspect (codes "inspect" ∷ map string_bytes others.now) o → ⊥)) }
+{
+    match run_of(alloc, others)? {
+        Some((mode, options)) => Ok(Some(Command::Inspect { mode, options })),
+        None => Ok(None),
+    }
 }
 
 /// The command that `gen` and these words after it say, or None where they are none.

@@ -9,8 +9,8 @@ use clap::error::ErrorKind;
 use clap::{Arg, ArgAction, ArgMatches, Command};
 use std::alloc::{AllocError, Global};
 
-/// The options of a replay.
-static REPLAY_NAMES: [&str; 7] = ["mode", "pages", "data", "log", "journal", "size", "dirty"];
+/// The options of a run.
+static RUN_NAMES: [&str; 7] = ["mode", "pages", "data", "log", "journal", "size", "dirty"];
 
 /// The options of a made trace.
 static GEN_NAMES: [&str; 9] = [
@@ -108,8 +108,8 @@ fn options<'a>(
     parse(alloc, names, words)
 }
 
-/// The options of a replay that the words spell, or None where they spell none.
-pub(crate) fn replay_options<'a>(
+/// The options of a run that the words spell, or None where they spell none.
+pub(crate) fn run_options<'a>(
     alloc: Global,
     words: &'a [String],
 ) -> Result<Option<ArgMatches<'a>>, AllocError>
@@ -117,7 +117,7 @@ pub(crate) fn replay_options<'a>(
         × ((name : Text) → value_of m name ≡ value_in settings name))) }
     ensures none { IfOk result (λ r. IfNone r ((settings : List Setting) → Spells option_names (map string_bytes words.entry.now) settings → ⊥)) }
 {
-    options(alloc, REPLAY_NAMES.as_slice(), words)
+    options(alloc, RUN_NAMES.as_slice(), words)
 }
 
 /// The options of a made trace that the words spell, or None where they spell none.

@@ -26,7 +26,10 @@ fn no_other_words_are_a_command(rt: HostRuntime) -> Result<(), Fail> {
         "generate",
         "Gen",
         "sweep",
-        "inspect",
+        "inspect inspect",
+        "inspect replay",
+        "inspect --number 1",
+        "Inspect",
         "gen replay",
         "gen 1",
         "replay gen",
@@ -157,7 +160,7 @@ fn numbers_of(options: &Options) -> [u64; 6] {
 fn said(alloc: Global, line: &str) -> Result<(Mode, [u64; 6]), Fail> {
     match command_in(alloc, line)?.ok_or("no command")? {
         Command::Replay { mode, options } => Ok((mode, numbers_of(&options))),
-        Command::Gen { .. } => Err("a made trace".into()),
+        Command::Gen { .. } | Command::Inspect { .. } => Err("no replay".into()),
     }
 }
 
@@ -170,8 +173,21 @@ fn made(alloc: Global, line: &str) -> Result<(Mode, [u64; 6], u64, u64), Fail> {
             number,
             count,
         } => Ok((mode, numbers_of(&options), number, count)),
-        Command::Replay { .. } => Err("no made trace".into()),
+        Command::Replay { .. } | Command::Inspect { .. } => Err("no made trace".into()),
     }
+}
+
+#[test]
+fn an_inspection_has_the_options_of_a_replay(rt: HostRuntime) -> Result<(), Fail> {
+    let line = "inspect --mode=through --pages 4 --data=2 --log 2 --journal=1 --size 64 --dirty=1";
+    match command_in(rt.alloc(), line)?.ok_or("no command")? {
+        Command::Inspect { mode, options } => {
+            assert_eq!(rt; mode, Mode::Through);
+            assert_eq!(rt; numbers_of(&options), [4, 2, 2, 1, 64, 1]);
+        }
+        Command::Replay { .. } | Command::Gen { .. } => return Err("no inspection".into()),
+    }
+    Ok(())
 }
 
 #[test]

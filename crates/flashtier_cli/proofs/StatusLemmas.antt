@@ -68,10 +68,19 @@ module _ (source sink reads writes unarmed : Type 0) (Says : Told → Type 0) (P
   at_part (Err Disk) n is part late = ended_so Disk n is (part (λ same. cc) (λ same. cc))
   at_part (Err Memory) n is part late = ended_so Memory n is (part (λ same. cc) (λ same. cc))
 
+-- before anything was read or said, or within a line of a trace that is inspected or its report
+module _ (source sink reads writes unarmed : Type 0) (Says : Told → Type 0) (P : Told → Ended → Type 0) (Read Made : Type 0) (o : Told) (said : Says o) where
+  pub at_inspected_part : (r : Result (Unit {0}) Ended) (n : ℕ) → n ≡ status_of r → IfErr r (λ e. e ≢ Trace → e ≢ Source → (source × sink × reads × writes × ((e ≡ Flash) ⊎ (e ≡ Disk) → unarmed)) ⊎ P o e) → 4 ≤ n
+      → (source × sink × reads × writes × ((n ≡ 5) ⊎ (n ≡ 6) → unarmed)) ⊎ (Read ⊎ (Made ⊎ ((p : Told) × (f : Ended) × Says p × (n ≡ status_of (Err f)) × P p f)))
+  at_inspected_part r n is part late = elim (at_part source sink reads writes unarmed Says P ⊥ o said r n is part late) [
+    | inl nothing ↦ inl nothing
+    | inr within ↦ inr (inr (inr (elim within [ inl line ↦ line | inr none ↦ absurd none ])))
+  ]
+
 -- before anything was said, or within a line of a made trace
-module _ (source sink reads writes unarmed : Type 0) (Read : Type 0) (Says : Told → ℕ → ℕ → Type 0) (P : Told → ℕ → ℕ → Ended → Type 0) (o : Told) (number count : ℕ) (said : Says o number count) (same : source) where
+module _ (source sink reads writes unarmed : Type 0) (Read Inspected : Type 0) (Says : Told → ℕ → ℕ → Type 0) (P : Told → ℕ → ℕ → Ended → Type 0) (o : Told) (number count : ℕ) (said : Says o number count) (same : source) where
   pub at_made_part : (r : Result (Unit {0}) Ended) (n : ℕ) → n ≡ status_of r → IfErr r (λ e. (sink × reads × writes × ((e ≡ Flash) ⊎ (e ≡ Disk) → unarmed)) ⊎ P o number count e) → 4 ≤ n
-      → (source × sink × reads × writes × ((n ≡ 5) ⊎ (n ≡ 6) → unarmed)) ⊎ (Read ⊎ ((p : Told) × (m : ℕ) × (c : ℕ) × (f : Ended) × Says p m c × (n ≡ status_of (Err f)) × P p m c f))
+      → (source × sink × reads × writes × ((n ≡ 5) ⊎ (n ≡ 6) → unarmed)) ⊎ (Read ⊎ (((p : Told) × (m : ℕ) × (c : ℕ) × (f : Ended) × Says p m c × (n ≡ status_of (Err f)) × P p m c f) ⊎ Inspected))
   at_made_part (Ok done) n is part late = absurd (omega (arith, is, late))
   at_made_part (Err e) n is (inl nothing) late = inl (same, nothing.0, nothing.1, nothing.2, λ failed. nothing.3 (by_device e n is failed))
-  at_made_part (Err e) n is (inr part) late = inr (inr (o, number, count, e, said, is, part))
+  at_made_part (Err e) n is (inr part) late = inr (inr (inl (o, number, count, e, said, is, part)))

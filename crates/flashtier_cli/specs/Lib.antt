@@ -1,3 +1,4 @@
 pub mod Begun
+pub mod Inspected
 pub mod Status
 pub mod Words

@@ -5,10 +5,15 @@
 
 mod beginning;
 mod ending;
+mod inspecting;
 mod making;
 mod program;
 mod replaying;
+mod reporting;
+#[cfg(test)]
+mod tests;
 
+pub use inspecting::inspect_with;
 pub use making::gen_with;
 pub use program::run;
 pub use replaying::replay_with;

@@ -7,15 +7,17 @@ ghost use Rattle.cache_model.specs.Stands.{ImageStandsFor};
 ghost use Rattle.trace_model.specs.Readings.{Reads};
 ghost use Rattle.trace_gen.specs.Made.{made_trace};
 ghost use Rattle.trace_replay.specs.declared.ended.Ended as ended;
-ghost use Rattle.trace_replay.specs.Commands.{Gives, TellsEnd, TellsEndPart};
+ghost use Rattle.trace_replay.specs.Commands.{Gives, TellsEnd, TellsEndPart, TellsRefusal};
 ghost use Rattle.trace_replay.specs.Said.{Tells, TellsPart};
 ghost use Rattle.trace_replay.specs.Theorem.{EndsPart, EndsRefused, EndsUnread, RunsWhole};
-ghost use Rattle.command_line.specs.Command.{IsCommand, IsGen};
+ghost use Rattle.command_line.specs.Command.{IsCommand, IsGen, IsInspect};
 ghost use Rattle.flashtier_cli.specs.Begun.{fitted_for};
+ghost use Rattle.flashtier_cli.specs.Inspected.{EndsInspecting, Inspects, Loads};
 ghost use Rattle.flashtier_cli.specs.Status as status;
 ghost use Rattle.flashtier_cli.specs.Words.{AreCommand};
 
 use crate::ending::status_of;
+use crate::inspecting::inspect_with;
 use crate::making::gen_with;
 use crate::replaying::replay_with;
 use command_line::{Command, command_of};
@@ -25,8 +27,8 @@ use std::alloc::Global;
 
 /// Runs the command that the words say, and answers its status.
 ///
-/// The words are those after the program's name: `replay` or `gen`, and after it options, in any order and
-/// each at most once, as `--name value` or `--name=value`.
+/// The words are those after the program's name: `replay`, `gen` or `inspect`, and after it options, in any
+/// order and each at most once, as `--name value` or `--name=value`.
 ///
 /// | Option | Says | Range | Default |
 /// |---|---|---|---|
@@ -46,12 +48,17 @@ use std::alloc::Global;
 ///
 /// With `gen` it runs a made trace so, and prints the end line alone. It takes nothing from the source.
 ///
+/// With `inspect` it runs a trace as `replay` does, but prints none of its answers. Then it puts all that is
+/// in the cache on the flash, reads each page that is held, again after each cut, and prints four lines:
+/// `held H`, the addresses that the cache has; `dirty groups D`, the groups with one that the disk lacks;
+/// `buckets B`, those of the map of log pages; and `scrubbed S`, the pages that were read.
+///
 /// | Status | Comes |
 /// |---|---|
 /// | 0 | the source was read to its end, or the trace is a made one, and every line was run |
 /// | 1 | the words are no command; nothing is read or printed |
-/// | 2 | a line was refused, after those before it were run; the last line printed says why; `replay` alone |
-/// | 3 | the source failed, after the lines that ended before were run; `replay` alone |
+/// | 2 | a line was refused, after those before it were run; the last line printed says why; not with `gen` |
+/// | 3 | the source failed, after the lines that ended before were run; not with `gen` |
 /// | 4 | the sink failed; what it took is a front of the text |
 /// | 5, 6 | the flash, the disk failed |
 /// | 7 | memory was refused, also that in which the words are read |
@@ -64,12 +71,15 @@ pub fn run<I: Source, O: Sink, R: Rig>(
 ) -> u8
     // The text is what a plain disk prints that holds, after each recovery, a prefix of the block writes
     // with every acknowledged one; and the media are that disk, wherever power stops next. Of a made trace it is
-    // the end line of that text.
+    // the end line of that text. With `inspect` the media are so, and the text is a report of what the flash has.
     ensures whole { result ≡ 0 → ((o : Told) × IsCommand (map string_bytes words.now) o × RunsWhole o (Reads o.geometry.size (I.state source.old) (I.state source.new)) (Tells (O.state sink.old) (O.state sink.new))
         (ImageStandsFor o.geometry) (fitted_for o.geometry (R.state rig.old)) (R.state rig.new))
-        ⊎ ((o : Told) × (number : ℕ) × (count : ℕ) × IsGen (map string_bytes words.now) o number count × RunsWhole o (Gives (made_trace number count o.geometry)) (TellsEnd (O.state sink.old) (O.state sink.new))
-        (ImageStandsFor o.geometry) (fitted_for o.geometry (R.state rig.old)) (R.state rig.new)) }
+        ⊎ (((o : Told) × (number : ℕ) × (count : ℕ) × IsGen (map string_bytes words.now) o number count × RunsWhole o (Gives (made_trace number count o.geometry)) (TellsEnd (O.state sink.old) (O.state sink.new))
+        (ImageStandsFor o.geometry) (fitted_for o.geometry (R.state rig.old)) (R.state rig.new))
+        ⊎ ((o : Told) × IsInspect (map string_bytes words.now) o × Inspects o (Reads o.geometry.size (I.state source.old) (I.state source.new)) (Loads o.geometry) (O.state sink.old) (O.state sink.new)
+        (ImageStandsFor o.geometry) (fitted_for o.geometry (R.state rig.old)) (R.state rig.new))) }
     ensures end { result ≡ 0 → (o : Told) → IsCommand (map string_bytes words.now) o → IsAtEnd (I.state source.new).left }
+    ensures end_inspected { result ≡ 0 → (o : Told) → IsInspect (map string_bytes words.now) o → IsAtEnd (I.state source.new).left }
 
     // A made trace takes nothing from the source, however it ends.
     ensures unused { (o : Told) (number count : ℕ) → IsGen (map string_bytes words.now) o number count → source.new ≡ source.old }
@@ -80,20 +90,26 @@ pub fn run<I: Source, O: Sink, R: Rig>(
     ensures nothing { (AreCommand (map string_bytes words.now) → ⊥) → (source.new ≡ source.old) × (sink.new ≡ sink.old) × (rig.new ≡ rig.old) }
 
     // A made trace has no line that is refused and no source that fails, so these come with a trace that is read.
-    ensures refused { result ≡ 2 → (o : Told) × IsCommand (map string_bytes words.now) o × EndsRefused o (Reads o.geometry.size (I.state source.old) (I.state source.new)) (Tells (O.state sink.old) (O.state sink.new))
-        (ImageStandsFor o.geometry) (fitted_for o.geometry (R.state rig.old)) (R.state rig.new) }
-    ensures unread { result ≡ 3 → (o : Told) × IsCommand (map string_bytes words.now) o × EndsUnread o (Reads o.geometry.size (I.state source.old) (I.state source.new)) (Tells (O.state sink.old) (O.state sink.new))
-        (ImageStandsFor o.geometry) (fitted_for o.geometry (R.state rig.old)) (R.state rig.new) }
+    ensures refused { result ≡ 2 → ((o : Told) × IsCommand (map string_bytes words.now) o × EndsRefused o (Reads o.geometry.size (I.state source.old) (I.state source.new)) (Tells (O.state sink.old) (O.state sink.new))
+        (ImageStandsFor o.geometry) (fitted_for o.geometry (R.state rig.old)) (R.state rig.new))
+        ⊎ ((o : Told) × IsInspect (map string_bytes words.now) o × EndsRefused o (Reads o.geometry.size (I.state source.old) (I.state source.new)) (TellsRefusal (O.state sink.old) (O.state sink.new))
+        (ImageStandsFor o.geometry) (fitted_for o.geometry (R.state rig.old)) (R.state rig.new)) }
+    ensures unread { result ≡ 3 → ((o : Told) × IsCommand (map string_bytes words.now) o × EndsUnread o (Reads o.geometry.size (I.state source.old) (I.state source.new)) (Tells (O.state sink.old) (O.state sink.new))
+        (ImageStandsFor o.geometry) (fitted_for o.geometry (R.state rig.old)) (R.state rig.new))
+        ⊎ ((o : Told) × IsInspect (map string_bytes words.now) o × EndsUnread o (Reads o.geometry.size (I.state source.old) (I.state source.new)) (TellsRefusal (O.state sink.old) (O.state sink.new))
+        (ImageStandsFor o.geometry) (fitted_for o.geometry (R.state rig.old)) (R.state rig.new)) }
 
     // Another end comes before anything was read or printed, with no call of the disk that reads or writes, and
-    // with nothing armed where a device failed; or within the answers of a line.
+    // with nothing armed where a device failed; or within the answers of a line, or within the report.
     ensures part { 4 ≤ result → ((source.new ≡ source.old) × (sink.new ≡ sink.old)
         × ((R.state rig.new).counts.disk_reads ≡ (R.state rig.old).counts.disk_reads) × ((R.state rig.new).counts.disk_writes ≡ (R.state rig.old).counts.disk_writes)
         × ((result ≡ 5) ⊎ (result ≡ 6) → (R.state rig.new).power.stops ≡ []))
         ⊎ (((o : Told) × (e : ended.Ended) × IsCommand (map string_bytes words.now) o × (result ≡ status.status_of (Err e)) × EndsPart o (Reads o.geometry.size (I.state source.old) (I.state source.new)) (Tells (O.state sink.old) (O.state sink.new)) (TellsPart (O.state sink.old) (O.state sink.new))
         (ImageStandsFor o.geometry) (fitted_for o.geometry (R.state rig.old)) (R.state rig.new) e)
-        ⊎ ((o : Told) × (number : ℕ) × (count : ℕ) × (e : ended.Ended) × IsGen (map string_bytes words.now) o number count × (result ≡ status.status_of (Err e)) × EndsPart o (Gives (made_trace number count o.geometry)) (TellsEnd (O.state sink.old) (O.state sink.new)) (TellsEndPart (O.state sink.old) (O.state sink.new))
-        (ImageStandsFor o.geometry) (fitted_for o.geometry (R.state rig.old)) (R.state rig.new) e)) }
+        ⊎ (((o : Told) × (number : ℕ) × (count : ℕ) × (e : ended.Ended) × IsGen (map string_bytes words.now) o number count × (result ≡ status.status_of (Err e)) × EndsPart o (Gives (made_trace number count o.geometry)) (TellsEnd (O.state sink.old) (O.state sink.new)) (TellsEndPart (O.state sink.old) (O.state sink.new))
+        (ImageStandsFor o.geometry) (fitted_for o.geometry (R.state rig.old)) (R.state rig.new) e)
+        ⊎ ((o : Told) × (e : ended.Ended) × IsInspect (map string_bytes words.now) o × (result ≡ status.status_of (Err e)) × EndsInspecting o (Reads o.geometry.size (I.state source.old) (I.state source.new)) (Loads o.geometry) (O.state sink.old) (O.state sink.new)
+        (ImageStandsFor o.geometry) (fitted_for o.geometry (R.state rig.old)) (R.state rig.new) e))) }
     ensures known { result ≤ 7 }
 
     ensures source { result ≡ 3 → Rose (I.state source.old).faults (I.state source.new).faults }
@@ -109,6 +125,9 @@ pub fn run<I: Source, O: Sink, R: Rig>(
 
     // Where nothing failed, memory was there and no line is refused, every line is run.
     ensures complete { (o : Told) → IsCommand (map string_bytes words.now) o → (Rose (I.state source.old).faults (I.state source.new).faults → ⊥) → (Rose (O.state sink.old).faults (O.state sink.new).faults → ⊥)
+        → (Rose (R.state rig.old).faults.flash (R.state rig.new).faults.flash → ⊥) → (Rose (R.state rig.old).faults.disk (R.state rig.new).faults.disk → ⊥)
+        → (result ≡ 0) ⊎ (result ≡ 2) ⊎ (result ≡ 7) }
+    ensures complete_inspected { (o : Told) → IsInspect (map string_bytes words.now) o → (Rose (I.state source.old).faults (I.state source.new).faults → ⊥) → (Rose (O.state sink.old).faults (O.state sink.new).faults → ⊥)
         → (Rose (R.state rig.old).faults.flash (R.state rig.new).faults.flash → ⊥) → (Rose (R.state rig.old).faults.disk (R.state rig.new).faults.disk → ⊥)
         → (result ≡ 0) ⊎ (result ≡ 2) ⊎ (result ≡ 7) }
     ensures complete_made { (o : Told) (number count : ℕ) → IsGen (map string_bytes words.now) o number count → (Rose (O.state sink.old).faults (O.state sink.new).faults → ⊥)
@@ -131,5 +150,8 @@ pub fn run<I: Source, O: Sink, R: Rig>(
             number,
             count,
         } => status_of(gen_with(alloc, mode, &options, number, count, sink, rig)),
+        Command::Inspect { mode, options } => {
+            status_of(inspect_with(alloc, mode, &options, source, sink, rig))
+        }
     }
 }

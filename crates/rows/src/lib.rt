@@ -1,6 +1,7 @@
 //! Worked examples of the whole program, as tables: a trace, the text that it prints and its status; many
 //! small traces with power cuts over volumes of both modes, whose texts are those that the plain programs
-//! compute; a trace of which each call of flash and disk fails in turn; and made traces.
+//! compute; a trace of which each call of flash and disk fails in turn; made traces; and what traces leave
+//! in the cache.
 //!
 //! No layer stands on this crate; it has tests alone.
 #![tactic(auto)]
@@ -9,6 +10,8 @@
 mod cuts;
 #[cfg(test)]
 mod faults;
+#[cfg(test)]
+mod inspected;
 #[cfg(test)]
 mod made;
 #[cfg(test)]

@@ -1,6 +1,6 @@
 use Rattle.std.proofs.Common.{◌≡◌, List, ◌∷◌, ap, codes, map, subst, ◌∙◌}
 use Rattle.std.specs.String.{string_bytes}
-use Rattle.command_line.specs.Command.{IsCommand, IsGen, Text}
+use Rattle.command_line.specs.Command.{IsCommand, IsGen, IsInspect, Text}
 use Rattle.command_line.proofs.FoundLemmas.{none_weaker}
 use Rattle.command_line.proofs.ValueLemmas.{first_word}
 use Rattle.command_line.proofs.command.command_of.Goals as goal
@@ -18,3 +18,10 @@ returns-then-eq-2-clause-none_made c =
     let gen = first_word (string_bytes c.in-Some.first.now) c.as_str-2.result.now (codes "gen") c.eq-2.result c.as_str-2.ensures.value c.eq-2.ensures c.if-eq-2.true in
     let first : map string_bytes c.args.words.now ≡ codes "gen" ∷ others = ap (map string_bytes) c.in-Some.ensures.cases.0 ∙ ap (λ word. word ∷ others) gen in
     none_weaker c.gen_command.result _ _ (λ none o number count made. none o number count (subst (λ (ws : List Text). IsGen ws o number count) first made)) c.gen_command.ensures.none
+
+pub returns-then-eq-3-clause-none_inspected : goal.returns-then-eq-3-clause-none_inspected
+returns-then-eq-3-clause-none_inspected c =
+    let others = map string_bytes c.in-Some.others.now in
+    let inspect = first_word (string_bytes c.in-Some.first.now) c.as_str-3.result.now (codes "inspect") c.eq-3.result c.as_str-3.ensures.value c.eq-3.ensures c.if-eq-3.true in
+    let first : map string_bytes c.args.words.now ≡ codes "inspect" ∷ others = ap (map string_bytes) c.in-Some.ensures.cases.0 ∙ ap (λ word. word ∷ others) inspect in
+    none_weaker c.inspect_command.result _ _ (λ none o command. none o (subst (λ (ws : List Text). IsInspect ws o) first command)) c.inspect_command.ensures.none

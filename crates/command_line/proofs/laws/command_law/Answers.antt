@@ -1,11 +1,21 @@
-use Rattle.command_line.proofs.ValueLemmas.{apart, same_command, same_gen}
+use Rattle.std.proofs.Common.{codes}
+use Rattle.command_line.proofs.ValueLemmas.{apart, inspected_apart, inspected_made, same_command, same_gen}
 use Rattle.command_line.proofs.laws.command_law.Goals as goal
 
 pub returns-clause-replay : goal.returns-clause-replay
-returns-clause-replay c = same_command
+returns-clause-replay c = same_command (codes "replay")
 
 pub returns-clause-made : goal.returns-clause-made
 returns-clause-made c = λ words o other number number_too count count_too. same_gen words o other number number_too count count_too
 
 pub returns-clause-apart : goal.returns-clause-apart
 returns-clause-apart c = apart
+
+pub returns-clause-inspected : goal.returns-clause-inspected
+returns-clause-inspected c = same_command (codes "inspect")
+
+pub returns-clause-inspected_apart : goal.returns-clause-inspected_apart
+returns-clause-inspected_apart c = inspected_apart
+
+pub returns-clause-inspected_made : goal.returns-clause-inspected_made
+returns-clause-inspected_made c = inspected_made

@@ -4,7 +4,7 @@ use Rattle.std.specs.String.{string_bytes}
 use Rattle.command_line.specs.Command.{Spells, Text, option_names}
 use Rattle.command_line.specs.Matching.{is_name}
 use Rattle.command_line.proofs.FoundLemmas.{none_weaker, some_weaker}
-use Rattle.command_line.proofs.matching.replay_options.Goals as goal
+use Rattle.command_line.proofs.matching.run_options.Goals as goal
 
 -- the names that are handed to clap
 names_are : (c : goal.After-options) → map (λ (s : Bor Text). s.now) c.as_slice.result.now ≡ option_names

@@ -1,0 +1,68 @@
+use Rattle.std.proofs.Common.{inr}
+use Rattle.ft_base.specs.declared.told.Mode.TheVariants.{Back, Through}
+use Rattle.flashtier_cli.proofs.BeginLemmas.{empty_new}
+use Rattle.flashtier_cli.proofs.InspectLemmas.{inspecting_new, inspects_new, refused_quiet, unread_quiet}
+use Rattle.flashtier_cli.proofs.StatusLemmas.{if_err, if_ok}
+use Rattle.flashtier_cli.proofs.inspecting.inspect_with.Goals as goal
+
+-- ---- a volume that writes back
+
+pub inspect-requires-clause-empty : goal.inspect-requires-clause-empty
+inspect-requires-clause-empty g c = empty_new c.in-Ok.ensures.new
+
+pub returns-in-Ok-clause-whole : goal.returns-in-Ok-clause-whole
+returns-in-Ok-clause-whole g c =
+    if_ok c.inspect.result (inspects_new c.args.mode Back c.args.options.now c.in-Back.is c.in-Ok.ensures.new _ c.inspect.ensures.told
+    (g.I.Source.state c.args.source.now) (g.I.Source.state c.inspect.new.source) (g.O.Sink.state c.args.sink.now) (g.O.Sink.state c.inspect.new.sink) (g.R.Media.state c.inspect.new.rig))
+    c.inspect.ensures.whole
+
+pub returns-in-Ok-clause-refused : goal.returns-in-Ok-clause-refused
+returns-in-Ok-clause-refused g c = λ is.
+    refused_quiet c.args.mode Back c.args.options.now c.in-Back.is c.in-Ok.ensures.new _ c.inspect.ensures.told
+    (g.I.Source.state c.args.source.now) (g.I.Source.state c.inspect.new.source) (g.O.Sink.state c.args.sink.now) (g.O.Sink.state c.inspect.new.sink) (g.R.Media.state c.inspect.new.rig)
+    (c.inspect.ensures.refused is)
+
+pub returns-in-Ok-clause-unread : goal.returns-in-Ok-clause-unread
+returns-in-Ok-clause-unread g c = λ is.
+    unread_quiet c.args.mode Back c.args.options.now c.in-Back.is c.in-Ok.ensures.new _ c.inspect.ensures.told
+    (g.I.Source.state c.args.source.now) (g.I.Source.state c.inspect.new.source) (g.O.Sink.state c.args.sink.now) (g.O.Sink.state c.inspect.new.sink) (g.R.Media.state c.inspect.new.rig)
+    (c.inspect.ensures.unread is)
+
+pub returns-in-Ok-clause-part : goal.returns-in-Ok-clause-part
+returns-in-Ok-clause-part g c =
+    if_err c.inspect.result (λ e part not_trace not_source. inr (
+    inspecting_new c.args.mode Back c.args.options.now c.in-Back.is c.in-Ok.ensures.new _ c.inspect.ensures.told
+    (g.I.Source.state c.args.source.now) (g.I.Source.state c.inspect.new.source) (g.O.Sink.state c.args.sink.now) (g.O.Sink.state c.inspect.new.sink) (g.R.Media.state c.inspect.new.rig)
+    e (part not_trace not_source)))
+    c.inspect.ensures.part
+
+-- ---- a volume that writes through
+
+pub inspect-requires-in-Ok-begin_through-clause-empty : goal.inspect-requires-in-Ok-begin_through-clause-empty
+inspect-requires-in-Ok-begin_through-clause-empty g c = empty_new c.in-Ok-begin_through.ensures.new
+
+pub returns-in-Ok-begin_through-clause-whole : goal.returns-in-Ok-begin_through-clause-whole
+returns-in-Ok-begin_through-clause-whole g c =
+    if_ok c.inspect-in-Ok-begin_through.result (inspects_new c.args.mode Through c.args.options.now c.in-Through.is c.in-Ok-begin_through.ensures.new _ c.inspect-in-Ok-begin_through.ensures.told
+    (g.I.Source.state c.args.source.now) (g.I.Source.state c.inspect-in-Ok-begin_through.new.source) (g.O.Sink.state c.args.sink.now) (g.O.Sink.state c.inspect-in-Ok-begin_through.new.sink) (g.R.Media.state c.inspect-in-Ok-begin_through.new.rig))
+    c.inspect-in-Ok-begin_through.ensures.whole
+
+pub returns-in-Ok-begin_through-clause-refused : goal.returns-in-Ok-begin_through-clause-refused
+returns-in-Ok-begin_through-clause-refused g c = λ is.
+    refused_quiet c.args.mode Through c.args.options.now c.in-Through.is c.in-Ok-begin_through.ensures.new _ c.inspect-in-Ok-begin_through.ensures.told
+    (g.I.Source.state c.args.source.now) (g.I.Source.state c.inspect-in-Ok-begin_through.new.source) (g.O.Sink.state c.args.sink.now) (g.O.Sink.state c.inspect-in-Ok-begin_through.new.sink) (g.R.Media.state c.inspect-in-Ok-begin_through.new.rig)
+    (c.inspect-in-Ok-begin_through.ensures.refused is)
+
+pub returns-in-Ok-begin_through-clause-unread : goal.returns-in-Ok-begin_through-clause-unread
+returns-in-Ok-begin_through-clause-unread g c = λ is.
+    unread_quiet c.args.mode Through c.args.options.now c.in-Through.is c.in-Ok-begin_through.ensures.new _ c.inspect-in-Ok-begin_through.ensures.told
+    (g.I.Source.state c.args.source.now) (g.I.Source.state c.inspect-in-Ok-begin_through.new.source) (g.O.Sink.state c.args.sink.now) (g.O.Sink.state c.inspect-in-Ok-begin_through.new.sink) (g.R.Media.state c.inspect-in-Ok-begin_through.new.rig)
+    (c.inspect-in-Ok-begin_through.ensures.unread is)
+
+pub returns-in-Ok-begin_through-clause-part : goal.returns-in-Ok-begin_through-clause-part
+returns-in-Ok-begin_through-clause-part g c =
+    if_err c.inspect-in-Ok-begin_through.result (λ e part not_trace not_source. inr (
+    inspecting_new c.args.mode Through c.args.options.now c.in-Through.is c.in-Ok-begin_through.ensures.new _ c.inspect-in-Ok-begin_through.ensures.told
+    (g.I.Source.state c.args.source.now) (g.I.Source.state c.inspect-in-Ok-begin_through.new.source) (g.O.Sink.state c.args.sink.now) (g.O.Sink.state c.inspect-in-Ok-begin_through.new.sink) (g.R.Media.state c.inspect-in-Ok-begin_through.new.rig)
+    e (part not_trace not_source)))
+    c.inspect-in-Ok-begin_through.ensures.part
