@@ -199,7 +199,7 @@ const WRONG: [&[&str]; 44] = [
     &["gen", "--count=0"],
     &["replay", "--count=5"],
     &["sweep"],
-    &["inspect"],
+    &["inspect", "--number=1"],
     &["help"],
     &["--help"],
     &["-h"],
