@@ -1,11 +1,15 @@
 -- What a row of the table shows of what was measured.
-use Rattle.std.specs.Prelude.{ℕ, ◌*◌, ◌/◌, ◌-◌, ◌^◌, min}
+use Rattle.std.specs.Prelude.{ℕ, ◌+◌, ◌*◌, ◌/◌, ◌-◌, ◌^◌, min}
 use Rattle.std.specs.Duration.{as_nanos}
 use Rattle.std.specs.declared.time.Duration.{Duration}
 
 -- tenths of a mean, 0 where nothing was counted
 abbrev pub tenths : ℕ → ℕ → ℕ
 tenths total count = min (10 * total) (2 ^ 64 - 1) / count
+
+-- hundredths of a mean, 0 where nothing was counted
+abbrev pub hundredths : ℕ → ℕ → ℕ
+hundredths total count = min (100 * total) (2 ^ 64 - 1) / count
 
 -- a time in nanoseconds
 abbrev pub nanoseconds : Duration → ℕ
@@ -14,3 +18,7 @@ nanoseconds time = min (as_nanos time) (2 ^ 64 - 1)
 -- how many operations there were in so many rounds
 abbrev pub operations : ℕ → ℕ → ℕ
 operations entries rounds = min (entries * rounds) (2 ^ 64 - 1)
+
+-- the lines of a trace that wrote or read
+abbrev pub requests : ℕ → ℕ → ℕ
+requests writes reads = min (writes + reads) (2 ^ 64 - 1)

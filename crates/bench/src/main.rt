@@ -1,22 +1,26 @@
-//! Measures parts of the program, and prints what it found as a table. Without words it prints one fixed
-//! line; a word names what is measured.
+//! Measures the program and parts of it, and prints what it found as a table. Without words it prints one
+//! fixed line; the first word names what is measured. After `run` come the options of a made trace, as the
+//! program's own word `gen` takes them.
 //!
 //! | Status | When |
 //! |---|---|
 //! | 0 | it was measured and printed, or there was no word |
 //! | 1 | the words are none of these; a line says which there are |
-//! | 2 | memory, the clock or the output failed, or a map lost a key |
+//! | 2 | memory, the clock or the output failed, a map lost a key, or a run has no end line |
+//! | another, or 1 | a run ended with it, as one does whose options are none of `gen`; a line says so |
 #![tactic(auto)]
 
+mod figures;
 mod map;
 #[cfg(test)]
 mod tests;
+mod whole;
 mod words;
 
 use std::io;
 use std::process::ExitCode;
-use std::rt::{Clock, Env};
-use words::{Task, task_of};
+use std::rt::{Clock, Env, Files};
+use words::{Task, after_first, task_of};
 
 /// The words after the program's name.
 fn words_of(rt: &(impl Env + AllocGlobal)) -> io::Result<Vec<String>> {
@@ -28,13 +32,14 @@ fn words_of(rt: &(impl Env + AllocGlobal)) -> io::Result<Vec<String>> {
 }
 
 /// Does what the words ask for, and answers the status.
-fn run(rt: &(impl Env + AllocGlobal + Clock + Print + Eprint)) -> io::Result<u8> {
+fn run(rt: &(impl Env + AllocGlobal + Clock + Files + Print + Eprint)) -> io::Result<u8> {
     let words = words_of(rt)?;
     match task_of(words.as_slice()) {
-        Some(Task::Hint) => println!(rt; "bench: give the word map")?,
+        Some(Task::Hint) => println!(rt; "bench: give the word map or run")?,
         Some(Task::Map) => map::measure(rt)?,
+        Some(Task::Run) => return whole::measure(rt, after_first(words.as_slice())),
         None => {
-            eprintln!(rt; "use: bench [map]")?;
+            eprintln!(rt; "use: bench [map | run [options of gen]]")?;
             return Ok(1);
         }
     }

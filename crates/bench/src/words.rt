@@ -1,4 +1,4 @@
-ghost use Rattle.std.specs.Prelude.{◌≡◌, ◌↔◌, [], ◌∷◌, Some, map, codes};
+ghost use Rattle.std.specs.Prelude.{◌≡◌, ◌↔◌, [], ◌∷◌, Some, drop, map, take, codes};
 ghost use Rattle.std.specs.String.{string_bytes};
 ghost use Rattle.bench.specs.declared.words.Task.TheVariants as task;
 
@@ -9,18 +9,34 @@ pub(crate) enum Task {
     Hint,
     /// `map`: the sparse map beside std's hash map.
     Map,
+    /// `run`, and after it the options of a made trace: the whole program.
+    Run,
 }
 
 /// What the words ask for, and `None` where they are none of these.
 pub(crate) fn task_of(words: &[String]) -> Option<Task>
     ensures hint { (result ≡ Some task.Hint) ↔ (words.now ≡ []) }
     ensures map { (result ≡ Some task.Map) ↔ (map string_bytes words.now ≡ codes "map" ∷ []) }
+    ensures run { (result ≡ Some task.Run) ↔ (take 1 (map string_bytes words.now) ≡ codes "run" ∷ []) }
 {
-    if words.is_empty() {
+    let Some((first, others)) = words.split_first() else {
         return Some(Task::Hint);
+    };
+    if first.as_str() == "run" {
+        return Some(Task::Run);
     }
-    if words.len() == 1 && words[0].as_str() == "map" {
+    if others.is_empty() && first.as_str() == "map" {
         return Some(Task::Map);
     }
     None
+}
+
+/// The words after the first.
+pub(crate) fn after_first(words: &[String]) -> &[String]
+    ensures { result.now ≡ drop 1 words.now }
+{
+    match words.split_first() {
+        Some((_, others)) => others,
+        None => words,
+    }
 }

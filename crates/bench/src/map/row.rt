@@ -1,12 +1,12 @@
 ghost use Rattle.std.specs.Prelude.{◌≡◌};
 ghost use Rattle.bench.specs.Figures.{tenths, nanoseconds, operations};
 
+use crate::figures::{decimal, nanoseconds, tenths_of};
 use crate::map::churn::Churned;
 use crate::map::measured::Size;
 use crate::map::round::Times;
 use std::alloc::{AllocError, Global};
 use std::io;
-use std::time::Duration;
 
 /// What was measured of one map at one number of entries.
 #[derive(Clone, Copy)]
@@ -117,26 +117,4 @@ pub(crate) fn print_head(rt: &(impl Print + AllocGlobal)) -> io::Result<()> {
         "insertion ns",
         "removal ns"
     )
-}
-
-/// A time in nanoseconds.
-fn nanoseconds(time: Duration) -> u64
-    ensures { result ≡ nanoseconds time }
-{
-    time.as_nanos().min(u128::from(u64::MAX)) as u64
-}
-
-/// A number of tenths, with one decimal.
-fn decimal(alloc: Global, tenths: u64) -> Result<String, AllocError> {
-    format!(in alloc; "{}.{}", tenths / 10, tenths % 10)
-}
-
-/// A total divided by a count, in tenths, rounded down; 0 where nothing was counted.
-fn tenths_of(total: u64, count: u64) -> u64
-    ensures { result ≡ tenths total count }
-{
-    if count == 0 {
-        return 0;
-    }
-    total.saturating_mul(10) / count
 }
