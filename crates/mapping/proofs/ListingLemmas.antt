@@ -23,6 +23,7 @@ use Rattle.sparse_map.proofs.MapLemmas.{get-map_of, IsDistinct-items_of, len_of-
 use Rattle.mapping.specs.declared.log_page.LogPage.{LogPage}
 use Rattle.mapping.specs.Checkpoint.{set_group_of, set_page_of, IsCheckpoint}
 use Rattle.mapping.specs.Bits.{IsDataBlock}
+use Rattle.mapping.specs.Counts.{page_mapped_count, data_block_count}
 use Rattle.mapping.specs.Packed.{HeldValue, page_record, block_record, entries_of, page_in, entry_in, IsPackedMap, records_of}
 use Rattle.cache_model.specs.Buckets.{AreBucketsFor}
 use Rattle.mapping.proofs.MarksLemmas.{same_bools, member_from, member_to}
@@ -265,6 +266,12 @@ module _ (g : Geometry) (pages : Table LogPage) (blocks : Table BlockPages) (pac
       let long = len_of-items blocks packed.blocks_sound.packed.once in
       omega (arith, few, long, keys, once, groups_count)
 
+  pub log_pages_are : len_of pages ≡ page_mapped_count (entries_of g (map_of pages) (map_of blocks))
+  log_pages_are = len_of-items pages packed.pages_sound.packed.once ∙ pages_count
+
+  pub data_blocks_are : len_of blocks ≡ data_block_count g (entries_of g (map_of pages) (map_of blocks))
+  data_blocks_are = len_of-items blocks packed.blocks_sound.packed.once ∙ groups_count
+
   pub buckets_bound : AreBucketsFor (entries_of g (map_of pages) (map_of blocks)) (buckets_of pages)
   buckets_bound = record {
     room = let room = packed.pages_sound.room in let long = len_of-items pages packed.pages_sound.packed.once in omega (arith, room, long, pages_count);
@@ -324,6 +331,7 @@ held_of g pages blocks = record {
   spare_blocks = blocks.spare;
   records = records_of g (entries_of g (map_of pages) (map_of blocks)) (items_of pages.slots) (items_of blocks.slots);
   buckets = buckets_of pages;
+  group_buckets = buckets_of blocks;
 }
 
 pub pages_refused : {T E : Type 0} (r : Result T E) (g : Geometry) (pages new : Table LogPage) (blocks : Table BlockPages) → map_of new ≡ map_of pages → OnErr r (new.slots ≡ pages.slots) → OnErr r (new.spare ≡ pages.spare) → OnErr r (held_of g new blocks ≡ held_of g pages blocks)
@@ -335,6 +343,7 @@ pages_refused (Err e) g pages new blocks same slots spare = λ t. record {
   spare_blocks = blocks.spare;
   records = records_of g (entries_of g (same t) (map_of blocks)) (items_of (slots t)) (items_of blocks.slots);
   buckets = length (slots t);
+  group_buckets = buckets_of blocks;
 }
 
 pub blocks_refused : {T E : Type 0} (r : Result T E) (g : Geometry) (pages : Table LogPage) (blocks new : Table BlockPages) → map_of new ≡ map_of blocks → OnErr r (new.slots ≡ blocks.slots) → OnErr r (new.spare ≡ blocks.spare) → OnErr r (held_of g pages new ≡ held_of g pages blocks)
@@ -346,4 +355,5 @@ blocks_refused (Err e) g pages blocks new same slots spare = λ t. record {
   spare_blocks = spare t;
   records = records_of g (entries_of g (map_of pages) (same t)) (items_of pages.slots) (items_of (slots t));
   buckets = buckets_of pages;
+  group_buckets = length (slots t);
 }

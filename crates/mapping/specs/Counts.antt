@@ -1,11 +1,11 @@
 -- Counts and selections of the entries of a map.
-use Rattle.std.specs.Prelude.{◌≡◌, ℕ, Bool, length, count_by, Some}
+use Rattle.std.specs.Prelude.{◌≡◌, ℕ, Bool, length, filter, count_by, Some}
 use Rattle.std.specs.FinMap.{get, entries}
 use Rattle.ft_base.specs.declared.geometry.Geometry.{Geometry}
 use Rattle.ft_base.specs.declared.block.Place.{Place}
 use Rattle.cache_model.specs.declared.entry.Entry.{Entry}
 use Rattle.cache_model.specs.Records.{Entries}
-use Rattle.cache_model.specs.Entries.{groups_with}
+use Rattle.cache_model.specs.Entries.{groups_with, page_mapped}
 use Rattle.mapping.specs.declared.marks.Mark.{Mark}
 use Rattle.mapping.specs.declared.marks.Mark.TheVariants.{Dirty, BlockMapped}
 
@@ -14,6 +14,9 @@ held_count m = length (entries m)
 
 abbrev pub dirty_count : Entries → ℕ
 dirty_count m = count_by (λ x. x.1.dirty) (entries m)
+
+abbrev pub page_mapped_count : Entries → ℕ
+page_mapped_count m = length (filter (λ x. page_mapped x.1) (entries m))
 
 -- groups with a dirty entry, and groups with a data block
 abbrev pub dirty_group_count : Geometry → Entries → ℕ

@@ -8,6 +8,7 @@ pub mod Numbers
 pub mod Packed
 pub mod Index
 pub mod Ranges
+pub mod Room
 pub mod Seeking
 pub mod Kept
 pub mod Candidates

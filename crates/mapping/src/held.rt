@@ -8,6 +8,7 @@ ghost use Rattle.sparse_map.specs.Packed.{map_of, buckets_of, IsSound};
 ghost use Rattle.mapping.specs.declared.bits.Choice.TheVariants.{Mapped};
 ghost use Rattle.mapping.specs.Bits.{chosen_of, IsDataBlock};
 ghost use Rattle.mapping.specs.Checkpoint.{IsCheckpoint, HasWindow};
+ghost use Rattle.mapping.specs.Room.{LogsGrew, BlocksGrew};
 ghost use Rattle.cache_model.specs.Buckets.{AreBucketsFor};
 ghost use Rattle.mapping.specs.Packed.{page_in, IsLeftOut};
 
@@ -41,7 +42,7 @@ impl Model for Held {
 
     ghost coded = { Prim.hlevel (codes, entries_code, geometry_row.the_row.coded, record_row.the_row.coded) };
 
-    ghost view = { λ h. record { geometry = h.geometry; entries = entries_of h.geometry (map_of h.pages) (map_of h.blocks); spare_pages = h.pages.spare; spare_blocks = h.blocks.spare; records = records_of h.geometry (entries_of h.geometry (map_of h.pages) (map_of h.blocks)) (items_of h.pages.slots) (items_of h.blocks.slots); buckets = buckets_of h.pages } };
+    ghost view = { λ h. record { geometry = h.geometry; entries = entries_of h.geometry (map_of h.pages) (map_of h.blocks); spare_pages = h.pages.spare; spare_blocks = h.blocks.spare; records = records_of h.geometry (entries_of h.geometry (map_of h.pages) (map_of h.blocks)) (items_of h.pages.slots) (items_of h.blocks.slots); buckets = buckets_of h.pages; group_buckets = buckets_of h.blocks } };
 
     ghost invariant = { λ h. IsPackedMap h.geometry h.pages h.blocks };
 }
@@ -88,6 +89,8 @@ impl Held {
         ensures geometry { self.new.geometry ≡ self.old.geometry }
         ensures entries { self.new.entries ≡ self.old.entries }
         ensures pages { OnOk result (self.new.spare_pages ≡ max self.old.spare_pages pages) }
+        ensures buckets { OnOk result (LogsGrew self.old self.new pages) }
+        ensures group_buckets { self.new.group_buckets ≡ self.old.group_buckets }
         ensures blocks { self.new.spare_blocks ≡ self.old.spare_blocks }
         ensures err { OnErr result (self.new ≡ self.old) }
     {
@@ -101,6 +104,8 @@ impl Held {
         ensures entries { self.new.entries ≡ self.old.entries }
         ensures blocks { OnOk result (self.new.spare_blocks ≡ max self.old.spare_blocks blocks) }
         ensures pages { self.new.spare_pages ≡ self.old.spare_pages }
+        ensures buckets { self.new.buckets ≡ self.old.buckets }
+        ensures group_buckets { OnOk result (BlocksGrew self.old self.new blocks) }
         ensures err { OnErr result (self.new ≡ self.old) }
     {
         self.blocks.reserve(blocks)
@@ -115,6 +120,7 @@ impl Held {
         ensures pages { self.new.spare_pages + 1 ≡ self.old.spare_pages }
         ensures blocks { self.new.spare_blocks ≡ self.old.spare_blocks }
         ensures buckets { self.new.buckets ≡ self.old.buckets }
+        ensures group_buckets { self.new.group_buckets ≡ self.old.group_buckets }
     {
         let _ = self.pages.insert_ready(lba, LogPage { place, dirty });
     }
@@ -130,6 +136,7 @@ impl Held {
         ensures pages { self.new.spare_pages ≡ self.old.spare_pages }
         ensures blocks { self.new.spare_blocks + 1 ≡ self.old.spare_blocks }
         ensures buckets { self.new.buckets ≡ self.old.buckets }
+        ensures group_buckets { self.new.group_buckets ≡ self.old.group_buckets }
     {
         let _ = self.blocks.insert_ready(group, block);
     }
@@ -141,6 +148,7 @@ impl Held {
         ensures pages { self.new.spare_pages ≡ self.old.spare_pages }
         ensures blocks { self.new.spare_blocks ≡ self.old.spare_blocks }
         ensures buckets { self.new.buckets ≡ self.old.buckets }
+        ensures group_buckets { self.new.group_buckets ≡ self.old.group_buckets }
     {
         let pages = self.geometry.p as u64;
         let _ = self.pages.remove(lba);
@@ -159,6 +167,7 @@ impl Held {
         ensures pages { self.new.spare_pages ≡ self.old.spare_pages }
         ensures blocks { self.new.spare_blocks ≡ self.old.spare_blocks }
         ensures buckets { self.new.buckets ≡ self.old.buckets }
+        ensures group_buckets { self.new.group_buckets ≡ self.old.group_buckets }
     {
         let pages = self.geometry.p as u64;
         match log_page(&self.pages, lba) {
@@ -187,6 +196,7 @@ impl Held {
         ensures pages { self.new.spare_pages ≡ self.old.spare_pages }
         ensures blocks { self.new.spare_blocks ≡ self.old.spare_blocks }
         ensures buckets { self.new.buckets ≡ self.old.buckets }
+        ensures group_buckets { self.new.group_buckets ≡ self.old.group_buckets }
     {
         remove_pages(&mut self.pages, &self.geometry, group);
         let _ = self.blocks.remove(group);

@@ -1,4 +1,4 @@
-ghost use Rattle.std.specs.Prelude.{◌≡◌, ◌<◌, ◌≤◌, ◌+◌, ◌*◌, ◌-◌, ◌^◌, ℕ, length, min, take, drop, IfOk, OnOk, OnErr, IfSome, IfNone, option_map, max, IsTrue, ◌↔◌};
+ghost use Rattle.std.specs.Prelude.{◌≡◌, ◌⊎◌, ◌<◌, ◌≤◌, ◌+◌, ◌*◌, ◌-◌, ◌^◌, ℕ, length, min, take, drop, IfOk, OnOk, OnErr, IfSome, IfNone, option_map, max, IsTrue, ◌↔◌};
 ghost use Rattle.std.specs.FinMap.{get};
 ghost use Rattle.cache_model.specs.Records.{no_entries, after};
 ghost use Rattle.cache_model.specs.Entries.{Fits, IsMap, blocks_with, page_mapped};
@@ -10,6 +10,7 @@ ghost use Rattle.mapping.specs.Candidates.{AreCandidates};
 ghost use Rattle.mapping.specs.Numbers.{pool_pages, HasNumber, HasNone, AreNumbered, StandsNoneIn, IsGroupIn, IsNoDataBlock};
 ghost use Rattle.mapping.specs.Bits.{chosen_of, IsDataBlock};
 ghost use Rattle.cache_model.specs.Buckets.{AreBucketsFor};
+ghost use Rattle.mapping.specs.Room.{GrewForPages, GrewForGroups};
 
 use crate::bits::Choice;
 use crate::candidates::Candidates;
@@ -51,7 +52,7 @@ impl Model for Map {
 
     ghost coded = { Prim.hlevel (codes, entries_code, geometry_row.the_row.coded, record_row.the_row.coded) };
 
-    ghost view = { λ m. record { geometry = m.geometry; entries = m.held.entries; spare_pages = m.spare_pages; spare_groups = m.spare_groups; records = m.held.records; buckets = m.held.buckets } };
+    ghost view = { λ m. record { geometry = m.geometry; entries = m.held.entries; spare_pages = m.spare_pages; spare_groups = m.spare_groups; records = m.held.records; buckets = m.held.buckets; group_buckets = m.held.group_buckets } };
 
     ghost invariant = { λ m. IsKept m.geometry m.held m.index m.candidates.counts.items m.dirty_groups m.data_blocks m.spare_pages m.spare_groups };
 }
@@ -174,8 +175,9 @@ impl Map {
         )
     }
 
-    /// Makes room for so many changes of a page and of a group. Refused, the entries and the room are as
-    /// before, though the buckets may have grown.
+    /// Makes room for so many changes of a page and of a group: the buckets that the entries and that room ask,
+    /// and no more. Refused, the entries and the room are as before, though the page-mapped part may have got its
+    /// buckets.
     pub fn reserve(&mut self, pages: u32, groups: u32) -> Result<(), AllocError>
         requires pages { pages ≤ 2 ^ 20 }
         requires groups { groups ≤ 2 ^ 20 }
@@ -183,8 +185,12 @@ impl Map {
         ensures entries { self.new.entries ≡ self.old.entries }
         ensures pages { OnOk result (self.new.spare_pages ≡ max self.old.spare_pages pages) }
         ensures groups { OnOk result (self.new.spare_groups ≡ max self.old.spare_groups groups) }
+        ensures buckets { OnOk result (GrewForPages self.old self.new self.new.spare_pages) }
+        ensures group_buckets { OnOk result (GrewForGroups self.old self.new self.new.spare_groups) }
         ensures err_pages { OnErr result (self.new.spare_pages ≡ self.old.spare_pages) }
         ensures err_groups { OnErr result (self.new.spare_groups ≡ self.old.spare_groups) }
+        ensures err_buckets { OnErr result ((self.new.buckets ≡ self.old.buckets) ⊎ GrewForPages self.old self.new (max self.old.spare_pages pages)) }
+        ensures err_group_buckets { OnErr result (self.new.group_buckets ≡ self.old.group_buckets) }
     {
         let pages = self.spare_pages.max(pages);
         let groups = self.spare_groups.max(groups);
@@ -205,6 +211,7 @@ impl Map {
         ensures pages { self.new.spare_pages + pages_taken change.now ≡ self.old.spare_pages }
         ensures groups { self.new.spare_groups + groups_taken change.now ≡ self.old.spare_groups }
         ensures buckets { self.new.buckets ≡ self.old.buckets }
+        ensures group_buckets { self.new.group_buckets ≡ self.old.group_buckets }
     {
         let geometry = self.geometry;
         let near = first_of(&geometry, change);

@@ -120,6 +120,7 @@ pub fn change_entries(held: &mut Held, index: &mut Index, geometry: &Geometry, c
     ensures pages { held.old.spare_pages ≤ held.new.spare_pages + pages_taken change.now }
     ensures groups { held.old.spare_blocks ≤ held.new.spare_blocks + groups_taken change.now }
     ensures buckets { held.new.buckets ≡ held.old.buckets }
+    ensures group_buckets { held.new.group_buckets ≡ held.old.group_buckets }
     ensures index { IsIndex geometry.now held.new.entries index.new }
 {
     let first = first_of(geometry, change);

@@ -19,6 +19,7 @@ pub fn step(held: &mut Held, change: &Record)
     ensures pages { held.old.spare_pages ≤ held.new.spare_pages + pages_taken change.now }
     ensures groups { held.old.spare_blocks ≤ held.new.spare_blocks + groups_taken change.now }
     ensures buckets { held.new.buckets ≡ held.old.buckets }
+    ensures group_buckets { held.new.group_buckets ≡ held.old.group_buckets }
 {
     match *change {
         Record::SetPage { lba, place, dirty } => set_page(held, lba, place, dirty),
@@ -42,6 +43,7 @@ fn set_page(held: &mut Held, lba: u64, place: Place, dirty: bool)
     ensures pages { held.new.spare_pages + 1 ≡ held.old.spare_pages }
     ensures blocks { held.new.spare_blocks ≡ held.old.spare_blocks }
     ensures buckets { held.new.buckets ≡ held.old.buckets }
+    ensures group_buckets { held.new.group_buckets ≡ held.old.group_buckets }
 {
     held.remove(lba);
     held.put_page(lba, place, dirty);
@@ -57,6 +59,7 @@ fn set_group(held: &mut Held, group: u64, block: u32, present: u64, dirty: u64)
     ensures pages { held.new.spare_pages ≡ held.old.spare_pages }
     ensures blocks { held.old.spare_blocks ≤ held.new.spare_blocks + 1 }
     ensures buckets { held.new.buckets ≡ held.old.buckets }
+    ensures group_buckets { held.new.group_buckets ≡ held.old.group_buckets }
 {
     held.remove_group(group);
     if present == 0 {

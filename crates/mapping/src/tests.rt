@@ -73,6 +73,17 @@ fn entries_are_counted(rt: HostRuntime) -> Result<(), Fail> {
     Ok(())
 }
 
+// Three quarters of 32 buckets are 24.
+#[test]
+fn room_for_pages_makes_buckets(rt: HostRuntime) -> Result<(), Fail> {
+    let mut map = Map::new(rt.alloc(), &Geometry::new(4, 2, 2, 1, 64)?)?;
+    map.reserve(24, 1)?;
+    assert_eq!(rt; map.buckets(), 32);
+    map.reserve(25, 1)?;
+    assert_eq!(rt; map.buckets(), 64);
+    Ok(())
+}
+
 #[test]
 fn an_address_has_a_page_and_a_page_an_owner(rt: HostRuntime) -> Result<(), Fail> {
     let map = built(rt.alloc())?;

@@ -1,9 +1,10 @@
-use Rattle.std.proofs.Common.{◌≤◌, ◌+◌, ◌^◌, sym, length, subst, arith}
+use Rattle.std.proofs.Common.{◌≤◌, ◌+◌, ◌^◌, sym, length, OnOk, subst, arith}
 use Rattle.std.specs.FinMap.{entries}
 use Rattle.std.proofs.lemmas.Result.{on_err_weaker}
+use Rattle.sparse_map.specs.Home.{IsDoubledFor}
 use Rattle.sparse_map.specs.Packed.{map_of, len_of, buckets_of}
 use Rattle.mapping.specs.Packed.{HeldValue, entries_of, AreBlocks, AreApart}
-use Rattle.mapping.proofs.ListingLemmas.{few_data_blocks, doubled_or_same, blocks_refused}
+use Rattle.mapping.proofs.ListingLemmas.{few_data_blocks, data_blocks_are, doubled_or_same, blocks_refused}
 use Rattle.mapping.proofs.held.Held.reserve_blocks.Goals as goal
 
 pub reserve-requires : goal.reserve-requires
@@ -27,3 +28,6 @@ invariant_of-self c =
 
 pub returns-clause-err : goal.returns-clause-err
 returns-clause-err c = rw (← c.self.view_is) (blocks_refused c.reserve.result c.self.inside.geometry c.self.inside.pages c.self.inside.blocks c.reserve.new.self c.reserve.ensures.map (on_err_weaker c.reserve.result (λ e. cc) c.reserve.ensures.err) (on_err_weaker c.reserve.result (λ e. cc) c.reserve.ensures.err))
+
+pub returns-clause-group_buckets : goal.returns-clause-group_buckets
+returns-clause-group_buckets c = rw (← c.self.view_is) (subst (λ n. OnOk c.reserve.result (IsDoubledFor (n + c.args.blocks) (buckets_of c.self.inside.blocks) (buckets_of c.reserve.new.self))) (data_blocks_are c.self.inside.geometry c.self.inside.pages c.self.inside.blocks c.self.invariant) c.reserve.ensures.buckets)

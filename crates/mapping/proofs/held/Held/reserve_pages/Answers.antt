@@ -1,9 +1,10 @@
-use Rattle.std.proofs.Common.{◌≤◌, ◌+◌, ◌^◌, sym, length, subst, arith}
+use Rattle.std.proofs.Common.{◌≤◌, ◌+◌, ◌^◌, sym, length, OnOk, subst, arith}
 use Rattle.std.specs.FinMap.{entries}
 use Rattle.std.proofs.lemmas.Result.{on_err_weaker}
+use Rattle.sparse_map.specs.Home.{IsDoubledFor}
 use Rattle.sparse_map.specs.Packed.{map_of, len_of, buckets_of}
 use Rattle.mapping.specs.Packed.{HeldValue, entries_of, AreApart}
-use Rattle.mapping.proofs.ListingLemmas.{few_log_pages, doubled_or_same, pages_refused}
+use Rattle.mapping.proofs.ListingLemmas.{few_log_pages, log_pages_are, doubled_or_same, pages_refused}
 use Rattle.mapping.proofs.held.Held.reserve_pages.Goals as goal
 
 pub reserve-requires : goal.reserve-requires
@@ -27,3 +28,6 @@ invariant_of-self c =
 
 pub returns-clause-err : goal.returns-clause-err
 returns-clause-err c = rw (← c.self.view_is) (pages_refused c.reserve.result c.self.inside.geometry c.self.inside.pages c.reserve.new.self c.self.inside.blocks c.reserve.ensures.map (on_err_weaker c.reserve.result (λ e. cc) c.reserve.ensures.err) (on_err_weaker c.reserve.result (λ e. cc) c.reserve.ensures.err))
+
+pub returns-clause-buckets : goal.returns-clause-buckets
+returns-clause-buckets c = rw (← c.self.view_is) (subst (λ n. OnOk c.reserve.result (IsDoubledFor (n + c.args.pages) (buckets_of c.self.inside.pages) (buckets_of c.reserve.new.self))) (log_pages_are c.self.inside.geometry c.self.inside.pages c.self.inside.blocks c.self.invariant) c.reserve.ensures.buckets)

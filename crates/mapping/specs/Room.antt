@@ -1,0 +1,20 @@
+-- How many buckets a reservation makes: those that the items and so many more ask, and no others.
+use Rattle.std.specs.Prelude.{ℕ, ◌+◌}
+use Rattle.sparse_map.specs.Home.{IsDoubledFor}
+use Rattle.mapping.specs.Counts.{page_mapped_count, data_block_count}
+use Rattle.mapping.specs.MapValue.{MapValue}
+use Rattle.mapping.specs.Packed.{HeldValue}
+
+-- for so many more page-mapped addresses, and for so many more groups with a data block
+abbrev pub GrewForPages : MapValue → MapValue → ℕ → Type 0
+GrewForPages old new more = IsDoubledFor (page_mapped_count old.entries + more) old.buckets new.buckets
+
+abbrev pub GrewForGroups : MapValue → MapValue → ℕ → Type 0
+GrewForGroups old new more = IsDoubledFor (data_block_count old.geometry old.entries + more) old.group_buckets new.group_buckets
+
+-- the same of the two packed maps within
+abbrev pub LogsGrew : HeldValue → HeldValue → ℕ → Type 0
+LogsGrew old new more = IsDoubledFor (page_mapped_count old.entries + more) old.buckets new.buckets
+
+abbrev pub BlocksGrew : HeldValue → HeldValue → ℕ → Type 0
+BlocksGrew old new more = IsDoubledFor (data_block_count old.geometry old.entries + more) old.group_buckets new.group_buckets
