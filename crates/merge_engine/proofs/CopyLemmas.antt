@@ -65,7 +65,7 @@ module _ (parts : Parts) (old new : Contents) (agree : Agree parts old) (at : Pl
 
 -- ---- one page is copied
 
-placed_entry : (o : Option Entry) (at : Place) (dirty : Bool) → Some (at, dirty) ≡ option_map place_and_mark o → (e : Entry) × (o ≡ Some e) × (e.place ≡ at)
+pub placed_entry : (o : Option Entry) (at : Place) (dirty : Bool) → Some (at, dirty) ≡ option_map place_and_mark o → (e : Entry) × (o ≡ Some e) × (e.place ≡ at)
 placed_entry None at dirty is = absurd (cc)
 placed_entry (Some e) at dirty is =
     let same : (at, dirty) ≡ place_and_mark e = cc in

@@ -243,7 +243,7 @@ module _ (g : Geometry) (m : Entries) (group : ℕ) where
     | inr other ↦ inl (sym (stay a other) ∙ is)
   ]
 
-  dropped_was : (gone a : ℕ) (e : Entry) → get (dropped g m gone) a ≡ Some e → get m a ≡ Some e
+  pub dropped_was : (gone a : ℕ) (e : Entry) → get (dropped g m gone) a ≡ Some e → get m a ≡ Some e
   dropped_was gone a e is = elim (cases_eq (a / g.p) gone) [
     | inl here ↦ absurd (let no : None ≡ Some e = sym (dropped_here g m gone a here) ∙ is in cc)
     | inr other ↦ sym (dropped_other g m gone a other) ∙ is

@@ -24,3 +24,5 @@ pub mod GoesLemmas
 pub mod LoadedLemmas
 pub mod BenchLemmas
 pub mod LogRoomLemmas
+pub mod SwitchLemmas
+pub mod SwitchedLemmas

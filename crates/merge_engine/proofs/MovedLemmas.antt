@@ -170,15 +170,19 @@ module _ (g : Geometry) (m : Entries) (group block : ℕ) where
       let most = is_map.dirty_groups in
       omega (arith, fewer, most)
 
-  pub move_fits : IsMap g m → IsHeld g m group → HasBlockOrRoom g m group → IsInPool g block → IsUnheld m block → Fits g (move_record g m group block) m
-  move_fits is_map held room in_pool unheld = group_fits g m is_map group block (chosen_of Held g m group) (chosen_of Dirty g m group) (record {
+  -- the group may move into an erase block in which nothing of another group stands
+  pub switch_fits : IsMap g m → IsHeld g m group → HasBlockOrRoom g m group → IsInPool g block → ((a : ℕ) (e : Entry) → get m a ≡ Some e → (a / g.p ≡ group → ⊥) → e.place.block ≡ block → ⊥) → Fits g (move_record g m group block) m
+  switch_fits is_map held room in_pool own = group_fits g m is_map group block (chosen_of Held g m group) (chosen_of Dirty g m group) (record {
     reach = (in_reach g m group is_map held, set_below (λ i. is_chosen Held (get m (group * g.p + i))) g.p, set_below (λ i. is_chosen Dirty (get m (group * g.p + i))) g.p);
     sizes = λ i low t. let x = in_set g m group i low t in is_map.within (group * g.p + i) x.0 x.1;
     pool = λ i low t. in_pool;
-    foreign = λ i low t a e is other same. unheld a e is same;
+    foreign = λ i low t a e is other same. own a e is other same;
     data_blocks = few_blocks is_map room;
     dirty_groups = few_dirty is_map;
   })
+
+  pub move_fits : IsMap g m → IsHeld g m group → HasBlockOrRoom g m group → IsInPool g block → IsUnheld m block → Fits g (move_record g m group block) m
+  move_fits is_map held room in_pool unheld = switch_fits is_map held room in_pool (λ a e is other same. unheld a e is same)
 
   -- ---- it can be spelled
 

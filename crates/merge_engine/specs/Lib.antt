@@ -2,4 +2,5 @@ pub mod Agreement
 pub mod Room
 pub mod Steps
 pub mod Merges
+pub mod Switch
 pub mod Loaded

@@ -43,7 +43,7 @@ pub(crate) fn copy_group<M: Media>(
 {
     let held = cache.map.held_bits(group);
     let mut buffer = zero_block();
-    for page in 0..64 - held.leading_zeros() {
+    for page in 0..u64::BITS - held.leading_zeros() {
         let lba = group * cache.geometry.p as u64 + page as u64;
         copy_page(cache, media, lba, Place { block, page }, &mut buffer)?;
     }

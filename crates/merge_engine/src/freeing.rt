@@ -5,9 +5,10 @@ ghost use Rattle.cache_model.specs.Cache.{CacheList};
 ghost use Rattle.ft_base.specs.Contents.{Contents};
 ghost use Rattle.block_pool.specs.Pool.{IsInPool};
 ghost use Rattle.log_blocks.specs.Logs.{IsInUse, released};
-ghost use Rattle.merge_engine.specs.Agreement.{Agree, AreOfOne, Lists};
+ghost use Rattle.merge_engine.specs.Agreement.{Agree, AreOfOne, Lists, RolesAgree};
 ghost use Rattle.merge_engine.specs.Room.{StandsForGiven};
 ghost use Rattle.merge_engine.specs.Steps.{GoesOn, IsUnheld, IsUnowned, PageMappedStay};
+ghost use Rattle.merge_engine.specs.Switch.{LogsStayOrLose};
 
 use crate::Parts;
 use crate::merging::merge_group;
@@ -16,7 +17,8 @@ use ft_base::Place;
 use ft_media::{Media, MediaError};
 
 /// Frees the log block that was taken first: each group with a page in it is merged, in the order of
-/// the pages. Where nothing stands in it no call of the media is made. It takes no memory.
+/// the pages. It is no log block then: it is free, or a data block where it held a group in order. Where
+/// nothing stands in it no call of the media is made. It takes no memory.
 pub fn free_log_block<M: Media>(cache: &mut Parts, media: &mut M) -> Result<(), MediaError>
     requires agree { Agree cache.old (M.state media.old).contents }
     requires used { 1 ≤ length cache.old.logs.used }
@@ -24,6 +26,8 @@ pub fn free_log_block<M: Media>(cache: &mut Parts, media: &mut M) -> Result<(), 
     requires room { length cache.old.log.buffered < 127 }
     ensures geometry { cache.new.geometry ≡ cache.old.geometry }
     ensures logs { OnOk result ((oldest : ℕ) → slice_get cache.old.logs.used 0 ≡ Some oldest → cache.new.logs ≡ released oldest cache.old.logs) }
+    // Whatever is answered, there is no log block that wasn't one.
+    ensures used { (b : ℕ) → IsInUse cache.new.logs b → IsInUse cache.old.logs b }
     ensures unheld { (oldest : ℕ) → slice_get cache.old.logs.used 0 ≡ Some oldest → IsUnheld cache.old.map.entries oldest
         → IsOk result × (cache.new ≡ record cache.old { pool = cache.new.pool; logs = cache.new.logs }) × (M.state media.new ≡ M.state media.old) }
     ensures pages { cache.new.map.spare_pages ≡ cache.old.map.spare_pages }
@@ -40,11 +44,11 @@ pub fn free_log_block<M: Media>(cache: &mut Parts, media: &mut M) -> Result<(), 
         return Ok(());
     };
     merge_owners(cache, media, block)?;
-    give_back(cache, block);
+    give_back_used(cache, block);
     Ok(())
 }
 
-/// Merges each group with a page in a log block, in the order of the pages.
+/// Merges each group with a page in a log block, in the order of the pages, as long as it is a log block.
 fn merge_owners<M: Media>(cache: &mut Parts, media: &mut M, block: u32) -> Result<(), MediaError>
     requires agree { Agree cache.old (M.state media.old).contents }
     requires in_use { IsInUse cache.old.logs block }
@@ -52,12 +56,12 @@ fn merge_owners<M: Media>(cache: &mut Parts, media: &mut M, block: u32) -> Resul
     requires room { length cache.old.log.buffered < 127 }
     ensures geometry { cache.new.geometry ≡ cache.old.geometry }
     ensures nothing { IsUnheld cache.old.map.entries block → IsOk result × (cache.new ≡ cache.old) × (M.state media.new ≡ M.state media.old) }
-    ensures logs { cache.new.logs ≡ cache.old.logs }
+    ensures logs { LogsStayOrLose block cache.old.logs cache.new.logs }
     ensures pages { cache.new.map.spare_pages ≡ cache.old.map.spare_pages }
     ensures groups { cache.old.map.spare_groups ≤ cache.new.map.spare_groups + cache.old.geometry.p }
     ensures agree { OnOk result (Agree cache.new (M.state media.new).contents) }
     ensures room { OnOk result (length cache.new.log.buffered < 127) }
-    ensures unheld { OnOk result (IsUnheld cache.new.map.entries block) }
+    ensures unheld { OnOk result (IsInUse cache.new.logs block → IsUnheld cache.new.map.entries block) }
     ensures lists { OnOk result ((list durable : CacheList) → Lists cache.old (M.state media.old).contents.flash.page list durable → GoesOn cache.old.log cache.new (M.state media.new).contents.flash.page list durable) }
     ensures stands { (list durable : CacheList) → Lists cache.old (M.state media.old).contents.flash.page list durable → StandsForGiven cache.old.geometry (M.state media.new).contents.flash.page durable list }
     ensures memory { IsErrOf result MediaError.OutOfMemory → ⊥ }
@@ -69,29 +73,48 @@ fn merge_owners<M: Media>(cache: &mut Parts, media: &mut M, block: u32) -> Resul
     Ok(())
 }
 
-/// Merges the group whose address stands at a page of a log block, where one does.
+/// Merges the group whose address stands at a page of a log block, where one does. Where the block is a
+/// data block since a merge, it stays.
 fn merge_owner<M: Media>(cache: &mut Parts, media: &mut M, at: Place) -> Result<(), MediaError>
     requires agree { Agree cache.old (M.state media.old).contents }
-    requires in_use { IsInUse cache.old.logs at.block }
+    requires in_pool { IsInPool cache.old.geometry at.block }
     requires groups { 1 ≤ cache.old.map.spare_groups }
     requires room { length cache.old.log.buffered < 127 }
     ensures geometry { cache.new.geometry ≡ cache.old.geometry }
     ensures nothing { IsUnowned cache.old.map.entries at → IsOk result × (cache.new ≡ cache.old) × (M.state media.new ≡ M.state media.old) }
-    ensures logs { cache.new.logs ≡ cache.old.logs }
+    ensures logs { LogsStayOrLose at.block cache.old.logs cache.new.logs }
     ensures pages { cache.new.map.spare_pages ≡ cache.old.map.spare_pages }
     ensures groups { cache.old.map.spare_groups ≤ cache.new.map.spare_groups + 1 }
     ensures agree { OnOk result (Agree cache.new (M.state media.new).contents) }
     ensures room { OnOk result (length cache.new.log.buffered < 127) }
-    ensures unowned { OnOk result (IsUnowned cache.new.map.entries at) }
+    ensures unowned { OnOk result (IsInUse cache.new.logs at.block → IsUnowned cache.new.map.entries at) }
     ensures page_mapped { OnOk result (PageMappedStay cache.old.map.entries cache.new.map.entries) }
     ensures lists { OnOk result ((list durable : CacheList) → Lists cache.old (M.state media.old).contents.flash.page list durable → GoesOn cache.old.log cache.new (M.state media.new).contents.flash.page list durable) }
     ensures stands { (list durable : CacheList) → Lists cache.old (M.state media.old).contents.flash.page list durable → StandsForGiven cache.old.geometry (M.state media.new).contents.flash.page durable list }
     ensures memory { IsErrOf result MediaError.OutOfMemory → ⊥ }
     ensures drives { DrivesFlash (M.state media.old) (M.state media.new) (failed result) (lost result) }
 {
+    if cache.pool.role(at.block) != Role::Log {
+        return Ok(());
+    }
     match cache.map.owner(at) {
         Some(lba) => merge_group(cache, media, lba / cache.geometry.p as u64),
         None => Ok(()),
+    }
+}
+
+/// Takes a log block that nothing stands in out of use, where it is still one.
+fn give_back_used(cache: &mut Parts, block: u32)
+    requires of_one { AreOfOne cache.old }
+    requires in_pool { IsInPool cache.old.geometry block }
+    requires roles { RolesAgree cache.old }
+    ensures cache { cache.new ≡ record cache.old { pool = cache.new.pool; logs = cache.new.logs } }
+    ensures used { IsInUse cache.old.logs block → cache.new.logs ≡ released block cache.old.logs }
+    ensures switched { (IsInUse cache.old.logs block → ⊥) → cache.new.logs ≡ cache.old.logs }
+    ensures agree { (contents : Contents) → Agree cache.old contents → (IsInUse cache.old.logs block → IsUnheld cache.old.map.entries block) → Agree cache.new contents }
+{
+    if cache.pool.role(block) == Role::Log {
+        give_back(cache, block);
     }
 }
 

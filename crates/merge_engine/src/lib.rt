@@ -2,8 +2,9 @@
 //!
 //! `Parts` are the parts that the steps share: the map, the operation log, the pool, the log blocks. A
 //! block is appended to the open log block; where all log blocks are in use, and something stands in
-//! each, the oldest is freed, which merges each group with a page in it into a data block of its own;
-//! where all data blocks are in use a clean group gives way.
+//! each, the oldest is freed, which merges each group with a page in it into a data block of its own, or
+//! makes the log block itself the data block where it holds a group in order; where all data blocks are in
+//! use a clean group gives way.
 //!
 //! The layer above relies on this: between two steps the parts agree with the flash. A step that
 //! answers Ok leaves the list of held blocks as it was, or without some wholly clean groups that gave
@@ -21,6 +22,7 @@ mod loading;
 mod merging;
 mod noting;
 mod parts;
+mod switching;
 
 pub use appending::append;
 pub use committing::{commit, make_checkpoint};

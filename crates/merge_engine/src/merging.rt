@@ -2,7 +2,7 @@ ghost use Rattle.std.specs.Prelude.{◌≡◌, ◌≢◌, ◌≤◌, ◌<◌, �
 ghost use Rattle.ft_base.specs.Contents.{Contents};
 ghost use Rattle.ft_media.specs.State.{failed, lost};
 ghost use Rattle.ft_base.specs.Layout.{log_pages};
-ghost use Rattle.ft_media.specs.Media.{erase_counted};
+ghost use Rattle.ft_media.specs.Media.{erase_counted, program_counted};
 ghost use Rattle.ft_media.specs.Drives.{DrivesFlash};
 ghost use Rattle.cache_model.specs.Cache.{CacheList};
 ghost use Rattle.cache_model.specs.Entries.{IsMap};
@@ -12,25 +12,29 @@ ghost use Rattle.merge_engine.specs.Agreement.{Agree, AreOfOne, Lists, RolesAgre
 ghost use Rattle.merge_engine.specs.Merges.{HasBlockOrRoom, OthersStay, ReachesTo, StandsForEither, dropped, list_without, move_counted, moved, programs_counted};
 ghost use Rattle.merge_engine.specs.Room.{GaveWay, StandsForGiven};
 ghost use Rattle.merge_engine.specs.Steps.{HasFillers, IsCopied, IsFilledUp, IsMerged, OthersStayOrGo, PageMappedStay};
+ghost use Rattle.merge_engine.specs.Switch.{CanSwitch, CannotSwitch, IsSwitched, LogsStayOrSwitch};
 
 use crate::Parts;
 use crate::committing::commit;
 use crate::copying::copy_group;
 use crate::noting::note;
+use crate::switching::{log_block_in_order, switch_group};
 use block_pool::Role;
 use ft_base::Record;
 use ft_media::{Media, MediaError};
 
-/// Moves all that is held of a group into a data block of its own. Where it has none and C groups have
-/// one, a clean group gives way first; where there is none, the group itself, which is clean then, is
-/// dropped. What was buffered is committed with it. It takes no memory.
+/// Moves all that is held of a group into a data block of its own: it is copied, or, where the pages of a
+/// log block hold the group's addresses in order, that block becomes its data block as it is. Where it has
+/// none and C groups have one, a clean group gives way first; where there is none, the group itself, which
+/// is clean then, is dropped. What was buffered is committed with it. It takes no memory.
 pub fn merge_group<M: Media>(cache: &mut Parts, media: &mut M, group: u64) -> Result<(), MediaError>
     requires agree { Agree cache.old (M.state media.old).contents }
     requires held { IsHeld cache.old.geometry cache.old.map.entries group }
     requires groups { 1 ≤ cache.old.map.spare_groups }
     requires room { length cache.old.log.buffered < 127 }
     ensures geometry { cache.new.geometry ≡ cache.old.geometry }
-    ensures logs { cache.new.logs ≡ cache.old.logs }
+    // Whatever is answered.
+    ensures logs { LogsStayOrSwitch cache.old group cache.new.logs }
     ensures pages { cache.new.map.spare_pages ≡ cache.old.map.spare_pages }
     ensures groups { cache.old.map.spare_groups ≤ cache.new.map.spare_groups + 1 }
     ensures agree { OnOk result (Agree cache.new (M.state media.new).contents) }
@@ -41,8 +45,14 @@ pub fn merge_group<M: Media>(cache: &mut Parts, media: &mut M, group: u64) -> Re
     ensures filled { OnOk result (HasFillers cache.old.geometry cache.new.map.entries group (M.state media.new).contents.flash.page) }
     ensures others { OnOk result (OthersStayOrGo cache.old.geometry group cache.old.map.entries cache.new.map.entries) }
     ensures page_mapped { OnOk result (PageMappedStay cache.old.map.entries cache.new.map.entries) }
-    // Where no group gives way: one erase, a program for each page up to the last held one, and one for the log page.
-    ensures counts { OnOk result (HasBlockOrRoom cache.old.geometry cache.old.map.entries group → cache.old.log.buffered ≡ [] → cache.old.log.next < log_pages cache.old.geometry
+    // Where no group gives way and a log block can become the data block, it does: with one program and no erase.
+    ensures switched { OnOk result (HasBlockOrRoom cache.old.geometry cache.old.map.entries group → (block : ℕ) → CanSwitch cache.old group block
+        → IsSwitched cache.old cache.new group block) }
+    ensures one_program { OnOk result (HasBlockOrRoom cache.old.geometry cache.old.map.entries group → (block : ℕ) → CanSwitch cache.old group block
+        → cache.old.log.next < log_pages cache.old.geometry → (M.state media.new).counts ≡ program_counted (M.state media.old).counts) }
+    // Where none can: one erase, a program for each page up to the last held one, and one for the log page.
+    ensures counts { OnOk result (HasBlockOrRoom cache.old.geometry cache.old.map.entries group → CannotSwitch cache.old group
+        → cache.old.log.buffered ≡ [] → cache.old.log.next < log_pages cache.old.geometry
         → (pages : ℕ) → ReachesTo cache.old.geometry cache.old.map.entries group pages → (M.state media.new).counts ≡ move_counted pages (M.state media.old).counts) }
     // Whatever is answered, and wherever power went off.
     ensures stands { (list durable : CacheList) → Lists cache.old (M.state media.old).contents.flash.page list durable → StandsForGiven cache.old.geometry (M.state media.new).contents.flash.page durable list }
@@ -85,8 +95,42 @@ fn drop_group<M: Media>(cache: &mut Parts, media: &mut M, group: u64) -> Result<
     commit(cache, media)
 }
 
-/// Copies a group into an erase block that is taken, makes that its data block, and commits that.
+/// Moves a group into a data block of its own, and commits that: a log block that holds the group in order
+/// becomes its data block as it is; where there is none, the group is copied.
 fn move_group<M: Media>(cache: &mut Parts, media: &mut M, group: u64) -> Result<(), MediaError>
+    requires agree { Agree cache.old (M.state media.old).contents }
+    requires held { IsHeld cache.old.geometry cache.old.map.entries group }
+    requires block { HasBlockOrRoom cache.old.geometry cache.old.map.entries group }
+    requires groups { 1 ≤ cache.old.map.spare_groups }
+    requires room { length cache.old.log.buffered < 127 }
+    ensures cache { cache.new ≡ record cache.old { map = cache.new.map; log = cache.new.log; pool = cache.new.pool; logs = cache.new.logs } }
+    ensures logs { LogsStayOrSwitch cache.old group cache.new.logs }
+    ensures pages { cache.new.map.spare_pages ≡ cache.old.map.spare_pages }
+    ensures groups { cache.old.map.spare_groups ≤ cache.new.map.spare_groups + 1 }
+    ensures agree { OnOk result (Agree cache.new (M.state media.new).contents) }
+    ensures nothing_waits { OnOk result (cache.new.log.buffered ≡ []) }
+    ensures lists { OnOk result ((list durable : CacheList) → Lists cache.old (M.state media.old).contents.flash.page list durable → Lists cache.new (M.state media.new).contents.flash.page list list) }
+    ensures merged { OnOk result (IsMerged cache.old.geometry cache.new.map.entries group) }
+    ensures filled { OnOk result (HasFillers cache.old.geometry cache.new.map.entries group (M.state media.new).contents.flash.page) }
+    ensures others { OnOk result (OthersStay cache.old.geometry group cache.old.map.entries cache.new.map.entries) }
+    ensures switched { OnOk result ((block : ℕ) → CanSwitch cache.old group block → IsSwitched cache.old cache.new group block) }
+    ensures one_program { OnOk result ((block : ℕ) → CanSwitch cache.old group block → cache.old.log.next < log_pages cache.old.geometry
+        → (M.state media.new).counts ≡ program_counted (M.state media.old).counts) }
+    ensures counts { OnOk result (CannotSwitch cache.old group → cache.old.log.buffered ≡ [] → cache.old.log.next < log_pages cache.old.geometry
+        → (pages : ℕ) → ReachesTo cache.old.geometry cache.old.map.entries group pages → (M.state media.new).counts ≡ move_counted pages (M.state media.old).counts) }
+    // Whatever is answered, and wherever power went off.
+    ensures stands { (list durable : CacheList) → Lists cache.old (M.state media.old).contents.flash.page list durable → StandsForEither cache.old.geometry (M.state media.new).contents.flash.page durable list }
+    ensures memory { IsErrOf result MediaError.OutOfMemory → ⊥ }
+    ensures drives { DrivesFlash (M.state media.old) (M.state media.new) (failed result) (lost result) }
+{
+    match log_block_in_order(cache, group) {
+        Some(block) => switch_group(cache, media, group, block),
+        None => gather_group(cache, media, group),
+    }
+}
+
+/// Copies a group into an erase block that is taken, makes that its data block, and commits that.
+fn gather_group<M: Media>(cache: &mut Parts, media: &mut M, group: u64) -> Result<(), MediaError>
     requires agree { Agree cache.old (M.state media.old).contents }
     requires held { IsHeld cache.old.geometry cache.old.map.entries group }
     requires block { HasBlockOrRoom cache.old.geometry cache.old.map.entries group }

@@ -135,6 +135,36 @@ fn mark_clean(bench: &mut Bench, lba: u64) -> Result<(), Fail>
     Ok(())
 }
 
+/// Puts all that is buffered on the flash.
+fn commit_all(bench: &mut Bench) -> Result<(), Fail>
+    requires { Agree bench.old.parts (state_of bench.old.rig).contents }
+    ensures { OnOk result (Agree bench.new.parts (state_of bench.new.rig).contents) }
+{
+    commit(&mut bench.parts, &mut bench.rig)?;
+    Ok(())
+}
+
+/// Appends a dirty pattern of each of some addresses, and commits each.
+fn put_each(bench: &mut Bench, addresses: &[u64]) -> Result<(), Fail>
+    requires { Agree bench.old.parts (state_of bench.old.rig).contents }
+    ensures { OnOk result (Agree bench.new.parts (state_of bench.new.rig).contents) }
+{
+    for lba in addresses {
+        put(bench, *lba, 1, true)?;
+        commit_all(bench)?;
+    }
+    Ok(())
+}
+
+/// Makes a checkpoint.
+fn checkpoint_now(bench: &mut Bench) -> Result<(), Fail>
+    requires { Agree bench.old.parts (state_of bench.old.rig).contents }
+    ensures { OnOk result (Agree bench.new.parts (state_of bench.new.rig).contents) }
+{
+    make_checkpoint(&mut bench.parts, &mut bench.rig)?;
+    Ok(())
+}
+
 /// Merges a group of which something is held.
 fn merge(bench: &mut Bench, group: u64) -> Result<(), Fail>
     requires { Agree bench.old.parts (state_of bench.old.rig).contents }
@@ -166,6 +196,12 @@ fn data_block(bench: &Bench, group: u64) -> Option<u32> {
     Some(own.block())
 }
 
+/// The pages that are present in the data block of a group, and those that are dirty.
+fn data_bits(bench: &Bench, group: u64) -> Option<(u64, u64)> {
+    let own = bench.parts.map.block_of(group)?;
+    Some((own.present(), own.dirty()))
+}
+
 /// The pages of a group that are held, and those that are dirty.
 fn bits(bench: &Bench, group: u64) -> (u64, u64) {
     (
@@ -192,6 +228,11 @@ fn dirty_groups(bench: &Bench) -> u32 {
 /// How many changes wait for a log page.
 fn buffered(bench: &Bench) -> u32 {
     bench.parts.log.buffered()
+}
+
+/// How many log blocks are in use.
+fn used(bench: &Bench) -> u32 {
+    bench.parts.logs.used()
 }
 
 /// How many pages the open log block has left.
@@ -347,5 +388,77 @@ fn an_empty_data_block_is_free(rt: HostRuntime) -> Result<(), Fail> {
     commit(&mut bench.parts, &mut bench.rig)?;
     assert_eq!(rt; buffered(&bench), 0);
     assert_eq!(rt; erased_and_programmed(&bench).1, programmed.wrapping_add(1));
+    Ok(())
+}
+
+/// What a group of four pages with the tag 1 is in a data block: where each page lies, and what it is.
+fn assert_group_at(bench: &mut Bench, group: u64, block: u32) -> Result<(), Fail>
+    requires { Agree bench.old.parts (state_of bench.old.rig).contents }
+    ensures { Agree bench.new.parts (state_of bench.new.rig).contents }
+{
+    for page in 0..4 {
+        let lba = group.wrapping_mul(4).wrapping_add(page as u64);
+        let at = Place { block, page };
+        if place_of(bench, lba) != Some((at, true)) {
+            return Err(Fail::from("the address lies elsewhere, or is clean"));
+        }
+        if seen_at(bench, block, page)? != data(lba, 1) {
+            return Err(Fail::from("another page stands there"));
+        }
+    }
+    Ok(())
+}
+
+#[test]
+fn a_group_in_order_is_not_copied(rt: HostRuntime) -> Result<(), Fail> {
+    let mut bench = begin(rt.alloc())?;
+    put_each(&mut bench, &[0, 1, 2, 3])?;
+    checkpoint_now(&mut bench)?;
+    let (erased, programmed) = erased_and_programmed(&bench);
+    merge(&mut bench, 0)?;
+    assert_eq!(rt;
+        erased_and_programmed(&bench),
+        (erased, programmed.wrapping_add(1)),
+        "one log page"
+    );
+    assert_eq!(rt; data_bits(&bench, 0), Some((15, 15)));
+    assert_group_at(&mut bench, 0, 4)?;
+    assert_eq!(rt; role(&bench, 4), Some(Role::Data));
+    assert_eq!(rt; (used(&bench), room(&bench)), (0, 0));
+    Ok(())
+}
+
+#[test]
+fn a_group_out_of_order_is_copied(rt: HostRuntime) -> Result<(), Fail> {
+    let mut bench = begin(rt.alloc())?;
+    put_each(&mut bench, &[0, 2, 1, 3])?;
+    checkpoint_now(&mut bench)?;
+    let (erased, programmed) = erased_and_programmed(&bench);
+    merge(&mut bench, 0)?;
+    assert_eq!(rt;
+        erased_and_programmed(&bench),
+        (erased.wrapping_add(1), programmed.wrapping_add(5)),
+        "four pages and a log page"
+    );
+    assert_group_at(&mut bench, 0, 5)?;
+    assert_eq!(rt; (used(&bench), role(&bench, 4)), (1, Some(Role::Log)));
+    Ok(())
+}
+
+#[test]
+fn the_oldest_log_block_becomes_a_data_block(rt: HostRuntime) -> Result<(), Fail> {
+    let mut bench = begin(rt.alloc())?;
+    put_each(&mut bench, &[0, 1, 2, 3, 4, 5, 4, 5])?;
+    checkpoint_now(&mut bench)?;
+    let (erased, programmed) = erased_and_programmed(&bench);
+    let place = put(&mut bench, 6, 1, true)?;
+    assert_eq!(rt; place, Place { block: 6, page: 0 });
+    assert_eq!(rt;
+        erased_and_programmed(&bench),
+        (erased.wrapping_add(1), programmed.wrapping_add(2)),
+        "a block is taken; one log page, and the page"
+    );
+    assert_group_at(&mut bench, 0, 4)?;
+    assert_eq!(rt; (used(&bench), role(&bench, 4)), (2, Some(Role::Data)));
     Ok(())
 }

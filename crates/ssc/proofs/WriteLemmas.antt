@@ -20,14 +20,14 @@ use Rattle.cache_model.specs.Cache.{Inserted, CacheList, Held, held, IsFull, Van
 use Rattle.op_log.specs.Log.{LogValue}
 use Rattle.merge_engine.specs.declared.parts.Parts.{Parts}
 use Rattle.merge_engine.specs.Agreement.{Agree, Lists}
-use Rattle.merge_engine.specs.Steps.{HasRoomFor, dirty_groups_with}
+use Rattle.merge_engine.specs.Steps.{HasLogRoom, HasRoomFor, IsUnheld, dirty_groups_with}
 use Rattle.merge_engine.proofs.RoomLemmas.{gave_vanish}
 use Rattle.ssc.specs.declared.cache.Ssc.{Ssc}
 use Rattle.ssc.specs.declared.error.SscError.{SscError}
 use Rattle.ssc.specs.declared.error.SscError.TheVariants as error
 use Rattle.ssc.specs.Errors.{of_media}
 use Rattle.ssc.specs.CacheState.{Holds, entries_of, geometry_of, log_room, open_room, pending, waiting}
-use Rattle.ssc.specs.Commands.{FullExactly, HoldsWritten, ImagesOfWrite, IsHeldIn, PendsWith, StandsForWrite, AsUndone, AsLeft, AsWritten}
+use Rattle.ssc.specs.Commands.{FullExactly, HoldsWritten, ImagesOf, ImagesOfWrite, IsHeldIn, PendsWith, StandsForOne, StandsForWrite, AsUndone, AsLeft, AsWritten}
 use Rattle.ssc.specs.Steps.{IsPushed, LeftOf, ListsAfter, PutsBlock, StandsForStep}
 use Rattle.ssc.proofs.DirtyLemmas.{with_same}
 use Rattle.ssc.proofs.HoldsLemmas.{IsSettled, holds_committed, inserted_behind, inserted_alone, held_none, held_some, length_waiting, pends_after, waiting_push}
@@ -68,6 +68,13 @@ images_written old r contents s a step same waits stands x now =
     (subst (λ (g : Geometry). StandsForStep g contents.flash.page (undo (pending old) s) s step) same
     (subst (λ q. StandsForStep (geometry_of r) contents.flash.page (undo q s) s step) waits stands)))
 
+-- where nothing could give way
+pub images_kept : (old r : Ssc) (contents : Contents) (s after : CacheList) → geometry_of r ≡ geometry_of old → pending r ≡ pending old → StandsForOne (geometry_of r) contents.flash.page (undo (pending r) s) s after → ImagesOf old contents s after
+images_kept old r contents s after same waits stands x now =
+    subst (λ (p : Place → Page). StandsForOne (geometry_of old) p (undo (pending old) s) s after) (sym now.pages)
+    (subst (λ (g : Geometry). StandsForOne g contents.flash.page (undo (pending old) s) s after) same
+    (subst (λ q. StandsForOne (geometry_of r) contents.flash.page (undo q s) s after) waits stands))
+
 -- ---- what the cache holds
 
 -- the cache holds the list after the step, on what is left of it
@@ -81,7 +88,7 @@ written_from parts new contents s a step same x = record {
   holds = x.2;
 }
 
-pub inside_from : (parts : Parts) (new : Ssc) (contents : Contents) (s : CacheList) (step : CacheList → CacheList) → 1 ≤ parts.logs.room → HoldsLeft parts new contents s step → Holds new contents (step s)
+pub inside_from : (parts : Parts) (new : Ssc) (contents : Contents) (s : CacheList) (step : CacheList → CacheList) → HasLogRoom parts → HoldsLeft parts new contents s step → Holds new contents (step s)
 inside_from parts new contents s step room x = subst (λ (v : CacheList). Holds new contents (step v)) (x.1.inside room) x.2
 
 -- the memory of the next write is yet to be taken
@@ -166,6 +173,15 @@ log_left old r is left =
 
 pub room_left : (old r : Ssc) → r.parts ≡ record old.parts { map = r.parts.map } → 1 ≤ open_room old → 1 ≤ r.parts.logs.room
 room_left old r is room = let same : r.parts.logs.room ≡ old.parts.logs.room = ap (λ (p : Parts). p.logs.room) is in omega arith
+
+-- a log block can be had without a merge as before
+pub log_room_left : (old r : Ssc) → r.parts ≡ record old.parts { map = r.parts.map } → entries_of r ≡ entries_of old → HasLogRoom old.parts → HasLogRoom r.parts
+log_room_left old r is same room = subst (λ (p : Parts). HasLogRoom p) (sym is) (by room)
+  where
+    by : HasLogRoom old.parts → HasLogRoom (record old.parts { map = r.parts.map })
+    by (inl some) = inl some
+    by (inr (inl few)) = inr (inl few)
+    by (inr (inr one)) = inr (inr (one.0, one.1, subst (λ (m : Entries). IsUnheld m one.0) (sym same) one.2))
 
 pub few_left : (old r : Ssc) → r.parts ≡ record old.parts { map = r.parts.map } → length (pending old) + 2 ≤ 127 → length r.parts.log.buffered + 2 ≤ 127
 few_left old r is few = let same : length r.parts.log.buffered ≡ length old.parts.log.buffered = ap (λ (p : Parts). length p.log.buffered) is in omega (arith, length_waiting old.parts.log.buffered)

@@ -25,7 +25,9 @@ use Rattle.op_log.specs.Log.{LogValue, pushed}
 use Rattle.merge_engine.specs.declared.parts.Parts.{Parts}
 use Rattle.merge_engine.specs.Agreement.{Agree, IsListOn, Lists}
 use Rattle.merge_engine.specs.Room.{GivesRoom, StandsForGiven}
-use Rattle.merge_engine.specs.Steps.{GoesOn, HasRoomFor}
+use Rattle.merge_engine.specs.Steps.{GoesOn, HasLogRoom, HasRoomFor}
+use Rattle.mapping.specs.MapValue.{MapValue}
+use Rattle.ssc.specs.Commands.{StandsForOne, AsUndone, AsBefore, AsAfter}
 use Rattle.ssc.specs.Steps.{IsPushed, LeftOf, ListsAfter, ListsWritten, PutsBlock, StandsForEither, StandsForStep}
 use Rattle.ssc.proofs.DirtyLemmas.{dirty_numbers, held_of, member_from, member_once, member_to, whole_held}
 use Rattle.ssc.proofs.ListLemmas.{list_some, stands_some}
@@ -119,7 +121,7 @@ module _ (old mid : Parts) (contents contents' : Contents) (agree : Agree old co
       by list durable lists (inr gone) = room_stays old.geometry contents.flash.page contents'.flash.page old.map.entries mid.map.entries list gone.1.0 agree.sound.whole agree'.sound.whole lists.held gone.1.2.held (subst (λ (g : Geometry). GivesRoom g list gone.1.0) is gone.1.1) lba room
 
   -- what is left of the list
-  left_after : (1 ≤ old.logs.room → mid.map.entries ≡ old.map.entries) → (list durable v : CacheList) → Lists old contents.flash.page list durable → GivesRoom mid.geometry list v → IsListOn contents'.flash.page mid.map.entries v → LeftOf old list v
+  left_after : (HasLogRoom old → mid.map.entries ≡ old.map.entries) → (list durable v : CacheList) → Lists old contents.flash.page list durable → GivesRoom mid.geometry list v → IsListOn contents'.flash.page mid.map.entries v → LeftOf old list v
   left_after inside list durable v lists gives on =
       let given = subst (λ (g : Geometry). GivesRoom g list v) is gives in
       record {
@@ -128,7 +130,7 @@ module _ (old mid : Parts) (contents contents' : Contents) (agree : Agree old co
       }
 
   -- and then put at an address
-  module _ (new : Parts) (lba : ℕ) (at : Place) (block : Held) (inside : 1 ≤ old.logs.room → mid.map.entries ≡ old.map.entries) (log : new.log ≡ pushed (SetPage lba at block.dirty) mid.log)
+  module _ (new : Parts) (lba : ℕ) (at : Place) (block : Held) (inside : HasLogRoom old → mid.map.entries ≡ old.map.entries) (log : new.log ≡ pushed (SetPage lba at block.dirty) mid.log)
       (put : (list durable : CacheList) → Lists mid contents'.flash.page list durable → Lists new contents'.flash.page (insert list lba block) durable) where
     pub puts_block : GoesOnAll → (list durable : CacheList) → Lists old contents.flash.page list durable → PutsBlock old lba block new contents'.flash.page durable list
     puts_block goes list durable lists = (at, by (goes list durable lists))
@@ -137,9 +139,11 @@ module _ (old mid : Parts) (contents contents' : Contents) (agree : Agree old co
         by (inl same) = inl (inl (ap (λ (l : LogValue). l.buffered) log ∙ ap (λ (l : LogValue). l.buffered ++ SetPage lba at block.dirty ∷ []) same.0, put list durable same.1))
         by (inr gone) = inr (gone.1.0, left_after inside list durable gone.1.0 lists gone.1.1 gone.1.2.held, inr (inl (ap (λ (l : LogValue). l.buffered) log ∙ ap (λ (l : List Record). l ++ SetPage lba at block.dirty ∷ []) gone.0, put gone.1.0 gone.1.0 gone.1.2)))
 
+-- where a log block can be had without a merge
+pub inside_entries : (old mid : Parts) → (HasLogRoom old → mid.map ≡ old.map) → HasLogRoom old → mid.map.entries ≡ old.map.entries
+inside_entries old mid stays room = ap (λ (m : MapValue). m.entries) (stays room)
+
 -- where the open log block had a page left
-pub inside_entries : (old mid : Parts) {P : Type 0} → (1 ≤ old.logs.room → (mid ≡ record old { logs = record old.logs { room = old.logs.room - 1 } }) × P) → 1 ≤ old.logs.room → mid.map.entries ≡ old.map.entries
-inside_entries old mid one room = ap (λ (p : Parts). p.map.entries) (one room).0
 
 pub inside_pushed : (old mid new : Parts) (lba : ℕ) (at : Place) (dirty : Bool) → mid ≡ record old { logs = record old.logs { room = old.logs.room - 1 } } → new.log ≡ pushed (SetPage lba at dirty) mid.log → IsPushed old lba dirty new
 inside_pushed old mid new lba at dirty is log = (at, log ∙ ap (λ (p : Parts). pushed (SetPage lba at dirty) p.log) is)
@@ -209,6 +213,31 @@ module _ (old mid : Parts) (page page' : Place → Page) (lba : ℕ) (block : He
   step_then (at, inl (inr (inl k))) = inr (list, inl refl, either (step list) list k.1)
   step_then (at, inl (inr (inr k))) = inr (list, inl refl, inr (twice (step list) (either (step list) (step list) k.1)))
   step_then (at, inr (v, left, after)) = on_left [] (SetPage lba at block.dirty) v left.gives after
+
+  -- where a log block could be had without a merge, nothing gave way before
+  undone_or_after : StandsForEither old.geometry page' durable (step list) → StandsForOne old.geometry page' durable list (step list)
+  undone_or_after (inl s) = AsUndone s
+  undone_or_after (inr s) = AsAfter s
+
+  before_or_after : StandsForEither old.geometry page' list (step list) → StandsForOne old.geometry page' durable list (step list)
+  before_or_after (inl s) = AsBefore s
+  before_or_after (inr s) = AsAfter s
+
+  kept_left : (buffered : List Record) (own : Record) → ListsAfter buffered own mid page list list (step list) → StandsForOne old.geometry page' durable list (step list)
+  kept_left buffered own (inl k) = before_or_after (either (step list) list k.1)
+  kept_left buffered own (inr (inl k)) = before_or_after (either (step list) list k.1)
+  kept_left buffered own (inr (inr k)) = AsAfter (twice (step list) (either (step list) (step list) k.1))
+
+  pub kept_then : HasLogRoom old → PutsBlock old lba block mid page durable list → StandsForOne old.geometry page' durable list (step list)
+  kept_then room (at, inl (inl k)) = undone_or_after (either (step list) durable k.1)
+  kept_then room (at, inl (inr (inl k))) = before_or_after (either (step list) list k.1)
+  kept_then room (at, inl (inr (inr k))) = AsAfter (twice (step list) (either (step list) (step list) k.1))
+  kept_then room (at, inr (v, left, after)) = kept_left [] (SetPage lba at block.dirty) (subst (λ (w : CacheList). ListsAfter [] (SetPage lba at block.dirty) mid page w w (step w)) (left.inside room) after)
+
+-- before the step
+pub kept_before : (g : Geometry) (page : Place → Page) (durable list after : CacheList) → StandsForEither g page durable list → StandsForOne g page durable list after
+kept_before g page durable list after (inl s) = AsUndone s
+kept_before g page durable list after (inr s) = AsBefore s
 
 -- ---- what the cache holds, step by step
 

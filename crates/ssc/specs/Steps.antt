@@ -14,6 +14,7 @@ use Rattle.recovery.specs.declared.loading.Loaded.{Loaded}
 use Rattle.merge_engine.specs.declared.parts.Parts.{Parts}
 use Rattle.merge_engine.specs.Agreement.{AreOfOne, Lists, RolesAgree}
 use Rattle.merge_engine.specs.Room.{GivesRoom}
+use Rattle.merge_engine.specs.Steps.{HasLogRoom}
 pub use Rattle.merge_engine.specs.Merges.{StandsForEither}
 
 -- a step that made one list of another is buffered behind all that was; or alone, where the list of before was committed first; or it is committed with all
@@ -23,10 +24,10 @@ ListsAfter buffered own parts page durable before list =
     ⊎ ((parts.log.buffered ≡ own ∷ []) × Lists parts page list before)
     ⊎ ((parts.log.buffered ≡ []) × Lists parts page list list)
 
--- v is the list; or the list that gave room, where the open log block had no page left
+-- v is the list; or the list that gave room, where no log block could be had without a merge
 pub record LeftOf (old : Parts) (list v : CacheList) : Type 0 where
   pub gives : GivesRoom old.geometry list v
-  pub inside : 1 ≤ old.logs.room → v ≡ list
+  pub inside : HasLogRoom old → v ≡ list
 
 -- a step was buffered or committed: on the list of before, or on what is left of it once all was committed
 abbrev pub ListsWritten : Parts → Record → Parts → (Place → Page) → CacheList → CacheList → (CacheList → CacheList) → Type 0

@@ -10,10 +10,11 @@ ghost use Rattle.ft_media.specs.Media.{program_counted};
 ghost use Rattle.cache_model.specs.Cache.{CacheList, Inserted, Cleaned, written_dirty, written_clean, evicted, made_clean, dirty_between, held};
 ghost use Rattle.cache_model.specs.declared.entry.Entry.{Entry};
 ghost use Rattle.merge_engine.specs.Agreement.{Agree, Lists};
+ghost use Rattle.merge_engine.specs.Steps.{HasLogRoom};
 ghost use Rattle.ssc.specs.Errors.{ssc_failed, ssc_lost, stops};
 ghost use Rattle.ssc.specs.CacheState.{HasMemory, Holds, IsAsBefore, IsUp, entries_of, geometry_of, log_room, open_room, pending};
 ghost use Rattle.ssc.specs.Steps.{IsPushed, PutsBlock, StandsForStep};
-ghost use Rattle.ssc.specs.Commands.{ImagesOf, ImagesOfWrite, FullExactly, HoldsWritten, PendsWith, IsHeldIn, ReadOf, UnlessFound};
+ghost use Rattle.ssc.specs.Commands.{ImagesOf, ImagesOfWrite, FullExactly, HoldsWritten, PendsWith, IsHeldIn, ReadOf, StandsForOne, UnlessFound};
 
 use crate::error::of_media;
 use crate::putting::{mark_clean, take_out, write_buffered, write_committed};
@@ -46,6 +47,11 @@ impl Ssc {
         ensures images { (s : CacheList) → Holds self.old (M.state media.old).contents s → ImagesOfWrite self.old (M.state media.new).contents s lba (written_dirty lba block.now) }
         // Where the open log block has a page left nothing gives way.
         ensures inside { OnOk result (1 ≤ open_room self.old → (s : CacheList) → Holds self.old (M.state media.old).contents s → Holds self.new (M.state media.new).contents (written_dirty lba block.now s)) }
+        // Nor does it where a log block can be had without a merge, whatever is answered.
+        ensures kept { OnOk result (HasLogRoom self.old.parts → (s : CacheList) → Holds self.old (M.state media.old).contents s
+            → Holds self.new (M.state media.new).contents (written_dirty lba block.now s)) }
+        ensures kept_images { HasLogRoom self.old.parts → (s : CacheList) → Holds self.old (M.state media.old).contents s
+            → ImagesOf self.old (M.state media.new).contents s (written_dirty lba block.now s) }
         ensures two_programs { OnOk result (1 ≤ open_room self.old → 1 ≤ log_room self.old → (M.state media.new).counts ≡ program_counted (program_counted (M.state media.old).counts)) }
         ensures programs { OnOk result (Rose (M.state media.old).counts.programs (M.state media.new).counts.programs) }
         ensures spends { OnOk result (Spends 2 (M.state media.old) (M.state media.new)) }
@@ -88,6 +94,11 @@ impl Ssc {
         ensures images { (s : CacheList) → Holds self.old (M.state media.old).contents s → ImagesOfWrite self.old (M.state media.new).contents s lba (written_clean lba block.now) }
         // Where the open log block has a page left nothing gives way.
         ensures inside { OnOk result (1 ≤ open_room self.old → (s : CacheList) → Holds self.old (M.state media.old).contents s → Holds self.new (M.state media.new).contents (written_clean lba block.now s)) }
+        // Nor does it where a log block can be had without a merge, whatever is answered.
+        ensures kept { OnOk result (HasLogRoom self.old.parts → (s : CacheList) → Holds self.old (M.state media.old).contents s
+            → Holds self.new (M.state media.new).contents (written_clean lba block.now s)) }
+        ensures kept_images { HasLogRoom self.old.parts → (s : CacheList) → Holds self.old (M.state media.old).contents s
+            → ImagesOf self.old (M.state media.new).contents s (written_clean lba block.now s) }
         ensures one_program { OnOk result ((s : CacheList) → Holds self.old (M.state media.old).contents s → get s lba ≡ None → 1 ≤ open_room self.old → length (pending self.old) + 2 ≤ 127
             → ((M.state media.new).counts ≡ program_counted (M.state media.old).counts) × (pending self.new ≡ pending self.old ++ Inserted lba ∷ [])) }
         ensures programs { OnOk result (Rose (M.state media.old).counts.programs (M.state media.new).counts.programs) }
@@ -125,6 +136,8 @@ impl Ssc {
         ensures over_held { OnOk result ((e : Entry) → get (entries_of self.old) lba ≡ Some e → self.new.parts.log.buffered ≡ []) }
         ensures stands { (list durable : CacheList) → Lists self.old.parts (M.state media.old).contents.flash.page list durable
             → StandsForStep (geometry_of self.old) (M.state media.new).contents.flash.page durable list (λ s. insert s lba (held block.now false)) }
+        ensures kept { HasLogRoom self.old.parts → (list durable : CacheList) → Lists self.old.parts (M.state media.old).contents.flash.page list durable
+            → StandsForOne (geometry_of self.old) (M.state media.new).contents.flash.page durable list (insert list lba (held block.now false)) }
         ensures one_program { OnOk result (get (entries_of self.old) lba ≡ None → 1 ≤ open_room self.old → length self.old.parts.log.buffered + 2 ≤ 127
             → IsPushed self.old.parts lba false self.new.parts × ((M.state media.new).counts ≡ program_counted (M.state media.old).counts)) }
         ensures programs { OnOk result (Rose (M.state media.old).counts.programs (M.state media.new).counts.programs) }

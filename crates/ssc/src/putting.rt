@@ -11,7 +11,8 @@ ghost use Rattle.cache_model.specs.Cache.{CacheList, evicted, held, made_clean};
 ghost use Rattle.cache_model.specs.declared.entry.Entry.{Entry};
 ghost use Rattle.merge_engine.specs.Agreement.{Agree, Lists};
 ghost use Rattle.merge_engine.specs.Room.{StandsForGiven};
-ghost use Rattle.merge_engine.specs.Steps.{HasRoomFor, dirty_groups_with};
+ghost use Rattle.merge_engine.specs.Steps.{HasLogRoom, HasRoomFor, dirty_groups_with};
+ghost use Rattle.ssc.specs.Commands.{StandsForOne};
 ghost use Rattle.ssc.specs.Errors as errors;
 ghost use Rattle.ssc.specs.CacheState.{HasMemory, entries_of, geometry_of};
 ghost use Rattle.ssc.specs.Steps.{IsPushed, LeftOf, ListsAfter, PutsBlock, StandsForEither, StandsForStep};
@@ -85,6 +86,9 @@ pub(crate) fn write_committed<M: Media>(
     // Whatever is answered, and wherever power went off.
     ensures stands { (list durable : CacheList) → Lists parts.old (M.state media.old).contents.flash.page list durable
         → StandsForStep parts.old.geometry (M.state media.new).contents.flash.page durable list (λ s. insert s lba (held block.now dirty)) }
+    // Where a log block can be had without a merge nothing gives way, whatever is answered.
+    ensures kept { HasLogRoom parts.old → (list durable : CacheList) → Lists parts.old (M.state media.old).contents.flash.page list durable
+        → StandsForOne parts.old.geometry (M.state media.new).contents.flash.page durable list (insert list lba (held block.now dirty)) }
     ensures two_programs { OnOk result (1 ≤ parts.old.logs.room → parts.old.log.next < log_pages parts.old.geometry → (M.state media.new).counts ≡ program_counted (program_counted (M.state media.old).counts)) }
     ensures programs { OnOk result (Rose (M.state media.old).counts.programs (M.state media.new).counts.programs) }
     ensures spends { OnOk result (Spends 2 (M.state media.old) (M.state media.new)) }
@@ -114,6 +118,9 @@ pub(crate) fn write_buffered<M: Media>(
     // Whatever is answered, and wherever power went off.
     ensures stands { (list durable : CacheList) → Lists parts.old (M.state media.old).contents.flash.page list durable
         → StandsForStep parts.old.geometry (M.state media.new).contents.flash.page durable list (λ s. insert s lba (held block.now false)) }
+    // Where a log block can be had without a merge nothing gives way, whatever is answered.
+    ensures kept { HasLogRoom parts.old → (list durable : CacheList) → Lists parts.old (M.state media.old).contents.flash.page list durable
+        → StandsForOne parts.old.geometry (M.state media.new).contents.flash.page durable list (insert list lba (held block.now false)) }
     ensures one_program { OnOk result (1 ≤ parts.old.logs.room → length parts.old.log.buffered + 2 ≤ 127 → IsPushed parts.old lba false parts.new × ((M.state media.new).counts ≡ program_counted (M.state media.old).counts)) }
     ensures programs { OnOk result (Rose (M.state media.old).counts.programs (M.state media.new).counts.programs) }
     ensures spends { OnOk result (Spends 1 (M.state media.old) (M.state media.new)) }
@@ -143,6 +150,8 @@ fn write_page<M: Media>(
     ensures lists { OnOk result ((list durable : CacheList) → Lists parts.old (M.state media.old).contents.flash.page list durable
         → PutsBlock parts.old lba (held block.now dirty) parts.new (M.state media.new).contents.flash.page durable list) }
     ensures stands { (list durable : CacheList) → Lists parts.old (M.state media.old).contents.flash.page list durable → StandsForGiven parts.old.geometry (M.state media.new).contents.flash.page durable list }
+    ensures list_stands { HasLogRoom parts.old → (list durable : CacheList) → Lists parts.old (M.state media.old).contents.flash.page list durable
+        → StandsForEither parts.old.geometry (M.state media.new).contents.flash.page durable list }
     // Where the open log block has a page left: one program, and all that was buffered is.
     ensures one_program { OnOk result (1 ≤ parts.old.logs.room → IsPushed parts.old lba dirty parts.new × ((M.state media.new).counts ≡ program_counted (M.state media.old).counts)) }
     ensures programs { OnOk result (Rose (M.state media.old).counts.programs (M.state media.new).counts.programs) }

@@ -1,14 +1,17 @@
 use Rattle.std.proofs.Common.{◌≡◌, Some, false, true, refl, sym, ◌∙◌, ap, subst}
+use Rattle.log_blocks.specs.Logs.{LogBlocksValue, IsInUse, released}
 use Rattle.merge_engine.specs.declared.parts.Parts.{Parts}
 use Rattle.merge_engine.proofs.GoesLemmas.{goes_as}
 use Rattle.merge_engine.specs.Steps.{IsUnheld}
 use Rattle.merge_engine.proofs.LogRoomLemmas.{given_same}
+use Rattle.merge_engine.proofs.GiveBackLemmas.{was_in_use}
+use Rattle.merge_engine.proofs.SwitchLemmas.{lost_at_last, used_before}
 use Rattle.merge_engine.proofs.freeing.free_log_block.Goals as goal
 
 pub returns-clause-lists : goal.returns-clause-lists
 returns-clause-lists g c = λ list durable lists.
-    let is = c.give_back.ensures.cache in
-    goes_as c.args.cache.now.log c.merge_owners.new.cache c.give_back.new.cache (g.M.Media.state c.merge_owners.new.media).contents.flash.page list durable
+    let is = c.give_back_used.ensures.cache in
+    goes_as c.args.cache.now.log c.merge_owners.new.cache c.give_back_used.new.cache (g.M.Media.state c.merge_owners.new.media).contents.flash.page list durable
     (ap (λ (p : Parts). p.map) is) (ap (λ (p : Parts). p.geometry) is) (ap (λ (p : Parts). p.log) is) (c.in_ok-merge_owners.ensures.lists list durable lists)
 
 pub returns-in_err-merge_owners-clause-unheld : goal.returns-in_err-merge_owners-clause-unheld
@@ -24,4 +27,22 @@ returns-clause-unheld g c = λ oldest is unheld.
     let same : Some oldest ≡ Some c.in-Some.block = sym is ∙ sym c.in-Some.ensures.oldest in
     let one : oldest ≡ c.in-Some.block = cc in
     let was = c.merge_owners.ensures.nothing (subst (λ n. IsUnheld c.args.cache.now.map.entries n) one unheld) in
-    (refl, given_same c.args.cache.now c.merge_owners.new.cache c.give_back.new.cache _ was.1 c.give_back.ensures.cache, was.2)
+    (refl, given_same c.args.cache.now c.merge_owners.new.cache c.give_back_used.new.cache _ was.1 c.give_back_used.ensures.cache, was.2)
+
+pub returns-clause-logs : goal.returns-clause-logs
+returns-clause-logs g c = λ oldest is.
+    let same : Some c.in-Some.block ≡ Some oldest = c.in-Some.ensures.oldest ∙ is in
+    let one : c.in-Some.block ≡ oldest = cc in
+    subst (λ b. c.give_back_used.new.cache.logs ≡ released b c.args.cache.now.logs) one
+    (lost_at_last c.in-Some.block c.args.cache.now.logs c.merge_owners.new.cache.logs c.give_back_used.new.cache.logs c.merge_owners.ensures.logs c.in-Some.ensures.in_use c.give_back_used.ensures.used c.give_back_used.ensures.switched)
+
+pub returns-in_err-merge_owners-clause-used : goal.returns-in_err-merge_owners-clause-used
+returns-in_err-merge_owners-clause-used g c = used_before c.in-Some.block c.args.cache.now.logs c.merge_owners.new.cache.logs c.merge_owners.ensures.logs
+
+pub returns-clause-used : goal.returns-clause-used
+returns-clause-used g c = λ b used.
+    let is = lost_at_last c.in-Some.block c.args.cache.now.logs c.merge_owners.new.cache.logs c.give_back_used.new.cache.logs c.merge_owners.ensures.logs c.in-Some.ensures.in_use c.give_back_used.ensures.used c.give_back_used.ensures.switched in
+    was_in_use c.args.cache.now.logs c.in-Some.block b (subst (λ (l : LogBlocksValue). IsInUse l b) is used)
+
+pub returns-clause-agree : goal.returns-clause-agree
+returns-clause-agree g c = c.give_back_used.ensures.agree (g.M.Media.state c.merge_owners.new.media).contents c.in_ok-merge_owners.ensures.agree c.in_ok-merge_owners.ensures.unheld

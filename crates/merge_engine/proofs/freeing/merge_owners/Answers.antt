@@ -2,9 +2,10 @@ use Rattle.std.proofs.Common.{◌≡◌, false, true, rules, sym, ◌∙◌, ap,
 use Rattle.ft_base.specs.declared.geometry.Geometry.{Geometry}
 use Rattle.ft_media.proofs.DrivesLemmas.{drives_then}
 use Rattle.checkpoint.proofs.ProgramLemmas.{drives_err}
-use Rattle.log_blocks.specs.Logs.{LogBlocksValue, IsInUse}
+use Rattle.log_blocks.specs.Logs.{LogBlocksValue}
 use Rattle.merge_engine.proofs.GoesLemmas.{given_then, given_from, goes_then}
 use Rattle.merge_engine.proofs.OwnerLemmas.{unowned_in, none_before-more, none_before-all, unowned_still}
+use Rattle.merge_engine.proofs.SwitchLemmas.{lose_then, used_before}
 use Rattle.merge_engine.proofs.TakeLemmas.{agree_map}
 use Rattle.merge_engine.proofs.freeing.merge_owners.Goals as goal
 
@@ -23,7 +24,7 @@ loop-page-preserved g c =
     let l = c.loop-page in
     let k = l.invariant in
     let e = c.in_ok-merge_owner.ensures in
-    let logs : c.merge_owner.new.cache.logs ≡ c.args.cache.now.logs = c.merge_owner.ensures.logs ∙ k.logs in
+    let logs = lose_then c.args.block c.args.cache.now.logs l.cache.logs c.merge_owner.new.cache.logs k.logs c.merge_owner.ensures.logs in
     record {
       geometry = c.merge_owner.ensures.geometry ∙ k.geometry;
       logs = logs;
@@ -32,21 +33,22 @@ loop-page-preserved g c =
       agree = e.agree;
       room = e.room;
       nothing = λ unheld. let was = k.nothing unheld in let now = c.merge_owner.ensures.nothing (unowned_in c.args.cache.now l.cache c.args.block l.page was.0 unheld) in (now.1 ∙ was.0, now.2 ∙ was.1);
-      unowned = none_before-more c.merge_owner.new.cache.map.entries c.args.block l.page
-          (λ page low. unowned_still l.cache.map.entries c.merge_owner.new.cache (record { block = c.args.block; page = page }) e.agree.sound.roles (subst (λ (b : LogBlocksValue). IsInUse b c.args.block) (sym logs) c.requires.in_use) e.page_mapped (k.unowned page low))
-          e.unowned;
+      unowned = λ used. none_before-more c.merge_owner.new.cache.map.entries c.args.block l.page
+          (λ page low. unowned_still l.cache.map.entries c.merge_owner.new.cache (record { block = c.args.block; page = page }) e.agree.sound.roles used e.page_mapped
+          (k.unowned (used_before c.args.block l.cache.logs c.merge_owner.new.cache.logs c.merge_owner.ensures.logs c.args.block used) page low))
+          (e.unowned used);
       lists = λ list durable lists. goes_then c.args.cache.now.log l.cache (g.M.Media.state l.media).contents.flash.page c.args.cache.now.geometry k.geometry list durable c.merge_owner.new.cache (g.M.Media.state c.merge_owner.new.media).contents.flash.page
           (c.merge_owner.ensures.geometry ∙ k.geometry) (k.lists list durable lists) e.lists;
       drives = drives_then _ _ _ _ _ k.drives e.drives;
     }
 
 pub returns-clause-unheld : goal.returns-clause-unheld
-returns-clause-unheld g c =
+returns-clause-unheld g c = λ used.
     let l = c.loop-page in
     let past = c.loop-page-test.false in
     let same = ap (λ (h : Geometry). h.p) l.invariant.geometry in
     none_before-all l.cache.geometry l.cache.map.entries c.args.block (agree_map l.cache (g.M.Media.state l.media).contents l.invariant.agree)
-    (λ page low. l.invariant.unowned page (omega arith))
+    (λ page low. l.invariant.unowned used page (omega arith))
 
 pub returns-clause-stands : goal.returns-clause-stands
 returns-clause-stands g c = λ list durable lists.
@@ -60,3 +62,6 @@ returns-in_err-merge_owner-clause-nothing g c = λ unheld.
     let now = c.in_err-merge_owner.ensures.nothing (unowned_in c.args.cache.now l.cache c.args.block l.page was.0 unheld) in
     let both : false ≡ true = now.0 in
     absurd (cc)
+
+pub returns-in_err-merge_owner-clause-logs : goal.returns-in_err-merge_owner-clause-logs
+returns-in_err-merge_owner-clause-logs g c = lose_then c.args.block c.args.cache.now.logs c.loop-page.cache.logs c.merge_owner.new.cache.logs c.loop-page.invariant.logs c.merge_owner.ensures.logs

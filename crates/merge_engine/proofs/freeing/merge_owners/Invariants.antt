@@ -3,6 +3,8 @@ use Rattle.ft_media.specs.Drives.{DrivesFlash}
 use Rattle.cache_model.specs.Cache.{CacheList}
 use Rattle.merge_engine.specs.Agreement.{Agree, Lists}
 use Rattle.merge_engine.specs.Steps.{GoesOn, IsUnheld}
+use Rattle.log_blocks.specs.Logs.{IsInUse}
+use Rattle.merge_engine.specs.Switch.{LogsStayOrLose}
 use Rattle.merge_engine.proofs.OwnerLemmas.{NoneBefore}
 use Rattle.merge_engine.proofs.freeing.merge_owners.Given as goal
 
@@ -12,13 +14,13 @@ invariant-loop-page g l =
     let now = g.M.Media.state l.media in
     record {
       geometry : l.cache.geometry ≡ l.fn.cache.geometry;
-      logs : l.cache.logs ≡ l.fn.cache.logs;
+      logs : LogsStayOrLose l.block l.fn.cache.logs l.cache.logs;
       pages : l.cache.map.spare_pages ≡ l.fn.cache.map.spare_pages;
       groups : l.fn.cache.map.spare_groups ≤ l.cache.map.spare_groups + l.page;
       agree : Agree l.cache now.contents;
       room : length l.cache.log.buffered < 127;
       nothing : IsUnheld l.fn.cache.map.entries l.block → (l.cache ≡ l.fn.cache) × (now ≡ old);
-      unowned : NoneBefore l.cache.map.entries l.block l.page;
+      unowned : IsInUse l.cache.logs l.block → NoneBefore l.cache.map.entries l.block l.page;
       lists : (list durable : CacheList) → Lists l.fn.cache old.contents.flash.page list durable → GoesOn l.fn.cache.log l.cache now.contents.flash.page list durable;
       drives : DrivesFlash old now false false;
     }

@@ -1,4 +1,4 @@
-use Rattle.std.proofs.Common.{ap}
+use Rattle.std.proofs.Common.{ap, inl}
 use Rattle.ft_media.proofs.DrivesLemmas.{drives_then}
 use Rattle.merge_engine.specs.declared.parts.Parts.{Parts}
 use Rattle.merge_engine.specs.Merges.{HasBlockOrRoom, list_without}
@@ -6,6 +6,7 @@ use Rattle.merge_engine.proofs.ResultLemmas.{on_ok_from, ok_at}
 use Rattle.merge_engine.proofs.MoveLemmas.{fillers_gone, fillers_still, room_not_lacked}
 use Rattle.merge_engine.proofs.GaveLemmas.{page_mapped_stay, given_either}
 use Rattle.merge_engine.proofs.MergeLemmas.{lists_victims, has_own, has_room, lacks_room, victim_is, no_candidate, victim_gave, victim_way, group_gave, group_way, stays_way, held_then, room_then, merged_then, others_after, mapped_after, merged_gone, others_gone, mapped_gone, given_itself, given_after}
+use Rattle.merge_engine.proofs.SwitchLemmas.{logs_after}
 use Rattle.merge_engine.proofs.merging.merge_group.Goals.{then-own-via-then-own, then-own-via-else-own+then-data_blocks-cache}
 use Rattle.merge_engine.proofs.merging.merge_group.Goals as goal
 
@@ -149,3 +150,34 @@ pub returns-in-None-clause-counts : goal.returns-in-None-clause-counts
 returns-in-None-clause-counts g c =
     let lacks = lacks_room c.args.cache.now.geometry c.args.cache.now.map.geometry c.args.cache.now.map.entries c.args.group c.requires.agree.sound.of_one.map c.block_of.result c.is_some-own.result c.data_blocks.result c.is_some-own.ensures c.if-own.false c.block_of.ensures.none c.data_blocks.ensures.count c.data_blocks.ensures.most c.if-data_blocks-cache.false in
     on_ok_from c.drop_group-in-None.result (λ v is. λ room. absurd (room_not_lacked c.args.cache.now.geometry c.args.cache.now.map.entries c.args.group lacks room))
+
+pub returns-in_ok-drop_group-in-Some-clause-switched : goal.returns-in_ok-drop_group-in-Some-clause-switched
+returns-in_ok-drop_group-in-Some-clause-switched g c =
+    let lacks = lacks_room c.args.cache.now.geometry c.args.cache.now.map.geometry c.args.cache.now.map.entries c.args.group c.requires.agree.sound.of_one.map c.block_of.result c.is_some-own.result c.data_blocks.result c.is_some-own.ensures c.if-own.false c.block_of.ensures.none c.data_blocks.ensures.count c.data_blocks.ensures.most c.if-data_blocks-cache.false in
+    on_ok_from c.move_group-in-Some.result (λ v is. λ room. absurd (room_not_lacked c.args.cache.now.geometry c.args.cache.now.map.entries c.args.group lacks room))
+
+pub returns-in-None-clause-switched : goal.returns-in-None-clause-switched
+returns-in-None-clause-switched g c =
+    let lacks = lacks_room c.args.cache.now.geometry c.args.cache.now.map.geometry c.args.cache.now.map.entries c.args.group c.requires.agree.sound.of_one.map c.block_of.result c.is_some-own.result c.data_blocks.result c.is_some-own.ensures c.if-own.false c.block_of.ensures.none c.data_blocks.ensures.count c.data_blocks.ensures.most c.if-data_blocks-cache.false in
+    on_ok_from c.drop_group-in-None.result (λ v is. λ room. absurd (room_not_lacked c.args.cache.now.geometry c.args.cache.now.map.entries c.args.group lacks room))
+
+pub returns-in_ok-drop_group-in-Some-clause-one_program : goal.returns-in_ok-drop_group-in-Some-clause-one_program
+returns-in_ok-drop_group-in-Some-clause-one_program g c =
+    let lacks = lacks_room c.args.cache.now.geometry c.args.cache.now.map.geometry c.args.cache.now.map.entries c.args.group c.requires.agree.sound.of_one.map c.block_of.result c.is_some-own.result c.data_blocks.result c.is_some-own.ensures c.if-own.false c.block_of.ensures.none c.data_blocks.ensures.count c.data_blocks.ensures.most c.if-data_blocks-cache.false in
+    on_ok_from c.move_group-in-Some.result (λ v is. λ room. absurd (room_not_lacked c.args.cache.now.geometry c.args.cache.now.map.entries c.args.group lacks room))
+
+pub returns-in-None-clause-one_program : goal.returns-in-None-clause-one_program
+returns-in-None-clause-one_program g c =
+    let lacks = lacks_room c.args.cache.now.geometry c.args.cache.now.map.geometry c.args.cache.now.map.entries c.args.group c.requires.agree.sound.of_one.map c.block_of.result c.is_some-own.result c.data_blocks.result c.is_some-own.ensures c.if-own.false c.block_of.ensures.none c.data_blocks.ensures.count c.data_blocks.ensures.most c.if-data_blocks-cache.false in
+    on_ok_from c.drop_group-in-None.result (λ v is. λ room. absurd (room_not_lacked c.args.cache.now.geometry c.args.cache.now.map.entries c.args.group lacks room))
+
+pub returns-in_ok-drop_group-in-Some-clause-logs : goal.returns-in_ok-drop_group-in-Some-clause-logs
+returns-in_ok-drop_group-in-Some-clause-logs g c =
+    let is = c.drop_group.ensures.cache in
+    logs_after c.args.cache.now c.drop_group.new.cache c.args.group c.in-Some.victim (ap (λ (p : Parts). p.geometry) is) (ap (λ (p : Parts). p.logs) is) c.drop_group.ensures.entries c.move_group-in-Some.new.cache.logs c.move_group-in-Some.ensures.logs
+
+pub returns-in_err-drop_group-in-Some-clause-logs : goal.returns-in_err-drop_group-in-Some-clause-logs
+returns-in_err-drop_group-in-Some-clause-logs g c = inl (ap (λ (p : Parts). p.logs) c.drop_group.ensures.cache)
+
+pub returns-in-None-clause-logs : goal.returns-in-None-clause-logs
+returns-in-None-clause-logs g c = inl (ap (λ (p : Parts). p.logs) c.drop_group-in-None.ensures.cache)

@@ -1,127 +1,54 @@
-use Rattle.std.proofs.Common.{rules, ℕ, ◌≤◌, ◌<◌, sym, ◌∙◌, ap, subst, inr}
-use Rattle.ft_base.specs.declared.geometry.Geometry.{Geometry}
-use Rattle.ft_base.specs.Layout.{first_pool, log_pages}
-use Rattle.ft_media.proofs.DrivesLemmas.{drives_then}
-use Rattle.checkpoint.specs.Current.{PoolStays}
+use Rattle.std.proofs.Common.{ap, inl, inr}
 use Rattle.merge_engine.specs.declared.parts.Parts.{Parts}
-use Rattle.merge_engine.proofs.RoleLemmas.{free_in_pool}
 use Rattle.merge_engine.proofs.ResultLemmas.{on_ok_from, ok_at}
 use Rattle.merge_engine.proofs.TakeLemmas.{agree_map}
-use Rattle.merge_engine.proofs.MoveLemmas.{room_still, held_still, stands_listed, copied_still, moved_still, stands_still, either_same, merged_moved, others_moved, filled_still, fillers_moved, moved_counts, reach_still, drives_failed}
+use Rattle.merge_engine.proofs.MoveLemmas.{merged_moved, others_moved}
+use Rattle.merge_engine.proofs.SwitchLemmas.{fillers_switched, is_switched, with_logs}
 use Rattle.merge_engine.proofs.merging.move_group.Goals as goal
 
-pub returns-in_err-block-clause-drives : goal.returns-in_err-block-clause-drives
-returns-in_err-block-clause-drives g c =
-    drives_failed ℕ (g.M.Media.state c.args.media.now) (g.M.Media.state c.commit.new.media) (g.M.Media.state c.copy_out.new.media) c.in_err-block.field-0.0 _ c.in_ok-commit.ensures.drives c.in_err-block.ensures.drives (search rules)
+pub log_block_in_order-requires-clause-is_map : goal.log_block_in_order-requires-clause-is_map
+log_block_in_order-requires-clause-is_map g c = agree_map c.args.cache.now (g.M.Media.state c.args.media.now).contents c.requires.agree
 
-pub put_group-requires-clause-is_map : goal.put_group-requires-clause-is_map
-put_group-requires-clause-is_map g c = agree_map c.copy_out.new.cache (g.M.Media.state c.copy_out.new.media).contents c.in_ok-block.ensures.agree
+pub returns-in-Some-clause-cache : goal.returns-in-Some-clause-cache
+returns-in-Some-clause-cache g c = with_logs c.args.cache.now c.switch_group.new.cache _ c.switch_group.ensures.cache
 
-pub returns-in_err-block-clause-stands : goal.returns-in_err-block-clause-stands
-returns-in_err-block-clause-stands g c = λ list durable lists.
-    let same = ap (λ (p : Parts). p.geometry) c.copy_out.ensures.cache ∙ ap (λ (p : Parts). p.geometry) c.commit.ensures.cache in
-    stands_listed c.args.cache.now.geometry c.copy_out.new.cache (g.M.Media.state c.copy_out.new.media).contents.flash.page durable list same (c.copy_out.ensures.lists list list (c.in_ok-commit.ensures.lists list durable lists))
+pub returns-in-None-clause-cache : goal.returns-in-None-clause-cache
+returns-in-None-clause-cache g c = with_logs c.args.cache.now c.gather_group.new.cache c.args.cache.now.logs c.gather_group.ensures.cache
 
-pub put_group-requires-clause-held : goal.put_group-requires-clause-held
-put_group-requires-clause-held g c =
-    let old = c.args.cache.now in
-    let now = c.copy_out.new.cache in
-    let same = ap (λ (p : Parts). p.geometry) c.copy_out.ensures.cache ∙ ap (λ (p : Parts). p.geometry) c.commit.ensures.cache in
-    let is = ap (λ (p : Parts). p.map.entries) c.copy_out.ensures.cache ∙ ap (λ (p : Parts). p.map.entries) c.commit.ensures.cache in
-    held_still old.geometry now.geometry old.map.entries now.map.entries c.args.group same is c.requires.held
+pub returns-in-Some-clause-logs : goal.returns-in-Some-clause-logs
+returns-in-Some-clause-logs g c = inr (c.in-Some.block, c.in-Some.ensures.some, ap (λ (p : Parts). p.logs) c.switch_group.ensures.cache)
 
-pub put_group-requires-clause-block : goal.put_group-requires-clause-block
-put_group-requires-clause-block g c =
-    let old = c.args.cache.now in
-    let now = c.copy_out.new.cache in
-    let same = ap (λ (p : Parts). p.geometry) c.copy_out.ensures.cache ∙ ap (λ (p : Parts). p.geometry) c.commit.ensures.cache in
-    let is = ap (λ (p : Parts). p.map.entries) c.copy_out.ensures.cache ∙ ap (λ (p : Parts). p.map.entries) c.commit.ensures.cache in
-    room_still old.geometry now.geometry old.map.entries now.map.entries c.args.group same is c.requires.block
+pub returns-in-None-clause-logs : goal.returns-in-None-clause-logs
+returns-in-None-clause-logs g c = inl (ap (λ (p : Parts). p.logs) c.gather_group.ensures.cache)
 
-pub commit-requires-2 : goal.commit-requires-2
-commit-requires-2 g c =
-    let mid = c.commit.new.cache in
-    let now = c.copy_out.new.cache in
-    let contents = (g.M.Media.state c.copy_out.new.media).contents in
-    let same = ap (λ (p : Parts). p.geometry) c.copy_out.ensures.cache in
-    let is = ap (λ (p : Parts). p.map.entries) c.copy_out.ensures.cache in
-    record { agree = c.put_group.ensures.agree contents (copied_still mid.geometry now.geometry mid.map.entries now.map.entries c.args.group same is c.in_ok-block.block contents.flash.page c.in_ok-block.ensures.copied) c.in_ok-block.ensures.agree }
+pub returns-in-Some-clause-merged : goal.returns-in-Some-clause-merged
+returns-in-Some-clause-merged g c = on_ok_from c.switch_group.result (λ v is.
+    merged_moved c.args.cache.now.geometry c.args.cache.now.map.entries c.switch_group.new.cache.map.entries c.args.group c.in-Some.block c.switch_group.ensures.entries)
 
-pub returns-clause-lists : goal.returns-clause-lists
-returns-clause-lists g c = on_ok_from c.commit-2.result (λ v is. λ list durable lists.
-    let mid = c.commit.new.cache in
-    let now = c.copy_out.new.cache in
-    let contents = (g.M.Media.state c.copy_out.new.media).contents in
-    let same = ap (λ (p : Parts). p.geometry) c.copy_out.ensures.cache in
-    let entries = ap (λ (p : Parts). p.map.entries) c.copy_out.ensures.cache in
-    let copied = copied_still mid.geometry now.geometry mid.map.entries now.map.entries c.args.group same entries c.in_ok-block.block contents.flash.page c.in_ok-block.ensures.copied in
-    ok_at c.commit-2.result v is c.commit-2.ensures.lists list list
-    (c.put_group.ensures.lists contents list list copied (c.copy_out.ensures.lists list list (c.in_ok-commit.ensures.lists list durable lists))))
+pub returns-in-Some-clause-others : goal.returns-in-Some-clause-others
+returns-in-Some-clause-others g c = on_ok_from c.switch_group.result (λ v is.
+    others_moved c.args.cache.now.geometry c.args.cache.now.map.entries c.switch_group.new.cache.map.entries c.args.group c.in-Some.block c.switch_group.ensures.entries)
 
-pub returns-clause-merged : goal.returns-clause-merged
-returns-clause-merged g c = on_ok_from c.commit-2.result (λ v is.
-    let old = c.args.cache.now in
-    let now = c.copy_out.new.cache in
-    let same = ap (λ (p : Parts). p.geometry) c.copy_out.ensures.cache ∙ ap (λ (p : Parts). p.geometry) c.commit.ensures.cache in
-    let entries = ap (λ (p : Parts). p.map.entries) c.copy_out.ensures.cache ∙ ap (λ (p : Parts). p.map.entries) c.commit.ensures.cache in
-    merged_moved old.geometry old.map.entries c.commit-2.new.cache.map.entries c.args.group c.in_ok-block.block
-    (ap (λ (p : Parts). p.map.entries) c.commit-2.ensures.cache ∙ c.put_group.ensures.entries ∙ moved_still old.geometry now.geometry old.map.entries now.map.entries c.args.group same entries c.in_ok-block.block))
+pub returns-in-Some-clause-filled : goal.returns-in-Some-clause-filled
+returns-in-Some-clause-filled g c = on_ok_from c.switch_group.result (λ v is.
+    fillers_switched c.args.cache.now.geometry c.args.cache.now.map.entries c.switch_group.new.cache.map.entries c.args.group c.in-Some.block (g.M.Media.state c.switch_group.new.media).contents.flash.page
+    c.in-Some.ensures.some.in_order c.switch_group.ensures.entries)
 
-pub returns-clause-others : goal.returns-clause-others
-returns-clause-others g c = on_ok_from c.commit-2.result (λ v is.
-    let old = c.args.cache.now in
-    let now = c.copy_out.new.cache in
-    let same = ap (λ (p : Parts). p.geometry) c.copy_out.ensures.cache ∙ ap (λ (p : Parts). p.geometry) c.commit.ensures.cache in
-    let entries = ap (λ (p : Parts). p.map.entries) c.copy_out.ensures.cache ∙ ap (λ (p : Parts). p.map.entries) c.commit.ensures.cache in
-    others_moved old.geometry old.map.entries c.commit-2.new.cache.map.entries c.args.group c.in_ok-block.block
-    (ap (λ (p : Parts). p.map.entries) c.commit-2.ensures.cache ∙ c.put_group.ensures.entries ∙ moved_still old.geometry now.geometry old.map.entries now.map.entries c.args.group same entries c.in_ok-block.block))
+pub returns-in-Some-clause-switched : goal.returns-in-Some-clause-switched
+returns-in-Some-clause-switched g c = on_ok_from c.switch_group.result (λ v is. λ block can.
+    is_switched c.args.cache.now c.switch_group.new.cache c.args.group c.in-Some.block block c.in-Some.ensures.some can (ap (λ (p : Parts). p.logs) c.switch_group.ensures.cache) c.switch_group.ensures.entries)
 
-pub returns-clause-stands : goal.returns-clause-stands
-returns-clause-stands g c = λ list durable lists.
-    let mid = c.commit.new.cache in
-    let now = c.copy_out.new.cache in
-    let contents = (g.M.Media.state c.copy_out.new.media).contents in
-    let same = ap (λ (p : Parts). p.geometry) c.copy_out.ensures.cache in
-    let entries = ap (λ (p : Parts). p.map.entries) c.copy_out.ensures.cache in
-    let copied = copied_still mid.geometry now.geometry mid.map.entries now.map.entries c.args.group same entries c.in_ok-block.block contents.flash.page c.in_ok-block.ensures.copied in
-    let geometry = ap (λ (p : Parts). p.geometry) c.put_group.ensures.cache ∙ same ∙ ap (λ (p : Parts). p.geometry) c.commit.ensures.cache in
-    inr (either_same c.args.cache.now.geometry (g.M.Media.state c.commit-2.new.media).contents.flash.page list
-    (stands_still c.args.cache.now.geometry c.put_group.new.cache.geometry (g.M.Media.state c.commit-2.new.media).contents.flash.page list list geometry
-    (c.commit-2.ensures.stands list list (c.put_group.ensures.lists contents list list copied (c.copy_out.ensures.lists list list (c.in_ok-commit.ensures.lists list durable lists))))))
+pub returns-in-None-clause-switched : goal.returns-in-None-clause-switched
+returns-in-None-clause-switched g c = on_ok_from c.gather_group.result (λ v is. λ block can. absurd (c.in-None.ensures.none block can))
 
-pub returns-clause-drives : goal.returns-clause-drives
-returns-clause-drives g c =
-    drives_then (g.M.Media.state c.args.media.now) (g.M.Media.state c.copy_out.new.media) (g.M.Media.state c.commit-2.new.media) _ _
-    (drives_then (g.M.Media.state c.args.media.now) (g.M.Media.state c.commit.new.media) (g.M.Media.state c.copy_out.new.media) _ _ c.in_ok-commit.ensures.drives c.in_ok-block.ensures.drives)
-    c.commit-2.ensures.drives
+pub returns-in-Some-clause-one_program : goal.returns-in-Some-clause-one_program
+returns-in-Some-clause-one_program g c = on_ok_from c.switch_group.result (λ v is. λ block can low. ok_at c.switch_group.result v is c.switch_group.ensures.one_program low)
 
-pub returns-clause-filled : goal.returns-clause-filled
-returns-clause-filled g c = on_ok_from c.commit-2.result (λ v is.
-    let old = c.args.cache.now in
-    let mid = c.commit.new.cache in
-    let now = c.copy_out.new.cache in
-    let page = (g.M.Media.state c.copy_out.new.media).contents.flash.page in
-    let page' = (g.M.Media.state c.commit-2.new.media).contents.flash.page in
-    let first = ap (λ (p : Parts). p.geometry) c.commit.ensures.cache in
-    let first_entries = ap (λ (p : Parts). p.map.entries) c.commit.ensures.cache in
-    let same = ap (λ (p : Parts). p.geometry) c.copy_out.ensures.cache ∙ first in
-    let entries = ap (λ (p : Parts). p.map.entries) c.copy_out.ensures.cache ∙ first_entries in
-    let put = ap (λ (p : Parts). p.geometry) c.put_group.ensures.cache ∙ same in
-    let high = (free_in_pool now c.in_ok-block.ensures.agree.sound.of_one c.in_ok-block.block c.in_ok-block.ensures.free).0 in
-    fillers_moved old.geometry old.map.entries c.commit-2.new.cache.map.entries c.args.group c.in_ok-block.block
-    (ap (λ (p : Parts). p.map.entries) c.commit-2.ensures.cache ∙ c.put_group.ensures.entries ∙ moved_still old.geometry now.geometry old.map.entries now.map.entries c.args.group same entries c.in_ok-block.block)
-    page page' (subst (λ (h : Geometry). first_pool h ≤ c.in_ok-block.block) same high) (subst (λ (h : Geometry). PoolStays h page page') put c.commit-2.ensures.pool)
-    (filled_still old.geometry mid.geometry old.map.entries mid.map.entries c.args.group c.in_ok-block.block page first first_entries c.in_ok-block.ensures.filled))
+pub returns-in-None-clause-one_program : goal.returns-in-None-clause-one_program
+returns-in-None-clause-one_program g c = on_ok_from c.gather_group.result (λ v is. λ block can. absurd (c.in-None.ensures.none block can))
 
-pub returns-clause-counts : goal.returns-clause-counts
-returns-clause-counts g c = on_ok_from c.commit-2.result (λ v is. λ none room pages reach.
-    let old = c.args.cache.now in
-    let mid = c.commit.new.cache in
-    let first = c.commit.ensures.nothing none in
-    let same = ap (λ (p : Parts). p.geometry) c.copy_out.ensures.cache ∙ ap (λ (p : Parts). p.geometry) first.1 in
-    let put = ap (λ (p : Parts). p.geometry) c.put_group.ensures.cache ∙ same in
-    let next = c.put_group.ensures.next ∙ ap (λ (p : Parts). p.log.next) c.copy_out.ensures.cache ∙ ap (λ (p : Parts). p.log.next) first.1 in
-    let left = subst (λ n. n < log_pages c.put_group.new.cache.geometry) (sym next) (subst (λ (h : Geometry). old.log.next < log_pages h) (sym put) room) in
-    moved_counts pages (g.M.Media.state c.args.media.now) (g.M.Media.state c.commit.new.media) (g.M.Media.state c.copy_out.new.media) (g.M.Media.state c.commit-2.new.media) first.2
-    (c.in_ok-block.ensures.counts pages (reach_still old mid c.args.group pages first.1 reach))
-    (ok_at c.commit-2.result v is c.commit-2.ensures.one_page c.put_group.ensures.waits left))
+pub returns-in-Some-clause-counts : goal.returns-in-Some-clause-counts
+returns-in-Some-clause-counts g c = on_ok_from c.switch_group.result (λ v is. λ cannot. absurd (cannot c.in-Some.block c.in-Some.ensures.some))
+
+pub returns-in-None-clause-counts : goal.returns-in-None-clause-counts
+returns-in-None-clause-counts g c = on_ok_from c.gather_group.result (λ v is. λ cannot none low pages reach. ok_at c.gather_group.result v is c.gather_group.ensures.counts none low pages reach)

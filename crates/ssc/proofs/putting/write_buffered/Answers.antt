@@ -3,7 +3,7 @@ use Rattle.cache_model.specs.Cache.{held}
 use Rattle.ft_media.proofs.DrivesLemmas.{drives_then}
 use Rattle.merge_engine.proofs.ResultLemmas.{on_ok_from, ok_at}
 use Rattle.ssc.proofs.SpendLemmas.{spends_on, passes_ok}
-use Rattle.ssc.proofs.WrittenLemmas.{given_step, step_then, put_waits, still_pushed}
+use Rattle.ssc.proofs.WrittenLemmas.{given_step, step_then, kept_before, kept_then, put_waits, still_pushed}
 use Rattle.ssc.proofs.putting.write_buffered.Goals as goal
 
 pub returns-in_err-write_page-clause-stands : goal.returns-in_err-write_page-clause-stands
@@ -29,3 +29,11 @@ returns-clause-spends g c = on_ok_from c.commit_if_full.result (λ v is.
 
 pub returns-clause-drives : goal.returns-clause-drives
 returns-clause-drives g c = drives_then _ _ _ _ _ c.in_ok-write_page.ensures.drives c.commit_if_full.ensures.drives
+
+pub returns-in_err-write_page-clause-kept : goal.returns-in_err-write_page-clause-kept
+returns-in_err-write_page-clause-kept g c = λ room list durable lists. kept_before _ _ durable list _ (c.write_page.ensures.list_stands room list durable lists)
+
+pub returns-clause-kept : goal.returns-clause-kept
+returns-clause-kept g c = λ room list durable lists.
+    kept_then c.args.parts.now c.write_page.new.parts (g.M.Media.state c.write_page.new.media).contents.flash.page (g.M.Media.state c.commit_if_full.new.media).contents.flash.page c.args.lba (held c.args.block.now false) c.write_page.ensures.geometry list durable
+    c.commit_if_full.ensures.stands room (c.in_ok-write_page.ensures.lists list durable lists)

@@ -28,7 +28,7 @@ returns-clause-lists g c =
     let old = (g.M.Media.state c.args.media.now).contents in
     let new = (g.M.Media.state c.append.new.media).contents in
     puts_block c.args.parts.now c.append.new.cache old new c.requires.agree c.in_ok-place.ensures.agree c.append.ensures.geometry c.put_page.new.cache c.args.lba c.in_ok-place.place (held c.args.block.now c.args.dirty)
-    (inside_entries c.args.parts.now c.append.new.cache c.in_ok-place.ensures.one_program) c.put_page.ensures.log
+    (inside_entries c.args.parts.now c.append.new.cache c.append.ensures.map_stays) c.put_page.ensures.log
     (λ list durable. c.put_page.ensures.lists new c.args.block.now list durable c.in_ok-place.ensures.place)
     c.in_ok-place.ensures.lists
 

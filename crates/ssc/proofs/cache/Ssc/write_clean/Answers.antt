@@ -1,4 +1,4 @@
-use Rattle.std.proofs.Common.{◌<◌, sym, ap, subst}
+use Rattle.std.proofs.Common.{◌<◌, inl, sym, ap, subst}
 use Rattle.ft_base.specs.declared.geometry.Geometry.{Geometry}
 use Rattle.cache_model.specs.Cache.{Inserted, undo, written_clean}
 use Rattle.merge_engine.specs.declared.parts.Parts.{Parts}
@@ -7,7 +7,7 @@ use Rattle.ssc.specs.CacheState.{pending}
 use Rattle.ssc.specs.Commands.{PendsWith}
 use Rattle.ssc.proofs.CommandLemmas.{not_refused, drives_given_up}
 use Rattle.ssc.proofs.HoldsLemmas.{few_buffered, held_none}
-use Rattle.ssc.proofs.WriteLemmas.{images_written, written_from, inside_from, settled_unready, left_clean, room_left, none_of_absent, few_left, one_pends, over_held, pends_written}
+use Rattle.ssc.proofs.WriteLemmas.{images_kept, images_written, log_room_left, written_from, inside_from, settled_unready, left_clean, room_left, none_of_absent, few_left, one_pends, over_held, pends_written}
 use Rattle.ssc.proofs.cache.Ssc.write_clean.Goals as goal
 
 pub put_clean-requires-clause-agree : goal.put_clean-requires-clause-agree
@@ -29,7 +29,7 @@ returns-in-Ok-clause-done g c = λ s holds. written_from c.reserve.new.self.part
     (c.in-Ok.ensures.lists s (undo (pending c.reserve.new.self) s) (c.reserve.ensures.holds (g.M.Media.state c.args.media.now).contents s holds).lists))
 
 pub returns-in-Ok-clause-inside : goal.returns-in-Ok-clause-inside
-returns-in-Ok-clause-inside g c = λ room s holds. inside_from c.reserve.new.self.parts _ (g.M.Media.state c.put_clean.new.media).contents s (written_clean c.args.lba c.args.block.now) (room_left c.args.self.now c.reserve.new.self c.reserve.ensures.parts room)
+returns-in-Ok-clause-inside g c = λ room s holds. inside_from c.reserve.new.self.parts _ (g.M.Media.state c.put_clean.new.media).contents s (written_clean c.args.lba c.args.block.now) (inl (room_left c.args.self.now c.reserve.new.self c.reserve.ensures.parts room))
     (left_clean c.reserve.new.self _ (g.M.Media.state c.args.media.now).contents (g.M.Media.state c.put_clean.new.media).contents s c.args.lba c.args.block.now (c.reserve.ensures.holds (g.M.Media.state c.args.media.now).contents s holds)
     (settled_unready c.put_clean.new.self (g.M.Media.state c.put_clean.new.media).contents (ap (λ (v : Ssc). v.ready) c.put_clean.ensures.cache) c.in-Ok.ensures.agree) c.in-Ok.ensures.few c.in-Ok.ensures.over_held (held_none c.reserve.new.self (g.M.Media.state c.args.media.now).contents s c.args.lba (c.reserve.ensures.holds (g.M.Media.state c.args.media.now).contents s holds))
     (c.in-Ok.ensures.lists s (undo (pending c.reserve.new.self) s) (c.reserve.ensures.holds (g.M.Media.state c.args.media.now).contents s holds).lists))
@@ -59,3 +59,19 @@ returns-in-Err-clause-images g c = λ s holds.
 
 pub returns-in-Err-clause-drives : goal.returns-in-Err-clause-drives
 returns-in-Err-clause-drives g c = drives_given_up (Unit {0}) (g.M.Media.state c.args.media.now) (g.M.Media.state c.put_clean.new.media) c.give_up.result c.in-Err.error c.give_up.ensures.error c.in-Err.ensures.drives
+
+pub returns-in-Ok-clause-kept : goal.returns-in-Ok-clause-kept
+returns-in-Ok-clause-kept g c = λ room s holds. inside_from c.reserve.new.self.parts _ (g.M.Media.state c.put_clean.new.media).contents s (written_clean c.args.lba c.args.block.now) (log_room_left c.args.self.now c.reserve.new.self c.reserve.ensures.parts c.reserve.ensures.entries room)
+    (left_clean c.reserve.new.self _ (g.M.Media.state c.args.media.now).contents (g.M.Media.state c.put_clean.new.media).contents s c.args.lba c.args.block.now (c.reserve.ensures.holds (g.M.Media.state c.args.media.now).contents s holds)
+    (settled_unready c.put_clean.new.self (g.M.Media.state c.put_clean.new.media).contents (ap (λ (v : Ssc). v.ready) c.put_clean.ensures.cache) c.in-Ok.ensures.agree) c.in-Ok.ensures.few c.in-Ok.ensures.over_held (held_none c.reserve.new.self (g.M.Media.state c.args.media.now).contents s c.args.lba (c.reserve.ensures.holds (g.M.Media.state c.args.media.now).contents s holds))
+    (c.in-Ok.ensures.lists s (undo (pending c.reserve.new.self) s) (c.reserve.ensures.holds (g.M.Media.state c.args.media.now).contents s holds).lists))
+
+pub returns-in-Ok-clause-kept_images : goal.returns-in-Ok-clause-kept_images
+returns-in-Ok-clause-kept_images g c = λ room s holds.
+    images_kept c.args.self.now c.reserve.new.self (g.M.Media.state c.put_clean.new.media).contents s (written_clean c.args.lba c.args.block.now s) c.reserve.ensures.same c.reserve.ensures.pending
+    (c.put_clean.ensures.kept (log_room_left c.args.self.now c.reserve.new.self c.reserve.ensures.parts c.reserve.ensures.entries room) s (undo (pending c.reserve.new.self) s) (c.reserve.ensures.holds (g.M.Media.state c.args.media.now).contents s holds).lists)
+
+pub returns-in-Err-clause-kept_images : goal.returns-in-Err-clause-kept_images
+returns-in-Err-clause-kept_images g c = λ room s holds.
+    images_kept c.args.self.now c.reserve.new.self (g.M.Media.state c.put_clean.new.media).contents s (written_clean c.args.lba c.args.block.now s) c.reserve.ensures.same c.reserve.ensures.pending
+    (c.put_clean.ensures.kept (log_room_left c.args.self.now c.reserve.new.self c.reserve.ensures.parts c.reserve.ensures.entries room) s (undo (pending c.reserve.new.self) s) (c.reserve.ensures.holds (g.M.Media.state c.args.media.now).contents s holds).lists)

@@ -1,10 +1,10 @@
-use Rattle.std.proofs.Common.{◌<◌, true, refl, sym, subst}
+use Rattle.std.proofs.Common.{◌<◌, true, inl, refl, sym, subst}
 use Rattle.ft_base.specs.declared.geometry.Geometry.{Geometry}
 use Rattle.cache_model.specs.Cache.{held, undo, written_dirty}
 use Rattle.ssc.specs.CacheState.{pending}
 use Rattle.ssc.proofs.CommandLemmas.{not_refused, drives_given_up}
 use Rattle.ssc.proofs.HoldsLemmas.{few_buffered}
-use Rattle.ssc.proofs.WriteLemmas.{full_is, not_full, not_full_from, images_written, written_from, inside_from, settled_unready, left_committed, log_left, room_left, room_for}
+use Rattle.ssc.proofs.WriteLemmas.{full_is, not_full, not_full_from, images_kept, images_written, log_room_left, written_from, inside_from, settled_unready, left_committed, log_left, room_left, room_for}
 use Rattle.ssc.proofs.cache.Ssc.write_dirty.Goals as goal
 
 pub is_full-requires : goal.is_full-requires
@@ -44,7 +44,7 @@ returns-in-Ok-clause-done g c = λ s holds. written_from c.reserve.new.self.part
     (c.in-Ok.ensures.lists s (undo (pending c.reserve.new.self) s) (c.reserve.ensures.holds (g.M.Media.state c.args.media.now).contents s holds).lists))
 
 pub returns-in-Ok-clause-inside : goal.returns-in-Ok-clause-inside
-returns-in-Ok-clause-inside g c = λ room s holds. inside_from c.reserve.new.self.parts _ (g.M.Media.state c.write_committed.new.media).contents s (written_dirty c.args.lba c.args.block.now) (room_left c.args.self.now c.reserve.new.self c.reserve.ensures.parts room)
+returns-in-Ok-clause-inside g c = λ room s holds. inside_from c.reserve.new.self.parts _ (g.M.Media.state c.write_committed.new.media).contents s (written_dirty c.args.lba c.args.block.now) (inl (room_left c.args.self.now c.reserve.new.self c.reserve.ensures.parts room))
     (left_committed c.reserve.new.self.parts _ (g.M.Media.state c.write_committed.new.media).contents s c.args.lba (held c.args.block.now true) (settled_unready _ (g.M.Media.state c.write_committed.new.media).contents refl c.in-Ok.ensures.agree) c.in-Ok.ensures.nothing_waits
     (c.in-Ok.ensures.lists s (undo (pending c.reserve.new.self) s) (c.reserve.ensures.holds (g.M.Media.state c.args.media.now).contents s holds).lists))
 
@@ -63,3 +63,18 @@ returns-in-Ok-clause-two_programs g c = λ room left. c.in-Ok.ensures.two_progra
 
 pub returns-in-Err-clause-drives : goal.returns-in-Err-clause-drives
 returns-in-Err-clause-drives g c = drives_given_up (Unit {0}) (g.M.Media.state c.args.media.now) (g.M.Media.state c.write_committed.new.media) c.give_up.result c.in-Err.error c.give_up.ensures.error c.in-Err.ensures.drives
+
+pub returns-in-Ok-clause-kept : goal.returns-in-Ok-clause-kept
+returns-in-Ok-clause-kept g c = λ room s holds. inside_from c.reserve.new.self.parts _ (g.M.Media.state c.write_committed.new.media).contents s (written_dirty c.args.lba c.args.block.now) (log_room_left c.args.self.now c.reserve.new.self c.reserve.ensures.parts c.reserve.ensures.entries room)
+    (left_committed c.reserve.new.self.parts _ (g.M.Media.state c.write_committed.new.media).contents s c.args.lba (held c.args.block.now true) (settled_unready _ (g.M.Media.state c.write_committed.new.media).contents refl c.in-Ok.ensures.agree) c.in-Ok.ensures.nothing_waits
+    (c.in-Ok.ensures.lists s (undo (pending c.reserve.new.self) s) (c.reserve.ensures.holds (g.M.Media.state c.args.media.now).contents s holds).lists))
+
+pub returns-in-Ok-clause-kept_images : goal.returns-in-Ok-clause-kept_images
+returns-in-Ok-clause-kept_images g c = λ room s holds.
+    images_kept c.args.self.now c.reserve.new.self (g.M.Media.state c.write_committed.new.media).contents s (written_dirty c.args.lba c.args.block.now s) c.reserve.ensures.same c.reserve.ensures.pending
+    (c.write_committed.ensures.kept (log_room_left c.args.self.now c.reserve.new.self c.reserve.ensures.parts c.reserve.ensures.entries room) s (undo (pending c.reserve.new.self) s) (c.reserve.ensures.holds (g.M.Media.state c.args.media.now).contents s holds).lists)
+
+pub returns-in-Err-clause-kept_images : goal.returns-in-Err-clause-kept_images
+returns-in-Err-clause-kept_images g c = λ room s holds.
+    images_kept c.args.self.now c.reserve.new.self (g.M.Media.state c.write_committed.new.media).contents s (written_dirty c.args.lba c.args.block.now s) c.reserve.ensures.same c.reserve.ensures.pending
+    (c.write_committed.ensures.kept (log_room_left c.args.self.now c.reserve.new.self c.reserve.ensures.parts c.reserve.ensures.entries room) s (undo (pending c.reserve.new.self) s) (c.reserve.ensures.holds (g.M.Media.state c.args.media.now).contents s holds).lists)

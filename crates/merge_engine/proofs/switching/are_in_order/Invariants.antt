@@ -1,0 +1,5 @@
+use Rattle.merge_engine.specs.Switch.{IsInOrderUpTo}
+use Rattle.merge_engine.proofs.switching.are_in_order.Given as goal
+
+abbrev pub invariant-loop-page : goal.invariant-loop-page
+invariant-loop-page l = IsInOrderUpTo l.cache.map.entries l.first l.block l.page

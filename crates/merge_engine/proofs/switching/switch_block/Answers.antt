@@ -1,0 +1,40 @@
+use Rattle.std.proofs.Common.{sym, ◌∙◌, ap}
+use Rattle.op_log.specs.Log.{LogValue}
+use Rattle.merge_engine.proofs.MoveLemmas.{pushed_some}
+use Rattle.merge_engine.proofs.SwitchedLemmas.{switching_fits, switching_spelled, switch_entries, agree_switch, lists_switch}
+use Rattle.merge_engine.proofs.switching.switch_block.Goals as goal
+
+pub note-requires-clause-fits : goal.note-requires-clause-fits
+note-requires-clause-fits c =
+    let r = c.requires in
+    switching_fits c.args.cache.now c.args.group c.args.block c.held_bits.result c.dirty_bits.result r.of_one r.is_map r.roles r.held r.block r.switch c.held_bits.ensures c.dirty_bits.ensures
+
+pub note-requires-clause-sound : goal.note-requires-clause-sound
+note-requires-clause-sound c =
+    let r = c.requires in
+    switching_spelled c.args.cache.now c.args.group c.args.block c.held_bits.result c.dirty_bits.result r.of_one r.is_map r.roles r.held r.block r.switch c.held_bits.ensures c.dirty_bits.ensures
+
+pub returns-clause-entries : goal.returns-clause-entries
+returns-clause-entries c =
+    let r = c.requires in
+    switch_entries c.args.cache.now c.args.group c.args.block c.held_bits.result c.dirty_bits.result r.of_one r.is_map r.roles r.held r.block r.switch c.held_bits.ensures c.dirty_bits.ensures c.note.new.cache.map.entries c.note.ensures.entries
+
+pub returns-clause-agree : goal.returns-clause-agree
+returns-clause-agree c =
+    let r = c.requires in
+    let n = c.note.ensures in
+    let s = c.set_role.ensures in
+    agree_switch c.args.cache.now c.note.new.cache c.set_role.new.self c.release.new.self c.args.group c.args.block c.held_bits.result c.dirty_bits.result r.of_one r.is_map r.roles r.held r.block r.switch c.held_bits.ensures c.dirty_bits.ensures n.cache n.log n.entries n.of_one n.roles c.release.ensures.released c.release.ensures.sound s.geometry s.role s.others
+
+pub returns-clause-lists : goal.returns-clause-lists
+returns-clause-lists c =
+    let r = c.requires in
+    let n = c.note.ensures in
+    let s = c.set_role.ensures in
+    lists_switch c.args.cache.now c.note.new.cache c.set_role.new.self c.release.new.self c.args.group c.args.block c.held_bits.result c.dirty_bits.result r.of_one r.is_map r.roles r.held r.block r.switch c.held_bits.ensures c.dirty_bits.ensures n.cache n.log n.entries n.of_one n.roles c.release.ensures.released c.release.ensures.sound s.geometry s.role s.others
+
+pub returns-clause-waits : goal.returns-clause-waits
+returns-clause-waits c = λ none. pushed_some c.args.cache.now.log.buffered _ (sym (ap (λ (l : LogValue). l.buffered) c.note.ensures.log) ∙ none)
+
+pub returns-clause-next : goal.returns-clause-next
+returns-clause-next c = ap (λ (l : LogValue). l.next) c.note.ensures.log
