@@ -7,7 +7,7 @@ use Rattle.cache_model.proofs.CountLemmas.{same_number}
 use Rattle.mapping.specs.MapValue.{MapValue}
 use Rattle.block_pool.specs.Pool.{PoolValue, IsInPool, role_of}
 use Rattle.block_pool.specs.declared.pool.Role.TheVariants.{Free, Data, Log}
-use Rattle.log_blocks.specs.Logs.{LogBlocksValue, IsInUse, is_in, is_open, next_place, released, without}
+use Rattle.log_blocks.specs.Logs.{LogBlocksValue, IsInUse, is_in, is_open, released, without}
 use Rattle.log_blocks.specs.Logs as list
 use Rattle.log_blocks.proofs.LogsLemmas.{is_in-at, is_in-without, length-without}
 use Rattle.merge_engine.specs.declared.parts.Parts.{Parts}

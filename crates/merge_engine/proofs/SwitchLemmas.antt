@@ -1,5 +1,5 @@
 -- A group that stands in order in the pages of a log block.
-use Rattle.std.proofs.Common.{◌≡◌, ℕ, ◌+◌, ◌*◌, ◌/◌, ◌%◌, ◌<◌, ◌≤◌, ◌⊎◌, Bool, None, Some, inl, inr, refl, sym, ◌∙◌, ap, subst, arith}
+use Rattle.std.proofs.Common.{◌≡◌, ℕ, ◌+◌, ◌*◌, ◌/◌, ◌%◌, ◌<◌, Bool, None, Some, inl, inr, refl, sym, ◌∙◌, ap, subst, arith}
 use Rattle.std.specs.Option.{option_map}
 use Rattle.std.specs.FinMap.{get}
 use Rattle.std.proofs.lemmas.Nat.{div-add-mod', div-mul-add, mod_below}
@@ -14,7 +14,7 @@ use Rattle.silent_evict.specs.Candidates.{IsHeld}
 use Rattle.log_blocks.specs.Logs.{LogBlocksValue, IsInUse, released}
 use Rattle.merge_engine.specs.declared.parts.Parts.{Parts}
 use Rattle.merge_engine.specs.Merges.{dropped, moved}
-use Rattle.merge_engine.specs.Steps.{HasFillers, PageMappedStay}
+use Rattle.merge_engine.specs.Steps.{HasFillers}
 use Rattle.merge_engine.specs.Switch.{CanSwitch, IsInOrder, IsSwitched, LogsStayOrLose, LogsStayOrSwitch}
 use Rattle.merge_engine.proofs.CopyLemmas.{placed_entry}
 use Rattle.merge_engine.proofs.GaveLemmas.{dropped_was}

@@ -1,11 +1,10 @@
 -- A log block becomes the data block of the group that it holds in order: the parts agree again.
-use Rattle.std.proofs.Common.{◌≡◌, ◌↔◌, ◌⊎◌, ℕ, ◌/◌, ◌%◌, true, false, IsTrue, Option, None, Some, refl, sym, ◌∙◌, ap, ap₂, subst, inl, inr}
+use Rattle.std.proofs.Common.{◌≡◌, ℕ, ◌/◌, ◌%◌, true, false, IsTrue, Option, None, Some, refl, sym, ◌∙◌, ap, ap₂, subst, inl, inr}
 use Rattle.std.specs.Option.{option_and_then, option_map}
 use Rattle.std.specs.FinMap.{get}
 use Rattle.std.proofs.lemmas.Bool.{cases_eq, both_ways}
 use Rattle.ft_base.specs.declared.geometry.Geometry.{Geometry}
 use Rattle.ft_base.specs.declared.block.Place.{Place}
-use Rattle.ft_base.specs.declared.block.Page.{Page}
 use Rattle.ft_base.specs.declared.record.Record.{Record}
 use Rattle.ft_base.specs.declared.record.Record.TheVariants.{SetGroup}
 use Rattle.ft_base.specs.Contents.{Contents}
@@ -23,7 +22,7 @@ use Rattle.mapping.specs.declared.bits.Choice.TheVariants.{Held, Dirty}
 use Rattle.mapping.specs.Bits.{chosen_of}
 use Rattle.mapping.specs.MapValue.{MapValue}
 use Rattle.block_pool.specs.Pool.{PoolValue, IsInPool, role_of}
-use Rattle.block_pool.specs.declared.pool.Role.TheVariants.{Data, Log}
+use Rattle.block_pool.specs.declared.pool.Role.TheVariants.{Data}
 use Rattle.log_blocks.specs.Logs.{LogBlocksValue, IsInUse, released}
 use Rattle.log_blocks.specs.Logs as list
 use Rattle.silent_evict.specs.Candidates.{IsHeld}

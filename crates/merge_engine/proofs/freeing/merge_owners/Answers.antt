@@ -1,8 +1,7 @@
-use Rattle.std.proofs.Common.{◌≡◌, false, true, rules, sym, ◌∙◌, ap, subst, arith}
+use Rattle.std.proofs.Common.{◌≡◌, false, true, rules, ◌∙◌, ap, arith}
 use Rattle.ft_base.specs.declared.geometry.Geometry.{Geometry}
 use Rattle.ft_media.proofs.DrivesLemmas.{drives_then}
 use Rattle.checkpoint.proofs.ProgramLemmas.{drives_err}
-use Rattle.log_blocks.specs.Logs.{LogBlocksValue}
 use Rattle.merge_engine.proofs.GoesLemmas.{given_then, given_from, goes_then}
 use Rattle.merge_engine.proofs.OwnerLemmas.{unowned_in, none_before-more, none_before-all, unowned_still}
 use Rattle.merge_engine.proofs.SwitchLemmas.{lose_then, used_before}

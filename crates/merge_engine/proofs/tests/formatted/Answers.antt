@@ -1,5 +1,4 @@
-use Rattle.std.proofs.Common.{◌≡◌, Some, Ok, sym, ap, ◌∙◌, rules}
-use Rattle.ft_base.specs.Contents.{Contents}
+use Rattle.std.proofs.Common.{◌≡◌, Some, Ok, rules}
 use Rattle.cache_model.specs.Loading.{load, newest}
 use Rattle.cache_model.specs.Records.{no_entries}
 use Rattle.checkpoint.specs.Found.{found}
