@@ -18,3 +18,4 @@ pub mod ReserveLemmas
 pub mod PlanLemmas
 pub mod TakingLemmas
 pub mod LendLemmas
+pub mod RankedLemmas

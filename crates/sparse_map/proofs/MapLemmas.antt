@@ -94,6 +94,10 @@ module _ {V : Type 0} where
     pub kept_free : 0 < bits → len < 2 ^ bits
     kept_free some = omega (arith, kept.room, kept_buckets some, pow_pos bits)
 
+    -- what a look-up asks of the groups that an index reads
+    pub find_room : (us : List (Group V)) → us ≡ groups → 0 < bits → length (items_of (slots_of us)) < 2 ^ bits
+    find_room us is some = omega (arith, kept_free some, kept.counted, ap (λ vs. length (items_of (slots_of vs))) is)
+
 -- ---- a new map
 module _ {V : Type 0} where
   no_slots : (us : List (Group V)) → us ≡ [] → slots_of us ≡ []

@@ -92,6 +92,12 @@ module _ {V : Type 0} where
         let after : is_small w ≡ 0 = ap (λ b. cond b 1 0) (le-ltb (vec_capacity w.items) 32 long) in
         omega (arith, changed)
 
+    pub small_groups-more : small_groups (set us i w) ≤ small_groups us + 1
+    unfolding is_small
+    small_groups-more =
+        let most : cond (ltb (vec_capacity w.items) 32) 1 0 ≤ 1 = elim (ltb (vec_capacity w.items) 32) as (λ b. cond b 1 0 ≤ 1) [ true ↦ omega arith | false ↦ omega arith ] in
+        omega (arith, changed, most)
+
     pub small_groups-one : vec_capacity u.items < 32 → 0 < small_groups us
     unfolding small_groups is_small
     small_groups-one short =

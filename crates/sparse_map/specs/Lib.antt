@@ -11,3 +11,4 @@ pub mod Lending
 pub mod Trimmed
 pub mod Places
 pub mod Seen
+pub mod Ranks

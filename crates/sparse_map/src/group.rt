@@ -1,7 +1,6 @@
 //! A group of 32 buckets: a number whose bit k says that bucket k is occupied, and the items of the occupied ones.
-ghost use Rattle.std.specs.Prelude.{◌≡◌, ◌+◌, ◌++◌, ◌^◌, ◌<◌, ◌≤◌, ◌↔◌, [], length, vec_len, Some, None, IfOk, IfSome, IsTrue, count_ones, option_map, option_copied, slice_set, ℕ};
+ghost use Rattle.std.specs.Prelude.{insert, ◌≡◌, ◌+◌, ◌++◌, ◌^◌, ◌<◌, ◌≤◌, ◌↔◌, [], length, vec_len, Some, None, IfOk, IfSome, IsTrue, count_ones, option_map, option_copied, slice_set, ℕ};
 ghost use Rattle.std.specs.Vec.{vec_capacity};
-ghost use Rattle.sparse_map.specs.Slots.{rank};
 
 use std::alloc::{AllocError, Global};
 use std::mem;
@@ -38,15 +37,6 @@ pub struct Group<V> {
     ghost counted: { length items.items ≡ count_ones occupied },
 }
 
-/// How many buckets below bucket `k` are occupied: the place of its item in the list.
-#[tactic(auto, using(crate::proofs::RankLemmas::rank_by_mask))]
-fn rank_in(occupied: u32, k: u32) -> usize
-    requires { k < 32 }
-    ensures { result ≡ rank occupied k }
-{
-    (occupied & ((1 << k) - 1)).count_ones() as usize
-}
-
 /// Moves items to the end of a list that has room for them.
 fn move_items<V: Drop>(items: Vec<(u64, V)>, list: &mut Vec<(u64, V)>)
     requires room { vec_len list.old + vec_len items ≤ vec_capacity list.old }
@@ -58,10 +48,27 @@ fn move_items<V: Drop>(items: Vec<(u64, V)>, list: &mut Vec<(u64, V)>)
     }
 }
 
+/// Puts an item into a list that has room for it. While the groups double, most items come last.
+fn insert_item<V: Drop>(items: &mut Vec<(u64, V)>, place: usize, item: (u64, V))
+    requires within { place ≤ vec_len items.old }
+    requires room { vec_len items.old < vec_capacity items.old }
+    ensures items { items.new.items ≡ insert items.old.items place item }
+    ensures capacity { vec_capacity items.new ≡ vec_capacity items.old }
+{
+    if place == items.len() {
+        items.push_reserved(item);
+        return;
+    }
+    match items.insert(place, item) {
+        Ok(()) => {}
+        Err(_) => unreachable!(),
+    }
+}
+
 impl<V: Drop> Group<V> {
-    ghost use Rattle.std.specs.Prelude.{◌≡◌, ◌<◌, ◌≤◌, ◌↔◌, ℕ, vec_len, Some, None, IsSome, IsTrue, OnOk, OnErr, is_some, option_map, slice_set};
+    ghost use Rattle.std.specs.Prelude.{◌≡◌, ◌<◌, ◌≤◌, ◌↔◌, ℕ, vec_len, Some, None, IsSome, IfSome, IfNone, IsTrue, OnOk, OnErr, is_some, option_map, slice_set};
     ghost use Rattle.std.specs.Vec.{vec_capacity};
-    ghost use Rattle.sparse_map.specs.Slots.{slot_at, key_at};
+    ghost use Rattle.sparse_map.specs.Slots.{slot_at, key_at, rank, exchanged};
     ghost use Rattle.sparse_map.specs.Groups.{slots_in};
     ghost use Rattle.sparse_map.specs.Trimmed.{IsTrimmed};
     ghost use Rattle.std.specs.Borrow.{sem};
@@ -96,35 +103,47 @@ impl<V: Drop> Group<V> {
         (self.occupied >> k) & 1 == 1
     }
 
-    /// The key in bucket `k`.
-    pub fn key(&self, k: u32) -> Option<u64>
+    /// How many buckets below bucket `k` are occupied: the place that its item has, or would get, in the list. It is
+    /// counted once for each key that is looked for, and handed on.
+    #[tactic(auto, using(crate::proofs::RankLemmas::rank_by_mask))]
+    pub fn rank_at(&self, k: u32) -> u32
         requires { k < 32 }
+        ensures { result ≡ rank self.now.occupied k }
+    {
+        (self.occupied & ((1 << k) - 1)).count_ones()
+    }
+
+    /// The key in bucket `k`.
+    pub fn key(&self, k: u32, place: u32) -> Option<u64>
+        requires within { k < 32 }
+        requires place { place ≡ rank self.now.occupied k }
         ensures { result ≡ key_at (slots_in self.now) k }
     {
         if !self.is_occupied(k) {
             return None;
         }
-        Some(self.items[rank_in(self.occupied, k)].0)
+        Some(self.items[place as usize].0)
     }
 
     /// The value in the occupied bucket `k`.
-    pub fn value(&self, k: u32) -> &V
+    pub fn value(&self, k: u32, place: u32) -> &V
         requires within { k < 32 }
+        requires place { place ≡ rank self.now.occupied k }
         requires occupied { IsSome (slot_at (slots_in self.now) k) }
         ensures { option_map (λ e. e.1) (slot_at (slots_in self.now) k) ≡ Some result.now }
     {
-        &self.items[rank_in(self.occupied, k)].1
+        &self.items[place as usize].1
     }
 
     /// The value in the occupied bucket `k`, to write to.
-    pub fn value_mut(&mut self, k: u32) -> &mut V
+    pub fn value_mut(&mut self, k: u32, place: u32) -> &mut V
         requires within { k < 32 }
+        requires place { place ≡ rank self.old.occupied k }
         requires occupied { IsSome (slot_at (slots_in self.old) k) }
         ensures* lends { sem 𝓛 (LendsGroupValue V.row self.entry k result) }
         ensures value { option_map (λ e. e.1) (slot_at (slots_in self.old) k) ≡ Some result.now }
     {
-        let place = rank_in(self.occupied, k);
-        &mut self.items[place].1
+        &mut self.items[place as usize].1
     }
 
     /// Whether an insertion would need memory.
@@ -135,48 +154,61 @@ impl<V: Drop> Group<V> {
     }
 
     /// Occupies a free bucket, within the room that the list has.
-    pub fn insert(&mut self, k: u32, item: (u64, V))
+    pub fn insert(&mut self, k: u32, place: u32, item: (u64, V))
         requires within { k < 32 }
+        requires place { place ≡ rank self.old.occupied k }
         requires free { slot_at (slots_in self.old) k ≡ None }
         requires room { vec_len self.old.items < vec_capacity self.old.items }
         ensures slots { slots_in self.new ≡ slice_set (slots_in self.old) k (Some item) }
         ensures len { vec_len self.new.items ≡ vec_len self.old.items + 1 }
         ensures capacity { vec_capacity self.new.items ≡ vec_capacity self.old.items }
     {
-        let place = rank_in(self.occupied, k);
-        match self.items.insert(place, item) {
-            Ok(()) => {}
-            Err(_) => unreachable!(),
-        }
+        insert_item(&mut self.items, place as usize, item);
         self.occupied |= 1 << k;
     }
 
     /// Frees an occupied bucket.
-    pub fn remove(&mut self, k: u32) -> (u64, V)
+    pub fn remove(&mut self, k: u32, place: u32) -> (u64, V)
         requires within { k < 32 }
+        requires place { place ≡ rank self.old.occupied k }
         requires occupied { IsSome (slot_at (slots_in self.old) k) }
         ensures item { slot_at (slots_in self.old) k ≡ Some result }
         ensures slots { slots_in self.new ≡ slice_set (slots_in self.old) k None }
         ensures len { vec_len self.new.items + 1 ≡ vec_len self.old.items }
         ensures capacity { vec_capacity self.new.items ≡ vec_capacity self.old.items }
         ensures room { vec_len self.new.items < vec_capacity self.new.items }
+        ensures rank { rank self.new.occupied k ≡ rank self.old.occupied k }
     {
-        let place = rank_in(self.occupied, k);
         self.occupied &= !(1 << k);
-        self.items.remove(place)
+        self.items.remove(place as usize)
     }
 
     /// Sets the item of an occupied bucket, and gives the old one.
-    pub fn replace(&mut self, k: u32, item: (u64, V)) -> (u64, V)
+    pub fn replace(&mut self, k: u32, place: u32, item: (u64, V)) -> (u64, V)
         requires within { k < 32 }
+        requires place { place ≡ rank self.old.occupied k }
         requires occupied { IsSome (slot_at (slots_in self.old) k) }
         ensures item { slot_at (slots_in self.old) k ≡ Some result }
         ensures slots { slots_in self.new ≡ slice_set (slots_in self.old) k (Some item) }
         ensures capacity { vec_capacity self.new.items ≡ vec_capacity self.old.items }
         ensures room { vec_len self.new.items ≡ vec_len self.old.items }
     {
-        let place = rank_in(self.occupied, k);
-        mem::replace(&mut self.items[place], item)
+        mem::replace(&mut self.items[place as usize], item)
+    }
+
+    /// Exchanges the items of two occupied buckets.
+    pub fn exchange(&mut self, k: u32, k_place: u32, l: u32, l_place: u32)
+        requires k_within { k < 32 }
+        requires l_within { l < 32 }
+        requires k_place { k_place ≡ rank self.old.occupied k }
+        requires l_place { l_place ≡ rank self.old.occupied l }
+        requires k_occupied { IsSome (slot_at (slots_in self.old) k) }
+        requires l_occupied { IsSome (slot_at (slots_in self.old) l) }
+        ensures slots { slots_in self.new ≡ exchanged (slots_in self.old) k l }
+        ensures len { vec_len self.new.items ≡ vec_len self.old.items }
+        ensures capacity { vec_capacity self.new.items ≡ vec_capacity self.old.items }
+    {
+        self.items.swap(k_place as usize, l_place as usize);
     }
 
     /// Moves the items into the blank list, which has room for all that the group can hold.
@@ -188,6 +220,38 @@ impl<V: Drop> Group<V> {
         let Blank { mut list } = blank;
         move_items(mem::replace(&mut self.items, Vec::new(alloc)), &mut list);
         self.items = list;
+    }
+
+    /// Moves the items out of a list for a whole group into one that fits, and gives the long one as a blank list, so that
+    /// no new one has to be made. Nothing changes where the list isn't such a one, or where there is no memory.
+    pub fn shorten(&mut self, alloc: Global) -> Option<Blank<V>>
+        ensures occupied { self.new.occupied ≡ self.old.occupied }
+        ensures items { self.new.items.items ≡ self.old.items.items }
+        ensures capacity { vec_capacity self.new.items ≤ vec_capacity self.old.items }
+        ensures kept { IfNone result (vec_capacity self.new.items ≡ vec_capacity self.old.items) }
+        ensures trimmed { IfSome result (λ _. IsTrimmed self.new) }
+    {
+        let wanted = self.items.len() + SLACK;
+        if self.items.capacity() != 32 || wanted >= 32 {
+            return None;
+        }
+        let mut list = match Vec::with_capacity(alloc, wanted) {
+            Ok(list) => list,
+            Err(_) => return None,
+        };
+        let mut long = mem::replace(&mut self.items, Vec::new(alloc));
+        match list.append(&mut long) {
+            Ok(()) => {}
+            Err(_) => unreachable!(),
+        }
+        // What `append` has room for it doesn't lengthen, but it doesn't promise that.
+        if list.capacity() > wanted {
+            move_items(list, &mut long);
+            self.items = long;
+            return None;
+        }
+        self.items = list;
+        Some(Blank { list: long })
     }
 
     /// Gives back what the list holds beyond its items and a little room: a list of just that length takes its place.

@@ -14,7 +14,9 @@ ghost use Rattle.sparse_map.specs.Removal.{IsTaken};
 use crate::group::{Blank, Group};
 use crate::home::bits_for;
 use crate::moving::{groups_ahead, place_groups};
-use crate::table::{Grown, Place, places_of, probe, put, remove_at, replace, trim_grown, value_at};
+use crate::table::{
+    Grown, Place, find, places_of, probe, put, remove_at, replace, take_blank, trim_grown, value_at,
+};
 use std::alloc::{AllocError, Global};
 use std::marker::Model;
 use std::mem;
@@ -134,25 +136,13 @@ impl<V: Drop> SparseMap<V> {
         (group.occupied, group.items.as_slice())
     }
 
-    /// The bucket that has a key.
-    fn find(&self, key: u64) -> Option<u64>
-        ensures { MatchOption result ((b : ℕ) → key_at self.now.slots b ≢ Some key) (λ b. key_at self.now.slots b ≡ Some key) }
-    {
-        if self.bits == 0 {
-            return None;
-        }
-        match probe(self.groups.as_slice(), self.bits, key) {
-            Place::Found(bucket) => Some(bucket),
-            Place::Free(_) => None,
-        }
-    }
-
     /// The value of a key.
     pub fn get(&self, key: u64) -> Option<&V>
         ensures { option_copied result ≡ map.get (map_of self.now) key }
     {
-        let bucket = self.find(key)?;
-        Some(value_at(self.groups.as_slice(), bucket))
+        let groups = self.groups.as_slice();
+        let seat = find(groups, self.bits, key)?;
+        Some(value_at(groups, seat.bucket, seat.rank))
     }
 
     /// The value of a key, to write to.
@@ -160,10 +150,10 @@ impl<V: Drop> SparseMap<V> {
         ensures* writes_back { sem 𝓛 (LendsValue V.row self.entry key result) }
         ensures value { option_copied_mut result ≡ map.get (map_of self.old) key }
     {
-        match self.find(key) {
-            Some(bucket) => {
-                let k = (bucket % 32) as u32;
-                Some(self.groups[(bucket / 32) as usize].value_mut(k))
+        match find(self.groups.as_slice(), self.bits, key) {
+            Some(seat) => {
+                let k = (seat.bucket % 32) as u32;
+                Some(self.groups[(seat.bucket / 32) as usize].value_mut(k, seat.rank))
             }
             None => None,
         }
@@ -182,9 +172,10 @@ impl<V: Drop> SparseMap<V> {
         ensures loose { self.new.loose ≤ self.old.loose }
         ensures sound { IsSound self.new }
     {
-        match probe(self.groups.as_slice(), self.bits, key) {
+        let spot = probe(self.groups.as_slice(), self.bits, key);
+        match spot.at {
             Place::Found(bucket) => {
-                let (_, old) = replace(self.groups.as_mut_slice(), bucket, (key, value));
+                let (_, old) = replace(self.groups.as_mut_slice(), bucket, spot.rank, (key, value));
                 Some(old)
             }
             Place::Free(bucket) => {
@@ -193,6 +184,7 @@ impl<V: Drop> SparseMap<V> {
                     self.groups.as_mut_slice(),
                     &mut self.stock,
                     bucket,
+                    spot.rank,
                     (key, value),
                 );
                 self.len += 1;
@@ -216,8 +208,13 @@ impl<V: Drop> SparseMap<V> {
         ensures loose { self.new.loose ≤ self.old.loose + 1 }
         ensures sound { IsSound self.new }
     {
-        let bucket = self.find(key)?;
-        let (_, value) = remove_at(self.groups.as_mut_slice(), self.bits, bucket);
+        let seat = find(self.groups.as_slice(), self.bits, key)?;
+        let (_, value) = remove_at(
+            self.groups.as_mut_slice(),
+            self.bits,
+            seat.bucket,
+            seat.rank,
+        );
         self.len -= 1;
         Some(value)
     }
@@ -251,6 +248,43 @@ impl<V: Drop> SparseMap<V> {
     /// Keeps blank lists ready for `n` new keys, within the buckets that there are, and gives back what the groups that
     /// grew into such lists don't need of them. Refused, the next call tries that again.
     fn stock_up(&mut self, n: u64) -> Result<(), AllocError>
+        requires { 4 * (len_of self.old + n) ≤ 3 * buckets_of self.old }
+        ensures slots { self.new.slots ≡ self.old.slots }
+        ensures spare { OnOk result (self.new.spare ≡ max self.old.spare n) }
+        ensures memory { OnOk result (self.new.places ≤ len_of self.new + buckets_of self.new / 8 + self.new.loose) }
+        ensures blanks { OnOk result (self.new.blanks ≤ self.new.spare) }
+        ensures loose { self.new.loose ≤ self.old.loose }
+        ensures err { OnErr result (self.new.spare ≡ self.old.spare) }
+        ensures refused { OnErr result ((self.new.places ≤ self.old.places) × (self.new.blanks ≤ max self.old.blanks (max self.old.spare n))) }
+    {
+        self.take_back(n);
+        self.restock(n)
+    }
+
+    /// Where one group grew into a blank list, its items move into a list that fits, and the long one is blank again, while
+    /// there are fewer than are wanted. So in a run of single reservations no list for a whole group is made anew.
+    fn take_back(&mut self, n: u64)
+        ensures slots { self.new.slots ≡ self.old.slots }
+        ensures spare { self.new.spare ≡ self.old.spare }
+        ensures places { self.new.places ≤ self.old.places }
+        ensures blanks { self.new.blanks ≤ max self.old.blanks (max self.old.spare n) }
+        ensures loose { self.new.loose ≤ self.old.loose }
+    {
+        let kept = self.stock.len();
+        if kept as u64 >= self.spare.max(n) || kept >= self.stock.capacity() {
+            return;
+        }
+        if let Grown::In(bucket) = self.grown {
+            if let Some(blank) = take_blank(self.alloc, self.groups.as_mut_slice(), bucket) {
+                self.stock.push_reserved(blank);
+                self.grown = Grown::Nowhere;
+            }
+        }
+    }
+
+    /// Makes blank lists for `n` new keys, within the buckets that there are, and gives back what the groups that
+    /// grew into such lists don't need of them. Refused, the next call tries that again.
+    fn restock(&mut self, n: u64) -> Result<(), AllocError>
         requires { 4 * (len_of self.old + n) ≤ 3 * buckets_of self.old }
         ensures slots { self.new.slots ≡ self.old.slots }
         ensures spare { OnOk result (self.new.spare ≡ max self.old.spare n) }

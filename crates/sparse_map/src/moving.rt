@@ -2,6 +2,7 @@
 ghost use Rattle.std.specs.Prelude.{◌≡◌, ◌≢◌, ℕ, ◌+◌, ◌*◌, ◌/◌, ◌^◌, ◌<◌, ◌≤◌, [], ◌∷◌, length, vec_len, map, replicate, Some, None, IfOk, slice_index_or, slice_set};
 ghost use Rattle.sparse_map.specs.Slots.{slot_at};
 ghost use Rattle.sparse_map.specs.Groups.{slots_of};
+ghost use Rattle.sparse_map.specs.Ranks.{IsRankOf};
 ghost use Rattle.sparse_map.specs.Moved.{items_in, CanTake, HasTaken};
 ghost use Rattle.sparse_map.specs.Plan.{places_for, plan_of, with_items, lens_of, rooms_of};
 
@@ -51,15 +52,16 @@ pub fn groups_ahead<V: Drop>(
 }
 
 /// Sets the item of a free bucket, in a list that has a free place.
-fn put_ready<V: Drop>(groups: &mut [Group<V>], bucket: u64, item: (u64, V))
+fn put_ready<V: Drop>(groups: &mut [Group<V>], bucket: u64, rank: u32, item: (u64, V))
     requires within { bucket < 32 * length groups.old }
     requires free { slot_at (slots_of groups.old) bucket ≡ None }
+    requires rank { IsRankOf groups.old bucket rank }
     requires room { slice_index_or (lens_of groups.old) (bucket / 32) 0 < slice_index_or (rooms_of groups.old) (bucket / 32) 0 }
     ensures slots { slots_of groups.new ≡ slice_set (slots_of groups.old) bucket (Some item) }
     ensures lens { lens_of groups.new ≡ slice_set (lens_of groups.old) (bucket / 32) (slice_index_or (lens_of groups.old) (bucket / 32) 0 + 1) }
     ensures rooms { rooms_of groups.new ≡ rooms_of groups.old }
 {
-    groups[(bucket / 32) as usize].insert((bucket % 32) as u32, item);
+    groups[(bucket / 32) as usize].insert((bucket % 32) as u32, rank, item);
 }
 
 /// Puts an item with a new key into the first free bucket from its home on.
@@ -69,9 +71,10 @@ fn place<V: Drop>(groups: &mut [Group<V>], bits: u32, item: (u64, V))
     requires ready { CanTake (2 ^ bits) groups.old (item ∷ []) }
     ensures { HasTaken (2 ^ bits) groups.old groups.new (item ∷ []) }
 {
-    match probe(groups, bits, item.0) {
+    let spot = probe(groups, bits, item.0);
+    match spot.at {
         Place::Found(_) => unreachable!(),
-        Place::Free(bucket) => put_ready(groups, bucket, item),
+        Place::Free(bucket) => put_ready(groups, bucket, spot.rank, item),
     }
 }
 

@@ -1,5 +1,5 @@
 //! The buckets of all groups as one table: bucket b is bucket b % 32 of group b / 32.
-ghost use Rattle.std.specs.Prelude.{◌≡◌, ◌≢◌, ℕ, ◌+◌, ◌*◌, ◌^◌, ◌<◌, ◌≤◌, length, vec_len, Some, None, IsSome, option_map, OnOk, is_ok, slice_set, ◌/◌, ◌-◌, ◌⊎◌, ◌==◌, if◌then◌else◌, IsTrue, true, false, min};
+ghost use Rattle.std.specs.Prelude.{◌≡◌, ◌≢◌, ℕ, ◌+◌, ◌*◌, ◌%◌, ◌^◌, ◌<◌, ◌≤◌, length, vec_len, Some, None, IsSome, IfSome, IfNone, MatchOption, is_some, option_map, OnOk, is_ok, slice_set, ◌/◌, ◌-◌, ◌⊎◌, ◌==◌, if◌then◌else◌, IsTrue, true, false, min};
 ghost use Rattle.std.specs.List.{All};
 ghost use Rattle.std.specs.Ordering.{nat_cmp};
 ghost use Rattle.std.specs.FinMap.{find};
@@ -7,6 +7,7 @@ ghost use Rattle.std.specs.Vec.{vec_capacity};
 ghost use Rattle.sparse_map.specs.Slots.{slot_at, key_at, items_of, exchanged};
 ghost use Rattle.sparse_map.specs.Groups.{slots_in, slots_of, small_groups};
 ghost use Rattle.sparse_map.specs.Packed.{IsPacked};
+ghost use Rattle.sparse_map.specs.Ranks.{IsRankOf, IsRankAt};
 ghost use Rattle.sparse_map.specs.Probe.{IsPlaceOf, IsShifted};
 ghost use Rattle.sparse_map.specs.Removal.{shifted_back};
 ghost use Rattle.sparse_map.specs.Trimmed.{IsTrimmed, AreTrimmed, MayHaveGrown};
@@ -25,6 +26,21 @@ pub enum Place {
     Found(u64),
     /// No bucket has it, and this free one is the first on its way from home.
     Free(u64),
+}
+
+/// What a look-up ends at: a bucket, and its rank, which is the place that its item has or would get in the list of its
+/// group. Who goes on with the bucket counts nothing again.
+#[derive(Clone, Copy)]
+pub struct Spot {
+    pub at: Place,
+    pub rank: u32,
+}
+
+/// The bucket of a key that is there, and its rank.
+#[derive(Clone, Copy)]
+pub struct Seat {
+    pub bucket: u64,
+    pub rank: u32,
 }
 
 /// Which groups may have grown into a blank list since they were last trimmed.
@@ -57,21 +73,39 @@ impl Grown {
     }
 }
 
-/// The key in a bucket.
-pub fn key_at<V: Drop>(groups: &[Group<V>], bucket: u64) -> Option<u64>
+/// The rank of a bucket.
+fn rank_at<V: Drop>(groups: &[Group<V>], bucket: u64) -> u32
     requires { bucket < 32 * length groups.now }
+    ensures { IsRankOf groups.now bucket result }
+{
+    groups[(bucket / 32) as usize].rank_at((bucket % 32) as u32)
+}
+
+/// The rank of a bucket after an occupied one, of which this is the rank.
+fn next_rank(rank: u32, bucket: u64) -> u32
+    requires { rank ≤ 32 }
+    ensures { result ≡ (if bucket % 32 == 0 then 0 else rank + 1) }
+{
+    if bucket % 32 == 0 { 0 } else { rank + 1 }
+}
+
+/// The key in a bucket.
+fn key_at<V: Drop>(groups: &[Group<V>], bucket: u64, rank: u32) -> Option<u64>
+    requires within { bucket < 32 * length groups.now }
+    requires rank { IsRankOf groups.now bucket rank }
     ensures { result ≡ key_at (slots_of groups.now) bucket }
 {
-    groups[(bucket / 32) as usize].key((bucket % 32) as u32)
+    groups[(bucket / 32) as usize].key((bucket % 32) as u32, rank)
 }
 
 /// The value in an occupied bucket.
-pub fn value_at<V: Drop>(groups: &[Group<V>], bucket: u64) -> &V
+pub fn value_at<V: Drop>(groups: &[Group<V>], bucket: u64, rank: u32) -> &V
     requires within { bucket < 32 * length groups.now }
     requires occupied { IsSome (slot_at (slots_of groups.now) bucket) }
+    requires rank { IsRankOf groups.now bucket rank }
     ensures { option_map (λ e. e.1) (slot_at (slots_of groups.now) bucket) ≡ Some result.now }
 {
-    groups[(bucket / 32) as usize].value((bucket % 32) as u32)
+    groups[(bucket / 32) as usize].value((bucket % 32) as u32, rank)
 }
 
 /// Makes room for one item in a group that has a free bucket: a list that is full gives way to a blank one. Answers
@@ -80,6 +114,7 @@ fn make_room<V: Drop>(alloc: Global, group: &mut Group<V>, stock: &mut Vec<Blank
     requires below { vec_len group.old.items < 32 }
     requires stocked { vec_capacity group.old.items < 32 → 0 < vec_len stock.old }
     ensures slots { slots_in group.new ≡ slots_in group.old }
+    ensures occupied { group.new.occupied ≡ group.old.occupied }
     ensures room { vec_len group.new.items < vec_capacity group.new.items }
     ensures len { vec_len group.new.items ≡ vec_len group.old.items }
     ensures widened { ((result ≡ false) × (vec_capacity group.new.items ≡ vec_capacity group.old.items) × (vec_len stock.new ≡ vec_len stock.old))
@@ -101,10 +136,12 @@ pub fn put<V: Drop>(
     groups: &mut [Group<V>],
     stock: &mut Vec<Blank<V>>,
     bucket: u64,
+    rank: u32,
     item: (u64, V),
 ) -> bool
     requires within { bucket < 32 * length groups.old }
     requires free { slot_at (slots_of groups.old) bucket ≡ None }
+    requires rank { IsRankOf groups.old bucket rank }
     requires stocked { 0 < small_groups groups.old → 0 < vec_len stock.old }
     ensures slots { slots_of groups.new ≡ slice_set (slots_of groups.old) bucket (Some item) }
     ensures one_less { vec_len stock.old ≤ vec_len stock.new + 1 }
@@ -116,79 +153,154 @@ pub fn put<V: Drop>(
 {
     let group = &mut groups[(bucket / 32) as usize];
     let grew = make_room(alloc, group, stock);
-    group.insert((bucket % 32) as u32, item);
+    group.insert((bucket % 32) as u32, rank, item);
     grew
 }
 
 /// Sets the item of an occupied bucket, and gives the old one.
-pub fn replace<V: Drop>(groups: &mut [Group<V>], bucket: u64, item: (u64, V)) -> (u64, V)
+pub fn replace<V: Drop>(groups: &mut [Group<V>], bucket: u64, rank: u32, item: (u64, V)) -> (u64, V)
     requires within { bucket < 32 * length groups.old }
     requires occupied { IsSome (slot_at (slots_of groups.old) bucket) }
+    requires rank { IsRankOf groups.old bucket rank }
     ensures item { slot_at (slots_of groups.old) bucket ≡ Some result }
     ensures slots { slots_of groups.new ≡ slice_set (slots_of groups.old) bucket (Some item) }
     ensures sizes { sizes_of groups.new ≡ sizes_of groups.old }
     ensures small { small_groups groups.new ≡ small_groups groups.old }
 {
-    groups[(bucket / 32) as usize].replace((bucket % 32) as u32, item)
+    groups[(bucket / 32) as usize].replace((bucket % 32) as u32, rank, item)
 }
 
 /// Frees an occupied bucket.
-fn take<V: Drop>(groups: &mut [Group<V>], bucket: u64) -> (u64, V)
+fn take<V: Drop>(groups: &mut [Group<V>], bucket: u64, rank: u32) -> (u64, V)
     requires within { bucket < 32 * length groups.old }
     requires occupied { IsSome (slot_at (slots_of groups.old) bucket) }
+    requires rank { IsRankOf groups.old bucket rank }
     ensures item { slot_at (slots_of groups.old) bucket ≡ Some result }
     ensures slots { slots_of groups.new ≡ slice_set (slots_of groups.old) bucket None }
     ensures small { small_groups groups.new ≡ small_groups groups.old }
     ensures places { places_of (sizes_of groups.new) ≡ places_of (sizes_of groups.old) }
     ensures loose { (grown : Grown) → loose_of grown (sizes_of groups.new) ≤ loose_of grown (sizes_of groups.old) + 1 }
 {
-    groups[(bucket / 32) as usize].remove((bucket % 32) as u32)
+    groups[(bucket / 32) as usize].remove((bucket % 32) as u32, rank)
+}
+
+/// Exchanges the items of two occupied buckets of one group.
+fn exchange_within<V: Drop>(groups: &mut [Group<V>], a: u64, a_rank: u32, b: u64, b_rank: u32)
+    requires a_within { a < 32 * length groups.old }
+    requires b_within { b < 32 * length groups.old }
+    requires together { a / 32 ≡ b / 32 }
+    requires a_occupied { IsSome (slot_at (slots_of groups.old) a) }
+    requires b_occupied { IsSome (slot_at (slots_of groups.old) b) }
+    requires a_rank { IsRankOf groups.old a a_rank }
+    requires b_rank { IsRankOf groups.old b b_rank }
+    ensures slots { slots_of groups.new ≡ exchanged (slots_of groups.old) a b }
+    ensures sizes { sizes_of groups.new ≡ sizes_of groups.old }
+    ensures small { small_groups groups.new ≡ small_groups groups.old }
+{
+    groups[(a / 32) as usize].exchange((a % 32) as u32, a_rank, (b % 32) as u32, b_rank);
+}
+
+/// Exchanges the items of occupied buckets of two groups.
+fn exchange_across<V: Drop>(groups: &mut [Group<V>], a: u64, a_rank: u32, b: u64, b_rank: u32)
+    requires a_within { a < 32 * length groups.old }
+    requires b_within { b < 32 * length groups.old }
+    requires apart { a / 32 ≢ b / 32 }
+    requires a_occupied { IsSome (slot_at (slots_of groups.old) a) }
+    requires b_occupied { IsSome (slot_at (slots_of groups.old) b) }
+    requires a_rank { IsRankOf groups.old a a_rank }
+    requires b_rank { IsRankOf groups.old b b_rank }
+    ensures slots { slots_of groups.new ≡ exchanged (slots_of groups.old) a b }
+    ensures sizes { sizes_of groups.new ≡ sizes_of groups.old }
+    ensures small { small_groups groups.new ≡ small_groups groups.old }
+{
+    let first = groups[(a / 32) as usize].remove((a % 32) as u32, a_rank);
+    let second = groups[(b / 32) as usize].replace((b % 32) as u32, b_rank, first);
+    groups[(a / 32) as usize].insert((a % 32) as u32, a_rank, second);
 }
 
 /// Exchanges the items of two occupied buckets.
-pub fn exchange<V: Drop>(groups: &mut [Group<V>], a: u64, b: u64)
+fn exchange<V: Drop>(groups: &mut [Group<V>], a: u64, a_rank: u32, b: u64, b_rank: u32)
     requires a_within { a < 32 * length groups.old }
     requires b_within { b < 32 * length groups.old }
     requires apart { a ≢ b }
     requires a_occupied { IsSome (slot_at (slots_of groups.old) a) }
     requires b_occupied { IsSome (slot_at (slots_of groups.old) b) }
+    requires a_rank { IsRankOf groups.old a a_rank }
+    requires b_rank { IsRankOf groups.old b b_rank }
     ensures slots { slots_of groups.new ≡ exchanged (slots_of groups.old) a b }
     ensures sizes { sizes_of groups.new ≡ sizes_of groups.old }
     ensures small { small_groups groups.new ≡ small_groups groups.old }
+    ensures occupied { (c : ℕ) → is_some (slot_at (slots_of groups.new) c) ≡ is_some (slot_at (slots_of groups.old) c) }
+    ensures ranks { (c place : ℕ) → IsRankOf groups.old c place → IsRankOf groups.new c place }
 {
-    let first = groups[(a / 32) as usize].remove((a % 32) as u32);
-    let second = groups[(b / 32) as usize].replace((b % 32) as u32, first);
-    groups[(a / 32) as usize].insert((a % 32) as u32, second);
+    if a / 32 == b / 32 {
+        exchange_within(groups, a, a_rank, b, b_rank);
+    } else {
+        exchange_across(groups, a, a_rank, b, b_rank);
+    }
 }
 
 /// Looks for a key from its home on, going round.
-pub fn probe<V: Drop>(groups: &[Group<V>], bits: u32, key: u64) -> Place
+pub fn probe<V: Drop>(groups: &[Group<V>], bits: u32, key: u64) -> Spot
     requires many { 5 ≤ bits }
     requires few { bits ≤ 31 }
     requires buckets { length (slots_of groups.now) ≡ 2 ^ bits }
     requires packed { IsPacked (slots_of groups.now) }
     requires room { length (items_of (slots_of groups.now)) < 2 ^ bits }
-    ensures { IsPlaceOf (slots_of groups.now) key result }
+    ensures place { IsPlaceOf (slots_of groups.now) key result.at }
+    ensures rank { IsRankAt groups.now result.at result.rank }
 {
     let buckets = bucket_count(bits);
     let mut bucket = home_of(bits, key);
+    let mut rank = rank_at(groups, bucket);
     for _step in 0..buckets {
-        match key_at(groups, bucket) {
-            None => return Place::Free(bucket),
+        match key_at(groups, bucket, rank) {
+            None => return Spot {
+                at: Place::Free(bucket),
+                rank,
+            },
             Some(found) => {
                 if found == key {
-                    return Place::Found(bucket);
+                    return Spot {
+                        at: Place::Found(bucket),
+                        rank,
+                    };
                 }
             }
         }
         bucket = next_bucket(buckets, bucket);
+        rank = next_rank(rank, bucket);
     }
     unreachable!()
 }
 
+/// Where a key is, if it is there.
+pub fn find<V: Drop>(groups: &[Group<V>], bits: u32, key: u64) -> Option<Seat>
+    requires many { 0 < bits → 5 ≤ bits }
+    requires few { bits ≤ 31 }
+    requires buckets { length (slots_of groups.now) ≡ (if bits == 0 then 0 else 2 ^ bits) }
+    requires packed { IsPacked (slots_of groups.now) }
+    requires room { 0 < bits → length (items_of (slots_of groups.now)) < 2 ^ bits }
+    ensures found { MatchOption result ((b : ℕ) → key_at (slots_of groups.now) b ≢ Some key) (λ seat. key_at (slots_of groups.now) seat.bucket ≡ Some key) }
+    ensures rank { IfSome result (λ seat. IsRankOf groups.now seat.bucket seat.rank) }
+{
+    if bits == 0 {
+        return None;
+    }
+    let spot = probe(groups, bits, key);
+    match spot.at {
+        Place::Found(bucket) => Some(Seat {
+            bucket,
+            rank: spot.rank,
+        }),
+        Place::Free(_) => None,
+    }
+}
+
 /// Moves an item that is to go away to where its bucket can be freed, so that each other item stays reachable from its
-/// home: an item further on whose way from home leads over the hole takes its place. Gives the last such bucket.
-fn shift_back<V: Drop>(groups: &mut [Group<V>], bits: u32, bucket: u64) -> u64
+/// home: an item further on whose way from home leads over the hole takes its place. Gives the last such bucket, and its
+/// rank.
+fn shift_back<V: Drop>(groups: &mut [Group<V>], bits: u32, bucket: u64, rank: u32) -> (u64, u32)
     requires many { 5 ≤ bits }
     requires few { bits ≤ 31 }
     requires buckets { length (slots_of groups.old) ≡ 2 ^ bits }
@@ -196,31 +308,37 @@ fn shift_back<V: Drop>(groups: &mut [Group<V>], bits: u32, bucket: u64) -> u64
     requires room { length (items_of (slots_of groups.old)) < 2 ^ bits }
     requires within { bucket < 2 ^ bits }
     requires occupied { IsSome (slot_at (slots_of groups.old) bucket) }
-    ensures shifted { IsShifted (slots_of groups.old) (slots_of groups.new) bucket result }
-    ensures walk { slice_set (slots_of groups.new) result None ≡ shifted_back (2 ^ bits) (2 ^ bits - 1) bucket bucket (slice_set (slots_of groups.old) bucket None) }
+    requires rank { IsRankOf groups.old bucket rank }
+    ensures shifted { IsShifted (slots_of groups.old) (slots_of groups.new) bucket result.0 }
+    ensures rank { IsRankOf groups.new result.0 result.1 }
+    ensures walk { slice_set (slots_of groups.new) result.0 None ≡ shifted_back (2 ^ bits) (2 ^ bits - 1) bucket bucket (slice_set (slots_of groups.old) bucket None) }
     ensures sizes { sizes_of groups.new ≡ sizes_of groups.old }
     ensures small { small_groups groups.new ≡ small_groups groups.old }
 {
     let buckets = bucket_count(bits);
     let mut hole = bucket;
+    let mut hole_rank = rank;
     let mut at = bucket;
+    let mut at_rank = rank;
     for _step in 1..buckets {
         at = next_bucket(buckets, at);
-        match key_at(groups, at) {
-            None => return hole,
+        at_rank = next_rank(at_rank, at);
+        match key_at(groups, at, at_rank) {
+            None => return (hole, hole_rank),
             Some(key) => {
                 if leads_over(bits, key, hole, at) {
-                    exchange(groups, hole, at);
+                    exchange(groups, hole, hole_rank, at, at_rank);
                     hole = at;
+                    hole_rank = at_rank;
                 }
             }
         }
     }
-    hole
+    (hole, hole_rank)
 }
 
 /// Takes the item of an occupied bucket out of the table.
-pub fn remove_at<V: Drop>(groups: &mut [Group<V>], bits: u32, bucket: u64) -> (u64, V)
+pub fn remove_at<V: Drop>(groups: &mut [Group<V>], bits: u32, bucket: u64, rank: u32) -> (u64, V)
     requires many { 5 ≤ bits }
     requires few { bits ≤ 31 }
     requires buckets { length (slots_of groups.old) ≡ 2 ^ bits }
@@ -228,6 +346,7 @@ pub fn remove_at<V: Drop>(groups: &mut [Group<V>], bits: u32, bucket: u64) -> (u
     requires room { length (items_of (slots_of groups.old)) < 2 ^ bits }
     requires within { bucket < 2 ^ bits }
     requires occupied { IsSome (slot_at (slots_of groups.old) bucket) }
+    requires rank { IsRankOf groups.old bucket rank }
     ensures item { slot_at (slots_of groups.old) bucket ≡ Some result }
     ensures found { (key : ℕ) → find nat_cmp key (items_of (slots_of groups.new)) ≡ (if key == result.0 then None else find nat_cmp key (items_of (slots_of groups.old))) }
     ensures count { length (items_of (slots_of groups.new)) + 1 ≡ length (items_of (slots_of groups.old)) }
@@ -237,8 +356,8 @@ pub fn remove_at<V: Drop>(groups: &mut [Group<V>], bits: u32, bucket: u64) -> (u
     ensures places { places_of (sizes_of groups.new) ≡ places_of (sizes_of groups.old) }
     ensures loose { (grown : Grown) → loose_of grown (sizes_of groups.new) ≤ loose_of grown (sizes_of groups.old) + 1 }
 {
-    let hole = shift_back(groups, bits, bucket);
-    take(groups, hole)
+    let (hole, hole_rank) = shift_back(groups, bits, bucket, rank);
+    take(groups, hole, hole_rank)
 }
 
 /// Gives back the memory that the groups' lists hold beyond their items and a little room. Refused at the first list for
@@ -274,6 +393,23 @@ pub fn trim_grown<V: Drop>(
         Grown::In(bucket) => trim_one(alloc, groups, bucket),
         Grown::Anywhere => trim_all(alloc, groups),
     }
+}
+
+/// Moves the items of the group of a bucket out of a list for a whole group into one that fits, and gives the long one as
+/// a blank list. Nothing changes where the group has no such list, or there is no memory for the short one.
+pub fn take_blank<V: Drop>(alloc: Global, groups: &mut [Group<V>], bucket: u64) -> Option<Blank<V>>
+    ensures slots { slots_of groups.new ≡ slots_of groups.old }
+    ensures sizes { IfNone result (sizes_of groups.new ≡ sizes_of groups.old) }
+    ensures same { IfNone result (small_groups groups.new ≡ small_groups groups.old) }
+    ensures fewer { places_of (sizes_of groups.new) ≤ places_of (sizes_of groups.old) }
+    ensures one_more { small_groups groups.new ≤ small_groups groups.old + 1 }
+    ensures loose { IfSome result (λ _. loose_of Nowhere (sizes_of groups.new) ≤ loose_of (In bucket) (sizes_of groups.old)) }
+{
+    let i = (bucket / 32) as usize;
+    if i >= groups.len() {
+        return None;
+    }
+    groups[i].shorten(alloc)
 }
 
 /// Gives back what the group of a bucket holds beyond its items and a little room.

@@ -37,3 +37,6 @@ returns-clause-rooms g c =
     let us = c.args.groups.now in
     let i = c.args.bucket / 32 in
     rooms_of-set us i (get_or us i read) read c.insert.new.self (omega (arith, c.requires.within)) refl c.insert.ensures.capacity
+
+pub insert-requires-clause-place : goal.insert-requires-clause-place
+insert-requires-clause-place g c = c.requires.rank c.index-groups-bucket.result

@@ -1,6 +1,6 @@
 use Rattle.std.proofs.Common.{◌<◌, ◌%◌, ◌/◌, Some, refl, sym, ap, ◌∙◌, get_or, inl, inr, arith, length, set, ◌≤◌}
 use Rattle.std.specs.Vec.{vec_capacity}
-use Rattle.sparse_map.specs.Slots.{slot_at}
+use Rattle.sparse_map.specs.Slots.{rank, slot_at}
 use Rattle.sparse_map.proofs.GroupLemmas.{free_below_32}
 use Rattle.sparse_map.proofs.TableLemmas.{slot_of_bucket, set_bucket, small_groups-same, small_groups-wider, small_groups-one}
 use Rattle.sparse_map.specs.Places.{sizes_of}
@@ -83,3 +83,9 @@ returns-clause-loose g c =
           omega (arith, wider, loose_in-set us i u read w inside refl after 0 most)
       | inr grew ↦ omega (arith, wider, loose_in-at us i u read w inside refl after (may grew.0))
     ]
+
+pub insert-requires-clause-place : goal.insert-requires-clause-place
+insert-requires-clause-place g c =
+    let read = c.index-groups-bucket.result in
+    let us = c.args.groups.now in
+    c.requires.rank read ∙ ap (λ n. rank n (c.args.bucket % 32)) (sym c.make_room-grew.ensures.occupied)

@@ -15,7 +15,7 @@ take-requires-clause-within g c = omega (arith, c.shift_back-hole.ensures.shifte
 pub returns-clause-found : goal.returns-clause-found
 returns-clause-found g c =
     let now = slots_of c.shift_back-hole.new.groups in
-    let hole = c.shift_back-hole.result in
+    let hole = c.shift_back-hole.result.0 in
     let shifted = c.shift_back-hole.ensures.shifted in
     λ key.
     ap (λ s. find nat_cmp key (items_of s)) c.take.ensures.slots
@@ -25,7 +25,7 @@ returns-clause-found g c =
 pub returns-clause-count : goal.returns-clause-count
 returns-clause-count g c =
     let now = slots_of c.shift_back-hole.new.groups in
-    let hole = c.shift_back-hole.result in
+    let hole = c.shift_back-hole.result.0 in
     let shifted = c.shift_back-hole.ensures.shifted in
     let fewer = length-items_of-set now hole None shifted.inside in
     let one : cond (is_some (slot_at now hole)) 1 0 ≡ 1 = ap {B = ℕ} (λ o. cond {A = ℕ} (is_some o) 1 0) c.take.ensures.item in

@@ -33,3 +33,6 @@ returns-clause-sizes g c =
     let read = c.index-groups-bucket.result in
     let us = c.args.groups.now in
     sizes-same us (c.args.bucket / 32) (get_or us (c.args.bucket / 32) read) read c.replace.new.self (omega arith) refl c.replace.ensures.room c.replace.ensures.capacity
+
+pub replace-requires-clause-place : goal.replace-requires-clause-place
+replace-requires-clause-place g c = c.requires.rank c.index-groups-bucket.result

@@ -1,7 +1,9 @@
-use Rattle.std.proofs.Common.{◌≡◌, ◌+◌, ◌-◌, suc, set, length, None, ◌<◌, ◌≤◌, ◌^◌, sym, ap, ◌∙◌, subst, refl, arith, inl, inr}
+use Rattle.std.proofs.Common.{◌≡◌, ◌+◌, ◌-◌, ◌*◌, suc, set, length, None, ◌<◌, ◌≤◌, ◌^◌, sym, ap, ◌∙◌, subst, refl, arith, inl, inr}
 use Rattle.std.proofs.lemmas.Bool.{cases_lt, false≢true}
+use Rattle.std.specs.Prelude.{is_some, IsSome}
 use Rattle.sparse_map.specs.Home.{home, steps}
-use Rattle.sparse_map.specs.Slots.{key_at, exchanged}
+use Rattle.sparse_map.specs.Slots.{slot_at, key_at, exchanged}
+use Rattle.sparse_map.specs.Ranks.{IsRankOf}
 use Rattle.sparse_map.specs.Groups.{slots_of, small_groups}
 use Rattle.sparse_map.specs.Places.{sizes_of}
 use Rattle.sparse_map.specs.Removal.{shifted_back}
@@ -10,6 +12,8 @@ use Rattle.sparse_map.proofs.RoundLemmas.{next, next_below}
 use Rattle.sparse_map.proofs.TableLemmas.{length-slots_of}
 use Rattle.sparse_map.proofs.PackedLemmas.{PackedAt-from}
 use Rattle.sparse_map.proofs.ShiftLemmas.{Walked, walked_start, walked_stays, walked_moves, walked_done, walked_full, apart_from_hole}
+use Rattle.sparse_map.proofs.SlotLemmas.{is_some-key_at}
+use Rattle.sparse_map.proofs.RankedLemmas.{rank_few, rank_on}
 use Rattle.sparse_map.proofs.table.shift_back.Goals as goal
 use Rattle.sparse_map.proofs.table.shift_back.Goals.{then-leads_over, else-leads_over}
 
@@ -20,10 +24,28 @@ loop-step-init g c =
     let s = slots_of c.args.groups.now in
     let long = c.requires.buckets ∙ sym e in
     let inside = subst (λ m. c.args.bucket < m) (sym e) c.requires.within in
-    record { walked = walked_start n s c.args.bucket (PackedAt-from n s long c.requires.packed) long inside c.requires.occupied; small = refl; back = refl; sizes = refl }
+    record { walked = walked_start n s c.args.bucket (PackedAt-from n s long c.requires.packed) long inside c.requires.occupied; small = refl; back = refl; sizes = refl; here = c.requires.occupied; at_rank = c.requires.rank; hole_rank = c.requires.rank }
 
-pub key_at-requires : goal.key_at-requires
-key_at-requires g c =
+pub next_rank-at_rank-requires : goal.next_rank-at_rank-requires
+next_rank-at_rank-requires g c =
+    let w = c.loop-step.invariant.walked in
+    let inside : c.loop-step.at < 32 * length c.loop-step.groups = omega (arith, w.walk.at_inside, w.long, length-slots_of c.loop-step.groups) in
+    rank_few c.loop-step.groups c.loop-step.at c.loop-step.at_rank inside c.loop-step.invariant.at_rank
+
+pub key_at-requires-clause-rank : goal.key_at-requires-clause-rank
+key_at-requires-clause-rank g c =
+    let w = c.loop-step.invariant.walked in
+    rank_on c.loop-step.groups c.bucket_count-buckets.result c.loop-step.at c.loop-step.at_rank c.next_bucket-at.result c.next_rank-at_rank.result
+    (sym (length-slots_of c.loop-step.groups) ∙ w.long) w.walk.at_inside c.loop-step.invariant.at_rank c.loop-step.invariant.here c.next_bucket-at.ensures c.next_rank-at_rank.ensures
+
+pub exchange-requires-clause-b_rank : goal.exchange-requires-clause-b_rank
+exchange-requires-clause-b_rank g c =
+    let w = c.loop-step.invariant.walked in
+    rank_on c.loop-step.groups c.bucket_count-buckets.result c.loop-step.at c.loop-step.at_rank c.next_bucket-at.result c.next_rank-at_rank.result
+    (sym (length-slots_of c.loop-step.groups) ∙ w.long) w.walk.at_inside c.loop-step.invariant.at_rank c.loop-step.invariant.here c.next_bucket-at.ensures c.next_rank-at_rank.ensures
+
+pub key_at-requires-clause-within : goal.key_at-requires-clause-within
+key_at-requires-clause-within g c =
     let w = c.loop-step.invariant.walked in
     let below : next c.bucket_count-buckets.result c.loop-step.at < c.bucket_count-buckets.result = next_below c.bucket_count-buckets.result c.loop-step.at w.walk.at_inside in
     omega (arith, below, c.next_bucket-at.ensures, w.long, length-slots_of c.loop-step.groups)
@@ -63,6 +85,10 @@ loop-step-preserved g c =
     let new = slots_of c.loop-step.groups in
     let w = c.loop-step.invariant.walked in
     let is = ap (key_at new) (sym c.next_bucket-at.ensures) ∙ sym c.key_at.ensures ∙ c.in-Some.is in
+    let some : IsSome (slot_at new c.next_bucket-at.result) = sym (is_some-key_at new c.next_bucket-at.result) ∙ ap is_some (sym c.key_at.ensures ∙ c.in-Some.is) in
+    let ranked : IsRankOf c.loop-step.groups c.next_bucket-at.result c.next_rank-at_rank.result =
+    rank_on c.loop-step.groups n c.loop-step.at c.loop-step.at_rank c.next_bucket-at.result c.next_rank-at_rank.result
+    (sym (length-slots_of c.loop-step.groups) ∙ w.long) w.walk.at_inside c.loop-step.invariant.at_rank c.loop-step.invariant.here c.next_bucket-at.ensures c.next_rank-at_rank.ensures in
     let key = c.in-Some.key in
     let hole = c.loop-step.hole in
     let on = c.next_bucket-at.ensures in
@@ -86,6 +112,13 @@ loop-step-preserved g c =
                 ∙ ap (λ m. shifted_back n m hole c.loop-step.at (set new hole None)) fewer
                 ∙ c.loop-step.invariant.back;
             sizes = ap sizes_of b.groups-is ∙ b.exchange.ensures.sizes ∙ c.loop-step.invariant.sizes;
+            here = ap (λ us. is_some (slot_at (slots_of us) c.next_bucket-at.result)) b.groups-is ∙ b.exchange.ensures.occupied c.next_bucket-at.result ∙ some;
+            at_rank = subst (λ us. IsRankOf us c.next_bucket-at.result c.next_rank-at_rank.result) (sym b.groups-is)
+                (b.exchange.ensures.ranks c.next_bucket-at.result c.next_rank-at_rank.result ranked);
+            hole_rank = subst (λ us. IsRankOf us c.if-leads_over.hole c.if-leads_over.hole_rank) (sym b.groups-is)
+                (subst (λ x. IsRankOf b.exchange.new.groups x c.if-leads_over.hole_rank) (sym b.hole-is)
+                (subst (λ x. IsRankOf b.exchange.new.groups c.next_bucket-at.result x) (sym b.hole_rank-is)
+                (b.exchange.ensures.ranks c.next_bucket-at.result c.next_rank-at_rank.result ranked)));
           }
       | else-leads_over b ↦
           let short_2 : steps (2 ^ c.args.bits) (home (2 ^ c.args.bits) key) c.next_bucket-at.result < steps (2 ^ c.args.bits) (home (2 ^ c.args.bits) key) hole =
@@ -106,6 +139,11 @@ loop-step-preserved g c =
                 ∙ ap (λ m. shifted_back n m hole c.loop-step.at (set new hole None)) fewer
                 ∙ c.loop-step.invariant.back;
             sizes = ap sizes_of b.groups-is ∙ c.loop-step.invariant.sizes;
+            here = ap (λ us. is_some (slot_at (slots_of us) c.next_bucket-at.result)) b.groups-is ∙ some;
+            at_rank = subst (λ us. IsRankOf us c.next_bucket-at.result c.next_rank-at_rank.result) (sym b.groups-is) ranked;
+            hole_rank = subst (λ us. IsRankOf us c.if-leads_over.hole c.if-leads_over.hole_rank) (sym b.groups-is)
+                (subst (λ x. IsRankOf c.loop-step.groups x c.if-leads_over.hole_rank) (sym b.hole-is)
+                (subst (λ x. IsRankOf c.loop-step.groups c.loop-step.hole x) (sym b.hole_rank-is) c.loop-step.invariant.hole_rank));
           }
     ]
 

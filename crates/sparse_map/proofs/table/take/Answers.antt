@@ -42,3 +42,6 @@ returns-clause-loose g c =
     let u = get_or us (c.args.bucket / 32) read in
     let most = extra-most u c.remove.new.self 1 (omega (arith, c.remove.ensures.capacity)) (omega (arith, c.remove.ensures.len)) in
     λ grown. loose_in-set us (c.args.bucket / 32) u read c.remove.new.self (omega arith) refl grown 1 most
+
+pub remove-requires-clause-place : goal.remove-requires-clause-place
+remove-requires-clause-place g c = c.requires.rank c.index-groups-bucket.result

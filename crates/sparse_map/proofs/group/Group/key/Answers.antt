@@ -8,9 +8,9 @@ use Rattle.sparse_map.proofs.group.Group.key.Goals as goal
 pub index-requires : goal.index-requires
 index-requires g c =
     let some : IsSome (slot_at (slots_in c.args.self.now) c.args.k) = search rules in
-    omega (arith, place_of c.args.self.now c.args.k c.requires some)
+    omega (arith, place_of c.args.self.now c.args.k c.requires.within some)
 
 pub returns : goal.returns
 returns g c =
     let some : IsSome (slot_at (slots_in c.args.self.now) c.args.k) = search rules in
-    ap (option_map (λ e. e.0)) (sym (item_read c.args.self.now c.args.k c.requires c.rank_in.result c.index.result.now some c.rank_in.ensures c.index.ensures))
+    ap (option_map (λ e. e.0)) (sym (item_read c.args.self.now c.args.k c.requires.within c.args.place c.index.result.now some c.requires.place c.index.ensures))

@@ -8,4 +8,4 @@ index-requires g c = omega (arith, place_of c.args.self.now c.args.k c.requires.
 
 pub returns : goal.returns
 returns g c =
-    ap (option_map (λ e. e.1)) (item_read c.args.self.now c.args.k c.requires.within c.rank_in.result c.index.result.now c.requires.occupied c.rank_in.ensures c.index.ensures)
+    ap (option_map (λ e. e.1)) (item_read c.args.self.now c.args.k c.requires.within c.args.place c.index.result.now c.requires.occupied c.requires.place c.index.ensures)

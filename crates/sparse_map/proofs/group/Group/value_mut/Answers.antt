@@ -11,9 +11,9 @@ pub returns : goal.returns
 returns g c =
     let u = c.args.self.now in
     let k = c.args.k in
-    let place = c.rank_in-place.result in
+    let place = c.args.place in
     let read = c.index_mut.result.now in
-    let item = item_read u k c.requires.within place read c.requires.occupied c.rank_in-place.ensures c.index_mut.ensures.value in (
-      (refl, λ w. same_group _ _ refl (λ i. with_item u.items (c.rank_in-place.ensures i) ((read_at_rank u k place read w c.requires.within c.requires.occupied c.rank_in-place.ensures c.index_mut.ensures.value i).0, w))),
+    let item = item_read u k c.requires.within place read c.requires.occupied c.requires.place c.index_mut.ensures.value in (
+      (refl, λ w. same_group _ _ refl (λ i. with_item u.items (c.requires.place i) ((read_at_rank u k place read w c.requires.within c.requires.occupied c.requires.place c.index_mut.ensures.value i).0, w))),
       record { lends = tt; value = ap (option_map (λ e. e.1)) item },
     )

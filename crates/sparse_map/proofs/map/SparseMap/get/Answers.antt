@@ -1,36 +1,50 @@
-use Rattle.std.proofs.Common.{◌≡◌, length, Some, arith, ap, sym, ◌∙◌}
-use Rattle.std.specs.Prelude.{option_copied, option_map}
-use Rattle.sparse_map.specs.Slots.{slot_at}
+use Rattle.std.proofs.Common.{◌≡◌, ◌≢◌, ℕ, length, Some, arith, ap, sym, ◌∙◌, subst}
+use Rattle.std.specs.Prelude.{is_some, option_copied, option_map}
+use Rattle.std.specs.Vec.{vec_len}
+use Rattle.sparse_map.specs.Slots.{slot_at, key_at}
 use Rattle.sparse_map.specs.Groups.{slots_of}
 use Rattle.sparse_map.proofs.SlotLemmas.{not_found, found_where, slot_of_key}
 use Rattle.sparse_map.proofs.PackedLemmas.{key_inside}
 use Rattle.sparse_map.proofs.TableLemmas.{length-slots_of}
-use Rattle.sparse_map.proofs.MapLemmas.{get-map_of}
+use Rattle.sparse_map.proofs.MapLemmas.{get-map_of, find_room}
 use Rattle.sparse_map.proofs.ViewLemmas.{seen_slots, seen_sound}
 use Rattle.sparse_map.proofs.map.SparseMap.get.Goals as goal
 
-pub returns-in_err-bucket : goal.returns-in_err-bucket
-returns-in_err-bucket g c =
+pub returns-in_err-seat : goal.returns-in_err-seat
+returns-in_err-seat g c =
+    let m = c.self.inside in
+    let slots = ap slots_of c.as_slice-groups.ensures.value ∙ seen_slots m c.args.self.now c.self.invariant c.self.view_is in
+    let absent : (b : ℕ) → key_at c.args.self.now.slots b ≢ Some c.args.key = subst (λ s. (b : ℕ) → key_at s b ≢ Some c.args.key) slots c.in_err-seat.ensures.found in
     ap option_copied c.from_residual.ensures
-    ∙ sym (get-map_of c.args.self.now c.args.key ∙ not_found c.args.self.now.slots c.args.key c.in_err-bucket.ensures)
+    ∙ sym (get-map_of c.args.self.now c.args.key ∙ not_found c.args.self.now.slots c.args.key absent)
 
 pub value_at-requires-clause-within : goal.value_at-requires-clause-within
 value_at-requires-clause-within g c =
-    let m = c.self.inside in
-    let is = seen_slots m c.args.self.now c.self.invariant c.self.view_is in
-    let inside = key_inside c.args.self.now.slots c.in_ok-bucket.bucket c.args.key c.in_ok-bucket.ensures in
-    let long : length (slots_of m.groups.items) ≡ length c.args.self.now.slots = ap length is in
-    let same : length c.as_slice.result.now ≡ length m.groups.items = ap length c.as_slice.ensures.value in
-    omega (arith, inside, long, same, length-slots_of m.groups.items)
+    let us = c.as_slice-groups.result.now in
+    omega (arith, key_inside (slots_of us) c.in_ok-seat.seat.bucket c.args.key c.in_ok-seat.ensures.found, length-slots_of us)
+
+pub value_at-requires-clause-occupied : goal.value_at-requires-clause-occupied
+value_at-requires-clause-occupied g c =
+    let us = c.as_slice-groups.result.now in
+    let at = slot_of_key (slots_of us) c.in_ok-seat.seat.bucket c.args.key c.in_ok-seat.ensures.found in
+    ap is_some at.1
 
 pub returns : goal.returns
 returns g c =
     let m = c.self.inside in
-    let b = c.in_ok-bucket.bucket in
-    let slots = ap slots_of c.as_slice.ensures.value ∙ seen_slots m c.args.self.now c.self.invariant c.self.view_is in
-    let has = slot_of_key c.args.self.now.slots b c.args.key c.in_ok-bucket.ensures in
+    let b = c.in_ok-seat.seat.bucket in
+    let slots = ap slots_of c.as_slice-groups.ensures.value ∙ seen_slots m c.args.self.now c.self.invariant c.self.view_is in
+    let has = slot_of_key c.args.self.now.slots b c.args.key (ap (λ s. key_at s b) (sym slots) ∙ c.in_ok-seat.ensures.found) in
     let value : Some has.0 ≡ Some c.value_at.result.now =
     ap (option_map (λ e. e.1)) (sym has.1 ∙ ap (λ s. slot_at s b) (sym slots)) ∙ c.value_at.ensures in
     let sound = seen_sound m c.args.self.now c.self.invariant c.self.view_is in
     sym value
     ∙ sym (get-map_of c.args.self.now c.args.key ∙ found_where c.args.self.now.slots b c.args.key has.0 sound.packed.once has.1)
+
+pub find-requires-clause-buckets : goal.find-requires-clause-buckets
+find-requires-clause-buckets g c = ap (λ us. length (slots_of us)) c.as_slice-groups.ensures.value ∙ c.self.invariant.buckets
+
+pub find-requires-clause-room : goal.find-requires-clause-room
+find-requires-clause-room g c =
+    let m = c.self.inside in
+    find_room m.bits m.len m.spare (vec_len m.stock) m.groups.items c.self.invariant c.as_slice-groups.result.now c.as_slice-groups.ensures.value

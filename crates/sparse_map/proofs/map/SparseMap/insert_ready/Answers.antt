@@ -1,8 +1,10 @@
 use Rattle.std.proofs.Common.{◌≡◌, ◌+◌, ◌-◌, length, refl, set, Some, arith, ap, sym, ◌∙◌, subst}
-use Rattle.std.specs.Prelude.{option_map}
+use Rattle.std.specs.Prelude.{is_some, option_map}
 use Rattle.std.specs.Vec.{vec_len}
 use Rattle.sparse_map.specs.Slots.{slot_at, key_at}
 use Rattle.sparse_map.specs.Groups.{slots_of, small_groups}
+use Rattle.sparse_map.specs.Ranks.{IsRankOf}
+use Rattle.sparse_map.proofs.RankedLemmas.{key_found, free_found, rank_found, rank_free}
 use Rattle.sparse_map.specs.Kept.{IsKept}
 use Rattle.sparse_map.specs.Places.{sizes_of, places_of, loose_of}
 use Rattle.sparse_map.specs.Probe.{IsFreeFor}
@@ -14,19 +16,19 @@ use Rattle.sparse_map.proofs.ViewLemmas.{seen_slots, seen_memory, seen_loose}
 use Rattle.sparse_map.proofs.ChangeLemmas.{written, seen_ready, absent_needs_room, get_there, get_absent, kept_value, map_value, kept_new_key, map_new_key}
 use Rattle.sparse_map.proofs.map.SparseMap.insert_ready.Goals as goal
 
-pub probe-requires-clause-many : goal.probe-requires-clause-many
-probe-requires-clause-many g c =
+pub probe-spot-requires-clause-many : goal.probe-spot-requires-clause-many
+probe-spot-requires-clause-many g c =
     c.self.invariant.many (seen_ready c.self.inside c.args.self.now c.self.invariant c.self.view_is c.args.key c.requires)
 
-pub probe-requires-clause-buckets : goal.probe-requires-clause-buckets
-probe-requires-clause-buckets g c =
+pub probe-spot-requires-clause-buckets : goal.probe-spot-requires-clause-buckets
+probe-spot-requires-clause-buckets g c =
     let m = c.self.inside in
     ap (λ us. length (slots_of us)) c.as_slice.ensures.value
     ∙ kept_buckets m.bits m.len m.spare (vec_len m.stock) m.groups.items c.self.invariant (seen_ready m c.args.self.now c.self.invariant c.self.view_is c.args.key c.requires)
 
 pub replace-old-requires-clause-within : goal.replace-old-requires-clause-within
 replace-old-requires-clause-within g c =
-    let inside = key_inside (slots_of c.as_slice.result.now) c.in-Found.bucket c.args.key c.in-Found.ensures in
+    let inside = key_inside (slots_of c.as_slice.result.now) c.in-Found.bucket c.args.key (key_found (slots_of c.as_slice.result.now) c.args.key c.in-Found.bucket c.probe-spot.result.at c.probe-spot.ensures.place c.in-Found.is) in
     let same : length c.as_mut_slice.result.now ≡ length c.as_slice.result.now = ap length (c.as_mut_slice.ensures.value ∙ sym c.as_slice.ensures.value) in
     omega (arith, inside, same, length-slots_of c.as_slice.result.now)
 
@@ -36,20 +38,20 @@ invariant_of-self g c =
     let ws = c.replace-old.new.groups in
     let long : length ws ≡ vec_len m.groups = c.replace-old.auto.groups ∙ c.as_mut_slice.ensures.len in
     let slots = c.replace-old.ensures.slots ∙ ap (λ us. set (slots_of us) c.in-Found.bucket (Some (c.args.key, c.args.value))) c.as_mut_slice.ensures.value in
-    let has = ap (λ us. key_at (slots_of us) c.in-Found.bucket) (sym c.as_slice.ensures.value) ∙ c.in-Found.ensures in
+    let has = ap (λ us. key_at (slots_of us) c.in-Found.bucket) (sym c.as_slice.ensures.value) ∙ (key_found (slots_of c.as_slice.result.now) c.args.key c.in-Found.bucket c.probe-spot.result.at c.probe-spot.ensures.place c.in-Found.is) in
     subst (λ us. IsKept m.bits m.len m.spare (vec_len m.stock) us) (sym (written m.groups ws long))
     (kept_value m c.args.self.now c.self.invariant c.self.view_is ws c.in-Found.bucket c.args.key c.args.value slots has (c.replace-old.ensures.small ∙ ap small_groups c.as_mut_slice.ensures.value))
 
 pub put-grew-requires-clause-within : goal.put-grew-requires-clause-within
 put-grew-requires-clause-within g c =
-    let place = c.in-Free.ensures in
+    let place = (free_found (slots_of c.as_slice.result.now) c.args.key c.in-Free.bucket c.probe-spot.result.at c.probe-spot.ensures.place c.in-Free.is) in
     let same : length c.as_mut_slice-in-Free.result.now ≡ length c.as_slice.result.now = ap length (c.as_mut_slice-in-Free.ensures.value ∙ sym c.as_slice.ensures.value) in
     omega (arith, place.inside, same, length-slots_of c.as_slice.result.now)
 
 pub put-grew-requires-clause-stocked : goal.put-grew-requires-clause-stocked
 put-grew-requires-clause-stocked g c =
     let m = c.self.inside in
-    let place : IsFreeFor (slots_of m.groups.items) c.args.key c.in-Free.bucket = subst (λ us. IsFreeFor (slots_of us) c.args.key c.in-Free.bucket) c.as_slice.ensures.value c.in-Free.ensures in
+    let place : IsFreeFor (slots_of m.groups.items) c.args.key c.in-Free.bucket = subst (λ us. IsFreeFor (slots_of us) c.args.key c.in-Free.bucket) c.as_slice.ensures.value (free_found (slots_of c.as_slice.result.now) c.args.key c.in-Free.bucket c.probe-spot.result.at c.probe-spot.ensures.place c.in-Free.is) in
     let more = absent_needs_room m c.args.self.now c.self.invariant c.self.view_is c.args.key place.absent c.requires in
     let same : small_groups c.as_mut_slice-in-Free.result.now ≡ small_groups m.groups.items = ap small_groups c.as_mut_slice-in-Free.ensures.value in
     λ some. omega (arith, c.self.invariant.stocked, more, same)
@@ -57,7 +59,7 @@ put-grew-requires-clause-stocked g c =
 pub overflow_sub-self : goal.overflow_sub-self
 overflow_sub-self g c =
     let m = c.self.inside in
-    let place : IsFreeFor (slots_of m.groups.items) c.args.key c.in-Free.bucket = subst (λ us. IsFreeFor (slots_of us) c.args.key c.in-Free.bucket) c.as_slice.ensures.value c.in-Free.ensures in
+    let place : IsFreeFor (slots_of m.groups.items) c.args.key c.in-Free.bucket = subst (λ us. IsFreeFor (slots_of us) c.args.key c.in-Free.bucket) c.as_slice.ensures.value (free_found (slots_of c.as_slice.result.now) c.args.key c.in-Free.bucket c.probe-spot.result.at c.probe-spot.ensures.place c.in-Free.is) in
     let more = absent_needs_room m c.args.self.now c.self.invariant c.self.view_is c.args.key place.absent c.requires in
     omega (arith, more)
 
@@ -67,7 +69,7 @@ invariant_of-self-in-Free g c =
     let ws = c.put-grew.new.groups in
     let long : length ws ≡ vec_len m.groups = c.put-grew.auto.groups ∙ c.as_mut_slice-in-Free.ensures.len in
     let slots = c.put-grew.ensures.slots ∙ ap (λ us. set (slots_of us) c.in-Free.bucket (Some (c.args.key, c.args.value))) c.as_mut_slice-in-Free.ensures.value in
-    let place : IsFreeFor (slots_of m.groups.items) c.args.key c.in-Free.bucket = subst (λ us. IsFreeFor (slots_of us) c.args.key c.in-Free.bucket) c.as_slice.ensures.value c.in-Free.ensures in
+    let place : IsFreeFor (slots_of m.groups.items) c.args.key c.in-Free.bucket = subst (λ us. IsFreeFor (slots_of us) c.args.key c.in-Free.bucket) c.as_slice.ensures.value (free_found (slots_of c.as_slice.result.now) c.args.key c.in-Free.bucket c.probe-spot.result.at c.probe-spot.ensures.place c.in-Free.is) in
     let more = absent_needs_room m c.args.self.now c.self.invariant c.self.view_is c.args.key place.absent c.requires in
     let same : small_groups c.as_mut_slice-in-Free.result.now ≡ small_groups m.groups.items = ap small_groups c.as_mut_slice-in-Free.ensures.value in
     subst (λ us. IsKept m.bits (m.len + 1) (m.spare - 1) (vec_len c.put-grew.new.stock) us) (sym (written m.groups ws long))
@@ -76,7 +78,7 @@ invariant_of-self-in-Free g c =
 pub returns-in-Found-clause-old : goal.returns-in-Found-clause-old
 returns-in-Found-clause-old g c =
     let m = c.self.inside in
-    let has = ap (λ us. key_at (slots_of us) c.in-Found.bucket) (sym c.as_slice.ensures.value) ∙ c.in-Found.ensures in
+    let has = ap (λ us. key_at (slots_of us) c.in-Found.bucket) (sym c.as_slice.ensures.value) ∙ (key_found (slots_of c.as_slice.result.now) c.args.key c.in-Found.bucket c.probe-spot.result.at c.probe-spot.ensures.place c.in-Found.is) in
     let at = slot_of_key (slots_of m.groups.items) c.in-Found.bucket c.args.key has in
     let value : Some at.0 ≡ Some c.replace-old.result.1 =
     ap (option_map (λ e. e.1)) (sym at.1 ∙ ap (λ us. slot_at (slots_of us) c.in-Found.bucket) (sym c.as_mut_slice.ensures.value) ∙ c.replace-old.ensures.item) in
@@ -88,7 +90,7 @@ returns-in-Found-clause-map g c =
     let ws = c.replace-old.new.groups in
     let long : length ws ≡ vec_len m.groups = c.replace-old.auto.groups ∙ c.as_mut_slice.ensures.len in
     let slots = c.replace-old.ensures.slots ∙ ap (λ us. set (slots_of us) c.in-Found.bucket (Some (c.args.key, c.args.value))) c.as_mut_slice.ensures.value in
-    let has = ap (λ us. key_at (slots_of us) c.in-Found.bucket) (sym c.as_slice.ensures.value) ∙ c.in-Found.ensures in
+    let has = ap (λ us. key_at (slots_of us) c.in-Found.bucket) (sym c.as_slice.ensures.value) ∙ (key_found (slots_of c.as_slice.result.now) c.args.key c.in-Found.bucket c.probe-spot.result.at c.probe-spot.ensures.place c.in-Found.is) in
     map_value m c.args.self.now c.self.invariant c.self.view_is ws c.in-Found.bucket c.args.key c.args.value slots _ (ap slots_of (written m.groups ws long)) has
 
 pub returns-in-Found-clause-sound : goal.returns-in-Found-clause-sound
@@ -97,7 +99,7 @@ returns-in-Found-clause-sound g c =
     let ws = c.replace-old.new.groups in
     let long : length ws ≡ vec_len m.groups = c.replace-old.auto.groups ∙ c.as_mut_slice.ensures.len in
     let slots = c.replace-old.ensures.slots ∙ ap (λ us. set (slots_of us) c.in-Found.bucket (Some (c.args.key, c.args.value))) c.as_mut_slice.ensures.value in
-    let has = ap (λ us. key_at (slots_of us) c.in-Found.bucket) (sym c.as_slice.ensures.value) ∙ c.in-Found.ensures in
+    let has = ap (λ us. key_at (slots_of us) c.in-Found.bucket) (sym c.as_slice.ensures.value) ∙ (key_found (slots_of c.as_slice.result.now) c.args.key c.in-Found.bucket c.probe-spot.result.at c.probe-spot.ensures.place c.in-Found.is) in
     kept_sound m.bits m.len m.spare (vec_len m.stock) ws
     (kept_value m c.args.self.now c.self.invariant c.self.view_is ws c.in-Found.bucket c.args.key c.args.value slots has (c.replace-old.ensures.small ∙ ap small_groups c.as_mut_slice.ensures.value))
     _ (ap slots_of (written m.groups ws long)) refl
@@ -105,7 +107,7 @@ returns-in-Found-clause-sound g c =
 pub returns-in-Free-clause-old : goal.returns-in-Free-clause-old
 returns-in-Free-clause-old g c =
     let m = c.self.inside in
-    let place : IsFreeFor (slots_of m.groups.items) c.args.key c.in-Free.bucket = subst (λ us. IsFreeFor (slots_of us) c.args.key c.in-Free.bucket) c.as_slice.ensures.value c.in-Free.ensures in
+    let place : IsFreeFor (slots_of m.groups.items) c.args.key c.in-Free.bucket = subst (λ us. IsFreeFor (slots_of us) c.args.key c.in-Free.bucket) c.as_slice.ensures.value (free_found (slots_of c.as_slice.result.now) c.args.key c.in-Free.bucket c.probe-spot.result.at c.probe-spot.ensures.place c.in-Free.is) in
     sym (get_absent m c.args.self.now c.self.invariant c.self.view_is c.args.key place.absent)
 
 pub returns-in-Free-clause-map : goal.returns-in-Free-clause-map
@@ -114,7 +116,7 @@ returns-in-Free-clause-map g c =
     let ws = c.put-grew.new.groups in
     let long : length ws ≡ vec_len m.groups = c.put-grew.auto.groups ∙ c.as_mut_slice-in-Free.ensures.len in
     let slots = c.put-grew.ensures.slots ∙ ap (λ us. set (slots_of us) c.in-Free.bucket (Some (c.args.key, c.args.value))) c.as_mut_slice-in-Free.ensures.value in
-    let place : IsFreeFor (slots_of m.groups.items) c.args.key c.in-Free.bucket = subst (λ us. IsFreeFor (slots_of us) c.args.key c.in-Free.bucket) c.as_slice.ensures.value c.in-Free.ensures in
+    let place : IsFreeFor (slots_of m.groups.items) c.args.key c.in-Free.bucket = subst (λ us. IsFreeFor (slots_of us) c.args.key c.in-Free.bucket) c.as_slice.ensures.value (free_found (slots_of c.as_slice.result.now) c.args.key c.in-Free.bucket c.probe-spot.result.at c.probe-spot.ensures.place c.in-Free.is) in
     map_new_key m c.args.self.now c.self.invariant c.self.view_is ws c.in-Free.bucket c.args.key c.args.value slots _ (ap slots_of (written m.groups ws long)) place
 
 pub returns-in-Free-clause-sound : goal.returns-in-Free-clause-sound
@@ -123,7 +125,7 @@ returns-in-Free-clause-sound g c =
     let ws = c.put-grew.new.groups in
     let long : length ws ≡ vec_len m.groups = c.put-grew.auto.groups ∙ c.as_mut_slice-in-Free.ensures.len in
     let slots = c.put-grew.ensures.slots ∙ ap (λ us. set (slots_of us) c.in-Free.bucket (Some (c.args.key, c.args.value))) c.as_mut_slice-in-Free.ensures.value in
-    let place : IsFreeFor (slots_of m.groups.items) c.args.key c.in-Free.bucket = subst (λ us. IsFreeFor (slots_of us) c.args.key c.in-Free.bucket) c.as_slice.ensures.value c.in-Free.ensures in
+    let place : IsFreeFor (slots_of m.groups.items) c.args.key c.in-Free.bucket = subst (λ us. IsFreeFor (slots_of us) c.args.key c.in-Free.bucket) c.as_slice.ensures.value (free_found (slots_of c.as_slice.result.now) c.args.key c.in-Free.bucket c.probe-spot.result.at c.probe-spot.ensures.place c.in-Free.is) in
     let more = absent_needs_room m c.args.self.now c.self.invariant c.self.view_is c.args.key place.absent c.requires in
     let same : small_groups c.as_mut_slice-in-Free.result.now ≡ small_groups m.groups.items = ap small_groups c.as_mut_slice-in-Free.ensures.value in
     kept_sound m.bits (m.len + 1) (m.spare - 1) (vec_len c.put-grew.new.stock) ws
@@ -137,7 +139,7 @@ returns-in-Found-clause-placed g c =
     let ws = c.replace-old.new.groups in
     let long : length ws ≡ vec_len m.groups = c.replace-old.auto.groups ∙ c.as_mut_slice.ensures.len in
     let slots = c.replace-old.ensures.slots ∙ ap (λ us. set (slots_of us) c.in-Found.bucket (Some (c.args.key, c.args.value))) c.as_mut_slice.ensures.value in
-    let has = ap (λ us. key_at (slots_of us) c.in-Found.bucket) (sym c.as_slice.ensures.value) ∙ c.in-Found.ensures in
+    let has = ap (λ us. key_at (slots_of us) c.in-Found.bucket) (sym c.as_slice.ensures.value) ∙ (key_found (slots_of c.as_slice.result.now) c.args.key c.in-Found.bucket c.probe-spot.result.at c.probe-spot.ensures.place c.in-Found.is) in
     let seen = seen_slots m t c.self.invariant c.self.view_is in
     record {
       bucket = c.in-Found.bucket;
@@ -173,7 +175,7 @@ returns-in-Free-clause-placed g c =
     let seen = seen_slots m t c.self.invariant c.self.view_is in
     record {
       bucket = c.in-Free.bucket;
-      place = subst (λ s. IsFreeFor s c.args.key c.in-Free.bucket) (ap slots_of c.as_slice.ensures.value ∙ seen) c.in-Free.ensures;
+      place = subst (λ s. IsFreeFor s c.args.key c.in-Free.bucket) (ap slots_of c.as_slice.ensures.value ∙ seen) (free_found (slots_of c.as_slice.result.now) c.args.key c.in-Free.bucket c.probe-spot.result.at c.probe-spot.ensures.place c.in-Free.is);
       slots = ap slots_of (written m.groups ws long) ∙ slots ∙ ap (λ s. set s c.in-Free.bucket (Some (c.args.key, c.args.value))) seen;
     }
 
@@ -197,3 +199,24 @@ returns-in-Free-clause-loose g c =
     let old = ap sizes_of c.as_mut_slice-in-Free.ensures.value in
     let less = c.put-grew.ensures.loose m.grown c.with-grown.result c.with-grown.ensures.added c.with-grown.ensures.kept in
     omega (arith, ap (loose_of c.with-grown.result) sizes, ap (loose_of m.grown) old, less, seen_loose m t c.self.invariant c.self.view_is)
+
+pub replace-old-requires-clause-occupied : goal.replace-old-requires-clause-occupied
+replace-old-requires-clause-occupied g c =
+    let has = key_found (slots_of c.as_slice.result.now) c.args.key c.in-Found.bucket c.probe-spot.result.at c.probe-spot.ensures.place c.in-Found.is in
+    let at = slot_of_key (slots_of c.as_slice.result.now) c.in-Found.bucket c.args.key has in
+    ap is_some (ap (λ us. slot_at (slots_of us) c.in-Found.bucket) (c.as_mut_slice.ensures.value ∙ sym c.as_slice.ensures.value) ∙ at.1)
+
+pub replace-old-requires-clause-rank : goal.replace-old-requires-clause-rank
+replace-old-requires-clause-rank g c =
+    subst (λ us. IsRankOf us c.in-Found.bucket c.probe-spot.result.rank) (c.as_slice.ensures.value ∙ sym c.as_mut_slice.ensures.value)
+    (rank_found c.as_slice.result.now c.in-Found.bucket c.probe-spot.result.rank c.probe-spot.result.at c.probe-spot.ensures.rank c.in-Found.is)
+
+pub put-grew-requires-clause-free : goal.put-grew-requires-clause-free
+put-grew-requires-clause-free g c =
+    let place = free_found (slots_of c.as_slice.result.now) c.args.key c.in-Free.bucket c.probe-spot.result.at c.probe-spot.ensures.place c.in-Free.is in
+    ap (λ us. slot_at (slots_of us) c.in-Free.bucket) (c.as_mut_slice-in-Free.ensures.value ∙ sym c.as_slice.ensures.value) ∙ place.free
+
+pub put-grew-requires-clause-rank : goal.put-grew-requires-clause-rank
+put-grew-requires-clause-rank g c =
+    subst (λ us. IsRankOf us c.in-Free.bucket c.probe-spot.result.rank) (c.as_slice.ensures.value ∙ sym c.as_mut_slice-in-Free.ensures.value)
+    (rank_free c.as_slice.result.now c.in-Free.bucket c.probe-spot.result.rank c.probe-spot.result.at c.probe-spot.ensures.rank c.in-Free.is)

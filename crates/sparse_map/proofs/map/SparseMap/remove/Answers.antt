@@ -1,30 +1,31 @@
-use Rattle.std.proofs.Common.{◌≡◌, ◌+◌, ◌-◌, ◌*◌, ◌^◌, ◌<◌, set, length, refl, arith, cond, eqb, Some, None, ap, sym, ◌∙◌, subst}
+use Rattle.std.proofs.Common.{◌≡◌, ◌≢◌, ℕ, ◌+◌, ◌-◌, ◌*◌, ◌^◌, ◌<◌, set, length, refl, arith, cond, eqb, Some, None, ap, sym, ◌∙◌, subst}
 use Rattle.std.specs.Prelude.{option_map}
 use Rattle.std.specs.Vec.{vec_len}
 use Rattle.std.specs.Ordering.{nat_cmp}
 use Rattle.std.specs.FinMap.{find}
 use Rattle.sparse_map.specs.Slots.{slot_at, key_at, items_of}
 use Rattle.sparse_map.specs.Groups.{slots_of, small_groups}
+use Rattle.sparse_map.specs.Ranks.{IsRankOf}
 use Rattle.sparse_map.specs.Kept.{IsKept}
 use Rattle.sparse_map.specs.Places.{sizes_of, places_of, loose_of}
 use Rattle.sparse_map.proofs.SlotLemmas.{slot_of_key, not_found}
 use Rattle.sparse_map.proofs.TableLemmas.{length-slots_of}
 use Rattle.sparse_map.specs.Removal.{shifted_back}
 use Rattle.sparse_map.proofs.PackedLemmas.{key_inside}
-use Rattle.sparse_map.proofs.MapLemmas.{kept_some, kept_buckets, kept_sound, get-map_of}
+use Rattle.sparse_map.proofs.MapLemmas.{find_room, kept_some, kept_buckets, kept_sound, get-map_of}
 use Rattle.sparse_map.proofs.ViewLemmas.{seen_slots, seen_sound, seen_memory, seen_loose}
 use Rattle.sparse_map.proofs.ChangeLemmas.{written, get_there, map_without, kept_removed, absent_stays}
 use Rattle.sparse_map.proofs.map.SparseMap.remove.Goals as goal
 
-pub returns-in_err-bucket-clause-value : goal.returns-in_err-bucket-clause-value
-returns-in_err-bucket-clause-value g c =
-    c.from_residual.ensures ∙ sym (get-map_of c.args.self.now c.args.key ∙ not_found c.args.self.now.slots c.args.key c.in_err-bucket.ensures)
+pub returns-in_err-seat-clause-value : goal.returns-in_err-seat-clause-value
+returns-in_err-seat-clause-value g c =
+    c.from_residual.ensures ∙ sym (get-map_of c.args.self.now c.args.key ∙ not_found c.args.self.now.slots c.args.key (subst (λ s. (q : ℕ) → key_at s q ≢ Some c.args.key) (ap slots_of c.as_slice.ensures.value ∙ seen_slots c.self.inside c.args.self.now c.self.invariant c.self.view_is) c.in_err-seat.ensures.found))
 
-pub returns-in_err-bucket-clause-map : goal.returns-in_err-bucket-clause-map
-returns-in_err-bucket-clause-map g c = absent_stays c.args.self.now c.args.key c.in_err-bucket.ensures
+pub returns-in_err-seat-clause-map : goal.returns-in_err-seat-clause-map
+returns-in_err-seat-clause-map g c = absent_stays c.args.self.now c.args.key (subst (λ s. (q : ℕ) → key_at s q ≢ Some c.args.key) (ap slots_of c.as_slice.ensures.value ∙ seen_slots c.self.inside c.args.self.now c.self.invariant c.self.view_is) c.in_err-seat.ensures.found)
 
-pub returns-in_err-bucket-clause-sound : goal.returns-in_err-bucket-clause-sound
-returns-in_err-bucket-clause-sound g c = seen_sound c.self.inside c.args.self.now c.self.invariant c.self.view_is
+pub returns-in_err-seat-clause-sound : goal.returns-in_err-seat-clause-sound
+returns-in_err-seat-clause-sound g c = seen_sound c.self.inside c.args.self.now c.self.invariant c.self.view_is
 
 pub invariant_of-self : goal.invariant_of-self
 invariant_of-self g c =
@@ -38,8 +39,8 @@ invariant_of-self g c =
 pub returns-clause-value : goal.returns-clause-value
 returns-clause-value g c =
     let m = c.self.inside in
-    let b = c.in_ok-bucket.bucket in
-    let has = ap (λ s. key_at s b) (seen_slots m c.args.self.now c.self.invariant c.self.view_is) ∙ c.in_ok-bucket.ensures in
+    let b = c.in_ok-seat.seat.bucket in
+    let has = ap (λ us. key_at (slots_of us) b) (sym c.as_slice.ensures.value) ∙ c.in_ok-seat.ensures.found in
     let at = slot_of_key (slots_of m.groups.items) b c.args.key has in
     let value : Some at.0 ≡ Some c.remove_at-value.result.1 =
     ap (option_map (λ e. e.1)) (sym at.1 ∙ ap (λ us. slot_at (slots_of us) b) (sym c.as_mut_slice.ensures.value) ∙ c.remove_at-value.ensures.item) in
@@ -48,10 +49,10 @@ returns-clause-value g c =
 pub returns-clause-map : goal.returns-clause-map
 returns-clause-map g c =
     let m = c.self.inside in
-    let b = c.in_ok-bucket.bucket in
+    let b = c.in_ok-seat.seat.bucket in
     let ws = c.remove_at-value.new.groups in
     let long : length ws ≡ vec_len m.groups = c.remove_at-value.auto.groups ∙ c.as_mut_slice.ensures.len in
-    let has = ap (λ s. key_at s b) (seen_slots m c.args.self.now c.self.invariant c.self.view_is) ∙ c.in_ok-bucket.ensures in
+    let has = ap (λ us. key_at (slots_of us) b) (sym c.as_slice.ensures.value) ∙ c.in_ok-seat.ensures.found in
     let at = slot_of_key (slots_of m.groups.items) b c.args.key has in
     let key : Some c.args.key ≡ Some c.remove_at-value.result.0 =
     ap (option_map (λ e. e.0)) (sym at.1 ∙ ap (λ us. slot_at (slots_of us) b) (sym c.as_mut_slice.ensures.value) ∙ c.remove_at-value.ensures.item) in
@@ -103,19 +104,47 @@ pub returns-clause-shifts : goal.returns-clause-shifts
 returns-clause-shifts g c =
     let m = c.self.inside in
     let t = c.args.self.now in
-    let b = c.in_ok-bucket.bucket in
+    let b = c.in_ok-seat.seat.bucket in
     let ws = c.remove_at-value.new.groups in
     let long : length ws ≡ vec_len m.groups = c.remove_at-value.auto.groups ∙ c.as_mut_slice.ensures.len in
     let seen = seen_slots m t c.self.invariant c.self.view_is in
     let slots : slots_of c.as_mut_slice.result.now ≡ t.slots = ap slots_of c.as_mut_slice.ensures.value ∙ seen in
-    let some : 0 < length (slots_of m.groups.items) = omega (arith, key_inside t.slots b c.args.key c.in_ok-bucket.ensures, ap length seen) in
+    let has : key_at t.slots b ≡ Some c.args.key = ap (λ s. key_at s b) (sym (ap slots_of c.as_slice.ensures.value ∙ seen)) ∙ c.in_ok-seat.ensures.found in
+    let some : 0 < length (slots_of m.groups.items) = omega (arith, key_inside t.slots b c.args.key has, ap length seen) in
     let bits = kept_some m.bits m.len m.spare (vec_len m.stock) m.groups.items c.self.invariant some in
     let size : 2 ^ m.bits ≡ length t.slots = sym (kept_buckets m.bits m.len m.spare (vec_len m.stock) m.groups.items c.self.invariant bits) ∙ ap length seen in
     record {
       bucket = b;
-      has = c.in_ok-bucket.ensures;
+      has = has;
       slots =
           ap slots_of (written m.groups ws long)
           ∙ c.remove_at-value.ensures.walk
           ∙ (λ i. shifted_back (size i) (size i - 1) b b (set (slots i) b None));
     }
+
+pub find-requires-clause-buckets : goal.find-requires-clause-buckets
+find-requires-clause-buckets g c = ap (λ us. length (slots_of us)) c.as_slice.ensures.value ∙ c.self.invariant.buckets
+
+pub find-requires-clause-room : goal.find-requires-clause-room
+find-requires-clause-room g c =
+    let m = c.self.inside in
+    find_room m.bits m.len m.spare (vec_len m.stock) m.groups.items c.self.invariant c.as_slice.result.now c.as_slice.ensures.value
+
+pub remove_at-value-requires-clause-many : goal.remove_at-value-requires-clause-many
+remove_at-value-requires-clause-many g c =
+    let m = c.self.inside in
+    let us = c.as_slice.result.now in
+    let inside = key_inside (slots_of us) c.in_ok-seat.seat.bucket c.args.key c.in_ok-seat.ensures.found in
+    c.self.invariant.many (kept_some m.bits m.len m.spare (vec_len m.stock) m.groups.items c.self.invariant (omega (arith, inside, ap (λ us. length (slots_of us)) c.as_slice.ensures.value)))
+
+pub remove_at-value-requires-clause-buckets : goal.remove_at-value-requires-clause-buckets
+remove_at-value-requires-clause-buckets g c =
+    let m = c.self.inside in
+    let us = c.as_slice.result.now in
+    let inside = key_inside (slots_of us) c.in_ok-seat.seat.bucket c.args.key c.in_ok-seat.ensures.found in
+    let bits = kept_some m.bits m.len m.spare (vec_len m.stock) m.groups.items c.self.invariant (omega (arith, inside, ap (λ us. length (slots_of us)) c.as_slice.ensures.value)) in
+    ap (λ us. length (slots_of us)) c.as_mut_slice.ensures.value ∙ kept_buckets m.bits m.len m.spare (vec_len m.stock) m.groups.items c.self.invariant bits
+
+pub remove_at-value-requires-clause-rank : goal.remove_at-value-requires-clause-rank
+remove_at-value-requires-clause-rank g c =
+    subst (λ us. IsRankOf us c.in_ok-seat.seat.bucket c.in_ok-seat.seat.rank) (c.as_slice.ensures.value ∙ sym c.as_mut_slice.ensures.value) c.in_ok-seat.ensures.rank
