@@ -1,5 +1,5 @@
 -- A script over a made trace, one event after the other, and what a run of it says.
-use Rattle.std.proofs.Common.{◌≡◌, ◌+◌, ◌-◌, ◌≤◌, ◌++◌, ℕ, zero, suc, Bool, true, false, not, nat_lt, List, [], ◌∷◌, length, map, refl, sym, ap, ◌∙◌, subst, append_assoc, Option, Some, None, IfSome, Result, Ok, Err, IfErr, IsErrOf, take, inl, inr, arith}
+use Rattle.std.proofs.Common.{◌≡◌, ◌+◌, ◌-◌, ◌≤◌, ◌<◌, ◌++◌, ℕ, zero, suc, Bool, true, false, not, nat_lt, List, [], ◌∷◌, length, map, refl, sym, ap, ◌∙◌, subst, append_assoc, Option, Some, None, IfSome, Result, Ok, Err, IfErr, IsErrOf, take, inl, inr, arith}
 use Rattle.std.specs.Io.KnownBytes.{Appends}
 use Rattle.std.specs.List.{list_all}
 use Rattle.std.proofs.lemmas.Bool.{and_parts, cases_Bool}
@@ -10,7 +10,7 @@ use Rattle.ft_base.specs.StreamState.{SinkState, SourceState}
 use Rattle.trace_gen.specs.declared.trace.TraceGen.{TraceGen}
 use Rattle.trace_gen.specs.Left.{lines_left}
 use Rattle.trace_gen.specs.Made as made
-use Rattle.trace_gen.specs.Made.{IsMadeLine, drawn, line_made, line_of_kind, lines_made}
+use Rattle.trace_gen.specs.Made.{IsMadeLine, drawn, line_of_kind, lines_made}
 use Rattle.trace_model.specs.declared.answer.Answer.{Answer}
 use Rattle.trace_model.specs.declared.line.Line.{Line}
 use Rattle.trace_model.specs.declared.line.Line.TheVariants as line
@@ -130,6 +130,17 @@ pub one_less : (xs ys : List Line) (l : Line) → xs ≡ l ∷ ys → length ys 
 one_less xs ys l is = let long : length xs ≡ suc (length ys) = ap length is in omega (arith, long)
 
 -- ---- from the start
+
+length-lines_made : (size hot number count : ℕ) (g : _) → length (lines_made size hot number count g) ≡ count
+unfolding made.lines_made
+length-lines_made size hot number zero g = refl
+length-lines_made size hot number (suc count) g = ap suc (length-lines_made size hot (number + 1) count (drawn g).1)
+
+-- no more lines are left than the trace has
+pub few_left : (g : TraceGen) (most : ℕ) → g.count < most → length (lines_left g) < most
+few_left g most few =
+    let left = length-lines_made g.size g.hot (g.given + 1) (g.count - g.given) g.words in
+    omega (arith, left)
 
 pub made_first : (g : TraceGen) (b : SinkState) → CameMade (lines_left g) b (stand_in g) b []
 made_first g b = record { lines = refl; said = said_none b }

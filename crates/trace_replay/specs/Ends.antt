@@ -7,6 +7,7 @@ use Rattle.ft_base.specs.StreamState.{SinkState, SourceState}
 use Rattle.ft_base.specs.declared.power.Stop.{Stop}
 use Rattle.ft_base.specs.declared.told.Ack.TheVariants as ack
 use Rattle.ft_media.specs.Media.{KeepsReady}
+use Rattle.ft_media.specs.Rig.{after_cut}
 use Rattle.ft_media.specs.State.{Power, State}
 use Rattle.trace_model.specs.Fits.{FitsLine, arming, block_count}
 use Rattle.trace_model.specs.Readings.{Reading}
@@ -28,6 +29,11 @@ abbrev pub BeginsRest : Line → List Stop → ℕ → Type 0
 BeginsRest (line.Stop after outcome) [] rest = rest < after
 BeginsRest other stops rest = ⊤
 
+-- a line that cuts power leaves of the disk what the outcome that it names leaves
+abbrev pub CutLeaves : Line → Contents → Contents → Type 0
+CutLeaves (line.Cut outcome) old new = (lba : ℕ) → new.disk lba ≡ after_cut outcome old.disk lba
+CutLeaves other old new = ⊤
+
 -- a line was run, and so many stops cut it
 pub record RunsLine (line : Line) (cuts : ℕ) (old new : State) : Type 0 where
   pub few : cuts ≤ length old.power.stops
@@ -36,6 +42,7 @@ pub record RunsLine (line : Line) (cuts : ℕ) (old new : State) : Type 0 where
   pub begins : BeginsRest line old.power.stops new.power.rest
   pub risen : RoseAtLeast (cuts + cut_count line) old.faults.cuts new.faults.cuts
   pub ready : cuts + cut_count line ≡ 0 → KeepsReady old new
+  pub left : CutLeaves line old.contents new.contents
 
 -- the blocks of a request up to the first that does not read as the new one
 pub record IsKept (lba count tag kept : ℕ) (disk : PlainDisk) : Type 0 where

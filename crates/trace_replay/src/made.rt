@@ -37,7 +37,6 @@ impl<'a, O: Sink> MadeScript<'a, O> {
 
     /// A script over what is left of this trace.
     pub fn new(alloc: Global, made: TraceGen, sink: &'a mut O) -> MadeScript<'a, O>
-        requires few { length (lines_left made) < 2 ^ 64 }
         ensures size { (⟦<MadeScript<'a, O> as Script>⟧.state result).size ≡ volume_size made }
         ensures spare { (⟦<MadeScript<'a, O> as Script>⟧.state result).spare ≡ true }
         ensures came { ⟦<MadeScript<'a, O> as Script>⟧.came (stand_in made) (O.state sink.old) [] result }
@@ -60,9 +59,15 @@ fn is_end(answer: &Answer) -> bool
 }
 
 impl<'a, O: Sink> Script for MadeScript<'a, O> {
+    ghost use Rattle.std.specs.Prelude.{IfOk, IfSome, IsOk, List, None, ◌+◌, ◌++◌, false};
     ghost use Rattle.std.proofs.Common.{refl};
     ghost use Rattle.sha2.specs.Hashers.{Holds256};
-    ghost use Rattle.trace_replay.specs.Events.{told_bytes};
+    ghost use Rattle.ft_base.specs.StreamState.{SinkState, SourceState};
+    ghost use Rattle.trace_model.specs.declared.line.LineError.{LineError};
+    ghost use Rattle.trace_model.specs.Lines.{IsRunnable};
+    ghost use Rattle.trace_model.specs.SoFar.{is_stop};
+    ghost use Rattle.trace_replay.specs.Events.{Came, Event, KnowsLines, NextRefused, refusal_after, taking, told_bytes};
+    ghost use Rattle.trace_replay.specs.Events.Event.{Gave, Took};
     ghost use Rattle.trace_replay.specs.Made.{BrokeMade, CameMade, KnowsMade};
 
     ghost state = { λ v. record { size = volume_size v.made; turns = length (lines_left v.made); spare = true; source_faults = 0; sink_faults = (O.state v.sink.now).faults; lent = v.sink.ghost_name ∷ (O.state v.sink.now).lent } };
@@ -73,7 +78,48 @@ impl<'a, O: Sink> Script for MadeScript<'a, O> {
 
     ghost knows = { λ s v all whole. KnowsMade s all whole };
 
-    fn next(&mut self, _armed: u32) -> Result<Option<Line>, Ended> {
+    fn next(&mut self, armed: u32) -> Result<Option<Line>, Ended>
+        ensures line { IfOk result (λ o. IfSome o (λ l. IsRunnable (⟦<MadeScript<'a, O> as Script>⟧.state self.old).size l
+            × ((⟦<MadeScript<'a, O> as Script>⟧.state self.new).turns + 1 ≤ (⟦<MadeScript<'a, O> as Script>⟧.state self.old).turns)
+            × (is_stop l ≡ true → armed < 16)
+            × Came ⟦<MadeScript<'a, O> as Script>⟧.came self.old self.new (Gave l ∷ []))) }
+        ensures end { IfOk result (λ o. o ≡ None → Came ⟦<MadeScript<'a, O> as Script>⟧.came self.old self.new []
+            × ((s : SourceState) → (b : SinkState) → (e : List Event)
+            → ⟦<MadeScript<'a, O> as Script>⟧.came s b e self.old
+            → KnowsLines ⟦<MadeScript<'a, O> as Script>⟧.knows s self.new e true)) }
+        ensures refused { IsErrOf result Ended.Trace → (s : SourceState) → (b : SinkState) → (e : List Event)
+            → ⟦<MadeScript<'a, O> as Script>⟧.came s b e self.old
+            → (cause : LineError) × NextRefused ⟦<MadeScript<'a, O> as Script>⟧.knows s self.new e armed cause
+            × ⟦<MadeScript<'a, O> as Script>⟧.came s b (e ++ taking (refusal_after e cause ∷ [])) self.new }
+        ensures source { IsErrOf result Ended.Source
+            → Rose (⟦<MadeScript<'a, O> as Script>⟧.state self.old).source_faults (⟦<MadeScript<'a, O> as Script>⟧.state self.new).source_faults
+            × Came ⟦<MadeScript<'a, O> as Script>⟧.came self.old self.new []
+            × ((s : SourceState) → (b : SinkState) → (e : List Event)
+            → ⟦<MadeScript<'a, O> as Script>⟧.came s b e self.old
+            → KnowsLines ⟦<MadeScript<'a, O> as Script>⟧.knows s self.new e false) }
+        ensures sink { IsErrOf result Ended.Sink
+            → Rose (⟦<MadeScript<'a, O> as Script>⟧.state self.old).sink_faults (⟦<MadeScript<'a, O> as Script>⟧.state self.new).sink_faults
+            × ((s : SourceState) → (b : SinkState) → (e : List Event)
+            → ⟦<MadeScript<'a, O> as Script>⟧.came s b e self.old
+            → (cause : LineError) × NextRefused ⟦<MadeScript<'a, O> as Script>⟧.knows s self.new e armed cause
+            × ⟦<MadeScript<'a, O> as Script>⟧.broke s b e (Took (refusal_after e cause)) self.new) }
+        ensures memory { IsErrOf result Ended.Memory → Came ⟦<MadeScript<'a, O> as Script>⟧.came self.old self.new []
+            × ((⟦<MadeScript<'a, O> as Script>⟧.state self.old).spare ≡ true
+            → (s : SourceState) → (b : SinkState) → (e : List Event)
+            → ⟦<MadeScript<'a, O> as Script>⟧.came s b e self.old
+            → (cause : LineError) × NextRefused ⟦<MadeScript<'a, O> as Script>⟧.knows s self.new e armed cause) }
+        ensures only { (IsErrOf result Ended.Flash → ⊥) × (IsErrOf result Ended.Disk → ⊥) }
+        ensures later { (⟦<MadeScript<'a, O> as Script>⟧.state self.old).sink_faults
+            ≤ (⟦<MadeScript<'a, O> as Script>⟧.state self.new).sink_faults }
+        ensures source_later { (⟦<MadeScript<'a, O> as Script>⟧.state self.old).source_faults
+            ≤ (⟦<MadeScript<'a, O> as Script>⟧.state self.new).source_faults }
+        ensures turns { (⟦<MadeScript<'a, O> as Script>⟧.state self.new).turns ≤ (⟦<MadeScript<'a, O> as Script>⟧.state self.old).turns }
+        ensures size { (⟦<MadeScript<'a, O> as Script>⟧.state self.new).size ≡ (⟦<MadeScript<'a, O> as Script>⟧.state self.old).size }
+        ensures spare { (⟦<MadeScript<'a, O> as Script>⟧.state self.new).spare ≡ (⟦<MadeScript<'a, O> as Script>⟧.state self.old).spare }
+        ensures lent { (⟦<MadeScript<'a, O> as Script>⟧.state self.new).lent ≡ (⟦<MadeScript<'a, O> as Script>⟧.state self.old).lent }
+        // No line of a made trace is refused, and nothing is read or said:
+        ensures ok { IsOk result }
+    {
         Ok(self.made.next())
     }
 
@@ -121,7 +167,6 @@ pub fn replay_made<O: Sink, R: Rig, V: Volume<R>>(
     rig: &mut R,
     volume: &mut V,
 ) -> Result<(), Ended>
-    requires few { length (lines_left made) < 2 ^ 64 }
     requires size { volume_size made ≡ (V.state volume.old).told.geometry.size }
     requires owns { V.owns volume.old (R.state rig.old).contents }
     requires ack { (V.state volume.old).told.ack ≡ ack.Write }

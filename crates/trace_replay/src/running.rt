@@ -9,6 +9,7 @@ ghost use Rattle.ft_volume.specs.Volume.{StandFor};
 ghost use Rattle.trace_model.specs.declared.ran.Ran.{Ran};
 ghost use Rattle.trace_model.specs.Lines.{IsRunnable};
 ghost use Rattle.trace_model.specs.SoFar.{is_stop};
+ghost use Rattle.trace_replay.specs.Ends.{CutLeaves};
 ghost use Rattle.trace_replay.specs.Events.{BreaksBy, CameBy, KnowsLines, events_of};
 ghost use Rattle.trace_replay.specs.Events.Event.{Gave};
 ghost use Rattle.trace_replay.specs.Ran.{BlamesRun, EndsRun, GoesOn, IsTallyOf, RanSoFar};
@@ -132,6 +133,7 @@ fn run_given<P: Script, R: Rig, V: Volume<R>>(
         → (one : Ran) × RanSoFar (V.state volume.old).told (V.stands (V.state volume.new).told) first (R.state rig.new) tally.new (V.state volume.new) (one ∷ run)
         × ((s : SourceState) → (b : SinkState) → P.came s b (events_of run ++ Gave line.now ∷ []) script.old → P.came s b (events_of (one ∷ run)) script.new)) }
     ensures within { OnOk result (All (λ a. a < (V.state volume.old).told.geometry.size) tally.new.touched.keys) }
+    ensures left { OnOk result (CutLeaves line.now (R.state rig.old).contents (R.state rig.new).contents) }
     ensures ends { IfErr result (λ e. (first : State) → (run : List Ran)
         → RanSoFar (V.state volume.old).told (V.stands (V.state volume.old).told) first (R.state rig.old) tally.old (V.state volume.old) run
         → (s : SourceState) → (b : SinkState) → P.came s b (events_of run ++ Gave line.now ∷ []) script.old

@@ -59,20 +59,26 @@ fn the_pieces_before_a_fault_are_printed(rt: HostRuntime) -> Result<(), Fail> {
     Ok(())
 }
 
-/// The lines of a source of these bytes, in pieces of so many, which fails at the listed reads. The first
-/// is a flush, they go on so, and this is printed.
-fn second_line(
-    rt: &impl Abort,
+/// A source of these bytes, in pieces of so many, which fails at the listed reads.
+fn source_of(
     alloc: Global,
     bytes: &[u8],
     piece: usize,
     failing: &[u64],
-    second: Result<Option<Line>, Ended>,
-    printed: &[u8],
-) -> Result<(), Fail>
+) -> Result<MemSource, AllocError>
     requires { 1 ≤ piece }
 {
-    let mut source = MemSource::new(bytes.to_vec(alloc)?, piece, failing.to_vec(alloc)?);
+    Ok(MemSource::new(bytes.to_vec(alloc)?, piece, failing.to_vec(alloc)?))
+}
+
+/// The first line of this source is a flush, the lines go on so, and this is printed.
+fn second_line(
+    rt: &impl Abort,
+    alloc: Global,
+    mut source: MemSource,
+    second: Result<Option<Line>, Ended>,
+    printed: &[u8],
+) -> Result<(), Fail> {
     let mut sink = MemSink::new(alloc, 100, 100, Vec::new(alloc))?;
     let mut script = StreamScript::new(alloc, &mut source, &mut sink, 64);
     assert_eq!(rt; script.next(0), Ok(Some(Line::Flush)));
@@ -86,14 +92,17 @@ fn bytes_that_no_line_feed_ends_are_a_line_where_the_source_ended(
     rt: HostRuntime,
 ) -> Result<(), Fail> {
     let alloc = rt.alloc();
-    let flush = Ok(Some(Line::Flush));
-    second_line(&rt, alloc, b"f\nf", 1, &[], flush, b"")?;
-    second_line(&rt, alloc, b"f\nf", 2, &[], flush, b"")?;
-    second_line(&rt, alloc, b"f\nf", 100, &[], flush, b"")?;
-    second_line(&rt, alloc, b"f\n", 100, &[], Ok(None), b"")?;
-    let failed = Err(Ended::Source);
-    second_line(&rt, alloc, b"f\nf", 2, &[2], failed, b"")?;
-    second_line(&rt, alloc, b"f\nf", 100, &[2], failed, b"")
+    for piece in [1, 2, 100] {
+        let source = source_of(alloc, b"f\nf", piece, &[])?;
+        second_line(&rt, alloc, source, Ok(Some(Line::Flush)), b"")?;
+    }
+    let source = source_of(alloc, b"f\n", 100, &[])?;
+    second_line(&rt, alloc, source, Ok(None), b"")?;
+    for piece in [2, 100] {
+        let source = source_of(alloc, b"f\nf", piece, &[2])?;
+        second_line(&rt, alloc, source, Err(Ended::Source), b"")?;
+    }
+    Ok(())
 }
 
 #[test]
@@ -102,10 +111,11 @@ fn a_line_is_over_long_also_where_the_source_fails_behind_it(rt: HostRuntime) ->
     let mut bytes = [b'#'; 203];
     bytes[0] = b'f';
     bytes[1] = b'\n';
-    let refused = Err(Ended::Trace);
     let printed = b"line 2: LineTooLong\n".as_slice();
-    second_line(&rt, alloc, &bytes, 100, &[4], refused, printed)?;
-    second_line(&rt, alloc, &bytes, 203, &[2], refused, printed)?;
-    let failed = Err(Ended::Source);
-    second_line(&rt, alloc, &bytes[..202], 202, &[2], failed, b"")
+    let source = source_of(alloc, &bytes, 100, &[4])?;
+    second_line(&rt, alloc, source, Err(Ended::Trace), printed)?;
+    let source = source_of(alloc, &bytes, 203, &[2])?;
+    second_line(&rt, alloc, source, Err(Ended::Trace), printed)?;
+    let source = source_of(alloc, &bytes[..202], 202, &[2])?;
+    second_line(&rt, alloc, source, Err(Ended::Source), b"")
 }
