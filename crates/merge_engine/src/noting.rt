@@ -88,6 +88,7 @@ pub(crate) fn note(cache: &mut Parts, change: &Record, group: u64)
     ensures pages { cache.new.map.spare_pages + pages_taken change.now ≡ cache.old.map.spare_pages }
     ensures groups { cache.new.map.spare_groups + groups_taken change.now ≡ cache.old.map.spare_groups }
     ensures buckets { cache.new.map.buckets ≡ cache.old.map.buckets }
+    ensures group_buckets { cache.new.map.group_buckets ≡ cache.old.map.group_buckets }
     ensures log { cache.new.log ≡ pushed change.now cache.old.log }
     ensures roles { FollowsGroup cache.old.geometry group cache.old.map.entries cache.new.map.entries cache.old.pool cache.new.pool }
 {

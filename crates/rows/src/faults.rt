@@ -1,7 +1,7 @@
 //! Each call of flash and disk fails in turn.
 
 use crate::random::shape_of;
-use crate::small::{Outcome, Shape, back, run, run_on};
+use crate::small::{Outcome, Shape, THROUGH, back, run, run_on};
 use mem_rig::MemRig;
 use rand_core::SeedableRng;
 use rand_pcg::Lcg64Xsh32;
@@ -100,17 +100,12 @@ fn each_call_of_the_disk_that_fails_ends_the_run(rt: HostRuntime) -> Result<(), 
     Ok(())
 }
 
-// A block that is held is read from its page each time: no copy of it lives beside the media.
-#[test]
-fn a_page_is_read_for_each_read(rt: HostRuntime) -> Result<(), Fail> {
-    let alloc = rt.alloc();
-    let shape = Shape {
-        dirty: 2,
-        ..back(2, 2)
-    };
+/// The last calls of the flash without which a run of a write and a read ends before the read is answered, and
+/// before the end line.
+fn calls_at_reads(alloc: Global, shape: &Shape) -> Result<(u64, u64), Fail> {
     let (mut at_line, mut at_end) = (0, 0);
     for number in 1..=200 {
-        let outcome = without_call(alloc, &shape, b"w 0 1 1\nr 0 1\n", Device::Flash, number)?;
+        let outcome = without_call(alloc, shape, b"w 0 1 1\nr 0 1\n", Device::Flash, number)?;
         if outcome.status == 5 && outcome.text.as_slice() == b"wrote 0 1\n".as_slice() {
             at_line = number;
         }
@@ -118,6 +113,15 @@ fn a_page_is_read_for_each_read(rt: HostRuntime) -> Result<(), Fail> {
             at_end = number;
         }
     }
-    assert!(rt; at_line > 0 && at_end > at_line);
+    Ok((at_line, at_end))
+}
+
+// A block that is held is read from its page each time: no copy of it lives beside the media.
+#[test]
+fn a_page_is_read_for_each_read(rt: HostRuntime) -> Result<(), Fail> {
+    for shape in [back(2, 2), THROUGH] {
+        let (at_line, at_end) = calls_at_reads(rt.alloc(), &shape)?;
+        assert!(rt; at_line > 0 && at_end > at_line);
+    }
     Ok(())
 }

@@ -1,7 +1,7 @@
 //! Worked examples of the whole program, as tables: a trace, the text that it prints and its status; many
 //! small traces with power cuts over volumes of both modes, whose texts are those that the plain programs
-//! compute; a trace of which each call of flash and disk fails in turn; made traces; and what traces leave
-//! in the cache.
+//! compute; a trace of which each call of flash and disk fails in turn, and each of the source and the sink;
+//! traces in pieces of every size; made traces; and what traces leave in the cache.
 //!
 //! No layer stands on this crate; it has tests alone.
 #![tactic(auto)]
@@ -17,9 +17,13 @@ mod made;
 #[cfg(test)]
 mod managers;
 #[cfg(test)]
+mod pieces;
+#[cfg(test)]
 mod plain;
 #[cfg(test)]
 mod random;
+#[cfg(test)]
+mod refusals;
 #[cfg(test)]
 mod replay;
 #[cfg(test)]

@@ -59,6 +59,20 @@ fn a_made_trace_prints_its_end_line_alone(rt: HostRuntime) -> Result<(), Fail> {
     Ok(())
 }
 
+// The options that aren't named say the same in both.
+#[test]
+fn a_long_made_trace_prints_its_end_line_alone(rt: HostRuntime) -> Result<(), Fail> {
+    let alloc = rt.alloc();
+    let end =
+        b"end 10083 7957 6066 9a8aae486b470615993d48616becf21deca7d1193ede2ff3a7b6f958dc07ce54\n";
+    for line in ["gen --number 1 --count 20000", "gen"] {
+        let outcome = made_on(&rt, alloc, line, MemRig::new(alloc))?;
+        assert_eq!(rt; outcome.status, 0, "{line}");
+        assert_eq!(rt; outcome.text.as_slice(), end.as_slice(), "{line}");
+    }
+    Ok(())
+}
+
 #[test]
 fn a_made_trace_that_a_device_ends_prints_nothing(rt: HostRuntime) -> Result<(), Fail> {
     let alloc = rt.alloc();

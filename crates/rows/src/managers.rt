@@ -1,6 +1,7 @@
 //! Volumes that write back and through: what goes to the disk, and what a cut leaves.
 
 use crate::plain::is_plain;
+use crate::replay::repeated;
 use crate::small::{Outcome, Shape, THROUGH, back, run};
 use ft_media::Rig;
 use std::alloc::Global;
@@ -36,18 +37,20 @@ fn a_small_volume_answers_what_was_written(rt: HostRuntime) -> Result<(), Fail> 
     let counts = first.rig.counts();
     assert_eq!(rt; (counts.disk_reads, counts.disk_writes), (1, 0));
     run_as(&rt, alloc, &shape, b"w 63 1 1\n", b"wrote 63 1\nend 1 0 1 ")?;
-    let refused: [(&[u8], &[u8]); 3] = [
-        (b"w 62 3 1\n", b"line 1: OutOfVolume\n"),
-        (b"r 64 1\n", b"line 1: OutOfVolume\n"),
-        (
-            b"w 0 1 1\nr 0 1\nq 5",
-            b"wrote 0 1\nread 0 1\nline 3: BadWord\n",
-        ),
-    ];
-    for (trace, text) in refused {
-        let outcome = run(alloc, &shape, trace)?;
-        assert_eq!(rt; (outcome.status, outcome.text.as_slice()), (2, text));
-    }
+    Ok(())
+}
+
+#[test]
+fn a_small_volume_reads_a_block_from_the_disk_once(rt: HostRuntime) -> Result<(), Fail> {
+    let alloc = rt.alloc();
+    let mut trace = Vec::from_slice(alloc, b"w 5 1 7\n")?;
+    trace.extend_from_slice(repeated(alloc, b"r 6 1\n", 20)?.as_slice())?;
+    let mut wanted = Vec::from_slice(alloc, b"wrote 5 1\n")?;
+    wanted.extend_from_slice(repeated(alloc, b"read 6 0\n", 20)?.as_slice())?;
+    wanted.extend_from_slice(b"end 1 20 2 ")?;
+    let outcome = run_as(&rt, alloc, &back(2, 2), trace.as_slice(), wanted.as_slice())?;
+    let counts = outcome.rig.counts();
+    assert_eq!(rt; (counts.disk_reads, counts.disk_writes), (1, 0));
     Ok(())
 }
 

@@ -118,7 +118,7 @@ fn the_first_refused_line_ends_the_run(rt: HostRuntime) -> Result<(), Fail> {
 }
 
 /// So many lines like this one.
-fn repeated(alloc: Global, line: &[u8], count: u32) -> Result<Vec<u8>, AllocError> {
+pub(crate) fn repeated(alloc: Global, line: &[u8], count: u32) -> Result<Vec<u8>, AllocError> {
     let mut trace = Vec::new(alloc);
     for _ in 0..count {
         trace.extend_from_slice(line)?;
@@ -189,7 +189,7 @@ fn a_cut_loses_nothing_that_was_acknowledged(rt: HostRuntime) -> Result<(), Fail
 }
 
 /// Words that are no command.
-const WRONG: [&[&str]; 44] = [
+const WRONG: [&[&str]; 45] = [
     &[],
     &["play"],
     &["Replay"],
@@ -216,6 +216,7 @@ const WRONG: [&[&str]; 44] = [
     &["replay", "-V"],
     &["replay", "--version"],
     &["replay", "--pages=3"],
+    &["replay", "--pages", "3"],
     &["replay", "--pages", "65"],
     &["replay", "--pages"],
     &["replay", "--pages="],
