@@ -5,7 +5,6 @@ ghost use Rattle.cache_model.specs.Loading.{Complete, checkpoint_of, load};
 ghost use Rattle.cache_model.specs.Records.{no_entries};
 ghost use Rattle.mem_rig.specs.Rig.{state_of};
 ghost use Rattle.op_log.specs.Log.{FitsOn};
-ghost use Rattle.merge_engine.specs.Agreement.{Agree};
 
 use crate::{
     Parts, append, commit, loaded, make_checkpoint, merge_group, put_clean, put_out, put_page,
@@ -18,17 +17,74 @@ use mapping::Map;
 use mem_rig::MemRig;
 use page_oob::{SpareKind, read_spare};
 use std::alloc::Global;
+use std::marker::Model;
 use std::test::Fail;
-
-/// A cache and the rig that it is on.
-#[derive(Drop)]
-struct Bench {
-    parts: Parts,
-    rig: MemRig,
-}
 
 /// What stands at a page that was programmed: its kind, its address, and its block's tag.
 type Seen = (SpareKind, u64, Option<u64>);
+
+/// One step on a cache.
+#[derive(Clone, Copy)]
+enum Step {
+    /// Appends a pattern of an address with a tag, and puts the address there, dirty or clean.
+    Put(u64, u64, bool),
+    /// Takes an address out.
+    TakeOut(u64),
+    /// Marks an address clean.
+    MarkClean(u64),
+    /// Puts all that is buffered on the flash.
+    Commit,
+    /// Makes a checkpoint.
+    Checkpoint,
+    /// Merges a group of which something is held.
+    Merge(u64),
+}
+
+/// What can be seen of a cache.
+#[derive(Clone, Copy)]
+enum Fact {
+    /// What a block of the pool is used for.
+    Role {
+        block: u32,
+        role: Role,
+    },
+    /// The data block of a group, the pages that are present in it, and the dirty ones.
+    DataBlock {
+        group: u64,
+        block: u32,
+        present: u64,
+        dirty: u64,
+    },
+    /// The pages of a group that are held, and the dirty ones.
+    Pages {
+        group: u64,
+        held: u64,
+        dirty: u64,
+    },
+    /// Where an address lies, and whether it is dirty.
+    At {
+        lba: u64,
+        at: Place,
+        dirty: bool,
+    },
+    /// What stands at a page; none where it isn't whole.
+    Stands {
+        at: Place,
+        seen: Option<Seen>,
+    },
+    /// How many log blocks are in use, and how many pages the open one has left.
+    LogBlocks {
+        used: u32,
+        room: u32,
+    },
+    /// How many groups have a data block, and how many a dirty page.
+    Groups {
+        data_blocks: u32,
+        dirty: u32,
+    },
+    /// How many changes wait for a log page.
+    Buffered(u32),
+}
 
 // ---- the start
 
@@ -46,7 +102,8 @@ fn fits_on(rig: &MemRig, geometry: &Geometry) -> bool
 fn formatted(alloc: Global, geometry: &Geometry) -> Result<MemRig, Fail>
     ensures shape { IfOk result (λ rig. FitsOn geometry.now (state_of rig).contents.shape) }
     ensures loads { IfOk result (λ rig. load geometry.now (state_of rig).contents.flash.page ≡ Ok no_entries) }
-    ensures chosen { IfOk result (λ rig. (c : Complete) × (checkpoint_of geometry.now (state_of rig).contents.flash.page ≡ Ok (0, c)) × (c.era ≡ 0)) }
+    ensures chosen { IfOk result (λ rig. (c : Complete) × (checkpoint_of geometry.now (state_of rig).contents.flash.page ≡ Ok (0, c))
+        × (c.era ≡ 0)) }
 {
     let mut rig = MemRig::new(alloc);
     rig.fit_anew(alloc, 9, 4, 64)?;
@@ -64,9 +121,7 @@ fn formatted(alloc: Global, geometry: &Geometry) -> Result<MemRig, Fail>
 }
 
 /// A cache of nothing, with P = 4, C = 2 and L = 2. Its pool is the erase blocks 4 to 8.
-fn begin(alloc: Global) -> Result<Bench, Fail>
-    ensures { IfOk result (λ bench. Agree bench.parts (state_of bench.rig).contents) }
-{
+fn begin(alloc: Global) -> Result<Bench, Fail> {
     let geometry = Geometry::new(4, 2, 2, 1, 64)?;
     let mut rig = formatted(alloc, &geometry)?;
     let map = Map::new(alloc, &geometry)?;
@@ -74,8 +129,6 @@ fn begin(alloc: Global) -> Result<Bench, Fail>
     make_checkpoint(&mut parts, &mut rig)?;
     Ok(Bench { parts, rig })
 }
-
-// ---- the steps, each where its conditions hold
 
 /// Makes room in the map for one page and P groups.
 fn reserve(parts: &mut Parts) -> Result<(), Fail>
@@ -93,372 +146,504 @@ fn reserve(parts: &mut Parts) -> Result<(), Fail>
     Ok(())
 }
 
-/// Appends a pattern of an address, and puts the address there.
-fn put(bench: &mut Bench, lba: u64, tag: u64, dirty: bool) -> Result<Place, Fail>
-    requires { Agree bench.old.parts (state_of bench.old.rig).contents }
-    ensures { OnOk result (Agree bench.new.parts (state_of bench.new.rig).contents) }
-{
-    reserve(&mut bench.parts)?;
-    let mut block = zero_block();
-    pattern(lba, tag, &mut block);
-    let place = append(&mut bench.parts, &mut bench.rig, lba, &block)?;
-    if !bench.parts.map.fits(&Record::SetPage { lba, place, dirty }) {
-        return Err(Fail::from("the page doesn't fit"));
+/// A cache and the rig that it is on, which agree. A step that is refused leaves none.
+#[derive(Drop)]
+struct Bench {
+    parts: Parts,
+    rig: MemRig,
+}
+
+impl Model for Bench {
+    ghost use Rattle.ft_base.specs.declared.geometry.Geometry.{Geometry};
+    ghost use Rattle.mem_rig.specs.Rig.{state_of};
+    ghost use Rattle.merge_engine.specs.Agreement.{Agree};
+
+    ghost Value = { Geometry };
+
+    ghost view = { λ b. b.parts.geometry };
+
+    ghost invariant = { λ b. Agree b.parts (state_of b.rig).contents };
+}
+
+impl Bench {
+    // ---- the steps, each where its conditions hold
+
+    /// Appends a pattern of an address, and puts the address there.
+    fn put(self, lba: u64, tag: u64, dirty: bool) -> Result<Bench, Fail> {
+        let Bench { mut parts, mut rig } = self;
+        reserve(&mut parts)?;
+        let mut block = zero_block();
+        pattern(lba, tag, &mut block);
+        let place = append(&mut parts, &mut rig, lba, &block)?;
+        if !parts.map.fits(&Record::SetPage { lba, place, dirty }) {
+            return Err(Fail::from("the page doesn't fit"));
+        }
+        put_page(&mut parts, lba, place, dirty);
+        Ok(Bench { parts, rig })
     }
-    put_page(&mut bench.parts, lba, place, dirty);
-    Ok(place)
-}
 
-/// Takes an address out.
-fn take_out(bench: &mut Bench, lba: u64) -> Result<(), Fail>
-    requires { Agree bench.old.parts (state_of bench.old.rig).contents }
-    ensures { OnOk result (Agree bench.new.parts (state_of bench.new.rig).contents) }
-{
-    reserve(&mut bench.parts)?;
-    if !bench.parts.map.fits(&Record::Remove { lba }) {
-        return Err(Fail::from("the address isn't held"));
+    /// Takes an address out.
+    fn take_out(self, lba: u64) -> Result<Bench, Fail> {
+        let Bench { mut parts, rig } = self;
+        reserve(&mut parts)?;
+        if !parts.map.fits(&Record::Remove { lba }) {
+            return Err(Fail::from("the address isn't held"));
+        }
+        put_out(&mut parts, lba);
+        Ok(Bench { parts, rig })
     }
-    put_out(&mut bench.parts, lba);
-    Ok(())
-}
 
-/// Marks an address clean.
-fn mark_clean(bench: &mut Bench, lba: u64) -> Result<(), Fail>
-    requires { Agree bench.old.parts (state_of bench.old.rig).contents }
-    ensures { OnOk result (Agree bench.new.parts (state_of bench.new.rig).contents) }
-{
-    reserve(&mut bench.parts)?;
-    if !bench.parts.map.fits(&Record::Clean { lba }) {
-        return Err(Fail::from("the address isn't dirty"));
+    /// Marks an address clean.
+    fn mark_clean(self, lba: u64) -> Result<Bench, Fail> {
+        let Bench { mut parts, rig } = self;
+        reserve(&mut parts)?;
+        if !parts.map.fits(&Record::Clean { lba }) {
+            return Err(Fail::from("the address isn't dirty"));
+        }
+        put_clean(&mut parts, lba);
+        Ok(Bench { parts, rig })
     }
-    put_clean(&mut bench.parts, lba);
-    Ok(())
-}
 
-/// Puts all that is buffered on the flash.
-fn commit_all(bench: &mut Bench) -> Result<(), Fail>
-    requires { Agree bench.old.parts (state_of bench.old.rig).contents }
-    ensures { OnOk result (Agree bench.new.parts (state_of bench.new.rig).contents) }
-{
-    commit(&mut bench.parts, &mut bench.rig)?;
-    Ok(())
-}
-
-/// Appends a dirty pattern of each of some addresses, and commits each.
-fn put_each(bench: &mut Bench, addresses: &[u64]) -> Result<(), Fail>
-    requires { Agree bench.old.parts (state_of bench.old.rig).contents }
-    ensures { OnOk result (Agree bench.new.parts (state_of bench.new.rig).contents) }
-{
-    for lba in addresses {
-        put(bench, *lba, 1, true)?;
-        commit_all(bench)?;
+    /// Puts all that is buffered on the flash.
+    fn commit(self) -> Result<Bench, Fail> {
+        let Bench { mut parts, mut rig } = self;
+        commit(&mut parts, &mut rig)?;
+        Ok(Bench { parts, rig })
     }
-    Ok(())
-}
 
-/// Makes a checkpoint.
-fn checkpoint_now(bench: &mut Bench) -> Result<(), Fail>
-    requires { Agree bench.old.parts (state_of bench.old.rig).contents }
-    ensures { OnOk result (Agree bench.new.parts (state_of bench.new.rig).contents) }
-{
-    make_checkpoint(&mut bench.parts, &mut bench.rig)?;
-    Ok(())
-}
-
-/// Merges a group of which something is held.
-fn merge(bench: &mut Bench, group: u64) -> Result<(), Fail>
-    requires { Agree bench.old.parts (state_of bench.old.rig).contents }
-    ensures { OnOk result (Agree bench.new.parts (state_of bench.new.rig).contents) }
-{
-    reserve(&mut bench.parts)?;
-    if bench.parts.map.held_bits(group) == 0 {
-        return Err(Fail::from("nothing of the group is held"));
+    /// Makes a checkpoint.
+    fn checkpoint(self) -> Result<Bench, Fail> {
+        let Bench { mut parts, mut rig } = self;
+        make_checkpoint(&mut parts, &mut rig)?;
+        Ok(Bench { parts, rig })
     }
-    merge_group(&mut bench.parts, &mut bench.rig, group)?;
-    Ok(())
-}
 
-// ---- what is seen
-
-/// What a block of the pool is used for.
-fn role(bench: &Bench, block: u32) -> Option<Role>
-    requires { Agree bench.now.parts (state_of bench.now.rig).contents }
-{
-    if !plain::is_in_pool(&bench.parts.geometry, block) {
-        return None;
+    /// Merges a group of which something is held.
+    fn merge(self, group: u64) -> Result<Bench, Fail> {
+        let Bench { mut parts, mut rig } = self;
+        reserve(&mut parts)?;
+        if parts.map.held_bits(group) == 0 {
+            return Err(Fail::from("nothing of the group is held"));
+        }
+        merge_group(&mut parts, &mut rig, group)?;
+        Ok(Bench { parts, rig })
     }
-    Some(bench.parts.pool.role(block))
+
+    /// Makes the steps, one after another.
+    fn run(self, steps: &[Step]) -> Result<Bench, Fail> {
+        let mut bench = self;
+        for step in steps {
+            bench = bench.step(*step)?;
+        }
+        Ok(bench)
+    }
+
+    fn step(self, step: Step) -> Result<Bench, Fail> {
+        match step {
+            Step::Put(lba, tag, dirty) => self.put(lba, tag, dirty),
+            Step::TakeOut(lba) => self.take_out(lba),
+            Step::MarkClean(lba) => self.mark_clean(lba),
+            Step::Commit => self.commit(),
+            Step::Checkpoint => self.checkpoint(),
+            Step::Merge(group) => self.merge(group),
+        }
+    }
+
+    // ---- what is seen
+
+    /// The first of the facts that doesn't hold.
+    fn first_wrong(&mut self, facts: &[Fact]) -> Result<Option<usize>, Fail> {
+        for i in 0..facts.len() {
+            if !self.holds(&facts[i])? {
+                return Ok(Some(i));
+            }
+        }
+        Ok(None)
+    }
+
+    fn holds(&mut self, fact: &Fact) -> Result<bool, Fail> {
+        match *fact {
+            Fact::Stands { at, seen } => Ok(self.seen_at(at)? == seen),
+            Fact::Role { block, role } => Ok(self.role(block) == Some(role)),
+            other => Ok(self.map_holds(other)),
+        }
+    }
+
+    /// The same of a fact that the parts tell by themselves.
+    fn map_holds(&self, fact: Fact) -> bool {
+        match fact {
+            Fact::DataBlock {
+                group,
+                block,
+                present,
+                dirty,
+            } => { self.data_block(group) == Some((block, present, dirty)) }
+            Fact::Pages { group, held, dirty } => self.bits(group) == (held, dirty),
+            Fact::At { lba, at, dirty } => self.parts.map.place(lba) == Some((at, dirty)),
+            Fact::LogBlocks { used, room } => {
+                self.parts.logs.used() == used && self.parts.logs.room() == room
+            }
+            Fact::Groups { data_blocks, dirty } => {
+                self.parts.map.data_blocks() == data_blocks
+                    && self.parts.map.dirty_groups() == dirty
+            }
+            Fact::Buffered(count) => self.parts.log.buffered() == count,
+            Fact::Stands { .. } | Fact::Role { .. } => false,
+        }
+    }
+
+    /// What a block of the pool is used for.
+    fn role(&self, block: u32) -> Option<Role> {
+        if !plain::is_in_pool(&self.parts.geometry, block) {
+            return None;
+        }
+        Some(self.parts.pool.role(block))
+    }
+
+    /// The data block of a group, the pages that are present in it, and the dirty ones.
+    fn data_block(&self, group: u64) -> Option<(u32, u64, u64)> {
+        let own = self.parts.map.block_of(group)?;
+        Some((own.block(), own.present(), own.dirty()))
+    }
+
+    /// The pages of a group that are held, and the dirty ones.
+    fn bits(&self, group: u64) -> (u64, u64) {
+        (
+            self.parts.map.held_bits(group),
+            self.parts.map.dirty_bits(group),
+        )
+    }
+
+    /// How many blocks were erased, and how many pages programmed.
+    fn writes(&self) -> (u64, u64) {
+        let done = self.rig.done();
+        (done.erases, done.programs)
+    }
+
+    /// What stands at a page. None where it isn't whole.
+    fn seen_at(&mut self, at: Place) -> Result<Option<Seen>, Fail> {
+        if at.block >= self.rig.flash_blocks() || at.page >= self.rig.flash_pages() {
+            return Err(Fail::from("there is no such page"));
+        }
+        let mut bytes = zero_block();
+        let mut spare = Spare([0; 32]);
+        let read = self.rig.read_flash(at, &mut bytes, &mut spare)?;
+        if read != PageRead::Whole {
+            return Ok(None);
+        }
+        let Some((kind, _, lba)) = read_spare(&spare) else {
+            return Err(Fail::from("strange spare bytes"));
+        };
+        Ok(Some((kind, lba, tag_of(lba, &bytes))))
+    }
 }
 
-/// The data block of a group.
-fn data_block(bench: &Bench, group: u64) -> Option<u32> {
-    let own = bench.parts.map.block_of(group)?;
-    Some(own.block())
+/// A place.
+fn at(block: u32, page: u32) -> Place {
+    Place { block, page }
 }
 
-/// The pages that are present in the data block of a group, and those that are dirty.
-fn data_bits(bench: &Bench, group: u64) -> Option<(u64, u64)> {
-    let own = bench.parts.map.block_of(group)?;
-    Some((own.present(), own.dirty()))
+/// An address lies there, dirty.
+fn lies(lba: u64, block: u32, page: u32) -> Fact {
+    Fact::At {
+        lba,
+        at: at(block, page),
+        dirty: true,
+    }
 }
 
-/// The pages of a group that are held, and those that are dirty.
-fn bits(bench: &Bench, group: u64) -> (u64, u64) {
+/// A page with a pattern of an address stands there.
+fn data(block: u32, page: u32, lba: u64, tag: u64) -> Fact {
+    Fact::Stands {
+        at: at(block, page),
+        seen: Some((SpareKind::Page, lba, Some(tag))),
+    }
+}
+
+/// A filler page stands there, whose block is zero.
+fn filler(block: u32, page: u32) -> Fact {
+    Fact::Stands {
+        at: at(block, page),
+        seen: Some((SpareKind::Filler, 0, Some(0))),
+    }
+}
+
+/// So many more erases and programs.
+fn more(before: (u64, u64), erases: u64, programs: u64) -> (u64, u64) {
     (
-        bench.parts.map.held_bits(group),
-        bench.parts.map.dirty_bits(group),
+        before.0.wrapping_add(erases),
+        before.1.wrapping_add(programs),
     )
 }
 
-/// Where an address lies, and whether it is dirty.
-fn place_of(bench: &Bench, lba: u64) -> Option<(Place, bool)> {
-    bench.parts.map.place(lba)
-}
-
-/// How many groups have a data block.
-fn data_blocks(bench: &Bench) -> u32 {
-    bench.parts.map.data_blocks()
-}
-
-/// How many groups have a dirty page.
-fn dirty_groups(bench: &Bench) -> u32 {
-    bench.parts.map.dirty_groups()
-}
-
-/// How many changes wait for a log page.
-fn buffered(bench: &Bench) -> u32 {
-    bench.parts.log.buffered()
-}
-
-/// How many log blocks are in use.
-fn used(bench: &Bench) -> u32 {
-    bench.parts.logs.used()
-}
-
-/// How many pages the open log block has left.
-fn room(bench: &Bench) -> u32 {
-    bench.parts.logs.room()
-}
-
-/// How many blocks were erased, and how many pages programmed.
-fn erased_and_programmed(bench: &Bench) -> (u64, u64) {
-    let done = bench.rig.done();
-    (done.erases, done.programs)
-}
-
-/// What stands at a page. None where it isn't whole.
-fn seen_at(bench: &mut Bench, block: u32, page: u32) -> Result<Option<Seen>, Fail>
-    requires { Agree bench.old.parts (state_of bench.old.rig).contents }
-    ensures { Agree bench.new.parts (state_of bench.new.rig).contents }
-{
-    if block >= bench.rig.flash_blocks() || page >= bench.rig.flash_pages() {
-        return Err(Fail::from("there is no such page"));
-    }
-    let mut bytes = zero_block();
-    let mut spare = Spare([0; 32]);
-    let read = bench
-        .rig
-        .read_flash(Place { block, page }, &mut bytes, &mut spare)?;
-    if read != PageRead::Whole {
-        return Ok(None);
-    }
-    let Some((kind, _, lba)) = read_spare(&spare) else {
-        return Err(Fail::from("strange spare bytes"));
-    };
-    Ok(Some((kind, lba, tag_of(lba, &bytes))))
-}
-
-/// A data page with a pattern of its address.
-fn data(lba: u64, tag: u64) -> Option<Seen> {
-    Some((SpareKind::Page, lba, Some(tag)))
-}
-
-/// A filler page, whose block is zero.
-fn filler() -> Option<Seen> {
-    Some((SpareKind::Filler, 0, Some(0)))
-}
+/// Four addresses are put one after another, each committed, and a checkpoint is made.
+const FOUR_IN_ORDER: [Step; 9] = [
+    Step::Put(0, 1, true),
+    Step::Commit,
+    Step::Put(1, 1, true),
+    Step::Commit,
+    Step::Put(2, 1, true),
+    Step::Commit,
+    Step::Put(3, 1, true),
+    Step::Commit,
+    Step::Checkpoint,
+];
 
 #[test]
 fn pages_are_appended_in_order(rt: HostRuntime) -> Result<(), Fail> {
-    let mut bench = begin(rt.alloc())?;
-    for page in 0..4 {
-        let place = put(&mut bench, 5 + page as u64, 1, true)?;
-        assert_eq!(rt; place, Place { block: 4, page });
-    }
-    assert_eq!(rt; role(&bench, 4), Some(Role::Log));
-    assert_eq!(rt; room(&bench), 0);
-    let place = put(&mut bench, 6, 2, true)?;
+    let steps = [5, 6, 7, 8].map(|lba| Step::Put(lba, 1, true));
+    let mut bench = begin(rt.alloc())?.run(&steps)?;
+    let facts = [
+        lies(5, 4, 0),
+        lies(6, 4, 1),
+        lies(7, 4, 2),
+        lies(8, 4, 3),
+        Fact::LogBlocks { used: 1, room: 0 },
+        Fact::Role {
+            block: 4,
+            role: Role::Log,
+        },
+    ];
+    assert_eq!(rt; bench.first_wrong(&facts)?, None);
+    let mut bench = bench.put(6, 2, true)?;
+    let facts = [lies(6, 5, 0), data(5, 0, 6, 2)];
     assert_eq!(rt;
-        place,
-        Place { block: 5, page: 0 },
+        bench.first_wrong(&facts)?,
+        None,
         "the next block is opened"
     );
-    assert_eq!(rt; seen_at(&mut bench, 5, 0)?, data(6, 2));
-    assert_eq!(rt; place_of(&bench, 6), Some((place, true)));
     Ok(())
 }
 
 #[test]
 fn the_pages_of_a_group_are_gathered(rt: HostRuntime) -> Result<(), Fail> {
-    let mut bench = begin(rt.alloc())?;
-    put(&mut bench, 4, 1, true)?;
-    put(&mut bench, 7, 1, false)?;
-    merge(&mut bench, 1)?;
-    assert_eq!(rt; data_block(&bench, 1), Some(5));
-    assert_eq!(rt; bits(&bench, 1), (0b1001, 0b0001));
-    assert_eq!(rt; seen_at(&mut bench, 5, 0)?, data(4, 1));
-    assert_eq!(rt; seen_at(&mut bench, 5, 2)?, filler());
-    assert_eq!(rt; seen_at(&mut bench, 5, 3)?, data(7, 1));
+    let steps = [
+        Step::Put(4, 1, true),
+        Step::Put(7, 1, false),
+        Step::Merge(1),
+    ];
+    let mut bench = begin(rt.alloc())?.run(&steps)?;
+    let facts = [
+        Fact::DataBlock {
+            group: 1,
+            block: 5,
+            present: 0b1001,
+            dirty: 0b0001,
+        },
+        Fact::Pages {
+            group: 1,
+            held: 0b1001,
+            dirty: 0b0001,
+        },
+        data(5, 0, 4, 1),
+        filler(5, 2),
+        data(5, 3, 7, 1),
+    ];
+    assert_eq!(rt; bench.first_wrong(&facts)?, None);
     Ok(())
 }
 
 #[test]
 fn an_older_page_stays_behind(rt: HostRuntime) -> Result<(), Fail> {
-    let mut bench = begin(rt.alloc())?;
-    put(&mut bench, 5, 1, false)?;
-    merge(&mut bench, 1)?;
-    put(&mut bench, 5, 2, true)?;
-    merge(&mut bench, 1)?;
-    assert_eq!(rt; data_block(&bench, 1), Some(6));
-    assert_eq!(rt;
-        seen_at(&mut bench, 6, 1)?,
-        data(5, 2),
-        "not the older page of its data block"
-    );
-    assert_eq!(rt; role(&bench, 5), Some(Role::Free), "the old data block");
-    assert_eq!(rt; role(&bench, 6), Some(Role::Data));
+    let steps = [
+        Step::Put(5, 1, false),
+        Step::Merge(1),
+        Step::Put(5, 2, true),
+        Step::Merge(1),
+    ];
+    let mut bench = begin(rt.alloc())?.run(&steps)?;
+    let facts = [
+        Fact::DataBlock {
+            group: 1,
+            block: 6,
+            present: 0b0010,
+            dirty: 0b0010,
+        },
+        data(6, 1, 5, 2),
+        Fact::Role {
+            block: 5,
+            role: Role::Free,
+        },
+        Fact::Role {
+            block: 6,
+            role: Role::Data,
+        },
+    ];
+    assert_eq!(rt; bench.first_wrong(&facts)?, None, "the newer page alone");
     Ok(())
 }
 
 #[test]
 fn holes_are_filled_up_to_the_last_page(rt: HostRuntime) -> Result<(), Fail> {
-    let mut bench = begin(rt.alloc())?;
-    put(&mut bench, 6, 1, true)?;
-    let (erased, programmed) = erased_and_programmed(&bench);
-    merge(&mut bench, 1)?;
-    let after = erased_and_programmed(&bench);
+    let bench = begin(rt.alloc())?.put(6, 1, true)?;
+    let before = bench.writes();
+    let mut bench = bench.merge(1)?;
     assert_eq!(rt;
-        after,
-        (erased.wrapping_add(1), programmed.wrapping_add(5)),
+        bench.writes(),
+        more(before, 1, 5),
         "three pages, and a log page before them and one after"
     );
-    assert_eq!(rt; seen_at(&mut bench, 5, 1)?, filler());
-    assert_eq!(rt; seen_at(&mut bench, 5, 2)?, data(6, 1));
-    assert_eq!(rt; seen_at(&mut bench, 5, 3)?, None);
+    let facts = [
+        filler(5, 1),
+        data(5, 2, 6, 1),
+        Fact::Stands {
+            at: at(5, 3),
+            seen: None,
+        },
+    ];
+    assert_eq!(rt; bench.first_wrong(&facts)?, None);
     Ok(())
 }
 
 #[test]
 fn an_old_data_block_is_taken_again_last(rt: HostRuntime) -> Result<(), Fail> {
-    let mut bench = begin(rt.alloc())?;
-    put(&mut bench, 4, 1, true)?;
+    let mut bench = begin(rt.alloc())?.put(4, 1, true)?;
     for block in [5, 6, 7, 8, 5] {
-        merge(&mut bench, 1)?;
-        assert_eq!(rt; data_block(&bench, 1), Some(block));
+        bench = bench.merge(1)?;
+        assert_eq!(rt; bench.data_block(1), Some((block, 1, 1)));
     }
-    assert_eq!(rt; seen_at(&mut bench, 5, 0)?, data(4, 1));
-    assert_eq!(rt; role(&bench, 8), Some(Role::Free));
-    assert_eq!(rt; data_blocks(&bench), 1);
+    let facts = [
+        data(5, 0, 4, 1),
+        Fact::Role {
+            block: 8,
+            role: Role::Free,
+        },
+        Fact::Groups {
+            data_blocks: 1,
+            dirty: 1,
+        },
+    ];
+    assert_eq!(rt; bench.first_wrong(&facts)?, None);
     Ok(())
 }
 
 #[test]
 fn a_data_block_with_a_page_stays(rt: HostRuntime) -> Result<(), Fail> {
-    let mut bench = begin(rt.alloc())?;
-    put(&mut bench, 4, 1, true)?;
-    put(&mut bench, 5, 1, true)?;
-    merge(&mut bench, 1)?;
-    mark_clean(&mut bench, 4)?;
-    assert_eq!(rt; bits(&bench, 1), (0b0011, 0b0010));
-    take_out(&mut bench, 5)?;
-    assert_eq!(rt; role(&bench, 5), Some(Role::Data), "one page is held");
-    assert_eq!(rt; dirty_groups(&bench), 0);
+    let steps = [
+        Step::Put(4, 1, true),
+        Step::Put(5, 1, true),
+        Step::Merge(1),
+        Step::MarkClean(4),
+    ];
+    let mut bench = begin(rt.alloc())?.run(&steps)?;
+    let facts = [Fact::Pages {
+        group: 1,
+        held: 0b0011,
+        dirty: 0b0010,
+    }];
+    assert_eq!(rt; bench.first_wrong(&facts)?, None);
+    let mut bench = bench.take_out(5)?;
+    let facts = [
+        Fact::Role {
+            block: 5,
+            role: Role::Data,
+        },
+        Fact::Groups {
+            data_blocks: 1,
+            dirty: 0,
+        },
+    ];
+    assert_eq!(rt; bench.first_wrong(&facts)?, None, "one page is held");
     Ok(())
 }
 
 #[test]
 fn an_empty_data_block_is_free(rt: HostRuntime) -> Result<(), Fail> {
-    let mut bench = begin(rt.alloc())?;
-    put(&mut bench, 4, 1, true)?;
-    merge(&mut bench, 1)?;
-    take_out(&mut bench, 4)?;
-    assert_eq!(rt; role(&bench, 5), Some(Role::Free));
-    assert_eq!(rt; buffered(&bench), 1);
-    let (_, programmed) = erased_and_programmed(&bench);
-    commit(&mut bench.parts, &mut bench.rig)?;
-    assert_eq!(rt; buffered(&bench), 0);
-    assert_eq!(rt; erased_and_programmed(&bench).1, programmed.wrapping_add(1));
+    let steps = [Step::Put(4, 1, true), Step::Merge(1), Step::TakeOut(4)];
+    let mut bench = begin(rt.alloc())?.run(&steps)?;
+    let facts = [
+        Fact::Role {
+            block: 5,
+            role: Role::Free,
+        },
+        Fact::Buffered(1),
+    ];
+    assert_eq!(rt; bench.first_wrong(&facts)?, None);
+    let before = bench.writes();
+    let mut bench = bench.commit()?;
+    assert_eq!(rt; bench.writes(), more(before, 0, 1));
+    assert_eq!(rt; bench.first_wrong(&[Fact::Buffered(0)])?, None);
     Ok(())
 }
 
-/// What a group of four pages with the tag 1 is in a data block: where each page lies, and what it is.
-fn assert_group_at(bench: &mut Bench, group: u64, block: u32) -> Result<(), Fail>
-    requires { Agree bench.old.parts (state_of bench.old.rig).contents }
-    ensures { Agree bench.new.parts (state_of bench.new.rig).contents }
-{
-    for page in 0..4 {
-        let lba = group.wrapping_mul(4).wrapping_add(page as u64);
-        let at = Place { block, page };
-        if place_of(bench, lba) != Some((at, true)) {
-            return Err(Fail::from("the address lies elsewhere, or is clean"));
-        }
-        if seen_at(bench, block, page)? != data(lba, 1) {
-            return Err(Fail::from("another page stands there"));
-        }
-    }
-    Ok(())
+/// What holds where the first group stands in a block, each page with the tag 1.
+fn first_group_in(block: u32) -> [Fact; 9] {
+    [
+        Fact::DataBlock {
+            group: 0,
+            block,
+            present: 15,
+            dirty: 15,
+        },
+        lies(0, block, 0),
+        data(block, 0, 0, 1),
+        lies(1, block, 1),
+        data(block, 1, 1, 1),
+        lies(2, block, 2),
+        data(block, 2, 2, 1),
+        lies(3, block, 3),
+        data(block, 3, 3, 1),
+    ]
 }
 
 #[test]
 fn a_group_in_order_is_not_copied(rt: HostRuntime) -> Result<(), Fail> {
-    let mut bench = begin(rt.alloc())?;
-    put_each(&mut bench, &[0, 1, 2, 3])?;
-    checkpoint_now(&mut bench)?;
-    let (erased, programmed) = erased_and_programmed(&bench);
-    merge(&mut bench, 0)?;
-    assert_eq!(rt;
-        erased_and_programmed(&bench),
-        (erased, programmed.wrapping_add(1)),
-        "one log page"
-    );
-    assert_eq!(rt; data_bits(&bench, 0), Some((15, 15)));
-    assert_group_at(&mut bench, 0, 4)?;
-    assert_eq!(rt; role(&bench, 4), Some(Role::Data));
-    assert_eq!(rt; (used(&bench), room(&bench)), (0, 0));
+    let bench = begin(rt.alloc())?.run(&FOUR_IN_ORDER)?;
+    let before = bench.writes();
+    let mut bench = bench.merge(0)?;
+    assert_eq!(rt; bench.writes(), more(before, 0, 1), "one log page");
+    assert_eq!(rt; bench.first_wrong(&first_group_in(4))?, None);
+    let facts = [
+        Fact::Role {
+            block: 4,
+            role: Role::Data,
+        },
+        Fact::LogBlocks { used: 0, room: 0 },
+    ];
+    assert_eq!(rt; bench.first_wrong(&facts)?, None);
     Ok(())
 }
 
 #[test]
 fn a_group_out_of_order_is_copied(rt: HostRuntime) -> Result<(), Fail> {
-    let mut bench = begin(rt.alloc())?;
-    put_each(&mut bench, &[0, 2, 1, 3])?;
-    checkpoint_now(&mut bench)?;
-    let (erased, programmed) = erased_and_programmed(&bench);
-    merge(&mut bench, 0)?;
+    let steps = [0, 2, 1, 3].map(|lba| Step::Put(lba, 1, true));
+    let bench = begin(rt.alloc())?.run(&steps)?.checkpoint()?;
+    let before = bench.writes();
+    let mut bench = bench.merge(0)?;
     assert_eq!(rt;
-        erased_and_programmed(&bench),
-        (erased.wrapping_add(1), programmed.wrapping_add(5)),
+        bench.writes(),
+        more(before, 1, 5),
         "four pages and a log page"
     );
-    assert_group_at(&mut bench, 0, 5)?;
-    assert_eq!(rt; (used(&bench), role(&bench, 4)), (1, Some(Role::Log)));
+    assert_eq!(rt; bench.first_wrong(&first_group_in(5))?, None);
+    let facts = [Fact::Role {
+        block: 4,
+        role: Role::Log,
+    }];
+    assert_eq!(rt; bench.first_wrong(&facts)?, None);
     Ok(())
 }
 
 #[test]
 fn the_oldest_log_block_becomes_a_data_block(rt: HostRuntime) -> Result<(), Fail> {
-    let mut bench = begin(rt.alloc())?;
-    put_each(&mut bench, &[0, 1, 2, 3, 4, 5, 4, 5])?;
-    checkpoint_now(&mut bench)?;
-    let (erased, programmed) = erased_and_programmed(&bench);
-    let place = put(&mut bench, 6, 1, true)?;
-    assert_eq!(rt; place, Place { block: 6, page: 0 });
+    let bench = begin(rt.alloc())?.run(&FOUR_IN_ORDER)?;
+    let steps = [4, 5, 4, 5].map(|lba| Step::Put(lba, 1, true));
+    let bench = bench.run(&steps)?.checkpoint()?;
+    let before = bench.writes();
+    let mut bench = bench.put(6, 1, true)?;
     assert_eq!(rt;
-        erased_and_programmed(&bench),
-        (erased.wrapping_add(1), programmed.wrapping_add(2)),
+        bench.writes(),
+        more(before, 1, 2),
         "a block is taken; one log page, and the page"
     );
-    assert_group_at(&mut bench, 0, 4)?;
-    assert_eq!(rt; (used(&bench), role(&bench, 4)), (2, Some(Role::Data)));
+    assert_eq!(rt; bench.first_wrong(&first_group_in(4))?, None);
+    let facts = [
+        lies(6, 6, 0),
+        Fact::Role {
+            block: 4,
+            role: Role::Data,
+        },
+    ];
+    assert_eq!(rt; bench.first_wrong(&facts)?, None);
     Ok(())
 }

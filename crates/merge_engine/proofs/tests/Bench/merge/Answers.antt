@@ -1,7 +1,7 @@
 use Rattle.std.proofs.Common.{rules}
 use Rattle.merge_engine.specs.Agreement.{AreOfOne}
 use Rattle.merge_engine.proofs.BenchLemmas.{some_held}
-use Rattle.merge_engine.proofs.tests.merge.Goals as goal
+use Rattle.merge_engine.proofs.tests.Bench.merge.Goals as goal
 
 pub merge_group-requires-clause-held : goal.merge_group-requires-clause-held
 merge_group-requires-clause-held c =

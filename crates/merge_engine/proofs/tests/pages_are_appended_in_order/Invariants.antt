@@ -1,6 +1,0 @@
-use Rattle.mem_rig.specs.Rig.{state_of}
-use Rattle.merge_engine.specs.Agreement.{Agree}
-use Rattle.merge_engine.proofs.tests.pages_are_appended_in_order.Given as goal
-
-abbrev pub invariant-loop-page : goal.invariant-loop-page
-invariant-loop-page g l = Agree l.bench.parts (state_of l.bench.rig).contents
