@@ -1,4 +1,4 @@
-ghost use Rattle.std.specs.Prelude.{◌≡◌, ◌<◌, ◌≤◌, IsTrue, Some};
+ghost use Rattle.std.specs.Prelude.{◌≡◌, ◌<◌, ◌≤◌, IfOk, IsTrue, Some};
 ghost use Rattle.std.specs.Bool.{OnTrue};
 ghost use Rattle.mem_rig.specs.Rig.{state_of};
 ghost use Rattle.op_log.specs.Log.{FitsOn};
@@ -7,7 +7,7 @@ ghost use Rattle.cache_model.specs.Spelling.{may_stand_in};
 
 use crate::{OpLog, OpenError, roll};
 use cache_model::PageKind;
-use ft_base::{Block, Geometry, Outcome, Place, Record, Spare, zero_block};
+use ft_base::{Block, Geometry, GeometryError, Outcome, Place, Record, Spare, zero_block};
 use ft_media::{MediaError, PageRead};
 use mapping::Map;
 use mem_rig::MemRig;
@@ -132,19 +132,53 @@ fn read(rig: &mut MemRig, block: u32, page: u32) -> Option<(Block, Spare)> {
     }
 }
 
-/// How many pages the log of region 0 and this era has, where the rig has room for the cache, and the
-/// map that they give.
+/// What a walk over the log of region 0 and this era answers, where the rig has room for the cache: the
+/// pages that it applies, how many addresses the map has then, and where two of them lie.
+type Walked = (Result<u32, OpenError>, u64, [Option<(Place, bool)>; 2]);
+
 fn walk(
     rig: &mut MemRig,
     alloc: Global,
     geometry: &Geometry,
     era: u8,
-) -> Result<Option<(Result<u32, OpenError>, Map)>, AllocError> {
+    addresses: [u64; 2],
+) -> Result<Option<Walked>, AllocError> {
     if !has_room(rig, geometry) {
         return Ok(None);
     }
     let mut map = Map::new(alloc, geometry)?;
-    Ok(Some((roll(rig, geometry, 0, era, &mut map), map)))
+    let pages = roll(rig, geometry, 0, era, &mut map);
+    let places = [map.place(addresses[0]), map.place(addresses[1])];
+    Ok(Some((pages, map.held(), places)))
+}
+
+/// Gives each of some pages of block 9, each with the address that comes to stand there, a log page of its
+/// own.
+fn note_pages(rig: &mut MemRig, log: &mut OpLog, geometry: &Geometry, pages: &[(u64, u32)]) -> bool
+    requires { log.old.geometry ≡ geometry.now }
+    ensures { log.new.geometry ≡ log.old.geometry }
+{
+    for page in pages {
+        let (lba, number) = *page;
+        if number >= 64 || note(rig, log, geometry, set_page(lba, number)) != Some(Ok(())) {
+            return false;
+        }
+    }
+    true
+}
+
+/// A cache's log in region 0, of era 1, and the rig that it is on.
+fn begun(alloc: Global, geometry: &Geometry) -> Result<(MemRig, OpLog), AllocError>
+    ensures { IfOk result (λ r. r.1.geometry ≡ geometry.now) }
+{
+    let rig = small_rig(alloc)?;
+    let log = OpLog::new(alloc, geometry, 0, 1)?;
+    Ok((rig, log))
+}
+
+/// The geometry of all these logs.
+fn geometry() -> Result<Geometry, GeometryError> {
+    Geometry::new(4, 2, 2, 2, 64)
 }
 
 /// A log page of one record.
@@ -171,125 +205,135 @@ fn walk_over(
 ) -> Result<Option<Result<u32, OpenError>>, AllocError> {
     let mut rig = small_rig(alloc)?;
     program(&mut rig, 2, 0, page);
-    Ok(walk(&mut rig, alloc, geometry, 1)?.map(|found| found.0))
+    Ok(walk(&mut rig, alloc, geometry, 1, [5, 6])?.map(|found| found.0))
+}
+
+/// Whether a page has a header, two records, and zeros behind them.
+fn is_as_written_down(page: &Block) -> bool {
+    page.0[..32] == LOG_LINE[..]
+        && page.0[32..64] == SET_PAGE_LINE[..]
+        && page.0[64..96] == REMOVE_LINE[..]
+        && page.0[96..].iter().all(|byte| *byte == 0)
 }
 
 #[test]
 fn a_flush_is_one_page_as_written_down(rt: HostRuntime) -> Result<(), Fail> {
-    let geometry = Geometry::new(4, 2, 2, 2, 64)?;
-    let mut rig = small_rig(rt.alloc())?;
-    let mut log = OpLog::new(rt.alloc(), &geometry, 0, 1)?;
-    assert_eq!(rt; flush(&mut rig, &mut log, &geometry), Some(Ok(())));
-    assert_eq!(rt; rig.done().programs, 0, "nothing was buffered");
+    let geometry = geometry()?;
+    let (mut rig, mut log) = begun(rt.alloc(), &geometry)?;
     buffer(&mut log, set_page(5, 0));
     buffer(&mut log, REMOVE);
-    assert_eq!(rt; log.buffered(), 2);
     assert_eq!(rt; flush(&mut rig, &mut log, &geometry), Some(Ok(())));
-    assert_eq!(rt; rig.done().programs, 1);
-    assert_eq!(rt; log.buffered(), 0);
-    assert_eq!(rt; log.room(), 7);
+    assert_eq!(rt;
+        (rig.done().programs, log.buffered(), log.room()),
+        (1, 0, 7)
+    );
     let (page, spare) = read(&mut rig, 2, 0).ok_or("a whole page")?;
-    assert!(rt; page.0[..32] == LOG_LINE[..]);
-    assert!(rt; page.0[32..64] == SET_PAGE_LINE[..]);
-    assert!(rt; page.0[64..96] == REMOVE_LINE[..]);
-    assert!(rt; page.0[96..].iter().all(|byte| *byte == 0));
+    assert!(rt; is_as_written_down(&page));
     assert!(rt; spare.0 == LOG_SPARE);
-    log.restart(1, 2);
-    assert_eq!(rt; log.room(), 8);
-    assert_eq!(rt; (log.region(), log.era()), (1, 2));
     Ok(())
+}
+
+#[test]
+fn a_flush_of_nothing_programs_nothing(rt: HostRuntime) -> Result<(), Fail> {
+    let geometry = geometry()?;
+    let (mut rig, mut log) = begun(rt.alloc(), &geometry)?;
+    assert_eq!(rt; flush(&mut rig, &mut log, &geometry), Some(Ok(())));
+    assert_eq!(rt; (rig.done().programs, log.room()), (0, 8));
+    Ok(())
+}
+
+#[test]
+fn a_log_begins_again_in_the_other_region(rt: HostRuntime) -> Result<(), Fail> {
+    let geometry = geometry()?;
+    let (mut rig, mut log) = begun(rt.alloc(), &geometry)?;
+    assert!(rt; note_pages(&mut rig, &mut log, &geometry, &[(5, 0)]));
+    log.restart(1, 2);
+    assert_eq!(rt; (log.room(), log.region(), log.era()), (8, 1, 2));
+    Ok(())
+}
+
+/// An address that lies, dirty, at a page of erase block 9.
+fn dirty_at(page: u32) -> Option<(Place, bool)> {
+    Some((Place { block: 9, page }, true))
 }
 
 #[test]
 fn a_log_is_walked_to_its_end(rt: HostRuntime) -> Result<(), Fail> {
-    let alloc = rt.alloc();
-    let geometry = Geometry::new(4, 2, 2, 2, 64)?;
-    let mut rig = small_rig(alloc)?;
-    let mut log = OpLog::new(alloc, &geometry, 0, 1)?;
+    let geometry = geometry()?;
+    let (mut rig, mut log) = begun(rt.alloc(), &geometry)?;
+    let pages = [(5, 0), (5, 1), (5, 2), (5, 3), (8, 0)];
+    assert!(rt; note_pages(&mut rig, &mut log, &geometry, &pages));
     assert_eq!(rt;
-        note(&mut rig, &mut log, &geometry, set_page(5, 0)),
-        Some(Ok(()))
-    );
-    assert_eq!(rt;
-        note(&mut rig, &mut log, &geometry, set_page(5, 1)),
-        Some(Ok(()))
-    );
-    assert_eq!(rt;
-        note(&mut rig, &mut log, &geometry, set_page(5, 2)),
-        Some(Ok(()))
-    );
-    assert_eq!(rt;
-        note(&mut rig, &mut log, &geometry, set_page(5, 3)),
-        Some(Ok(()))
-    );
-    assert_eq!(rt;
-        note(&mut rig, &mut log, &geometry, set_page(8, 0)),
-        Some(Ok(()))
-    );
-    let (pages, map) = walk(&mut rig, alloc, &geometry, 1)?.ok_or("room")?;
-    assert_eq!(rt;
-        pages,
-        Ok(5),
+        walk(&mut rig, rt.alloc(), &geometry, 1, [5, 8])?,
+        Some((Ok(5), 2, [dirty_at(3), dirty_at(0)])),
         "into the next erase block, up to a blank page"
     );
-    assert_eq!(rt; map.held(), 2);
-    assert_eq!(rt; map.place(5), Some((Place { block: 9, page: 3 }, true)));
-    assert_eq!(rt; map.place(8), Some((Place { block: 9, page: 0 }, true)));
-    let (pages, map) = walk(&mut rig, alloc, &geometry, 2)?.ok_or("room")?;
-    assert_eq!(rt; pages, Ok(0), "pages of another era");
-    assert_eq!(rt; map.held(), 0);
+    assert_eq!(rt;
+        walk(&mut rig, rt.alloc(), &geometry, 2, [5, 8])?,
+        Some((Ok(0), 0, [None, None])),
+        "pages of another era"
+    );
+    Ok(())
+}
+
+/// What is answered over a flash whose first log page is damaged.
+fn damaged() -> Option<Result<u32, OpenError>> {
+    Some(Err(OpenError::Damaged { block: 2, page: 0 }))
+}
+
+#[test]
+fn a_page_with_a_byte_behind_its_records_is_damaged(rt: HostRuntime) -> Result<(), Fail> {
+    let geometry = geometry()?;
+    let mut page = page_of(1, 0, set_page(5, 0));
+    assert_eq!(rt; walk_over(rt.alloc(), &geometry, &page)?, Some(Ok(1)));
+    page.0[100] = 1;
+    assert_eq!(rt; walk_over(rt.alloc(), &geometry, &page)?, damaged());
     Ok(())
 }
 
 #[test]
-fn a_damaged_page_is_named(rt: HostRuntime) -> Result<(), Fail> {
-    let alloc = rt.alloc();
-    let geometry = Geometry::new(4, 2, 2, 2, 64)?;
-    let damaged = Some(Err(OpenError::Damaged { block: 2, page: 0 }));
-    let mut page = page_of(1, 0, set_page(5, 0));
-    assert_eq!(rt; walk_over(alloc, &geometry, &page)?, Some(Ok(1)));
-    page.0[100] = 1;
-    assert_eq!(rt;
-        walk_over(alloc, &geometry, &page)?,
-        damaged,
-        "a byte behind the last record"
-    );
+fn a_page_past_the_size_is_damaged_and_a_misplaced_one_the_end(
+    rt: HostRuntime,
+) -> Result<(), Fail> {
+    let geometry = geometry()?;
     let unfit = page_of(1, 0, set_page(64, 0));
-    assert_eq!(rt;
-        walk_over(alloc, &geometry, &unfit)?,
-        damaged,
-        "past the size"
-    );
+    assert_eq!(rt; walk_over(rt.alloc(), &geometry, &unfit)?, damaged());
     let misplaced = page_of(1, 1, set_page(5, 0));
-    assert_eq!(rt;
-        walk_over(alloc, &geometry, &misplaced)?,
-        Some(Ok(0)),
-        "the sequence of another page"
-    );
+    assert_eq!(rt; walk_over(rt.alloc(), &geometry, &misplaced)?, Some(Ok(0)));
     Ok(())
+}
+
+/// Flushes the log, where a stop tears the page that is programmed.
+fn flush_torn(
+    rig: &mut MemRig,
+    log: &mut OpLog,
+    geometry: &Geometry,
+) -> Option<Result<(), MediaError>>
+    requires { log.old.geometry ≡ geometry.now }
+    ensures { log.new.geometry ≡ log.old.geometry }
+{
+    if rig.stops() >= 16 {
+        return None;
+    }
+    rig.arm_stop(1, Outcome::Torn);
+    let flushed = flush(rig, log, geometry);
+    rig.turn_on();
+    flushed
 }
 
 #[test]
 fn a_flush_that_is_cut_ends_the_log(rt: HostRuntime) -> Result<(), Fail> {
-    let alloc = rt.alloc();
-    let geometry = Geometry::new(4, 2, 2, 2, 64)?;
-    let mut rig = small_rig(alloc)?;
-    let mut log = OpLog::new(alloc, &geometry, 0, 1)?;
-    buffer(&mut log, set_page(5, 0));
-    assert_eq!(rt; flush(&mut rig, &mut log, &geometry), Some(Ok(())));
+    let geometry = geometry()?;
+    let (mut rig, mut log) = begun(rt.alloc(), &geometry)?;
+    assert!(rt; note_pages(&mut rig, &mut log, &geometry, &[(5, 0)]));
     buffer(&mut log, REMOVE);
-    if rig.stops() < 16 {
-        rig.arm_stop(1, Outcome::Torn);
-    }
-    assert_eq!(rt;
-        flush(&mut rig, &mut log, &geometry),
-        Some(Err(MediaError::PowerLost))
-    );
+    let cut = Some(Err(MediaError::PowerLost));
+    assert_eq!(rt; flush_torn(&mut rig, &mut log, &geometry), cut);
     assert_eq!(rt; (log.buffered(), log.room()), (1, 7));
-    rig.turn_on();
     assert!(rt; read(&mut rig, 2, 1).is_none());
-    let (pages, map) = walk(&mut rig, alloc, &geometry, 1)?.ok_or("room")?;
-    assert_eq!(rt; pages, Ok(1));
-    assert_eq!(rt; map.held(), 1);
+    assert_eq!(rt;
+        walk(&mut rig, rt.alloc(), &geometry, 1, [5, 6])?,
+        Some((Ok(1), 1, [dirty_at(0), None]))
+    );
     Ok(())
 }
