@@ -148,61 +148,113 @@ fn is_down(volume: &WriteBack) -> bool {
     <WriteBack as Volume<MemRig>>::is_down(volume)
 }
 
+/// A call of a volume with what it must answer, or what must be seen of it.
+#[derive(Clone, Copy)]
+enum Step {
+    /// Writes a pattern of an address with a tag.
+    Write(u64, u64),
+    /// Reads the pattern of an address with a tag.
+    Read(u64, u64),
+    Flush,
+    /// Cuts power, and turns it on.
+    Cut(Outcome),
+    Idle(Idled),
+    /// Whether it is down.
+    Down(bool),
+    /// How many blocks came from the disk.
+    DiskReads(u64),
+    /// How many blocks went to the disk.
+    DiskWrites(u64),
+}
+
+/// Makes a step, and says whether it answers that.
+fn agrees(volume: &mut WriteBack, rig: &mut MemRig, step: Step) -> bool
+    requires { IsLeft volume.old (state_of rig.old).contents }
+    ensures owns { IsLeft volume.new (state_of rig.new).contents }
+{
+    match step {
+        Step::Write(lba, tag) => write(volume, rig, lba, tag) == Ok(()),
+        Step::Read(lba, tag) => read(volume, rig, lba) == Ok(Some(tag)),
+        Step::Flush => volume.flush(rig) == Ok(()),
+        Step::Cut(outcome) => {
+            volume.cut(rig, outcome);
+            true
+        }
+        Step::Idle(idled) => volume.idle(rig) == Ok(idled),
+        Step::Down(down) => is_down(volume) == down,
+        Step::DiskReads(count) => rig.counts().disk_reads == count,
+        Step::DiskWrites(count) => rig.counts().disk_writes == count,
+    }
+}
+
+/// Makes the steps one after another, up to the first that answers something else. Says which that is.
+fn first_wrong(volume: &mut WriteBack, rig: &mut MemRig, steps: &[Step]) -> Option<usize>
+    requires { IsLeft volume.old (state_of rig.old).contents }
+    ensures owns { IsLeft volume.new (state_of rig.new).contents }
+{
+    for i in 0..steps.len() {
+        if !agrees(volume, rig, steps[i]) {
+            return Some(i);
+        }
+    }
+    None
+}
+
 #[test]
 fn a_volume_reads_what_was_written(rt: HostRuntime) -> Result<(), Fail> {
-    let alloc = rt.alloc();
     let options = options()?;
-    let mut rig = fitted(alloc, &options)?;
-    let mut volume = created(alloc, &mut rig, &options)?;
+    let mut rig = fitted(rt.alloc(), &options)?;
+    let mut volume = created(rt.alloc(), &mut rig, &options)?;
+    let steps = [
+        Step::Write(5, 7),
+        Step::Read(5, 7),
+        Step::Flush,
+        Step::Down(false),
+        Step::Cut(Outcome::Torn),
+        Step::Down(true),
+        Step::Read(5, 7),
+        Step::Down(false),
+        Step::DiskWrites(0),
+    ];
+    assert_eq!(rt; first_wrong(&mut volume, &mut rig, &steps), None);
     assert_eq!(rt; <WriteBack as Volume<MemRig>>::size(&volume), 64);
-    assert_eq!(rt; write(&mut volume, &mut rig, 5, 7), Ok(()));
-    assert_eq!(rt; read(&mut volume, &mut rig, 5), Ok(Some(7)));
-    assert_eq!(rt; volume.flush(&mut rig), Ok(()));
-    assert!(rt; !is_down(&volume));
-    volume.cut(&mut rig, Outcome::Torn);
-    assert!(rt; is_down(&volume));
-    assert_eq!(rt; read(&mut volume, &mut rig, 5), Ok(Some(7)));
-    assert!(rt; !is_down(&volume));
-    assert_eq!(rt; rig.counts().disk_writes, 0);
     Ok(())
 }
 
 #[test]
 fn a_volume_is_opened_from_the_media_alone(rt: HostRuntime) -> Result<(), Fail> {
-    let alloc = rt.alloc();
     let options = options()?;
-    let mut rig = fitted(alloc, &options)?;
-    let mut volume = created(alloc, &mut rig, &options)?;
+    let mut rig = fitted(rt.alloc(), &options)?;
+    let mut volume = created(rt.alloc(), &mut rig, &options)?;
     assert_eq!(rt; write(&mut volume, &mut rig, 5, 7), Ok(()));
-    let mut again = reopened(alloc, &volume, &mut rig, &options)?;
-    assert_eq!(rt; read(&mut again, &mut rig, 5), Ok(Some(7)));
-    assert_eq!(rt; read(&mut again, &mut rig, 6), Ok(Some(0)));
+    let mut again = reopened(rt.alloc(), &volume, &mut rig, &options)?;
+    let steps = [Step::Read(5, 7), Step::Read(6, 0)];
+    assert_eq!(rt; first_wrong(&mut again, &mut rig, &steps), None);
     Ok(())
 }
 
 #[test]
 fn a_clean_block_is_read_from_the_flash_and_written_over(rt: HostRuntime) -> Result<(), Fail> {
-    let alloc = rt.alloc();
     let options = options()?;
-    let mut rig = fitted(alloc, &options)?;
-    let mut volume = over_clean(alloc, &mut rig, &options, 5, 7)?;
-    assert_eq!(rt; read(&mut volume, &mut rig, 5), Ok(Some(7)));
-    assert_eq!(rt; rig.counts().disk_reads, 0);
-    assert_eq!(rt; write(&mut volume, &mut rig, 5, 9), Ok(()));
-    assert_eq!(rt; read(&mut volume, &mut rig, 5), Ok(Some(9)));
+    let mut rig = fitted(rt.alloc(), &options)?;
+    let mut volume = over_clean(rt.alloc(), &mut rig, &options, 5, 7)?;
+    let steps = [
+        Step::Read(5, 7),
+        Step::DiskReads(0),
+        Step::Write(5, 9),
+        Step::Read(5, 9),
+    ];
+    assert_eq!(rt; first_wrong(&mut volume, &mut rig, &steps), None);
     Ok(())
 }
 
 #[test]
 fn a_missed_block_is_read_from_the_disk_once(rt: HostRuntime) -> Result<(), Fail> {
-    let alloc = rt.alloc();
     let options = options()?;
-    let mut rig = fitted(alloc, &options)?;
-    let mut volume = created(alloc, &mut rig, &options)?;
-    let tag = read(&mut volume, &mut rig, 6)?;
-    assert_eq!(rt; tag, Some(0));
-    assert_eq!(rt; read(&mut volume, &mut rig, 6), Ok(Some(0)));
-    assert_eq!(rt; rig.counts().disk_reads, 1);
+    let mut rig = fitted(rt.alloc(), &options)?;
+    let mut volume = created(rt.alloc(), &mut rig, &options)?;
+    let steps = [Step::Read(6, 0), Step::Read(6, 0), Step::DiskReads(1)];
+    assert_eq!(rt; first_wrong(&mut volume, &mut rig, &steps), None);
     Ok(())
 }
 
@@ -210,12 +262,11 @@ fn a_missed_block_is_read_from_the_disk_once(rt: HostRuntime) -> Result<(), Fail
 fn a_report_counts_what_is_held_and_opens_a_volume_that_is_down(
     rt: HostRuntime,
 ) -> Result<(), Fail> {
-    let alloc = rt.alloc();
     let options = options()?;
-    let mut rig = fitted(alloc, &options)?;
-    let mut volume = created(alloc, &mut rig, &options)?;
-    assert_eq!(rt; write(&mut volume, &mut rig, 5, 7), Ok(()));
-    assert_eq!(rt; read(&mut volume, &mut rig, 6), Ok(Some(0)));
+    let mut rig = fitted(rt.alloc(), &options)?;
+    let mut volume = created(rt.alloc(), &mut rig, &options)?;
+    let steps = [Step::Write(5, 7), Step::Read(6, 0)];
+    assert_eq!(rt; first_wrong(&mut volume, &mut rig, &steps), None);
     // A dirty block and a clean one, in the first 32 buckets.
     let told = Report {
         held: 2,
@@ -227,40 +278,42 @@ fn a_report_counts_what_is_held_and_opens_a_volume_that_is_down(
     volume.cut(&mut rig, Outcome::Torn);
     let again = volume.report(&mut rig)?;
     assert!(rt; !is_down(&volume));
-    assert_eq!(rt; again.held, 2);
-    assert_eq!(rt; again.dirty_groups, 1);
-    assert_eq!(rt; again.scrubbed, 2);
+    assert_eq!(rt; (again.held, again.dirty_groups, again.scrubbed), (2, 1, 2));
     Ok(())
 }
 
 #[test]
 fn a_third_group_has_the_first_written_back(rt: HostRuntime) -> Result<(), Fail> {
-    let alloc = rt.alloc();
     let options = options()?;
-    let mut rig = fitted(alloc, &options)?;
-    let mut volume = created(alloc, &mut rig, &options)?;
-    assert_eq!(rt; write(&mut volume, &mut rig, 0, 7), Ok(()));
-    assert_eq!(rt; write(&mut volume, &mut rig, 4, 8), Ok(()));
-    assert_eq!(rt; rig.counts().disk_writes, 0);
-    assert_eq!(rt; write(&mut volume, &mut rig, 8, 9), Ok(()));
-    assert_eq!(rt; rig.counts().disk_writes, 1);
-    assert_eq!(rt; read(&mut volume, &mut rig, 0), Ok(Some(7)));
+    let mut rig = fitted(rt.alloc(), &options)?;
+    let mut volume = created(rt.alloc(), &mut rig, &options)?;
+    let steps = [
+        Step::Write(0, 7),
+        Step::Write(4, 8),
+        Step::DiskWrites(0),
+        Step::Write(8, 9),
+        Step::DiskWrites(1),
+        Step::Read(0, 7),
+    ];
+    assert_eq!(rt; first_wrong(&mut volume, &mut rig, &steps), None);
     Ok(())
 }
 
 #[test]
 fn an_idle_step_makes_a_checkpoint_or_writes_a_group_back(rt: HostRuntime) -> Result<(), Fail> {
-    let alloc = rt.alloc();
     let options = options()?;
-    let mut rig = fitted(alloc, &options)?;
-    let mut volume = created(alloc, &mut rig, &options)?;
-    assert_eq!(rt; volume.idle(&mut rig), Ok(Idled::Nothing));
-    assert_eq!(rt; write(&mut volume, &mut rig, 0, 7), Ok(()));
-    assert_eq!(rt; write(&mut volume, &mut rig, 1, 8), Ok(()));
-    assert_eq!(rt; volume.idle(&mut rig), Ok(Idled::Checkpointed));
-    assert_eq!(rt; volume.idle(&mut rig), Ok(Idled::Nothing));
-    assert_eq!(rt; write(&mut volume, &mut rig, 4, 9), Ok(()));
-    assert_eq!(rt; volume.idle(&mut rig), Ok(Idled::Cleaned));
-    assert_eq!(rt; rig.counts().disk_writes, 2);
+    let mut rig = fitted(rt.alloc(), &options)?;
+    let mut volume = created(rt.alloc(), &mut rig, &options)?;
+    let steps = [
+        Step::Idle(Idled::Nothing),
+        Step::Write(0, 7),
+        Step::Write(1, 8),
+        Step::Idle(Idled::Checkpointed),
+        Step::Idle(Idled::Nothing),
+        Step::Write(4, 9),
+        Step::Idle(Idled::Cleaned),
+        Step::DiskWrites(2),
+    ];
+    assert_eq!(rt; first_wrong(&mut volume, &mut rig, &steps), None);
     Ok(())
 }

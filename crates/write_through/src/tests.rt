@@ -92,39 +92,95 @@ fn is_down(volume: &WriteThrough) -> bool {
     <WriteThrough as Volume<MemRig>>::is_down(volume)
 }
 
+/// A call of a volume with what it must answer, or what must be seen of it.
+#[derive(Clone, Copy)]
+enum Step {
+    /// Writes a pattern of an address with a tag.
+    Write(u64, u64),
+    /// Reads the pattern of an address with a tag.
+    Read(u64, u64),
+    Flush,
+    /// Cuts power, and turns it on.
+    Cut(Outcome),
+    Idle(Idled),
+    /// Whether it is down.
+    Down(bool),
+    /// How many blocks came from the disk.
+    DiskReads(u64),
+    /// How many blocks went to the disk.
+    DiskWrites(u64),
+}
+
+/// Makes a step, and says whether it answers that.
+fn agrees(volume: &mut WriteThrough, rig: &mut MemRig, step: Step) -> bool
+    requires { IsLeft volume.old (state_of rig.old).contents }
+    ensures owns { IsLeft volume.new (state_of rig.new).contents }
+{
+    match step {
+        Step::Write(lba, tag) => write(volume, rig, lba, tag) == Ok(()),
+        Step::Read(lba, tag) => read(volume, rig, lba) == Ok(Some(tag)),
+        Step::Flush => volume.flush(rig) == Ok(()),
+        Step::Cut(outcome) => {
+            volume.cut(rig, outcome);
+            true
+        }
+        Step::Idle(idled) => volume.idle(rig) == Ok(idled),
+        Step::Down(down) => is_down(volume) == down,
+        Step::DiskReads(count) => rig.counts().disk_reads == count,
+        Step::DiskWrites(count) => rig.counts().disk_writes == count,
+    }
+}
+
+/// Makes the steps one after another, up to the first that answers something else. Says which that is.
+fn first_wrong(volume: &mut WriteThrough, rig: &mut MemRig, steps: &[Step]) -> Option<usize>
+    requires { IsLeft volume.old (state_of rig.old).contents }
+    ensures owns { IsLeft volume.new (state_of rig.new).contents }
+{
+    for i in 0..steps.len() {
+        if !agrees(volume, rig, steps[i]) {
+            return Some(i);
+        }
+    }
+    None
+}
+
 #[test]
 fn a_write_is_on_the_disk_and_in_the_cache_when_it_answers(rt: HostRuntime) -> Result<(), Fail> {
-    let alloc = rt.alloc();
     let options = options()?;
-    let mut rig = fitted(alloc, &options)?;
-    let mut volume = created(alloc, &mut rig, &options)?;
-    assert_eq!(rt; write(&mut volume, &mut rig, 5, 7), Ok(()));
-    assert_eq!(rt; rig.counts().disk_writes, 1);
-    assert_eq!(rt; read(&mut volume, &mut rig, 5), Ok(Some(7)));
-    assert_eq!(rt; write(&mut volume, &mut rig, 5, 9), Ok(()));
-    assert_eq!(rt; rig.counts().disk_writes, 2);
-    assert_eq!(rt; read(&mut volume, &mut rig, 5), Ok(Some(9)));
-    assert_eq!(rt; rig.counts().disk_reads, 0);
-    assert_eq!(rt; volume.flush(&mut rig), Ok(()));
+    let mut rig = fitted(rt.alloc(), &options)?;
+    let mut volume = created(rt.alloc(), &mut rig, &options)?;
     // Two of the log's four pages are used: one by the eviction, one by the flush.
-    assert_eq!(rt; volume.idle(&mut rig), Ok(Idled::Checkpointed));
-    assert_eq!(rt; volume.idle(&mut rig), Ok(Idled::Nothing));
+    let steps = [
+        Step::Write(5, 7),
+        Step::DiskWrites(1),
+        Step::Read(5, 7),
+        Step::Write(5, 9),
+        Step::DiskWrites(2),
+        Step::Read(5, 9),
+        Step::DiskReads(0),
+        Step::Flush,
+        Step::Idle(Idled::Checkpointed),
+        Step::Idle(Idled::Nothing),
+    ];
+    assert_eq!(rt; first_wrong(&mut volume, &mut rig, &steps), None);
     Ok(())
 }
 
 #[test]
 fn what_was_written_is_read_after_a_cut(rt: HostRuntime) -> Result<(), Fail> {
-    let alloc = rt.alloc();
     let options = options()?;
-    let mut rig = fitted(alloc, &options)?;
-    let mut volume = created(alloc, &mut rig, &options)?;
+    let mut rig = fitted(rt.alloc(), &options)?;
+    let mut volume = created(rt.alloc(), &mut rig, &options)?;
     assert_eq!(rt; write(&mut volume, &mut rig, 5, 7), Ok(()));
-    let mut again = reopened(alloc, &mut volume, &mut rig, &options)?;
-    assert_eq!(rt; read(&mut again, &mut rig, 5), Ok(Some(7)));
-    again.cut(&mut rig, Outcome::Blank);
-    assert!(rt; is_down(&again));
-    assert_eq!(rt; read(&mut again, &mut rig, 5), Ok(Some(7)));
-    assert!(rt; !is_down(&again));
+    let mut again = reopened(rt.alloc(), &mut volume, &mut rig, &options)?;
+    let steps = [
+        Step::Read(5, 7),
+        Step::Cut(Outcome::Blank),
+        Step::Down(true),
+        Step::Read(5, 7),
+        Step::Down(false),
+    ];
+    assert_eq!(rt; first_wrong(&mut again, &mut rig, &steps), None);
     Ok(())
 }
 
@@ -132,12 +188,11 @@ fn what_was_written_is_read_after_a_cut(rt: HostRuntime) -> Result<(), Fail> {
 fn a_report_counts_what_is_held_and_opens_a_volume_that_is_down(
     rt: HostRuntime,
 ) -> Result<(), Fail> {
-    let alloc = rt.alloc();
     let options = options()?;
-    let mut rig = fitted(alloc, &options)?;
-    let mut volume = created(alloc, &mut rig, &options)?;
-    assert_eq!(rt; write(&mut volume, &mut rig, 5, 7), Ok(()));
-    assert_eq!(rt; read(&mut volume, &mut rig, 6), Ok(Some(0)));
+    let mut rig = fitted(rt.alloc(), &options)?;
+    let mut volume = created(rt.alloc(), &mut rig, &options)?;
+    let steps = [Step::Write(5, 7), Step::Read(6, 0)];
+    assert_eq!(rt; first_wrong(&mut volume, &mut rig, &steps), None);
     // The block that was written and the block that was read, both clean, in the first 32 buckets.
     let told = Report {
         held: 2,
@@ -149,9 +204,7 @@ fn a_report_counts_what_is_held_and_opens_a_volume_that_is_down(
     volume.cut(&mut rig, Outcome::Torn);
     let again = volume.report(&mut rig)?;
     assert!(rt; !is_down(&volume));
-    assert_eq!(rt; again.held, 2);
-    assert_eq!(rt; again.dirty_groups, 0);
-    assert_eq!(rt; again.scrubbed, 2);
+    assert_eq!(rt; (again.held, again.dirty_groups, again.scrubbed), (2, 0, 2));
     Ok(())
 }
 
