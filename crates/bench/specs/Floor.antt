@@ -16,11 +16,11 @@ abbrev pub set_page : List Slot → ℕ → Slot → List Slot
 set_page slots at slot = slice_set slots at slot
 
 -- a ring of pages, and the one that is copied next
-pub record Pages : Type 0 where
+pub record PageRing : Type 0 where
   pub slots : List Slot
   pub at : ℕ
 
-abbrev pub pages_of : Ring → Pages
+abbrev pub pages_of : Ring → PageRing
 pages_of ring = record { slots = ring.slots.items; at = ring.at }
 
 -- the page after this one, where there are so many
@@ -28,14 +28,14 @@ abbrev pub following : ℕ → ℕ → ℕ
 following pages at = if at + 1 == pages then 0 else at + 1
 
 -- a page is copied into the next
-abbrev pub copied : Pages → Pages
+abbrev pub copied : PageRing → PageRing
 copied p = record {
   slots = set_page p.slots (following (length p.slots) p.at) (slot_at p.slots p.at);
   at = following (length p.slots) p.at;
 }
 
 -- so many copies, one after another
-abbrev pub after_copies : ℕ → Pages → Pages
+abbrev pub after_copies : ℕ → PageRing → PageRing
 after_copies zero p = p
 after_copies (suc n) p = copied (after_copies n p)
 

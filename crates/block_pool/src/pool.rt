@@ -105,7 +105,8 @@ impl Pool {
         requires free { (b : ℕ) × IsFree self.old b }
         ensures geometry { self.new.geometry ≡ self.old.geometry }
         ensures roles { (b : ℕ) → role_of self.new b ≡ role_of self.old b }
-        ensures taken { IfOk result (λ b. IsNextTaken self.old b × ((M.state media.new).contents.flash ≡ after_erase (M.state media.old).contents.flash b)) }
+        ensures taken { IfOk result (λ b. IsNextTaken self.old b
+            × ((M.state media.new).contents.flash ≡ after_erase (M.state media.old).contents.flash b)) }
         ensures erases { IfOk result (λ b. ErasedOnce self.old self.new b) }
         ensures refused { OnErr result (self.new ≡ self.old) }
         ensures pages { ErasesNext self.old (M.state media.old).contents.flash (M.state media.new).contents.flash (failed result) }

@@ -8,20 +8,20 @@ use Rattle.ft_base.specs.declared.block.Page.{Page}
 use Rattle.ft_base.specs.declared.geometry.Geometry.{Geometry}
 use Rattle.ft_base.specs.Contents.{Contents, Image, Now}
 use Rattle.cache_model.specs.Cache.{Held, held, CacheList, Buffered, Inserted, Cleaned, Vanish, undo, written_dirty, written_clean, evicted, made_clean, marked, IsFull}
-use Rattle.cache_model.specs.Stands.{StandsFor}
+use Rattle.cache_model.specs.Stands.{FlashStandsFor}
 use Rattle.cache_model.proofs.UndoLemmas.{undone_at, get_undo, undo_inserted, undo_cleaned}
 use Rattle.ssc.specs.declared.error.SscError.{SscError}
 use Rattle.ssc.specs.declared.error.SscError.TheVariants as error
 use Rattle.ssc.specs.Errors.{stops}
 use Rattle.ssc.specs.declared.cache.Ssc.{Ssc}
 use Rattle.ssc.specs.CacheState.{Holds, IsUp, geometry_of, pending}
-use Rattle.ssc.specs.Commands.{StandsForOne, ImagesOf, StandsForWrite, ImagesOfWrite, HoldsWritten, FullExactly, PendsWith, IsHeldIn}
-use Rattle.ssc.specs.Commands.StandsForOne.{AsUndone, AsBefore, AsAfter}
-use Rattle.ssc.specs.Commands.StandsForWrite.{AsUndone, AsLeft, AsWritten}
+use Rattle.ssc.specs.Commands.{FlashStandsForOne, ImagesOf, FlashStandsForWrite, ImagesOfWrite, HoldsWritten, FullExactly, PendsWith, IsHeldIn}
+use Rattle.ssc.specs.Commands.FlashStandsForOne.{AsUndone, AsBefore, AsAfter}
+use Rattle.ssc.specs.Commands.FlashStandsForWrite.{AsUndone, AsLeft, AsWritten}
 use Rattle.ssc.proofs.CommandLemmas.{evicted_absent}
 use Rattle.cache_history.specs.declared.kind.Kind.{Kind}
 use Rattle.cache_history.specs.declared.kind.Kind.TheVariants as kinds
-use Rattle.cache_history.specs.History.{Given, given, Lists, settled, stepped, LeftBy, IsAtOnce, unless_gone, AfterAnswer, AfterRefusal}
+use Rattle.cache_history.specs.History.{Given, given, TwoLists, settled, stepped, LeftBy, IsAtOnce, unless_gone, AfterAnswer, AfterRefusal}
 use Rattle.cache_history.specs.Moment.{IsMoment}
 use Rattle.ssc.proofs.HoldsLemmas.{not_waiting, undone_away}
 use Rattle.ssc.proofs.CommandLemmas.{cleaned_clean}
@@ -45,7 +45,7 @@ abbrev pub Made : Ssc → Ssc → Contents → Contents → Given → Type 0
 Made c d contents contents' x = (s : CacheList) → Holds c contents s → MadeOf c d contents' x s
 
 abbrev pub IsAnswer : Ssc → Ssc → Contents → Contents → Given → Type 0
-IsAnswer c d contents contents' x = (l : Lists) → IsMoment c contents l → (m : Lists) × AfterAnswer (geometry_of c) x l m × IsMoment d contents' m
+IsAnswer c d contents contents' x = (l : TwoLists) → IsMoment c contents l → (m : TwoLists) × AfterAnswer (geometry_of c) x l m × IsMoment d contents' m
 
 made_answer : (c d : Ssc) (contents contents' : Contents) (x : Given) → Made c d contents contents' x → IsAnswer c d contents contents' x
 made_answer c d contents contents' x made l moment = let own = made l.now moment.holds in (
@@ -104,7 +104,9 @@ module _ (c d : Ssc) (contents contents' : Contents) (kind : Kind) (lba : ℕ) (
   vanished_of : (s v : CacheList) → geometry_of d ≡ geometry_of c → Vanish (geometry_of d) s lba v → Vanish (geometry_of c) s lba v
   vanished_of s v same van = subst (λ (g : Geometry). Vanish g s lba v) same van
 
-  pub write_dirty_answer : {T : Type 0} (r : Result T SscError) → kind ≡ kinds.WriteDirty → geometry_of d ≡ geometry_of c → OnOk r ((s : CacheList) → Holds c contents s → HoldsWritten d contents' s lba (written_dirty lba block)) → OnOk r (pending d ≡ []) → OnOk r (IsAnswer c d contents contents' (given kind lba block))
+  pub write_dirty_answer : {T : Type 0} (r : Result T SscError) → kind ≡ kinds.WriteDirty → geometry_of d ≡ geometry_of c
+      → OnOk r ((s : CacheList) → Holds c contents s → HoldsWritten d contents' s lba (written_dirty lba block)) → OnOk r (pending d ≡ [])
+      → OnOk r (IsAnswer c d contents contents' (given kind lba block))
   write_dirty_answer (Err e) is same done none = tt
   write_dirty_answer (Ok v) is same done none = of_kind kinds.WriteDirty is (λ s h. record {
     left = (done s h).left;
@@ -175,7 +177,8 @@ module _ (c d : Ssc) (contents contents' : Contents) (kind : Kind) (lba : ℕ) (
       by s h (Some k) at = inr (inr (none_undone d (held s h (k, at)) (evicted lba s)))
 
   -- a clean of a dirty address, buffered or committed
-  cleaned : (s : CacheList) (b : Block) → Holds c contents s → get s lba ≡ Some (held b true) → PendsWith (pending c) (pending d) (Cleaned lba) → LosesOf (pending c) s s (undo (pending d) (made_clean lba s)) ⊎ (undo (pending d) (made_clean lba s) ≡ s) ⊎ (undo (pending d) (made_clean lba s) ≡ made_clean lba s)
+  cleaned : (s : CacheList) (b : Block) → Holds c contents s → get s lba ≡ Some (held b true) → PendsWith (pending c) (pending d) (Cleaned lba)
+      → LosesOf (pending c) s s (undo (pending d) (made_clean lba s)) ⊎ (undo (pending d) (made_clean lba s) ≡ s) ⊎ (undo (pending d) (made_clean lba s) ≡ made_clean lba s)
   cleaned s b h dirty (inl e) = inl (loses_none (pending c) s (undo (pending d) (made_clean lba s)) (ap (λ (q : List Buffered). undo q (made_clean lba s)) e ∙ undo_cleaned (pending c) s lba b dirty (undone_away (pending c) lba (not_waiting (pending c) s lba never h.waits.clean))))
     where
       never : (k : Block) → get s lba ≡ Some (held k false) → ⊥
@@ -184,7 +187,8 @@ module _ (c d : Ssc) (contents contents' : Contents) (kind : Kind) (lba : ℕ) (
   cleaned s b h dirty (inr (inr e)) = inr (inr (none_undone d e (made_clean lba s)))
 
   pub clean_answer : {T : Type 0} (r : Result T SscError) (same : Type 0) → kind ≡ kinds.Clean → OnOk r ((s : CacheList) → Holds c contents s → Holds d contents' (made_clean lba s))
-      → OnOk r ((s : CacheList) (b : Block) → Holds c contents s → get s lba ≡ Some (held b true) → PendsWith (pending c) (pending d) (Cleaned lba)) → OnOk r ((s : CacheList) → Holds c contents s → ((b : Block) → get s lba ≡ Some (held b true) → ⊥) → (d ≡ c) × same) → OnOk r (IsAnswer c d contents contents' (given kind lba block))
+      → OnOk r ((s : CacheList) (b : Block) → Holds c contents s → get s lba ≡ Some (held b true) → PendsWith (pending c) (pending d) (Cleaned lba))
+      → OnOk r ((s : CacheList) → Holds c contents s → ((b : Block) → get s lba ≡ Some (held b true) → ⊥) → (d ≡ c) × same) → OnOk r (IsAnswer c d contents contents' (given kind lba block))
   clean_answer (Err e) same is done dirty other = tt
   clean_answer (Ok v) same is done dirty other = of_kind kinds.Clean is (λ s h. record {
     left = s;
@@ -225,35 +229,37 @@ module _ (c d : Ssc) (contents contents' : Contents) (kind : Kind) (lba : ℕ) (
 
 -- ---- a refusal
 
-abbrev pub IsRefusedTo : Geometry → (Place → Page) → Given → Lists → Type 0
-IsRefusedTo g page x l = (m : Lists) × AfterRefusal g x l m × StandsFor g page m.now
+abbrev pub IsRefusedTo : Geometry → (Place → Page) → Given → TwoLists → Type 0
+IsRefusedTo g page x l = (m : TwoLists) × AfterRefusal g x l m × FlashStandsFor g page m.now
 
-left_undone : (g : Geometry) (x : Given) (l : Lists) (undone : CacheList) → l.durable ≡ undone → AfterRefusal g x l (settled undone)
+left_undone : (g : Geometry) (x : Given) (l : TwoLists) (undone : CacheList) → l.durable ≡ undone → AfterRefusal g x l (settled undone)
 left_undone g x l undone is = record { left = l.now; left_by = left_whole g x.kind x.address l.now; now = inl (sym is); durable = refl }
 
-left_before : (g : Geometry) (x : Given) (l : Lists) (v : CacheList) → LeftBy g x l.now v → AfterRefusal g x l (settled v)
+left_before : (g : Geometry) (x : Given) (l : TwoLists) (v : CacheList) → LeftBy g x l.now v → AfterRefusal g x l (settled v)
 left_before g x l v left = record { left = v; left_by = left; now = inr (inl refl); durable = refl }
 
-left_after : (g : Geometry) (x : Given) (l : Lists) (v : CacheList) → LeftBy g x l.now v → AfterRefusal g x l (settled (stepped x v))
+left_after : (g : Geometry) (x : Given) (l : TwoLists) (v : CacheList) → LeftBy g x l.now v → AfterRefusal g x l (settled (stepped x v))
 left_after g x l v left = record { left = v; left_by = left; now = inr (inr refl); durable = refl }
 
-left_one : (g : Geometry) (page : Place → Page) (x : Given) (l : Lists) (undone : CacheList) → l.durable ≡ undone → StandsForOne g page undone l.now (stepped x l.now) → IsRefusedTo g page x l
+left_one : (g : Geometry) (page : Place → Page) (x : Given) (l : TwoLists) (undone : CacheList) → l.durable ≡ undone → FlashStandsForOne g page undone l.now (stepped x l.now) → IsRefusedTo g page x l
 left_one g page x l undone is (AsUndone stands) = (settled undone, left_undone g x l undone is, stands)
 left_one g page x l undone is (AsBefore stands) = (settled l.now, left_before g x l l.now (left_whole g x.kind x.address l.now), stands)
 left_one g page x l undone is (AsAfter stands) = (settled (stepped x l.now), left_after g x l l.now (left_whole g x.kind x.address l.now), stands)
 
-left_write : (g : Geometry) (page : Place → Page) (x : Given) (l : Lists) (undone : CacheList) → ((v : CacheList) → Vanish g l.now x.address v → LeftBy g x l.now v) → l.durable ≡ undone → StandsForWrite g page undone l.now x.address (stepped x) → IsRefusedTo g page x l
+left_write : (g : Geometry) (page : Place → Page) (x : Given) (l : TwoLists) (undone : CacheList) → ((v : CacheList) → Vanish g l.now x.address v → LeftBy g x l.now v) → l.durable ≡ undone → FlashStandsForWrite g page undone l.now x.address (stepped x) → IsRefusedTo g page x l
 left_write g page x l undone write is (AsUndone stands) = (settled undone, left_undone g x l undone is, stands)
 left_write g page x l undone write is (AsLeft v van stands) = (settled v, left_before g x l v (write v van), stands)
 left_write g page x l undone write is (AsWritten v van stands) = (settled (stepped x v), left_after g x l v (write v van), stands)
 
 module _ (c : Ssc) (contents contents' : Contents) (own : Kind) (lba : ℕ) (block : Block) where
-  pub left_of : ((s : CacheList) → Holds c contents s → ImagesOf c contents' s (stepped (given own lba block) s)) → (kind : Kind) → kind ≡ own → (l : Lists) → IsMoment c contents l → (x : Image) → Now contents' x → IsRefusedTo (geometry_of c) x.page (given kind lba block) l
+  pub left_of : ((s : CacheList) → Holds c contents s → ImagesOf c contents' s (stepped (given own lba block) s)) → (kind : Kind) → kind ≡ own → (l : TwoLists) → IsMoment c contents l → (x : Image) → Now contents' x → IsRefusedTo (geometry_of c) x.page (given kind lba block) l
   left_of images kind is l moment x now =
       subst (λ k. IsRefusedTo (geometry_of c) x.page (given k lba block) l) (sym is)
       (left_one (geometry_of c) x.page (given own lba block) l (undo (pending c) l.now) moment.durable (images l.now moment.holds x now))
 
-  pub left_of_write : ((s v : CacheList) → Vanish (geometry_of c) s lba v → LeftBy (geometry_of c) (given own lba block) s v) → ((s : CacheList) → Holds c contents s → ImagesOfWrite c contents' s lba (stepped (given own lba block))) → (kind : Kind) → kind ≡ own → (l : Lists) → IsMoment c contents l → (x : Image) → Now contents' x → IsRefusedTo (geometry_of c) x.page (given kind lba block) l
+  pub left_of_write : ((s v : CacheList) → Vanish (geometry_of c) s lba v → LeftBy (geometry_of c) (given own lba block) s v)
+      → ((s : CacheList) → Holds c contents s → ImagesOfWrite c contents' s lba (stepped (given own lba block))) → (kind : Kind) → kind ≡ own → (l : TwoLists) → IsMoment c contents l → (x : Image)
+      → Now contents' x → IsRefusedTo (geometry_of c) x.page (given kind lba block) l
   left_of_write write images kind is l moment x now =
       subst (λ k. IsRefusedTo (geometry_of c) x.page (given k lba block) l) (sym is)
       (left_write (geometry_of c) x.page (given own lba block) l (undo (pending c) l.now) (write l.now) moment.durable (images l.now moment.holds x now))
@@ -264,6 +270,7 @@ full_of {T = T} r g s a n k full is = let at = subst (λ (x : Result T SscError)
 
 -- ---- an opening
 
-pub moment_opened : {E : Type 0} (r : Result Ssc E) (g : Geometry) (page : Place → Page) (contents : Contents) → IfOk r (λ c. (s : CacheList) → StandsFor g page s → Holds c contents s) → IfOk r (λ c. pending c ≡ []) → IfOk r (λ c. (s : CacheList) → StandsFor g page s → IsMoment c contents (settled s))
+pub moment_opened : {E : Type 0} (r : Result Ssc E) (g : Geometry) (page : Place → Page) (contents : Contents) → IfOk r (λ c. (s : CacheList) → FlashStandsFor g page s → Holds c contents s)
+    → IfOk r (λ c. pending c ≡ []) → IfOk r (λ c. (s : CacheList) → FlashStandsFor g page s → IsMoment c contents (settled s))
 moment_opened (Err e) g page contents holds none = tt
 moment_opened (Ok c) g page contents holds none = λ s stands. record { holds = holds s stands; durable = sym (none_undone c none s) }

@@ -7,13 +7,13 @@ use Rattle.cache_model.specs.Cache.{Held, held}
 use Rattle.cache_model.proofs.CountLemmas.{same_number}
 use Rattle.cache_history.specs.declared.kind.Kind.{Kind}
 use Rattle.cache_history.specs.declared.kind.Kind.TheVariants.{WriteDirty, WriteClean, Evict, Clean, Commit, Checkpoint}
-use Rattle.cache_history.specs.History.{Given, given, Event, Answered, Refused, Crashed, NoneIs, IsNewest, names, concerns, is_write, is_change, may_undirty}
+use Rattle.cache_history.specs.History.{Given, given, CacheEvent, Answered, Refused, Crashed, NoneIs, IsNewest, names, concerns, is_write, is_change, may_undirty}
 use Rattle.cache_history.proofs.StepLemmas.{IsDirty, step_at, step_none, step_same, step_dirty, step_newest, step_older}
 use Rattle.cache_history.proofs.GoneLemmas.{IsClean}
 use Rattle.cache_history.proofs.MightLemmas.{Lags, Might, From, Stepped, Kept, GaveWay}
 
 -- what holds after some events, of what isn't held clean, and is kept by each later one that isn't such a command, holds
-module _ (kinds : Kind → Bool) (a : ℕ) (P : Option Held → Type 0) (first : List Event)
+module _ (kinds : Kind → Bool) (a : ℕ) (P : Option Held → Type 0) (first : List CacheEvent)
     (own : (o : Option Held) → Might a first o → P o)
     (never : (o : Option Held) → IsClean o → P o → ⊥)
     (kept : (here : Bool) (kind : Kind) (block : Block) (o : Option Held) → kinds kind && here ≡ false → P o → P (step_at here kind block o)) where
@@ -22,7 +22,7 @@ module _ (kinds : Kind → Bool) (a : ℕ) (P : Option Held → Type 0) (first :
   after answered y p o f before (Kept is lag) = subst P (sym is) before
   after answered y p o f before (GaveWay away clean is) = absurd (never p clean before)
 
-  pub since : (later : List Event) (o : Option Held) → Might a (later ++ first) o → NoneIs kinds a later → P o
+  pub since : (later : List CacheEvent) (o : Option Held) → Might a (later ++ first) o → NoneIs kinds a later → P o
   since [] o m none = own o m
   since (Answered y ∷ es) o m none = let f = or_parts (names kinds a y) (list_any (concerns kinds a) es) none in after true y m.0 o f.0 (since es m.0 m.1 f.1) m.2
   since (Refused y ∷ es) o m none = let f = or_parts (names kinds a y) (list_any (concerns kinds a) es) none in after false y m.0 o f.0 (since es m.0 m.1 f.1) m.2
@@ -40,7 +40,7 @@ clean_not_dirty o clean b is =
 none_kept : (here : Bool) (kind : Kind) (block : Block) (o : Option Held) → is_write kind && here ≡ false → o ≡ None → step_at here kind block o ≡ None
 none_kept here kind block o f is = ap (step_at here kind block) is ∙ step_none here kind block f
 
-evicted_own : (a : ℕ) (b : Block) (before : List Event) (o : Option Held) → Might a (Answered (given Evict a b) ∷ before) o → o ≡ None
+evicted_own : (a : ℕ) (b : Block) (before : List CacheEvent) (o : Option Held) → Might a (Answered (given Evict a b) ∷ before) o → o ≡ None
 evicted_own a b before o m = by m.2
   where
     by : From true (a == a) Evict b m.0 o → o ≡ None
@@ -48,14 +48,14 @@ evicted_own a b before o m = by m.2
     by (Kept is lag) = lag refl (same_number a)
     by (GaveWay away clean is) = is
 
-pub evicted_none : (a : ℕ) (b : Block) (later before : List Event) (o : Option Held) → Might a (later ++ Answered (given Evict a b) ∷ before) o → NoneIs is_write a later → o ≡ None
+pub evicted_none : (a : ℕ) (b : Block) (later before : List CacheEvent) (o : Option Held) → Might a (later ++ Answered (given Evict a b) ∷ before) o → NoneIs is_write a later → o ≡ None
 evicted_none a b later before = since is_write a (λ o. o ≡ None) (Answered (given Evict a b) ∷ before) (evicted_own a b before) clean_some none_kept later
 
 -- from where the address was absent
-pub still_none : (a : ℕ) (later : List Event) (o : Option Held) → Might a later o → NoneIs is_write a later → o ≡ None
-still_none a later o m = since is_write a (λ o. o ≡ None) [] (λ o is. is) clean_some none_kept later o (subst (λ (es : List Event). Might a es o) (sym (append-nil later)) m)
+pub still_none : (a : ℕ) (later : List CacheEvent) (o : Option Held) → Might a later o → NoneIs is_write a later → o ≡ None
+still_none a later o m = since is_write a (λ o. o ≡ None) [] (λ o is. is) clean_some none_kept later o (subst (λ (es : List CacheEvent). Might a es o) (sym (append-nil later)) m)
 
-written_own : (a : ℕ) (b : Block) (before : List Event) (o : Option Held) → Might a (Answered (given WriteDirty a b) ∷ before) o → o ≡ Some (held b true)
+written_own : (a : ℕ) (b : Block) (before : List CacheEvent) (o : Option Held) → Might a (Answered (given WriteDirty a b) ∷ before) o → o ≡ Some (held b true)
 written_own a b before o m = by m.2
   where
     by : From true (a == a) WriteDirty b m.0 o → o ≡ Some (held b true)
@@ -63,12 +63,12 @@ written_own a b before o m = by m.2
     by (Kept is lag) = absurd (lag refl (same_number a))
     by (GaveWay away clean is) = absurd (both_ways _ (away refl) (same_number a))
 
-pub dirty_some : (a : ℕ) (b : Block) (later before : List Event) (o : Option Held) → Might a (later ++ Answered (given WriteDirty a b) ∷ before) o → NoneIs is_change a later → o ≡ Some (held b true)
+pub dirty_some : (a : ℕ) (b : Block) (later before : List CacheEvent) (o : Option Held) → Might a (later ++ Answered (given WriteDirty a b) ∷ before) o → NoneIs is_change a later → o ≡ Some (held b true)
 dirty_some a b later before =
     since is_change a (λ o. o ≡ Some (held b true)) (Answered (given WriteDirty a b) ∷ before) (written_own a b before) (λ o clean is. clean_not_dirty o clean b is)
     (λ here kind block o f is. step_same here kind block o f ∙ is) later
 
-pub dirty_still : (a : ℕ) (b : Block) (later before : List Event) (o : Option Held) → Might a (later ++ Answered (given WriteDirty a b) ∷ before) o → NoneIs may_undirty a later → IsDirty o
+pub dirty_still : (a : ℕ) (b : Block) (later before : List CacheEvent) (o : Option Held) → Might a (later ++ Answered (given WriteDirty a b) ∷ before) o → NoneIs may_undirty a later → IsDirty o
 dirty_still a b later before =
     since may_undirty a IsDirty (Answered (given WriteDirty a b) ∷ before) (λ o m. (b, written_own a b before o m)) (λ o clean dirty. clean_not_dirty o clean dirty.0 dirty.1)
     step_dirty later
@@ -82,12 +82,12 @@ lag_none Clean o h t lag is = cc
 lag_none Commit o h t lag is = cc
 lag_none Checkpoint o h t lag is = cc
 
-older : (a : ℕ) (es : List Event) → ((o : Option Held) (h : Held) → Might a es o → o ≡ Some h → IsNewest a h.block es) → (y : Given) (p : Option Held) (h : Held) → Might a es p → names is_write a y ≡ false → step_at (a == y.address) y.kind y.block p ≡ Some h → IsNewest a h.block es
+older : (a : ℕ) (es : List CacheEvent) → ((o : Option Held) (h : Held) → Might a es o → o ≡ Some h → IsNewest a h.block es) → (y : Given) (p : Option Held) (h : Held) → Might a es p → names is_write a y ≡ false → step_at (a == y.address) y.kind y.block p ≡ Some h → IsNewest a h.block es
 older a es rest y p h m f is =
     let k = step_older (a == y.address) y.kind y.block p h f is in
     subst (λ (b : Block). IsNewest a b es) k.2 (rest p k.0 m k.1)
 
-module _ (a : ℕ) (y : Given) (es : List Event) (p o : Option Held) (h : Held) (is : o ≡ Some h) (rest : (o : Option Held) (h : Held) → Might a es o → o ≡ Some h → IsNewest a h.block es) (m : Might a es p) where
+module _ (a : ℕ) (y : Given) (es : List CacheEvent) (p o : Option Held) (h : Held) (is : o ≡ Some h) (rest : (o : Option Held) (h : Held) → Might a es o → o ≡ Some h → IsNewest a h.block es) (m : Might a es p) where
   not_none : o ≡ None → ⊥
   not_none none = let both : None ≡ Some h = sym none ∙ is in cc
 
@@ -106,7 +106,7 @@ module _ (a : ℕ) (y : Given) (es : List Event) (p o : Option Held) (h : Held) 
   newest_refused t (Kept s lag) = inr (rest p h m (sym s ∙ is))
   newest_refused t (GaveWay away clean none) = absurd (not_none none)
 
-pub newest : (a : ℕ) (es : List Event) (o : Option Held) (h : Held) → Might a es o → o ≡ Some h → IsNewest a h.block es
+pub newest : (a : ℕ) (es : List CacheEvent) (o : Option Held) (h : Held) → Might a es o → o ≡ Some h → IsNewest a h.block es
 newest a [] o h m is = absurd (let both : None ≡ Some h = sym m ∙ is in cc)
 newest a (Answered y ∷ es) o h m is = elim (cases_Bool (names is_write a y)) [
   | inl t ↦ inl (t, newest_own a y es m.0 o h is (newest a es) m.1 t m.2)

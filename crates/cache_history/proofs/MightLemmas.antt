@@ -7,7 +7,7 @@ use Rattle.ft_base.specs.declared.geometry.Geometry.{Geometry}
 use Rattle.cache_model.specs.Cache.{Held, CacheList, marked_as}
 use Rattle.cache_history.specs.declared.kind.Kind.{Kind}
 use Rattle.cache_history.specs.declared.kind.Kind.TheVariants.{WriteDirty, WriteClean, Evict, Clean, Commit, Checkpoint}
-use Rattle.cache_history.specs.History.{Given, Event, Answered, Refused, Crashed, Lists, settled, IsAtOnce, unless_gone, AfterAnswer, AfterRefusal, AfterCrash, LivedFrom, Lived, is_write}
+use Rattle.cache_history.specs.History.{Given, CacheEvent, Answered, Refused, Crashed, TwoLists, settled, IsAtOnce, unless_gone, AfterAnswer, AfterRefusal, AfterCrash, LivedFrom, Lived, is_write}
 use Rattle.cache_history.proofs.StepLemmas.{step_of, step_at, get_stepped}
 use Rattle.cache_history.proofs.GoneLemmas.{IsClean, left_at, unless_same, unless_lost}
 
@@ -26,7 +26,7 @@ pub data From (answered here : Bool) (kind : Kind) (block : Block) (p o : Option
   Kept : o ≡ p → (answered ≡ true → here ≡ true → Lags kind o) → From answered here kind block p o
   GaveWay : (answered ≡ true → here ≡ false) → IsClean p → o ≡ None → From answered here kind block p o
 
-abbrev pub Might : ℕ → List Event → Option Held → Type 0
+abbrev pub Might : ℕ → List CacheEvent → Option Held → Type 0
 Might a [] o = o ≡ None
 Might a (Answered x ∷ es) o = (p : Option Held) × Might a es p × From true (a == x.address) x.kind x.block p o
 Might a (Refused x ∷ es) o = (p : Option Held) × Might a es p × From false (a == x.address) x.kind x.block p o
@@ -38,7 +38,7 @@ pub record Both (P : Option Held → Type 0) (n e : Option Held) : Type 0 where
   pub durable : P e
   pub absent : n ≡ None → e ≡ None
 
-abbrev pub Mights : ℕ → List Event → Lists → Type 0
+abbrev pub Mights : ℕ → List CacheEvent → TwoLists → Type 0
 Mights a es l = Both (Might a es) (get l.now a) (get l.durable a)
 
 alike : (P : Option Held → Type 0) (n e : Option Held) → e ≡ n → P n → Both P n e
@@ -131,7 +131,7 @@ module _ (kind : Kind) (block : Block) (P : Option Held → Type 0) (s n e : Opt
 at : (a : ℕ) (s t : CacheList) → s ≡ t → get s a ≡ get t a
 at a s t e = ap (λ (l : CacheList). get l a) e
 
-module _ (g : Geometry) (a : ℕ) (es : List Event) (x : Given) (old new : Lists) (after : AfterAnswer g x old new) (m : Mights a es old) where
+module _ (g : Geometry) (a : ℕ) (es : List CacheEvent) (x : Given) (old new : TwoLists) (after : AfterAnswer g x old new) (m : Mights a es old) where
   now_is : get new.now a ≡ step_at (a == x.address) x.kind x.block (get after.left a)
   now_is = at a new.now _ after.now ∙ get_stepped x.kind x.address x.block after.left a
 
@@ -167,7 +167,7 @@ module _ (g : Geometry) (a : ℕ) (es : List Event) (x : Given) (old new : Lists
     | inr gave ↦ answered_lost gave.0 gave.1 gave.2
   ]
 
-module _ (g : Geometry) (a : ℕ) (es : List Event) (x : Given) (old new : Lists) (after : AfterRefusal g x old new) (m : Mights a es old) where
+module _ (g : Geometry) (a : ℕ) (es : List CacheEvent) (x : Given) (old new : TwoLists) (after : AfterRefusal g x old new) (m : Mights a es old) where
   refused_kept : get after.left a ≡ get old.now a → Might a (Refused x ∷ es) (get new.now a)
   refused_kept same = elim after.now [
     | inl is ↦ (get old.durable a, m.durable, Kept (at a new.now old.durable is) (λ answered. absurd (cc)))
@@ -200,7 +200,7 @@ module _ (g : Geometry) (a : ℕ) (es : List Event) (x : Given) (old new : Lists
   pub mights_refused : Mights a (Refused x ∷ es) new
   mights_refused = alike (Might a (Refused x ∷ es)) (get new.now a) (get new.durable a) (at a new.durable new.now after.durable) refused_now
 
-pub mights_crashed : (a : ℕ) (es : List Event) (old new : Lists) → AfterCrash old new → Mights a es old → Mights a (Crashed ∷ es) new
+pub mights_crashed : (a : ℕ) (es : List CacheEvent) (old new : TwoLists) → AfterCrash old new → Mights a es old → Mights a (Crashed ∷ es) new
 mights_crashed a es old new after m = record {
   now = subst (Might a es) (sym (at a new.now old.durable after.now)) m.durable;
   durable = subst (Might a es) (sym (at a new.durable old.durable after.durable)) m.durable;
@@ -208,8 +208,8 @@ mights_crashed a es old new after m = record {
 }
 
 -- from lists on where the address is absent
-pub mights_from : (g : Geometry) (start : Lists) (es : List Event) (l : Lists) → LivedFrom g start es l → (a : ℕ) → Mights a [] start → Mights a es l
-mights_from g start [] l is a m = subst (λ (k : Lists). Mights a [] k) (sym is) m
+pub mights_from : (g : Geometry) (start : TwoLists) (es : List CacheEvent) (l : TwoLists) → LivedFrom g start es l → (a : ℕ) → Mights a [] start → Mights a es l
+mights_from g start [] l is a m = subst (λ (k : TwoLists). Mights a [] k) (sym is) m
 mights_from g start (Answered x ∷ es) l lived a m = mights_answered g a es x lived.0 l lived.2 (mights_from g start es lived.0 lived.1 a m)
 mights_from g start (Refused x ∷ es) l lived a m = mights_refused g a es x lived.0 l lived.2 (mights_from g start es lived.0 lived.1 a m)
 mights_from g start (Crashed ∷ es) l lived a m = mights_crashed a es lived.0 l lived.2 (mights_from g start es lived.0 lived.1 a m)
@@ -217,9 +217,9 @@ mights_from g start (Crashed ∷ es) l lived a m = mights_crashed a es lived.0 l
 none_held : (a : ℕ) → get {X = Held} {R = nat_cmp} empty a ≡ None
 none_held a = get-empty nat_cmp a
 
-pub mights : (g : Geometry) (es : List Event) (l : Lists) → Lived g es l → (a : ℕ) → Mights a es l
+pub mights : (g : Geometry) (es : List CacheEvent) (l : TwoLists) → Lived g es l → (a : ℕ) → Mights a es l
 mights g es l lived a = mights_from g (settled empty) es l lived a (record { now = none_held a; durable = none_held a; absent = λ n. n })
 
 -- an absent address is absent in both
-pub mights_none : (g : Geometry) (es : List Event) (l : Lists) → Lived g es l → (a : ℕ) → get l.now a ≡ None → Mights a [] l
+pub mights_none : (g : Geometry) (es : List CacheEvent) (l : TwoLists) → Lived g es l → (a : ℕ) → get l.now a ≡ None → Mights a [] l
 mights_none g es l lived a none = record { now = none; durable = (mights g es l lived a).absent none; absent = (mights g es l lived a).absent }

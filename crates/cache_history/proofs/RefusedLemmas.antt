@@ -10,7 +10,7 @@ use Rattle.ssc.specs.declared.error.SscError.{SscError}
 use Rattle.ssc.specs.declared.error.SscError.TheVariants.{Full, FlashFault, PowerLost, OutOfMemory}
 use Rattle.ssc.specs.Errors.{stops}
 use Rattle.ssc.specs.CacheState.{Holds, IsAsBefore, pending}
-use Rattle.cache_history.specs.History.{Lists}
+use Rattle.cache_history.specs.History.{TwoLists}
 use Rattle.cache_history.specs.Moment.{IsMoment}
 
 as_itself : (c d : Ssc) → d ≡ c → IsAsBefore c d
@@ -28,7 +28,7 @@ module _ (c d : Ssc) (s t : State) where
   unchanged_of (Err OutOfMemory) full memory = λ goes. memory refl
 
   abbrev Still : Type 0
-  Still = (l : Lists) → IsMoment c s.contents l → IsMoment d t.contents l
+  Still = (l : TwoLists) → IsMoment c s.contents l → IsMoment d t.contents l
 
   full_still : (d ≡ c) × (t ≡ s) → Still
   full_still same l moment = subst (λ (k : Ssc). IsMoment k t.contents l) (sym same.0) (subst (λ (x : State). IsMoment c x.contents l) (sym same.1) moment)

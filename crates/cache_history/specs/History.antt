@@ -19,10 +19,10 @@ abbrev pub given : Kind → ℕ → Block → Given
 given kind address block = record { kind = kind; address = address; block = block }
 
 -- it was answered Ok; or refused by a device or for want of power, and the cache opened again; or there was a crash between two commands, and an opening
-pub data Event : Type 0 where
-  Answered : Given → Event
-  Refused : Given → Event
-  Crashed : Event
+pub data CacheEvent : Type 0 where
+  Answered : Given → CacheEvent
+  Refused : Given → CacheEvent
+  Crashed : CacheEvent
 
 -- ---- the lists
 
@@ -39,12 +39,12 @@ abbrev pub stepped : Given → CacheList → CacheList
 stepped x s = stepped_by x.kind x.address x.block s
 
 -- the list that is held, and the one that a crash would leave
-pub record Lists : Type 0 where
+pub record TwoLists : Type 0 where
   pub now : CacheList
   pub durable : CacheList
 
 -- where nothing is buffered they are one
-abbrev pub settled : CacheList → Lists
+abbrev pub settled : CacheList → TwoLists
 settled s = record { now = s; durable = s }
 
 -- a command of this kind is on the flash when it answers Ok, with all that was buffered: a clean write and an evict where the address was held
@@ -75,11 +75,11 @@ unless_gone (Some h) (Some kept) before = before
 unless_gone None left before = before
 
 -- a crash would leave what it would have left before, but for what gave way
-abbrev pub LosesAlike : Lists → CacheList → CacheList → Type 0
+abbrev pub LosesAlike : TwoLists → CacheList → CacheList → Type 0
 LosesAlike old left durable = (a : ℕ) → get durable a ≡ unless_gone (get old.now a) (get left a) (get old.durable a)
 
 -- after Ok the list is that of the step on what was left; and a crash would leave what it would have left before, but for what gave way, or the list before the step or after it
-pub record AfterAnswer (g : Geometry) (x : Given) (old new : Lists) : Type 0 where
+pub record AfterAnswer (g : Geometry) (x : Given) (old new : TwoLists) : Type 0 where
   pub left : CacheList
   pub left_by : LeftBy g x old.now left
   pub now : new.now ≡ stepped x left
@@ -87,29 +87,29 @@ pub record AfterAnswer (g : Geometry) (x : Given) (old new : Lists) : Type 0 whe
   pub at_once : IsAtOnce x.kind x.address old.now → new.durable ≡ new.now
 
 -- after a refusal and an opening the list is what a crash would have left before, or what was left for the step, before it or after it
-pub record AfterRefusal (g : Geometry) (x : Given) (old new : Lists) : Type 0 where
+pub record AfterRefusal (g : Geometry) (x : Given) (old new : TwoLists) : Type 0 where
   pub left : CacheList
   pub left_by : LeftBy g x old.now left
   pub now : (new.now ≡ old.durable) ⊎ (new.now ≡ left) ⊎ (new.now ≡ stepped x left)
   pub durable : new.durable ≡ new.now
 
 -- after a crash and an opening it is what the crash left
-pub record AfterCrash (old new : Lists) : Type 0 where
+pub record AfterCrash (old new : TwoLists) : Type 0 where
   pub now : new.now ≡ old.durable
   pub durable : new.durable ≡ old.durable
 
-abbrev pub After : Geometry → Event → Lists → Lists → Type 0
+abbrev pub After : Geometry → CacheEvent → TwoLists → TwoLists → Type 0
 After g (Answered x) old new = AfterAnswer g x old new
 After g (Refused x) old new = AfterRefusal g x old new
 After g Crashed old new = AfterCrash old new
 
 -- the lists after these events, the newest first, from some lists on
-abbrev pub LivedFrom : Geometry → Lists → List Event → Lists → Type 0
+abbrev pub LivedFrom : Geometry → TwoLists → List CacheEvent → TwoLists → Type 0
 LivedFrom g start [] l = l ≡ start
-LivedFrom g start (event ∷ events) l = (before : Lists) × LivedFrom g start events before × After g event before l
+LivedFrom g start (event ∷ events) l = (before : TwoLists) × LivedFrom g start events before × After g event before l
 
 -- and from an empty cache on
-abbrev pub Lived : Geometry → List Event → Lists → Type 0
+abbrev pub Lived : Geometry → List CacheEvent → TwoLists → Type 0
 Lived g events l = LivedFrom g (settled empty) events l
 
 -- ---- which events are of an address
@@ -144,18 +144,19 @@ abbrev pub names : (Kind → Bool) → ℕ → Given → Bool
 names kinds a x = kinds x.kind && (a == x.address)
 
 -- the event is of such a command, whatever it answered
-abbrev pub concerns : (Kind → Bool) → ℕ → Event → Bool
+abbrev pub concerns : (Kind → Bool) → ℕ → CacheEvent → Bool
 concerns kinds a (Answered x) = names kinds a x
 concerns kinds a (Refused x) = names kinds a x
 concerns kinds a Crashed = false
 
 -- no event is
-abbrev pub NoneIs : (Kind → Bool) → ℕ → List Event → Type 0
+abbrev pub NoneIs : (Kind → Bool) → ℕ → List CacheEvent → Type 0
 NoneIs kinds a events = list_any (concerns kinds a) events ≡ false
 
 -- the block is that of the newest write of the address that was answered Ok, or of a later one that was refused
-abbrev pub IsNewest : ℕ → Block → List Event → Type 0
+abbrev pub IsNewest : ℕ → Block → List CacheEvent → Type 0
 IsNewest a block [] = ⊥
-IsNewest a block (Answered x ∷ older) = ((names is_write a x ≡ true) × (block ≡ x.block)) ⊎ ((names is_write a x ≡ false) × IsNewest a block older)
+IsNewest a block (Answered x ∷ older) = ((names is_write a x ≡ true) × (block ≡ x.block))
+    ⊎ ((names is_write a x ≡ false) × IsNewest a block older)
 IsNewest a block (Refused x ∷ older) = ((names is_write a x ≡ true) × (block ≡ x.block)) ⊎ IsNewest a block older
 IsNewest a block (Crashed ∷ older) = IsNewest a block older

@@ -3,13 +3,13 @@ ghost use Rattle.ft_base.specs.Contents.{Image, Now};
 ghost use Rattle.ft_media.specs.Drives.{DrivesFlash};
 ghost use Rattle.cache_model.specs.Cache.{CacheList, IsFull};
 ghost use Rattle.cache_model.specs.Loading.{load};
-ghost use Rattle.cache_model.specs.Stands.{StandsFor};
+ghost use Rattle.cache_model.specs.Stands.{FlashStandsFor};
 ghost use Rattle.op_log.specs.Log.{FitsOn};
 ghost use Rattle.op_log.specs.Refusals.{open_failed, open_lost, IsRefusal};
 ghost use Rattle.ssc.specs.CacheState.{Holds, IsAsBefore, IsUp, geometry_of};
 ghost use Rattle.ssc.specs.Errors.{ssc_failed, ssc_lost, stops};
 ghost use Rattle.cache_history.specs.declared.kind.Kind.TheVariants.{WriteDirty};
-ghost use Rattle.cache_history.specs.History.{Lists, given, is_write, settled, AfterAnswer, AfterRefusal};
+ghost use Rattle.cache_history.specs.History.{TwoLists, given, is_write, settled, AfterAnswer, AfterRefusal};
 ghost use Rattle.cache_history.specs.Moment.{IsMoment};
 
 use crate::Kind;
@@ -29,14 +29,19 @@ pub fn give<M: Media>(
     requires up { IsUp cache.old (M.state media.old).contents }
     requires lba { lba < (geometry_of cache.old).size }
     ensures geometry { geometry_of cache.new ≡ geometry_of cache.old }
-    ensures answered { OnOk result ((l : Lists) → IsMoment cache.old (M.state media.old).contents l → (m : Lists) × AfterAnswer (geometry_of cache.old) (given kind lba block.now) l m × IsMoment cache.new (M.state media.new).contents m) }
+    ensures answered { OnOk result ((l : TwoLists) → IsMoment cache.old (M.state media.old).contents l → (m : TwoLists)
+        × AfterAnswer (geometry_of cache.old) (given kind lba block.now) l m × IsMoment cache.new (M.state media.new).contents m) }
     // Whatever is answered, and wherever power went off.
-    ensures images { (l : Lists) → IsMoment cache.old (M.state media.old).contents l → (x : Image) → Now (M.state media.new).contents x → (m : Lists) × AfterRefusal (geometry_of cache.old) (given kind lba block.now) l m × StandsFor (geometry_of cache.old) x.page m.now }
+    ensures images { (l : TwoLists) → IsMoment cache.old (M.state media.old).contents l → (x : Image) → Now (M.state media.new).contents x
+        → (m : TwoLists) × AfterRefusal (geometry_of cache.old) (given kind lba block.now) l m
+        × FlashStandsFor (geometry_of cache.old) x.page m.now }
     // Full and want of memory are no event: the lists and the media are as before. Each comes for its cause alone.
     ensures unchanged { OnErr result (stops result ≡ false → IsAsBefore cache.old cache.new × (M.state media.new ≡ M.state media.old)) }
-    ensures still { OnErr result (stops result ≡ false → (l : Lists) → IsMoment cache.old (M.state media.old).contents l → IsMoment cache.new (M.state media.new).contents l) }
+    ensures still { OnErr result (stops result ≡ false → (l : TwoLists) → IsMoment cache.old (M.state media.old).contents l
+        → IsMoment cache.new (M.state media.new).contents l) }
     ensures full_keeps { (n k : ℕ) → IsErrOf result (SscError.Full n k) → cache.new ≡ cache.old }
-    ensures full { (n k : ℕ) → IsErrOf result (SscError.Full n k) → (kind ≡ WriteDirty) × ((s : CacheList) → Holds cache.old (M.state media.old).contents s → IsFull (geometry_of cache.old) s lba) }
+    ensures full { (n k : ℕ) → IsErrOf result (SscError.Full n k) → (kind ≡ WriteDirty)
+        × ((s : CacheList) → Holds cache.old (M.state media.old).contents s → IsFull (geometry_of cache.old) s lba) }
     ensures memory { IsErrOf result SscError.OutOfMemory → (is_write kind ≡ true) × (cache.old.ready ≡ false) }
     ensures stopped { cache.new.stopped ≡ stops result }
     ensures is_up { OnOk result (IsUp cache.new (M.state media.new).contents) }
@@ -56,8 +61,10 @@ pub fn give<M: Media>(
 pub fn reopen<M: Media>(alloc: Global, media: &mut M, geometry: &Geometry) -> Result<Ssc, OpenError>
     requires { FitsOn geometry.now (M.state media.old).contents.shape }
     ensures geometry { IfOk result (λ c. geometry_of c ≡ geometry.now) }
-    ensures moment { IfOk result (λ c. (s : CacheList) → StandsFor geometry.now (M.state media.old).contents.flash.page s → IsMoment c (M.state media.new).contents (settled s)) }
-    ensures images { (s : CacheList) → StandsFor geometry.now (M.state media.old).contents.flash.page s → (x : Image) → Now (M.state media.new).contents x → StandsFor geometry.now x.page s }
+    ensures moment { IfOk result (λ c. (s : CacheList) → FlashStandsFor geometry.now (M.state media.old).contents.flash.page s
+        → IsMoment c (M.state media.new).contents (settled s)) }
+    ensures images { (s : CacheList) → FlashStandsFor geometry.now (M.state media.old).contents.flash.page s → (x : Image)
+        → Now (M.state media.new).contents x → FlashStandsFor geometry.now x.page s }
     ensures is_up { IfOk result (λ c. IsUp c (M.state media.new).contents) }
     ensures refused { IfErr result (λ e. IsRefusal geometry.now e (load geometry.now (M.state media.old).contents.flash.page)) }
     ensures drives { DrivesFlash (M.state media.old) (M.state media.new) (open_failed result) (open_lost result) }

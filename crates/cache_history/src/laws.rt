@@ -6,29 +6,36 @@ ghost use Rattle.ft_base.specs.declared.block.Block.{Block};
 ghost use Rattle.ft_base.specs.declared.geometry.Geometry.{Geometry};
 ghost use Rattle.ft_base.specs.Contents.{Contents, Image, Now};
 ghost use Rattle.cache_model.specs.Cache.{Held, dirty_between, held};
-ghost use Rattle.cache_model.specs.Stands.{StandsFor};
+ghost use Rattle.cache_model.specs.Stands.{FlashStandsFor};
 ghost use Rattle.ssc.specs.declared.cache.Ssc.{Ssc};
 ghost use Rattle.ssc.specs.CacheState.{geometry_of};
 ghost use Rattle.cache_history.specs.declared.kind.Kind.TheVariants.{Evict, WriteDirty};
-ghost use Rattle.cache_history.specs.History.{Event, Answered, Lists, Lived, LivedFrom, NoneIs, IsNewest, given, is_write, is_change, may_undirty};
+ghost use Rattle.cache_history.specs.History.{CacheEvent, Answered, TwoLists, Lived, LivedFrom, NoneIs, IsNewest, given, is_write, is_change, may_undirty};
 ghost use Rattle.cache_history.specs.Moment.{IsMoment};
 
 /// Over all that may become of a cache, from an empty one on: commands that were answered, commands
 /// that were refused by a device or for want of power, crashes between two commands, and openings.
 pub fn history_laws()
     // An address whose evict was answered Ok is absent until a write of it is given again.
-    ensures evicted_stays_absent { (g : Geometry) (later before : List Event) (l : Lists) (a : ℕ) (b : Block) → Lived g (later ++ Answered (given Evict a b) ∷ before) l → NoneIs is_write a later → get l.now a ≡ None }
+    ensures evicted_stays_absent { (g : Geometry) (later before : List CacheEvent) (l : TwoLists) (a : ℕ) (b : Block)
+        → Lived g (later ++ Answered (given Evict a b) ∷ before) l → NoneIs is_write a later → get l.now a ≡ None }
     // An address that is absent stays absent until a write of it is given, whatever becomes of the cache.
-    ensures absent_stays { (g : Geometry) (before later : List Event) (l m : Lists) (a : ℕ) → Lived g before l → get l.now a ≡ None → LivedFrom g l later m → NoneIs is_write a later → get m.now a ≡ None }
+    ensures absent_stays { (g : Geometry) (before later : List CacheEvent) (l m : TwoLists) (a : ℕ) → Lived g before l → get l.now a ≡ None
+        → LivedFrom g l later m → NoneIs is_write a later → get m.now a ≡ None }
     // A block whose dirty write was answered Ok is held, dirty, until a write, an evict or a clean of
     // its address is given, whatever that answers.
-    ensures dirty_stays { (g : Geometry) (later before : List Event) (l : Lists) (a : ℕ) (b : Block) → Lived g (later ++ Answered (given WriteDirty a b) ∷ before) l → NoneIs is_change a later → get l.now a ≡ Some (held b true) }
+    ensures dirty_stays { (g : Geometry) (later before : List CacheEvent) (l : TwoLists) (a : ℕ) (b : Block)
+        → Lived g (later ++ Answered (given WriteDirty a b) ∷ before) l → NoneIs is_change a later → get l.now a ≡ Some (held b true) }
     // What is held at an address is the block of the newest write of it that was answered Ok, or of a
     // later one that was refused, and never an older one.
-    ensures newest_is_held { (g : Geometry) (events : List Event) (l : Lists) (a : ℕ) (h : Held) → Lived g events l → get l.now a ≡ Some h → IsNewest a h.block events }
+    ensures newest_is_held { (g : Geometry) (events : List CacheEvent) (l : TwoLists) (a : ℕ) (h : Held) → Lived g events l
+        → get l.now a ≡ Some h → IsNewest a h.block events }
     // After a dirty write of an address that was answered Ok it is listed as dirty, with whatever
     // block, until a clean write, an evict or a clean of it is given, whatever that answers.
-    ensures dirty_is_listed { (g : Geometry) (later before : List Event) (l : Lists) (a : ℕ) (b : Block) (from count : ℕ) → Lived g (later ++ Answered (given WriteDirty a b) ∷ before) l → NoneIs may_undirty a later → from ≤ a → a < from + count → Contains (dirty_between from count l.now) a }
+    ensures dirty_is_listed { (g : Geometry) (later before : List CacheEvent) (l : TwoLists) (a : ℕ) (b : Block) (from count : ℕ)
+        → Lived g (later ++ Answered (given WriteDirty a b) ∷ before) l → NoneIs may_undirty a later → from ≤ a → a < from + count
+        → Contains (dirty_between from count l.now) a }
     // Between two commands a crash leaves the second list.
-    ensures crash_leaves_durable { (c : Ssc) (contents : Contents) (l : Lists) (x : Image) → IsMoment c contents l → Now contents x → StandsFor (geometry_of c) x.page l.durable }
+    ensures crash_leaves_durable { (c : Ssc) (contents : Contents) (l : TwoLists) (x : Image) → IsMoment c contents l → Now contents x
+        → FlashStandsFor (geometry_of c) x.page l.durable }
 {}

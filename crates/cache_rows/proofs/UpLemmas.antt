@@ -38,9 +38,12 @@ on_ok (Ok done) f p = f p
 on_ok (Err e) f p = tt
 
 -- a write, from which clean groups may have given way
-pub up_written : (r : Result (Unit {0}) SscError) (c d : Ssc) (a b : State) (lba : ℕ) (f : CacheList → CacheList) → IsUp c a.contents → d.stopped ≡ stops r → OnOk r ((s : CacheList) → Holds c a.contents s → HoldsWritten d b.contents s lba f) → ((n l : ℕ) → IsErrOf r (Full n l) → (d ≡ c) × (b ≡ a)) → (IsErrOf r OutOfMemory → StillHolds c d a b) → d.stopped ≡ false → IsUp d b.contents
+pub up_written : (r : Result (Unit {0}) SscError) (c d : Ssc) (a b : State) (lba : ℕ) (f : CacheList → CacheList) → IsUp c a.contents → d.stopped ≡ stops r
+    → OnOk r ((s : CacheList) → Holds c a.contents s → HoldsWritten d b.contents s lba f) → ((n l : ℕ) → IsErrOf r (Full n l) → (d ≡ c) × (b ≡ a)) → (IsErrOf r OutOfMemory → StillHolds c d a b)
+    → d.stopped ≡ false → IsUp d b.contents
 up_written r c d a b lba f up stopped holds = up_some r c d a b up stopped (on_ok r (λ (k : (s : CacheList) → Holds c a.contents s → HoldsWritten d b.contents s lba f). let w = k up.list up.holds in (f w.left, w.holds)) holds)
 
 -- any other command
-pub up_after : (r : Result (Unit {0}) SscError) (c d : Ssc) (a b : State) (f : CacheList → CacheList) → IsUp c a.contents → d.stopped ≡ stops r → OnOk r ((s : CacheList) → Holds c a.contents s → Holds d b.contents (f s)) → ((n l : ℕ) → IsErrOf r (Full n l) → ⊥) → (IsErrOf r OutOfMemory → ⊥) → d.stopped ≡ false → IsUp d b.contents
+pub up_after : (r : Result (Unit {0}) SscError) (c d : Ssc) (a b : State) (f : CacheList → CacheList) → IsUp c a.contents → d.stopped ≡ stops r
+    → OnOk r ((s : CacheList) → Holds c a.contents s → Holds d b.contents (f s)) → ((n l : ℕ) → IsErrOf r (Full n l) → ⊥) → (IsErrOf r OutOfMemory → ⊥) → d.stopped ≡ false → IsUp d b.contents
 up_after r c d a b f up stopped holds full memory = up_some r c d a b up stopped (on_ok r (λ (k : (s : CacheList) → Holds c a.contents s → Holds d b.contents (f s)). (f up.list, k up.list up.holds)) holds) (λ n l is. absurd (full n l is)) (λ is. absurd (memory is))

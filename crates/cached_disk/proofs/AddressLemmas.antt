@@ -1,5 +1,6 @@
 -- The dirty addresses of a list of held blocks, ascending.
-use Rattle.std.proofs.Common.{◌≡◌, ◌⊎◌, ℕ, ◌+◌, ◌*◌, ◌/◌, ◌%◌, ◌≤◌, ◌<◌, ◌==◌, nat_le, nat_lt, not, ◌&&◌, ◌||◌, Bool, true, false, cond, T, List, [], ◌∷◌, length, map, filter, Option, Some, None, Ordering, Less, Equal, Greater, inl, inr, refl, sym, ◌∙◌, ap, subst, arith, nat_cmp, eqb-true, eq-eqb, leb-true, ltb-true, le-leb, lt-ltb, div-add-mod'}
+use Rattle.std.proofs.Common.{◌≡◌, ◌⊎◌, ℕ, ◌+◌, ◌*◌, ◌/◌, ◌%◌, ◌≤◌, ◌<◌, ◌==◌, nat_le, nat_lt, not, ◌&&◌, ◌||◌, Bool, true, false, cond, T, List, [], ◌∷◌, length}
+use Rattle.std.proofs.Common.{map, filter, Option, Some, None, Ordering, Less, Equal, Greater, inl, inr, refl, sym, ◌∙◌, ap, subst, arith, nat_cmp, eqb-true, eq-eqb, leb-true, ltb-true, le-leb, lt-ltb, div-add-mod'}
 use Rattle.std.specs.List.{AllByRecursion, list_any}
 use Rattle.std.specs.Option.{is_some}
 use Rattle.std.specs.Ordering.{is_lt, match_ordering}
@@ -227,7 +228,9 @@ by_mark : {X : Type 0} (dirty : X → Bool) (es : List (ℕ × X)) → map (λ x
 by_mark dirty [] = refl
 by_mark dirty (e ∷ es) = by (dirty e.1) (by_mark dirty es)
   where
-    by : (b : Bool) → map (λ x. x.0) (filter (λ x. dirty x.1) es) ≡ map (λ x. x.0) (filter (λ x. x.1) (marks dirty es)) → map (λ x. x.0) (cond b (e ∷ filter (λ x. dirty x.1) es) (filter (λ x. dirty x.1) es)) ≡ map (λ x. x.0) (cond b ((e.0, dirty e.1) ∷ filter (λ x. x.1) (marks dirty es)) (filter (λ x. x.1) (marks dirty es)))
+    by : (b : Bool) → map (λ x. x.0) (filter (λ x. dirty x.1) es) ≡ map (λ x. x.0) (filter (λ x. x.1) (marks dirty es))
+        → map (λ x. x.0) (cond b (e ∷ filter (λ x. dirty x.1) es) (filter (λ x. dirty x.1) es)) ≡ map (λ x. x.0)
+        (cond b ((e.0, dirty e.1) ∷ filter (λ x. x.1) (marks dirty es)) (filter (λ x. x.1) (marks dirty es)))
     by true rest = ap (λ l. e.0 ∷ l) rest
     by false rest = rest
 
@@ -299,7 +302,7 @@ module _ (told : Told) (call : Call) (s v : CacheList) (lba : ℕ) (h : Held) (v
     | inr f ↦ f
   ]
 
-  pub written_held : volume.Holds told call (λ a. is_some (get s a)) (λ a. is_some (get (insert v lba h) a))
+  pub written_held : volume.HoldsAfter told call (λ a. is_some (get s a)) (λ a. is_some (get (insert v lba h) a))
   written_held = record {
     own = λ a is. new_here a (eq-eqb a lba (alone a is));
     only = λ a there. elim (cases_Bool (a == lba)) [
@@ -356,13 +359,16 @@ below_size true a n below = grind (arith, nat_tests)
 below_size false a n below = refl
 
 pub lbas_between : (s : CacheList) (size : ℕ) → ((a : ℕ) (h : Held) → get s a ≡ Some h → a < size) → dirty_between 0 size s ≡ lbas_in s
-lbas_between s size within = ap (λ (l : List (ℕ × Held)). map (λ x. x.0) l) (filter_same (λ (x : ℕ × Held). x.1.dirty && nat_le 0 x.0 && nat_lt x.0 (0 + size)) (λ x. x.1.dirty) (entries s) (all_entries s (λ a h. (h.dirty && nat_le 0 a && nat_lt a (0 + size)) ≡ h.dirty) (λ a h at. below_size h.dirty a size (within a h at))))
+lbas_between s size within = ap (λ (l : List (ℕ × Held)). map (λ x. x.0) l)
+    (filter_same (λ (x : ℕ × Held). x.1.dirty && nat_le 0 x.0 && nat_lt x.0 (0 + size)) (λ x. x.1.dirty) (entries s)
+    (all_entries s (λ a h. (h.dirty && nat_le 0 a && nat_lt a (0 + size)) ≡ h.dirty) (λ a h at. below_size h.dirty a size (within a h at))))
 
 filter_keys : {X : Type 0} (t : ℕ × X → Bool) (u : ℕ → Bool) (es : List (ℕ × X)) → filter u (map (λ x. x.0) (filter t es)) ≡ map (λ x. x.0) (filter (λ x. t x && u x.0) es)
 filter_keys t u [] = refl
 filter_keys t u (e ∷ es) = by (t e) (filter_keys t u es)
   where
-    inner : (b : Bool) → filter u (map (λ x. x.0) (filter t es)) ≡ map (λ x. x.0) (filter (λ x. t x && u x.0) es) → cond b (e.0 ∷ filter u (map (λ x. x.0) (filter t es))) (filter u (map (λ x. x.0) (filter t es))) ≡ map (λ x. x.0) (cond b (e ∷ filter (λ x. t x && u x.0) es) (filter (λ x. t x && u x.0) es))
+    inner : (b : Bool) → filter u (map (λ x. x.0) (filter t es)) ≡ map (λ x. x.0) (filter (λ x. t x && u x.0) es)
+        → cond b (e.0 ∷ filter u (map (λ x. x.0) (filter t es))) (filter u (map (λ x. x.0) (filter t es))) ≡ map (λ x. x.0) (cond b (e ∷ filter (λ x. t x && u x.0) es) (filter (λ x. t x && u x.0) es))
     inner true rest = ap (λ l. e.0 ∷ l) rest
     inner false rest = rest
 
@@ -414,6 +420,7 @@ marked_range false x y z is = refl
 
 pub lbas_group : (s : CacheList) (p n size count : ℕ) → 0 < p → ((a : ℕ) (h : Held) → get s a ≡ Some h → a < size) → (n * p + count ≡ n * p + p) ⊎ ((n * p + count ≡ size) × (size ≤ n * p + p)) → dirty_between (n * p) count s ≡ filter (λ a. a / p == n) (lbas_in s)
 lbas_group s p n size count pos within range =
-    ap (λ (l : List (ℕ × Held)). map (λ x. x.0) l) (filter_same (λ (x : ℕ × Held). x.1.dirty && nat_le (n * p) x.0 && nat_lt x.0 (n * p + count)) (λ x. x.1.dirty && (x.0 / p == n)) (entries s) (all_entries s (λ a h. (h.dirty && nat_le (n * p) a && nat_lt a (n * p + count)) ≡ (h.dirty && (a / p == n))) (λ a h at.
+    ap (λ (l : List (ℕ × Held)). map (λ x. x.0) l) (filter_same (λ (x : ℕ × Held). x.1.dirty && nat_le (n * p) x.0 && nat_lt x.0 (n * p + count)) (λ x. x.1.dirty && (x.0 / p == n)) (entries s)
+    (all_entries s (λ a h. (h.dirty && nat_le (n * p) a && nat_lt a (n * p + count)) ≡ (h.dirty && (a / p == n))) (λ a h at.
     marked_range h.dirty (nat_le (n * p) a) (nat_lt a (n * p + count)) (a / p == n) (same_range p n size count a pos (within a h at) range))))
     ∙ sym (filter_keys (λ (x : ℕ × Held). x.1.dirty) (λ a. a / p == n) (entries s))

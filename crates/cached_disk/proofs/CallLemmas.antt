@@ -14,7 +14,7 @@ use Rattle.ft_media.specs.Media.{read_counted}
 use Rattle.ft_media.specs.Passes.{Passes}
 use Rattle.ft_media.proofs.PassesLemmas.{passes_then}
 use Rattle.ft_volume.specs.Opening.{ImageIs}
-use Rattle.ft_volume.specs.Volume.{Call, Costs, Finds, Goes, HasCause, Holds, IsOwn, Reads, StandFor, VolumeState, WasDone, WasOne, Writes, backs_of, misses, table_after, volume_lost, writes_of}
+use Rattle.ft_volume.specs.Volume.{Call, Costs, Finds, Goes, HasCause, HoldsAfter, IsOwn, Reads, StandFor, VolumeState, WasDone, WasOne, Writes, backs_of, misses, table_after, volume_lost, writes_of}
 use Rattle.ft_volume.specs.declared.volume.VolumeError.{VolumeError}
 use Rattle.ft_volume.specs.declared.volume.VolumeError.TheVariants as volume
 use Rattle.ft_volume.proofs.DoneLemmas.{answered_one, done_of_one, refused_one}
@@ -118,7 +118,8 @@ module _ (before after : State) where
   )
 
   -- the volume is down then
-  pub goes_down : (old new : VolumeState) (e : SscError) (r : VolumeError) → new.told ≡ old.told → new.down ≡ true → IsOfCache e r → (e ≡ OutOfMemory → ⊥) → DrivesFlash before after (ssc_failed {T = Unit {0}} (Err e)) (ssc_lost {T = Unit {0}} (Err e)) → Goes {T = Unit {0}} old new before after (Err r)
+  pub goes_down : (old new : VolumeState) (e : SscError) (r : VolumeError) → new.told ≡ old.told → new.down ≡ true → IsOfCache e r → (e ≡ OutOfMemory → ⊥)
+      → DrivesFlash before after (ssc_failed {T = Unit {0}} (Err e)) (ssc_lost {T = Unit {0}} (Err e)) → Goes {T = Unit {0}} old new before after (Err r)
   goes_down old new e r told down is memory drives =
       let on = refused_goes_on e r is drives in
       record {
@@ -155,7 +156,8 @@ goes_driven value before after old new told up drives = record {
 
 -- ---- after a read, which changes no contents
 
-module _ {T : Type 0} (before mid after : State) (contents : mid.contents ≡ before.contents) (flash : before.faults.flash ≤ mid.faults.flash) (disk : before.faults.disk ≤ mid.faults.disk) (cuts : before.faults.cuts ≤ mid.faults.cuts) (passes : Passes before mid false) (old new : VolumeState) (result : Result T VolumeError) where
+module _ {T : Type 0} (before mid after : State) (contents : mid.contents ≡ before.contents) (flash : before.faults.flash ≤ mid.faults.flash) (disk : before.faults.disk ≤ mid.faults.disk)
+    (cuts : before.faults.cuts ≤ mid.faults.cuts) (passes : Passes before mid false) (old new : VolumeState) (result : Result T VolumeError) where
   cause_after : HasCause mid.faults after.faults result → HasCause before.faults after.faults result
   cause_after then = record {
     flash = let y = then.flash in omega (arith, flash, y);
@@ -189,14 +191,14 @@ module _ {T : Type 0} (before mid after : State) (contents : mid.contents ≡ be
 
 -- ---- what is held
 
-pub held_along : (told : Told) (call : Call) (f g f' g' : ℕ → Bool) → ((a : ℕ) → f' a ≡ f a) → ((a : ℕ) → g' a ≡ g a) → Holds told call f g → Holds told call f' g'
+pub held_along : (told : Told) (call : Call) (f g f' g' : ℕ → Bool) → ((a : ℕ) → f' a ≡ f a) → ((a : ℕ) → g' a ≡ g a) → HoldsAfter told call f g → HoldsAfter told call f' g'
 held_along told call f g f' g' old new holds = record {
   own = λ a is. new a ∙ holds.own a is;
   only = λ a now. elim (holds.only a (sym (new a) ∙ now)) [ inl was ↦ inl (old a ∙ was) | inr is ↦ inr is ];
   stays = λ groups lie a was. new a ∙ holds.stays groups (record { few = lie.few; all = λ x is. lie.all x (elim is [ inl had ↦ inl (old x ∙ had) | inr own ↦ inr own ]) }) a (sym (old a) ∙ was);
 }
 
-same_held : (told : Told) (call : Call) (f g : ℕ → Bool) → ((a : ℕ) → IsOwn call a → ⊥) → ((a : ℕ) → g a ≡ f a) → Holds told call f g
+same_held : (told : Told) (call : Call) (f g : ℕ → Bool) → ((a : ℕ) → IsOwn call a → ⊥) → ((a : ℕ) → g a ≡ f a) → HoldsAfter told call f g
 same_held told call f g none same = record {
   own = λ a is. absurd (none a is);
   only = λ a now. inl (sym (same a) ∙ now);
@@ -217,7 +219,7 @@ same_costs value call old new before after none backs table held reads writes = 
 }
 
 -- one block was read from the disk
-pub missed_costs : (lba : ℕ) (block : Block) (old new : VolumeState) (before mid after : State) → old.held lba ≡ false → new.table ≡ old.table → Holds old.told (Reads lba block) old.held new.held → mid.counts ≡ read_counted before.counts
+pub missed_costs : (lba : ℕ) (block : Block) (old new : VolumeState) (before mid after : State) → old.held lba ≡ false → new.table ≡ old.table → HoldsAfter old.told (Reads lba block) old.held new.held → mid.counts ≡ read_counted before.counts
     → after.counts.disk_reads ≡ mid.counts.disk_reads → after.counts.disk_writes ≡ mid.counts.disk_writes → Costs {T = Unit {0}} (Reads lba block) old new before after (Ok tt)
 missed_costs lba block old new before mid after absent table held counted reads writes =
     let one : misses (Reads lba block) old.held ≡ 1 = ap (λ (t : Bool). cond t 0 1) absent in

@@ -16,11 +16,11 @@ use Rattle.ft_volume.specs.Volume.{StandFor, StandForAny, StandForOneOf}
 use Rattle.ft_volume.proofs.UpLemmas.{any_map}
 use Rattle.cache_model.specs.Records.{Entries}
 use Rattle.cache_model.specs.Cache.{Agrees, CacheList, Held, held_or}
-use Rattle.cache_model.specs.Stands.{StandsFor, held_at}
+use Rattle.cache_model.specs.Stands.{FlashStandsFor, held_at}
 use Rattle.cached_disk.specs.Kept.{IsBeneath}
 
 -- flash stands for one list
-pub same_list : (g : Geometry) (page : Place → Page) (s t : CacheList) → StandsFor g page s → StandsFor g page t → s ≡ t
+pub same_list : (g : Geometry) (page : Place → Page) (s t : CacheList) → FlashStandsFor g page s → FlashStandsFor g page t → s ≡ t
 same_list g page s t x y = same_map nat_cmp_total nat_cmp-IsAntisymmetric s t (λ a.
     let both : Ok x.loaded ≡ Ok y.loaded = sym x.loads ∙ y.loads in
     let loaded : x.loaded ≡ y.loaded = cc in
@@ -51,13 +51,13 @@ module _ (told : Told) (c : Contents) (s : CacheList) where
   pub over_stands : IsBeneath told c s → (d : PlainDisk) → IsOver told.geometry s c.disk d → StandFor (ImageIs told) c d
   over_stands beneath d over x now = record {
     list = s;
-    flash = subst (λ (f : Place → Page). StandsFor told.geometry f s) (sym now.pages) beneath.flash;
+    flash = subst (λ (f : Place → Page). FlashStandsFor told.geometry f s) (sym now.pages) beneath.flash;
     agrees = λ a h b at clean value. elim value [ inl same ↦ same ∙ beneath.agrees a h (x.block a) at clean (now.blocks a) | inr none ↦ absurd none ];
     suits = beneath.suits;
     volume = λ a within. over a within (x.block a) (now.blocks a);
   }
 
-  pub stands_over : StandsFor told.geometry c.flash.page s → (d : PlainDisk) → StandFor (ImageIs told) c d → IsOver told.geometry s c.disk d
+  pub stands_over : FlashStandsFor told.geometry c.flash.page s → (d : PlainDisk) → StandFor (ImageIs told) c d → IsOver told.geometry s c.disk d
   stands_over flash d stand a within b has =
       let i = stand (with_value c a b) (value_image c a b has) in
       ap (λ (t : CacheList). held_or (get t a) b) (same_list told.geometry c.flash.page s i.list flash i.flash)
@@ -84,7 +84,7 @@ module _ (told : Told) (c : Contents) (s : CacheList) where
 
 -- ---- where the flash stands for what it stood for, and the disk shows nothing new
 
-module _ (told : Told) (old new : Contents) (lists : (s : CacheList) → StandsFor told.geometry old.flash.page s → StandsFor told.geometry new.flash.page s) (had : Had old.disk new.disk) where
+module _ (told : Told) (old new : Contents) (lists : (s : CacheList) → FlashStandsFor told.geometry old.flash.page s → FlashStandsFor told.geometry new.flash.page s) (had : Had old.disk new.disk) where
   abbrev before : (ℕ → Block) → Image
   before block = record { page = old.flash.page; block = block }
 
@@ -94,7 +94,7 @@ module _ (told : Told) (old new : Contents) (lists : (s : CacheList) → StandsF
   moved : (block : ℕ → Block) (x : Image) (d : PlainDisk) → Now new x → ((a : ℕ) → x.block a ≡ block a) → ImageIs told (before block) d → ImageIs told x d
   moved block x d now same i = record {
     list = i.list;
-    flash = subst (λ (f : Place → Page). StandsFor told.geometry f i.list) (sym now.pages) (lists i.list i.flash);
+    flash = subst (λ (f : Place → Page). FlashStandsFor told.geometry f i.list) (sym now.pages) (lists i.list i.flash);
     agrees = λ a h b at clean value. elim value [ inl is ↦ is ∙ same a ∙ i.agrees a h (block a) at clean (inl refl) | inr none ↦ absurd none ];
     suits = i.suits;
     volume = λ a within. ap (λ (b : Block). held_or (get i.list a) b) (same a) ∙ i.volume a within;

@@ -13,7 +13,7 @@ use Rattle.ft_media.specs.Media.{Crashed, DiskStays}
 use Rattle.ft_volume.specs.Opening.{ImageIs, Suits}
 use Rattle.ft_volume.specs.Volume.{StandFor, StandForAny, StandForOneOf}
 use Rattle.cache_model.specs.Cache.{Agrees, Buffered, Inserted, Cleaned, CacheList, Held, held_or, undo}
-use Rattle.cache_model.specs.Stands.{StandsFor}
+use Rattle.cache_model.specs.Stands.{FlashStandsFor}
 use Rattle.cache_model.proofs.UndoLemmas.{back_at, get_undo, undone_at}
 use Rattle.op_log.specs.Log.{FitsOn}
 use Rattle.ssc.specs.declared.cache.Ssc.{Ssc}
@@ -66,8 +66,8 @@ module _ (v : CachedDisk) (contents : Contents) (s : CacheList) (own : geometry_
   abbrev pub undone : CacheList
   undone = undo (pending v.cache) s
 
-  undone_stands : StandsFor v.options.geometry contents.flash.page undone
-  undone_stands = subst (λ (g : Geometry). StandsFor g contents.flash.page undone) own is.holds.lists.stands
+  undone_stands : FlashStandsFor v.options.geometry contents.flash.page undone
+  undone_stands = subst (λ (g : Geometry). FlashStandsFor g contents.flash.page undone) own is.holds.lists.stands
 
   pub held_beneath : IsBeneath (told_of v) contents undone
   held_beneath = record {
@@ -145,7 +145,7 @@ module _ (v : CachedDisk) (c : Ssc) (old new : Contents) (stays : Stays old new)
 
   module _ (s t : CacheList) (agrees : Agrees t old.disk) (suits : Suits v.mode t) where
     -- refused: the flash stands for this list
-    pub step_beneath : StandsFor v.options.geometry new.flash.page t → IsBeneath (told_of v) new t
+    pub step_beneath : FlashStandsFor v.options.geometry new.flash.page t → IsBeneath (told_of v) new t
     step_beneath stands = record { flash = stands; agrees = agrees_fewer t old.disk new.disk stays.had agrees; suits = suits }
 
     -- done: the cache holds this list

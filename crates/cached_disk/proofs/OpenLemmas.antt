@@ -16,7 +16,7 @@ use Rattle.ft_media.specs.Media.{Crashed, DiskStays}
 use Rattle.ft_volume.specs.Opening.{Opens}
 use Rattle.cache_model.specs.Cache.{CacheList}
 use Rattle.cache_model.specs.Loading.{load}
-use Rattle.cache_model.specs.Stands.{StandsFor}
+use Rattle.cache_model.specs.Stands.{FlashStandsFor}
 use Rattle.op_log.specs.declared.error.OpenError.{OpenError}
 use Rattle.op_log.specs.declared.error.OpenError.TheVariants.{NotFormatted, OtherGeometry, Damaged, FlashFault, DiskFault, PowerLost, OutOfMemory}
 use Rattle.op_log.specs.Refusals.{IsRefusal, open_lost}
@@ -39,7 +39,7 @@ less_none a n none = omega (arith, none)
 module _ (g : Geometry) (a b c : Contents) (page : b.flash.page ≡ a.flash.page) where
   pub open_cache_of : (r : Result Ssc OpenError)
       → IfOk r (λ v. geometry_of v ≡ g)
-      → IfOk r (λ v. (s : CacheList) → StandsFor g b.flash.page s → Holds v c s)
+      → IfOk r (λ v. (s : CacheList) → FlashStandsFor g b.flash.page s → Holds v c s)
       → IfOk r (λ v. load g b.flash.page ≡ Ok (entries_of v))
       → IfOk r (λ v. pending v ≡ [])
       → IfOk r (λ v. IsUp v c)
@@ -48,7 +48,7 @@ module _ (g : Geometry) (a b c : Contents) (page : b.flash.page ≡ a.flash.page
       → IfOk r (λ v. IsOpenCache g a c v)
   open_cache_of (Ok v) geometry holds loads nothing up goes log = record {
     geometry = geometry;
-    holds = λ s stands. holds s (subst (λ (f : Place → Page). StandsFor g f s) (sym page) stands);
+    holds = λ s stands. holds s (subst (λ (f : Place → Page). FlashStandsFor g f s) (sym page) stands);
     loads = ap (λ (f : Place → Page). load g f) (sym page) ∙ loads;
     nothing_waits = nothing;
     up = up;
@@ -68,11 +68,11 @@ module _ (g : Geometry) (a b c : Contents) (page : b.flash.page ≡ a.flash.page
   not_disk (Err PowerLost) loads refused is = false≢true is
   not_disk (Err OutOfMemory) loads refused is = false≢true is
 
-  pub opens_after : (r : Result Ssc OpenError) → ((lba : ℕ) → b.disk lba ≡ flushed (a.disk lba)) → load g c.flash.page ≡ load g b.flash.page → ((s : CacheList) → StandsFor g b.flash.page s → (x : Image) → Now c x → StandsFor g x.page s)
+  pub opens_after : (r : Result Ssc OpenError) → ((lba : ℕ) → b.disk lba ≡ flushed (a.disk lba)) → load g c.flash.page ≡ load g b.flash.page → ((s : CacheList) → FlashStandsFor g b.flash.page s → (x : Image) → Now c x → FlashStandsFor g x.page s)
       → IfErr r (λ e. IsRefusal g e (load g b.flash.page)) → DiskStays b c (open_lost r) → (open_lost r ≡ true → Crashed c) → Opens g a c (disk_failed r) (open_lost r)
   opens_after r flush same images refused stays crash = record {
     loads = same ∙ ap (λ (f : Place → Page). load g f) page;
-    lists = λ s stands. images s (subst (λ (f : Place → Page). StandsFor g f s) (sym page) stands) (with_newest c) (newest_image c);
+    lists = λ s stands. images s (subst (λ (f : Place → Page). FlashStandsFor g f s) (sym page) stands) (with_newest c) (newest_image c);
     values = λ lba v has. flushed_had (a.disk lba) (b.disk lba) (flush lba) v (stays.values lba v has);
     flushed = λ no not lba. ap (λ (f : ℕ → Values). f lba) (stays.stays not) ∙ flush lba;
     unflushed = λ is. absurd (not_disk r (load g b.flash.page) refused is);
@@ -80,17 +80,19 @@ module _ (g : Geometry) (a b c : Contents) (page : b.flash.page ≡ a.flash.page
   }
 
   -- the flush was refused
-  pub opens_refused : (e : MediaError) (r : OpenError) → r ≡ flush_error e → ((lba : ℕ) (v : Block) → HasValue (b.disk lba) v → HasValue (a.disk lba) v) → (IsErrOf {T = Unit {0}} (Err e) media.Failed → b.disk ≡ a.disk) → (IsErrOf {T = Unit {0}} (Err e) media.OutOfMemory → ⊥) → (lost {T = Unit {0}} (Err e) ≡ true → Crashed b)
+  pub opens_refused : (e : MediaError) (r : OpenError) → r ≡ flush_error e → ((lba : ℕ) (v : Block) → HasValue (b.disk lba) v → HasValue (a.disk lba) v)
+      → (IsErrOf {T = Unit {0}} (Err e) media.Failed → b.disk ≡ a.disk) → (IsErrOf {T = Unit {0}} (Err e) media.OutOfMemory → ⊥) → (lost {T = Unit {0}} (Err e) ≡ true → Crashed b)
       → Opens g a b (disk_failed {T = Ssc} (Err r)) (open_lost {T = Ssc} (Err r))
   opens_refused e r is values failed memory crash = subst (λ (r : OpenError). Opens g a b (disk_failed {T = Ssc} (Err r)) (open_lost {T = Ssc} (Err r))) (sym is) (by_error e failed memory crash)
     where
       loads_page : load g b.flash.page ≡ load g a.flash.page
       loads_page = ap (λ (f : Place → Page). load g f) page
 
-      lists_page : (s : CacheList) → StandsFor g a.flash.page s → StandsFor g b.flash.page s
-      lists_page s stands = subst (λ (f : Place → Page). StandsFor g f s) (sym page) stands
+      lists_page : (s : CacheList) → FlashStandsFor g a.flash.page s → FlashStandsFor g b.flash.page s
+      lists_page s stands = subst (λ (f : Place → Page). FlashStandsFor g f s) (sym page) stands
 
-      by_error : (e : MediaError) → (IsErrOf {T = Unit {0}} (Err e) media.Failed → b.disk ≡ a.disk) → (IsErrOf {T = Unit {0}} (Err e) media.OutOfMemory → ⊥) → (lost {T = Unit {0}} (Err e) ≡ true → Crashed b) → Opens g a b (disk_failed {T = Ssc} (Err (flush_error e))) (open_lost {T = Ssc} (Err (flush_error e)))
+      by_error : (e : MediaError) → (IsErrOf {T = Unit {0}} (Err e) media.Failed → b.disk ≡ a.disk) → (IsErrOf {T = Unit {0}} (Err e) media.OutOfMemory → ⊥)
+          → (lost {T = Unit {0}} (Err e) ≡ true → Crashed b) → Opens g a b (disk_failed {T = Ssc} (Err (flush_error e))) (open_lost {T = Ssc} (Err (flush_error e)))
       by_error media.Failed failed memory crash = record { loads = loads_page; lists = lists_page; values = values; flushed = λ no not. absurd (false≢true (sym no)); unflushed = λ yes. failed refl; alone = λ yes. absurd (false≢true yes) }
       by_error media.PowerLost failed memory crash = record { loads = loads_page; lists = lists_page; values = values; flushed = λ no not. absurd (false≢true (sym not)); unflushed = λ yes. absurd (false≢true yes); alone = λ yes lba. (crash refl).alone lba }
       by_error media.OutOfMemory failed memory crash = absurd (memory refl)

@@ -29,7 +29,7 @@ use Rattle.ft_volume.proofs.UpLemmas.{any_map}
 use Rattle.cache_model.specs.Cache.{Agrees, Buffered, CacheList, Held, held_or}
 use Rattle.cache_model.specs.Loading.{load}
 use Rattle.cache_model.specs.Records.{Entries}
-use Rattle.cache_model.specs.Stands.{StandsFor}
+use Rattle.cache_model.specs.Stands.{FlashStandsFor}
 use Rattle.op_log.specs.Log.{FitsOn}
 use Rattle.op_log.specs.declared.error.OpenError.{OpenError}
 use Rattle.op_log.specs.declared.error.OpenError.TheVariants.{NotFormatted, OtherGeometry, Damaged, FlashFault, DiskFault, PowerLost, OutOfMemory}
@@ -47,7 +47,7 @@ undo_none : (mode : Mode) (q : List Buffered) → q ≡ [] → MayUndo mode q
 undo_none Back q none = tt
 undo_none Through q none = subst (λ (q : List Buffered). AllByRecursion IsInserted q) (sym none) tt
 
-module _ (v : CachedDisk) (old new : Contents) (s : CacheList) (cache : IsOpenCache v.options.geometry old new v.cache) (opens : Opens v.options.geometry old new false false) (stands : StandsFor v.options.geometry old.flash.page s) where
+module _ (v : CachedDisk) (old new : Contents) (s : CacheList) (cache : IsOpenCache v.options.geometry old new v.cache) (opens : Opens v.options.geometry old new false false) (stands : FlashStandsFor v.options.geometry old.flash.page s) where
   holds_now : Holds v.cache new s
   holds_now = cache.holds s stands
 
@@ -143,8 +143,8 @@ module _ (v : CachedDisk) (old off on : State) (outcome : Outcome) (left : IsLef
   page_off : on.contents.flash.page ≡ old.contents.flash.page
   page_off = ap (λ (x : Contents). x.flash.page) same_contents ∙ cut.page
 
-  lists_off : (g : Geometry) (s : CacheList) → StandsFor g old.contents.flash.page s → StandsFor g on.contents.flash.page s
-  lists_off g s stands = subst (λ (f : Place → Page). StandsFor g f s) (sym page_off) stands
+  lists_off : (g : Geometry) (s : CacheList) → FlashStandsFor g old.contents.flash.page s → FlashStandsFor g on.contents.flash.page s
+  lists_off g s stands = subst (λ (f : Place → Page). FlashStandsFor g f s) (sym page_off) stands
 
   had_off : (a : ℕ) (b : Block) → HasValue (on.contents.disk a) b → HasValue (old.contents.disk a) b
   had_off a b has = cut.values a b (subst (λ (x : Contents). HasValue (x.disk a) b) same_contents has)

@@ -21,11 +21,11 @@ use Rattle.ft_volume.specs.Volume.{Reads, StandFor}
 use Rattle.ft_volume.specs.Volume as calls
 use Rattle.ft_volume.specs.declared.volume.Idled.TheVariants.{Nothing, Checkpointed}
 use Rattle.cache_model.specs.Cache.{Agrees, Buffered, Inserted, CacheList, Held, Vanish, held, undo, written_clean}
-use Rattle.cache_model.specs.Stands.{StandsFor}
+use Rattle.cache_model.specs.Stands.{FlashStandsFor}
 use Rattle.op_log.specs.Log.{FitsOn}
 use Rattle.ssc.specs.declared.cache.Ssc.{Ssc}
 use Rattle.ssc.specs.CacheState.{Holds, entries_of, geometry_of, pending}
-use Rattle.ssc.specs.Commands.{HoldsWritten, PendsWith, StandsForOne, StandsForWrite, AsUndone, AsBefore, AsAfter, AsLeft, AsWritten}
+use Rattle.ssc.specs.Commands.{HoldsWritten, PendsWith, FlashStandsForOne, FlashStandsForWrite, AsUndone, AsBefore, AsAfter, AsLeft, AsWritten}
 use Rattle.cached_disk.specs.declared.disk.CachedDisk.{CachedDisk}
 use Rattle.cached_disk.specs.Kept.{IsBeneath, IsDirtyIn, IsHeld, IsInserted, IsLeft, MayUndo, dirty_of, is_down, told_of}
 use Rattle.cached_disk.proofs.AddressLemmas.{holds_held, holds_lbas, lbas_same, written_held}
@@ -99,26 +99,26 @@ pub record ShowsSame (v : CachedDisk) (contents : Contents) (s list : CacheList)
 -- the flash stands for one
 pub record IsShown (v : CachedDisk) (contents : Contents) (s : CacheList) (page : Place → Page) : Type 0 where
   pub list : CacheList
-  pub stands : StandsFor v.options.geometry page list
+  pub stands : FlashStandsFor v.options.geometry page list
   pub shows : ShowsSame v contents s list
 
 pub shows_itself : (v : CachedDisk) (contents : Contents) (s : CacheList) → IsHeld v contents s → ShowsSame v contents s s
 shows_itself v contents s is = record { agrees = is.agrees; suits = is.suits; over = λ d over. over }
 
 module _ (v : CachedDisk) (contents : Contents) (s : CacheList) (own : geometry_of v.cache ≡ v.options.geometry) (is : IsHeld v contents s) where
-  own_flash : (page : Place → Page) (list : CacheList) → StandsFor (geometry_of v.cache) page list → StandsFor v.options.geometry page list
-  own_flash page list stands = subst (λ (g : Geometry). StandsFor g page list) own stands
+  own_flash : (page : Place → Page) (list : CacheList) → FlashStandsFor (geometry_of v.cache) page list → FlashStandsFor v.options.geometry page list
+  own_flash page list stands = subst (λ (g : Geometry). FlashStandsFor g page list) own stands
 
-  undone_shown : (page : Place → Page) → StandsFor (geometry_of v.cache) page (undo (pending v.cache) s) → IsShown v contents s page
+  undone_shown : (page : Place → Page) → FlashStandsFor (geometry_of v.cache) page (undo (pending v.cache) s) → IsShown v contents s page
   undone_shown page stands =
       let beneath = held_beneath v contents s own is in
       record { list = undo (pending v.cache) s; stands = own_flash page (undo (pending v.cache) s) stands; shows = record { agrees = beneath.agrees; suits = beneath.suits; over = undone_over v contents s own is } }
 
-  same_shown : (page : Place → Page) → StandsFor (geometry_of v.cache) page s → IsShown v contents s page
+  same_shown : (page : Place → Page) → FlashStandsFor (geometry_of v.cache) page s → IsShown v contents s page
   same_shown page stands = record { list = s; stands = own_flash page s stands; shows = shows_itself v contents s is }
 
   -- of a commit
-  pub commit_shows : (page : Place → Page) → StandsForOne (geometry_of v.cache) page (undo (pending v.cache) s) s s → IsShown v contents s page
+  pub commit_shows : (page : Place → Page) → FlashStandsForOne (geometry_of v.cache) page (undo (pending v.cache) s) s s → IsShown v contents s page
   commit_shows page (AsUndone x) = undone_shown page x
   commit_shows page (AsBefore x) = same_shown page x
   commit_shows page (AsAfter x) = same_shown page x
@@ -153,7 +153,7 @@ module _ (v : CachedDisk) (contents : Contents) (s : CacheList) (own : geometry_
     own_vanish w vanish = subst (λ (g : Geometry). Vanish g s lba w) own vanish
 
     -- wherever it was cut
-    pub write_shows : (page : Place → Page) → StandsForWrite (geometry_of v.cache) page (undo (pending v.cache) s) s lba (written_clean lba block) → IsShown v contents s page
+    pub write_shows : (page : Place → Page) → FlashStandsForWrite (geometry_of v.cache) page (undo (pending v.cache) s) s lba (written_clean lba block) → IsShown v contents s page
     write_shows page (AsUndone x) = undone_shown page x
     write_shows page (AsLeft w vanish x) = record { list = w; stands = own_flash page w x; shows = left_shows w (own_vanish w vanish) }
     write_shows page (AsWritten w vanish x) = record { list = written_clean lba block w; stands = own_flash page (written_clean lba block w) x; shows = clean_shows w (own_vanish w vanish) }
@@ -204,7 +204,7 @@ module _ (v : CachedDisk) (c : Ssc) (old new : Contents) (s : CacheList) (by : D
   over_after d stand = step_over v c old new by.stays t d (shows.over d (held_over v old s by.own by.is d stand))
 
   -- refused: the flash stands for the list
-  module _ (stands : StandsFor v.options.geometry new.flash.page t) where
+  module _ (stands : FlashStandsFor v.options.geometry new.flash.page t) where
     beneath_after : IsBeneath (told_of v) new t
     beneath_after = step_beneath v c old new by.stays s t shows.agrees shows.suits stands
 
@@ -262,12 +262,12 @@ module _ (v : CachedDisk) (c : Ssc) (old new : Contents) (s : CacheList) (by : D
     pub put_dirty : dirty_of (record v { cache = c }) ≡ dirty_of v
     put_dirty = done_dirty v c old new s by (written_clean lba block h.left) put_shows h.holds put_keeps (clean_only v old s by.own by.is lba block none_dirty only_block h.left vanish_own)
 
-    pub put_held : (b : Block) → calls.Holds (told_of v) (Reads lba b) (λ a. is_some (get (entries_of v.cache) a)) (λ a. is_some (get (entries_of c) a))
+    pub put_held : (b : Block) → calls.HoldsAfter (told_of v) (Reads lba b) (λ a. is_some (get (entries_of v.cache) a)) (λ a. is_some (get (entries_of c) a))
     put_held b = held_along (told_of v) (Reads lba b) (λ a. is_some (get s a)) (λ a. is_some (get (written_clean lba block h.left) a)) (λ a. is_some (get (entries_of v.cache) a)) (λ a. is_some (get (entries_of c) a))
         (holds_held v.cache old s by.is.holds) (holds_held c new (written_clean lba block h.left) h.holds) (written_held (told_of v) (Reads lba b) s h.left lba (held block false) vanish_own refl (λ a is. is))
 
   -- it was refused or cut
-  module _ (stands : StandsForWrite (geometry_of v.cache) new.flash.page (undo (pending v.cache) s) s lba (written_clean lba block)) where
+  module _ (stands : FlashStandsForWrite (geometry_of v.cache) new.flash.page (undo (pending v.cache) s) s lba (written_clean lba block)) where
     shown : IsShown v old s new.flash.page
     shown = write_shows v old s by.own by.is lba block none_dirty only_block new.flash.page stands
 

@@ -26,7 +26,7 @@ use Rattle.cache_model.specs.Cache.{CacheList, dirty_groups, undo}
 use Rattle.cache_model.specs.Entries.{groups_with}
 use Rattle.cache_model.specs.Loading.{load}
 use Rattle.cache_model.specs.Records.{Entries}
-use Rattle.cache_model.specs.Stands.{StandsFor}
+use Rattle.cache_model.specs.Stands.{FlashStandsFor}
 use Rattle.cache_model.proofs.StandLemmas.{dirty_groups_same}
 use Rattle.mapping.specs.Counts.{held_count}
 use Rattle.merge_engine.proofs.BesideLemmas.{nothing_buffered}
@@ -190,8 +190,8 @@ module _ (c : Ssc) (contents : Contents) (s : CacheList) (holds : Holds c conten
       ∙ current.loads
       ∙ ap Ok (nothing_buffered contents.flash.page c.parts.log (entries_of c) current (waiting-none c.parts.log.buffered none))
 
-  stands_itself : StandsFor (geometry_of c) contents.flash.page s
-  stands_itself = subst (λ q. StandsFor (geometry_of c) contents.flash.page (undo q s)) none holds.lists.stands
+  stands_itself : FlashStandsFor (geometry_of c) contents.flash.page s
+  stands_itself = subst (λ q. FlashStandsFor (geometry_of c) contents.flash.page (undo q s)) none holds.lists.stands
 
   pub groups_of : length (dirty_groups (geometry_of c) s) ≡ length (groups_with (geometry_of c) (λ e. e.dirty) (entries_of c))
   groups_of =

@@ -24,7 +24,7 @@ use Rattle.ft_volume.specs.declared.volume.VolumeError.TheVariants.{OutOfVolume}
 use Rattle.cache_model.specs.Loading.{load}
 use Rattle.cache_model.specs.Records.{Entries}
 use Rattle.cache_model.specs.Cache.{Agrees, Buffered, CacheList, Cleaned, Held, Inserted, dirty_between, vol}
-use Rattle.cache_model.specs.Stands.{StandsFor}
+use Rattle.cache_model.specs.Stands.{FlashStandsFor}
 use Rattle.op_log.specs.Log.{FitsOn}
 use Rattle.ssc.specs.declared.cache.Ssc.{Ssc}
 use Rattle.ssc.specs.CacheState.{Holds, IsUp, entries_of, geometry_of, log_room, pending}
@@ -76,7 +76,7 @@ MayUndo Through q = AllByRecursion IsInserted q
 
 -- the flash stands for this list, which agrees with the disk
 pub record IsBeneath (told : Told) (contents : Contents) (list : CacheList) : Type 0 where
-  pub flash : StandsFor told.geometry contents.flash.page list
+  pub flash : FlashStandsFor told.geometry contents.flash.page list
   pub agrees : Agrees list contents.disk
   pub suits : Suits told.mode list
 
@@ -106,7 +106,7 @@ IsVolume g s contents d = (a : ℕ) → a < g.size → vol s (λ lba. (contents.
 -- a cache that was opened over media that stood for a list: it holds that list
 pub record IsOpenCache (g : Geometry) (old new : Contents) (c : Ssc) : Type 0 where
   pub geometry : geometry_of c ≡ g
-  pub holds : (s : CacheList) → StandsFor g old.flash.page s → Holds c new s
+  pub holds : (s : CacheList) → FlashStandsFor g old.flash.page s → Holds c new s
   pub loads : load g old.flash.page ≡ Ok (entries_of c)
   pub nothing_waits : pending c ≡ []
   pub up : IsUp c new
@@ -132,11 +132,13 @@ pub record Reopens {T : Type 0} (old new : CachedDisk) (before after : State) (r
   pub mode : new.mode ≡ old.mode
   pub same : is_down old ≡ false → (new ≡ old) × (after ≡ before)
   pub up : OnOk result (is_down new ≡ false)
-  pub opens : OnOk result (is_down old ≡ true → (m : Entries) → Loads (told_of old) before.contents.flash.page m → (entries_of new.cache ≡ m) × (log_room new.cache ≡ log_pages old.options.geometry))
+  pub opens : OnOk result (is_down old ≡ true → (m : Entries) → Loads (told_of old) before.contents.flash.page m
+      → (entries_of new.cache ≡ m) × (log_room new.cache ≡ log_pages old.options.geometry))
   pub refused : OnErr result ((is_down old ≡ true) × (is_down new ≡ true))
   pub disk_reads : after.counts.disk_reads ≡ before.counts.disk_reads
   pub disk_writes : after.counts.disk_writes ≡ before.counts.disk_writes
-  pub fixed : (bases : List PlainDisk) → StandForAny (ImageIs (told_of old)) before.contents bases → IsFixed (ImageIs (told_of old)) after.contents (fixes result) bases
+  pub fixed : (bases : List PlainDisk) → StandForAny (ImageIs (told_of old)) before.contents bases
+      → IsFixed (ImageIs (told_of old)) after.contents (fixes result) bases
   pub ready : OnOk result (KeepsReady before after)
   pub within : IsErrOf result OutOfVolume → ⊥
   pub cause : HasCause before.faults after.faults result

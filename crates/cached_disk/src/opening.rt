@@ -4,11 +4,11 @@ ghost use Rattle.ft_base.specs.PlainDisk.{PlainDisk};
 ghost use Rattle.ft_base.specs.declared.block.Block.{Block};
 ghost use Rattle.ft_media.specs.Media.{KeepsReady};
 ghost use Rattle.ft_media.specs.Passes.{Passes};
-ghost use Rattle.ft_volume.specs.Opening.{ImageIs, IsNewest, MayOpen, Opens, nothing_held};
+ghost use Rattle.ft_volume.specs.Opening.{ImageIs, IsNewestOnDisk, MayOpen, Opens, nothing_held};
 ghost use Rattle.ft_volume.specs.Volume.{HasCause, StandFor, told_for, volume_lost};
 ghost use Rattle.cache_model.specs.Cache.{CacheList};
 ghost use Rattle.cache_model.specs.Loading.{load};
-ghost use Rattle.cache_model.specs.Stands.{StandsFor};
+ghost use Rattle.cache_model.specs.Stands.{FlashStandsFor};
 ghost use Rattle.op_log.specs.Log.{FitsOn};
 ghost use Rattle.op_log.specs.Refusals.{open_failed, open_lost};
 ghost use Rattle.ssc.specs.CacheState.{entries_of};
@@ -36,9 +36,10 @@ impl CachedDisk {
         requires shape { FitsOn options.now.geometry (M.state media.old).contents.shape }
         ensures owns { IfOk result (λ v. IsLeft v (M.state media.new).contents) }
         ensures opened { IfOk result (λ v. IsFresh mode options.now nothing_held v) }
-        ensures stands { OnOk result ((d : PlainDisk) → IsNewest options.now.geometry (M.state media.old).contents d
+        ensures stands { OnOk result ((d : PlainDisk) → IsNewestOnDisk options.now.geometry (M.state media.old).contents d
             → StandFor (ImageIs (told_for mode options.now)) (M.state media.new).contents d) }
-        ensures values { (lba : ℕ) (b : Block) → HasValue ((M.state media.new).contents.disk lba) b → HasValue ((M.state media.old).contents.disk lba) b }
+        ensures values { (lba : ℕ) (b : Block) → HasValue ((M.state media.new).contents.disk lba) b
+            → HasValue ((M.state media.old).contents.disk lba) b }
         ensures ready { OnOk result (KeepsReady (M.state media.old) (M.state media.new)) }
         ensures within { IsErrOf result VolumeError.OutOfVolume → ⊥ }
         ensures disk_reads { (M.state media.new).counts.disk_reads ≡ (M.state media.old).counts.disk_reads }
@@ -72,19 +73,24 @@ impl CachedDisk {
         requires shape { FitsOn options.now.geometry (M.state media.old).contents.shape }
         requires agrees { MayOpen (told_for mode options.now) (M.state media.old).contents }
         ensures owns { IfOk result (λ v. IsLeft v (M.state media.new).contents) }
-        ensures opened { IfOk result (λ v. (s : CacheList) → StandsFor options.now.geometry (M.state media.old).contents.flash.page s → IsFresh mode options.now s v) }
+        ensures opened { IfOk result (λ v. (s : CacheList) → FlashStandsFor options.now.geometry (M.state media.old).contents.flash.page s
+            → IsFresh mode options.now s v) }
         ensures up { IfOk result (λ v. (v.options ≡ options.now) × (v.mode ≡ mode) × (kept.is_down v ≡ false)) }
         // Whatever is answered, and wherever power went off.
-        ensures opens { Opens options.now.geometry (M.state media.old).contents (M.state media.new).contents (disk_failed result) (open_lost result) }
-        ensures stands { IfOk result (λ v. (s : CacheList) → StandsFor options.now.geometry (M.state media.old).contents.flash.page s
-            → (d : PlainDisk) → IsVolume options.now.geometry s (M.state media.old).contents d → StandFor (ImageIs (told_for mode options.now)) (M.state media.new).contents d) }
+        ensures opens { Opens options.now.geometry (M.state media.old).contents (M.state media.new).contents (disk_failed result)
+            (open_lost result) }
+        ensures stands { IfOk result (λ v. (s : CacheList) → FlashStandsFor options.now.geometry (M.state media.old).contents.flash.page s
+            → (d : PlainDisk) → IsVolume options.now.geometry s (M.state media.old).contents d
+            → StandFor (ImageIs (told_for mode options.now)) (M.state media.new).contents d) }
         // Ok comes only where the flash stands for a list.
         ensures loads { IfOk result (λ v. load options.now.geometry (M.state media.old).contents.flash.page ≡ Ok (entries_of v.cache)) }
-        ensures refused { IfErr result (λ e. IsOpenRefusal options.now.geometry e (load options.now.geometry (M.state media.old).contents.flash.page)) }
+        ensures refused { IfErr result (λ e. IsOpenRefusal options.now.geometry e
+            (load options.now.geometry (M.state media.old).contents.flash.page)) }
         ensures ready { OnOk result (KeepsReady (M.state media.old) (M.state media.new)) }
         ensures disk_reads { (M.state media.new).counts.disk_reads ≡ (M.state media.old).counts.disk_reads }
         ensures disk_writes { (M.state media.new).counts.disk_writes ≡ (M.state media.old).counts.disk_writes }
-        ensures cause { CausedBy (M.state media.old).faults (M.state media.new).faults (open_failed result) (disk_failed result) (open_lost result) }
+        ensures cause { CausedBy (M.state media.old).faults (M.state media.new).faults (open_failed result) (disk_failed result)
+            (open_lost result) }
         ensures passes { Passes (M.state media.old) (M.state media.new) (open_lost result) }
     {
         let cache = open_cache(alloc, media, &options.geometry)?;
@@ -127,7 +133,8 @@ fn open_cache<M: Media>(alloc: Global, media: &mut M, geometry: &Geometry) -> Re
     ensures disk_reads { (M.state media.new).counts.disk_reads ≡ (M.state media.old).counts.disk_reads }
     ensures disk_writes { (M.state media.new).counts.disk_writes ≡ (M.state media.old).counts.disk_writes }
     ensures ready { OnOk result (KeepsReady (M.state media.old) (M.state media.new)) }
-    ensures cause { CausedBy (M.state media.old).faults (M.state media.new).faults (open_failed result) (disk_failed result) (open_lost result) }
+    ensures cause { CausedBy (M.state media.old).faults (M.state media.new).faults (open_failed result) (disk_failed result)
+        (open_lost result) }
     ensures passes { Passes (M.state media.old) (M.state media.new) (open_lost result) }
 {
     match media.flush_disk() {

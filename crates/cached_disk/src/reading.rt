@@ -27,9 +27,12 @@ impl CachedDisk {
         requires lba { lba < self.old.options.geometry.size }
         ensures left { IsLeft self.new (M.state media.new).contents }
         ensures was { (order : List ℕ) (base : PlainDisk) → StandFor (ImageIs (told_of self.old)) (M.state media.old).contents base
-            → WasDone ImageIs (Reads lba block.new) (state_in order self.old) (state_in order self.new) (M.state media.new).contents result base }
-        ensures goes { (order : List ℕ) → Goes (state_in order self.old) (state_in order self.new) (M.state media.old) (M.state media.new) result }
-        ensures costs { (order : List ℕ) → Costs (Reads lba block.new) (state_in order self.old) (state_in order self.new) (M.state media.old) (M.state media.new) result }
+            → WasDone ImageIs (Reads lba block.new) (state_in order self.old) (state_in order self.new)
+            (M.state media.new).contents result base }
+        ensures goes { (order : List ℕ) → Goes (state_in order self.old) (state_in order self.new) (M.state media.old) (M.state media.new)
+            result }
+        ensures costs { (order : List ℕ) → Costs (Reads lba block.new) (state_in order self.old) (state_in order self.new)
+            (M.state media.old) (M.state media.new) result }
         ensures dirty { kept.is_down self.new ≡ false → dirty_of self.new ≡ dirty_of self.old }
         ensures options { (self.new.options ≡ self.old.options) × (self.new.mode ≡ self.old.mode) }
         ensures buffer { OnErr result (block.new ≡ block.old) }
@@ -56,9 +59,12 @@ impl CachedDisk {
         requires absent { get (entries_of self.old.cache) lba ≡ None }
         ensures left { IsLeft self.new (M.state media.new).contents }
         ensures was { (order : List ℕ) (base : PlainDisk) → StandFor (ImageIs (told_of self.old)) (M.state media.old).contents base
-            → WasDone ImageIs (Reads lba block.new) (state_in order self.old) (state_in order self.new) (M.state media.new).contents result base }
-        ensures goes { (order : List ℕ) → Goes (state_in order self.old) (state_in order self.new) (M.state media.old) (M.state media.new) result }
-        ensures costs { (order : List ℕ) → Costs (Reads lba block.new) (state_in order self.old) (state_in order self.new) (M.state media.old) (M.state media.new) result }
+            → WasDone ImageIs (Reads lba block.new) (state_in order self.old) (state_in order self.new)
+            (M.state media.new).contents result base }
+        ensures goes { (order : List ℕ) → Goes (state_in order self.old) (state_in order self.new) (M.state media.old) (M.state media.new)
+            result }
+        ensures costs { (order : List ℕ) → Costs (Reads lba block.new) (state_in order self.old) (state_in order self.new)
+            (M.state media.old) (M.state media.new) result }
         ensures dirty { kept.is_down self.new ≡ false → dirty_of self.new ≡ dirty_of self.old }
         ensures options { (self.new.options ≡ self.old.options) × (self.new.mode ≡ self.old.mode) }
         ensures buffer { OnErr result (block.new ≡ block.old) }

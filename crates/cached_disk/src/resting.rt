@@ -21,8 +21,10 @@ impl CachedDisk {
         ensures left { IsLeft self.new (M.state media.new).contents }
         ensures was { (order : List ℕ) (base : PlainDisk) → StandFor (ImageIs (told_of self.old)) (M.state media.old).contents base
             → WasDone ImageIs Flushes (state_in order self.old) (state_in order self.new) (M.state media.new).contents result base }
-        ensures goes { (order : List ℕ) → Goes (state_in order self.old) (state_in order self.new) (M.state media.old) (M.state media.new) result }
-        ensures costs { (order : List ℕ) → Costs Flushes (state_in order self.old) (state_in order self.new) (M.state media.old) (M.state media.new) result }
+        ensures goes { (order : List ℕ) → Goes (state_in order self.old) (state_in order self.new) (M.state media.old) (M.state media.new)
+            result }
+        ensures costs { (order : List ℕ) → Costs Flushes (state_in order self.old) (state_in order self.new) (M.state media.old)
+            (M.state media.new) result }
         ensures dirty { kept.is_down self.new ≡ false → dirty_of self.new ≡ dirty_of self.old }
         ensures options { (self.new.options ≡ self.old.options) × (self.new.mode ≡ self.old.mode) }
         ensures nothing_waits { OnOk result (pending self.new.cache ≡ []) }
@@ -44,8 +46,10 @@ impl CachedDisk {
         ensures left { IsLeft self.new (M.state media.new).contents }
         ensures was { (order : List ℕ) (base : PlainDisk) → StandFor (ImageIs (told_of self.old)) (M.state media.old).contents base
             → WasDone ImageIs Reports (state_in order self.old) (state_in order self.new) (M.state media.new).contents result base }
-        ensures goes { (order : List ℕ) → Goes (state_in order self.old) (state_in order self.new) (M.state media.old) (M.state media.new) result }
-        ensures costs { (order : List ℕ) → Costs Reports (state_in order self.old) (state_in order self.new) (M.state media.old) (M.state media.new) result }
+        ensures goes { (order : List ℕ) → Goes (state_in order self.old) (state_in order self.new) (M.state media.old) (M.state media.new)
+            result }
+        ensures costs { (order : List ℕ) → Costs Reports (state_in order self.old) (state_in order self.new) (M.state media.old)
+            (M.state media.new) result }
         ensures report { IfOk result (IsReport self.old.options.geometry (entries_of self.new.cache)) }
         // The flash has just these entries.
         ensures loads { OnOk result (Loads (told_of self.old) (M.state media.new).contents.flash.page (entries_of self.new.cache)) }
@@ -78,12 +82,15 @@ impl CachedDisk {
         ensures left { IsLeft self.new (M.state media.new).contents }
         ensures was { (order : List ℕ) (base : PlainDisk) → StandFor (ImageIs (told_of self.old)) (M.state media.old).contents base
             → WasDone ImageIs Idles (state_in order self.old) (state_in order self.new) (M.state media.new).contents result base }
-        ensures goes { (order : List ℕ) → Goes (state_in order self.old) (state_in order self.new) (M.state media.old) (M.state media.new) result }
+        ensures goes { (order : List ℕ) → Goes (state_in order self.old) (state_in order self.new) (M.state media.old) (M.state media.new)
+            result }
         ensures costs { (order : List ℕ) → goes_back self.old.mode self.old.options.dirty (length order) ≡ false
             → Costs Idles (state_in order self.old) (state_in order self.new) (M.state media.old) (M.state media.new) result }
-        ensures idled { IfOk result (λ idled. idled ≡ (if nat_le (2 * log_room self.old.cache) (log_pages self.old.options.geometry) then Idled.Checkpointed else Idled.Nothing)) }
+        ensures idled { IfOk result (λ idled. idled ≡ (if nat_le (2 * log_room self.old.cache)
+            (log_pages self.old.options.geometry) then Idled.Checkpointed else Idled.Nothing)) }
         // A checkpoint leaves nothing buffered, and the log empty.
-        ensures checkpoint { IfOk result (λ idled. idled ≡ Idled.Checkpointed → (pending self.new.cache ≡ []) × (self.new.cache.parts.log.next ≡ 0)) }
+        ensures checkpoint { IfOk result (λ idled. idled ≡ Idled.Checkpointed → (pending self.new.cache ≡ [])
+            × (self.new.cache.parts.log.next ≡ 0)) }
         ensures dirty { kept.is_down self.new ≡ false → dirty_of self.new ≡ dirty_of self.old }
         ensures options { (self.new.options ≡ self.old.options) × (self.new.mode ≡ self.old.mode) }
         ensures refused { OnErr result (kept.is_down self.new ≡ true) }

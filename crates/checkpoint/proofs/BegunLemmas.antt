@@ -16,7 +16,7 @@ use Rattle.cache_model.specs.Loading.{after_all, is_whole}
 use Rattle.cache_model.proofs.StepLemmas.{get-after}
 use Rattle.cache_model.proofs.FitsLemmas.{fits-from, no_entries-map, no_entries-nil}
 use Rattle.cache_model.proofs.LoadLemmas.{checkpoint_below}
-use Rattle.mapping.specs.Checkpoint.{IsCheckpoint}
+use Rattle.mapping.specs.Checkpoint.{IsCheckpointOf}
 use Rattle.op_log.specs.Log.{LogValue, pushed}
 use Rattle.checkpoint.specs.Current.{IsCurrent, AreWhole, IsOpenLog, IsCommitted, PoolStays}
 use Rattle.checkpoint.specs.Regions.{InCheckpoint, IsBare, IsPrepared, IsSealPage, IsWritten, MapsWritten, Programmed}
@@ -41,8 +41,8 @@ no_true : false ≡ true → ⊥
 no_true e = absurd (cc)
 
 -- a map of nothing has a checkpoint of no records
-pub nothing_listed : (g : Geometry) (m : Entries) → m ≡ no_entries → IsCheckpoint g m []
-nothing_listed g m none = subst (λ (n : Entries). IsCheckpoint g n []) (sym none) (record {
+pub nothing_listed : (g : Geometry) (m : Entries) → m ≡ no_entries → IsCheckpointOf g m []
+nothing_listed g m none = subst (λ (n : Entries). IsCheckpointOf g n []) (sym none) (record {
   groups = [];
   pages = [];
   are = refl;

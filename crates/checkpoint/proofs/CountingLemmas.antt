@@ -18,7 +18,7 @@ use Rattle.cache_model.proofs.CountLemmas.{member, numbers, each_once-le, member
 use Rattle.cache_model.proofs.MapLemmas.{all_entries}
 use Rattle.cache_model.proofs.LayoutLemmas.{checkpoint_fits}
 use Rattle.ft_base.specs.declared.record.Record.{Record}
-use Rattle.mapping.specs.Checkpoint.{IsCheckpoint, set_group_of, set_page_of}
+use Rattle.mapping.specs.Checkpoint.{IsCheckpointOf, set_group_of, set_page_of}
 use Rattle.mapping.proofs.AscendingLemmas.{Items}
 use Rattle.mapping.proofs.MarksLemmas.{member_from}
 use Rattle.checkpoint.specs.Regions.{map_pages}
@@ -112,7 +112,7 @@ all_both P Q [] all all' = tt
 all_both P Q (x ∷ xs) all all' = ((all.0, all'.0), all_both P Q xs all.1 all'.1)
 
 -- one record for each group with a data block, and one for each page-mapped entry
-pub records_counted : (g : Geometry) (m : Entries) (records : List Record) → IsCheckpoint g m records → length records ≡ length (groups_with g (λ e. e.block_mapped) m) + length (filter (λ x. page_mapped x.1) (entries m))
+pub records_counted : (g : Geometry) (m : Entries) (records : List Record) → IsCheckpointOf g m records → length records ≡ length (groups_with g (λ e. e.block_mapped) m) + length (filter (λ x. page_mapped x.1) (entries m))
 records_counted g m records listed =
     let same = ap length listed.are in
     let both = length-append (map (set_group_of g m) listed.groups) (map set_page_of listed.pages) in
@@ -145,7 +145,8 @@ module _ (g : Geometry) (m : Entries) (is_map : IsMap g m) where
           let low = y.1.1 in
           omega arith
 
-      first : below_all nat_cmp x.0 es ≡ true → length (numbers (place_number g.p) page_mapped es) ≤ length (each_once (numbers (place_number g.p) page_mapped es)) → suc (length (numbers (place_number g.p) page_mapped es)) ≤ length (each_once (place_number g.p x ∷ numbers (place_number g.p) page_mapped es))
+      first : below_all nat_cmp x.0 es ≡ true → length (numbers (place_number g.p) page_mapped es) ≤ length (each_once (numbers (place_number g.p) page_mapped es))
+          → suc (length (numbers (place_number g.p) page_mapped es)) ≤ length (each_once (place_number g.p x ∷ numbers (place_number g.p) page_mapped es))
       first below rest = elim (cases_Bool (member (place_number g.p x) (numbers (place_number g.p) page_mapped es))) [
         | inl t ↦ absurd (absent below t)
         | inr f ↦ subst (λ b. suc (length (numbers (place_number g.p) page_mapped es)) ≤ length (cond b (each_once (numbers (place_number g.p) page_mapped es)) (place_number g.p x ∷ each_once (numbers (place_number g.p) page_mapped es)))) (sym f) (omega (arith, rest))
@@ -175,30 +176,30 @@ module _ (g : Geometry) (m : Entries) (is_map : IsMap g m) where
       holds true h = refl
       holds false h = absurd h
 
-  pub records_few : (records : List Record) → IsCheckpoint g m records → length records ≤ most_records g
+  pub records_few : (records : List Record) → IsCheckpointOf g m records → length records ≤ most_records g
   records_few records listed =
       let count = records_counted g m records listed in
       let few = pages_few in
       let few' = is_map.data_blocks in
       omega arith
 
-  pub records_bounded : (records : List Record) → IsCheckpoint g m records → length records ≤ 4608
+  pub records_bounded : (records : List Record) → IsCheckpointOf g m records → length records ≤ 4608
   records_bounded records listed =
       let few = records_few records listed in
       let pages = product g.l 64 g.p g.in_range.l_high in
       omega (arith, g.in_range.c_high, g.in_range.p_high)
 
   -- the map pages and the seal fit the region
-  pub maps_fit : (records : List Record) → IsCheckpoint g m records → map_pages records < checkpoint_pages g
+  pub maps_fit : (records : List Record) → IsCheckpointOf g m records → map_pages records < checkpoint_pages g
   maps_fit records listed = by_number (length records) (most_records g) (records_few records listed) (checkpoint_fits g)
     where
       by_number : (a b : ℕ) → a ≤ b → pages_for b ≤ checkpoint_pages g → up a 127 < checkpoint_pages g
       by_number a b le fits = omega arith
 
 -- a listing of a map of this geometry
-pub listing_here : (g' g : Geometry) (m : Entries) (records : List Record) → g' ≡ g → IsCheckpoint g' m records → IsCheckpoint g m records
-listing_here g' g m records same listed = subst (λ (x : Geometry). IsCheckpoint x m records) same listed
+pub listing_here : (g' g : Geometry) (m : Entries) (records : List Record) → g' ≡ g → IsCheckpointOf g' m records → IsCheckpointOf g m records
+listing_here g' g m records same listed = subst (λ (x : Geometry). IsCheckpointOf x m records) same listed
 
 -- the map pages of so many records, and the seal, fit the region
-pub pages_fit : (g' g : Geometry) (m : Entries) (records : List Record) (n : ℕ) → g' ≡ g → IsMap g m → IsCheckpoint g' m records → n ≡ length records → (n + 127 - 1) / 127 < checkpoint_pages g
+pub pages_fit : (g' g : Geometry) (m : Entries) (records : List Record) (n : ℕ) → g' ≡ g → IsMap g m → IsCheckpointOf g' m records → n ≡ length records → (n + 127 - 1) / 127 < checkpoint_pages g
 pages_fit g' g m records n same is_map listed is = subst (λ k. (k + 127 - 1) / 127 < checkpoint_pages g) (sym is) (maps_fit g m is_map records (listing_here g' g m records same listed))

@@ -7,11 +7,11 @@ use Rattle.ft_base.specs.declared.block.Page.TheVariants.{Blank}
 use Rattle.ft_base.specs.Contents.{Flash}
 use Rattle.ft_base.specs.Layout.{k, first_log, checkpoint_at}
 use Rattle.cache_model.specs.Laws.{IsMapOrLost}
-use Rattle.checkpoint.specs.Regions.{IsWithin, AreLost, AreBlank, StaysBeside, IsBare}
+use Rattle.checkpoint.specs.Regions.{IsBlockWithin, AreLost, AreBlank, StaysBeside, IsBare}
 use Rattle.checkpoint.proofs.PlacesLemmas.{checkpoint_within, checkpoint_no_log}
 
 -- elsewhere nothing is lost
-pub lost_elsewhere : (first count : ℕ) (old new : Place → Page) → AreLost first count old new → (at : Place) → (IsWithin first count at.block → ⊥) → new at ≡ old at
+pub lost_elsewhere : (first count : ℕ) (old new : Place → Page) → AreLost first count old new → (at : Place) → (IsBlockWithin first count at.block → ⊥) → new at ≡ old at
 lost_elsewhere first count old new lost at out = elim (lost at) [
   | inl same ↦ same
   | inr gone ↦ absurd (out gone.0)

@@ -50,7 +50,8 @@ first_of p i some =
     let whole = div-add-mod' (i / p * p) p in
     (row, omega arith)
 
-log_ahead : (log : LogValue) (flash : Flash) → IsOpenLog flash log → ((at : Place) (next : ℕ) → flash.next at.block ≡ Some next → next ≤ at.page → flash.page at ≡ Blank) → log.next < log_pages log.geometry → (i : ℕ) → log.next ≤ i → i < log_pages log.geometry → flash.page (log_at log.geometry log.region i) ≡ Blank
+log_ahead : (log : LogValue) (flash : Flash) → IsOpenLog flash log → ((at : Place) (next : ℕ) → flash.next at.block ≡ Some next → next ≤ at.page → flash.page at ≡ Blank)
+    → log.next < log_pages log.geometry → (i : ℕ) → log.next ≤ i → i < log_pages log.geometry → flash.page (log_at log.geometry log.region i) ≡ Blank
 log_ahead log flash opened ahead room i low high = elim (cases_eq (log.next / log.geometry.p) (i / log.geometry.p)) [
   | inl row ↦ ahead (log_at log.geometry log.region i) (log.next % log.geometry.p)
       (ap (λ n. flash.next (first_log log.geometry + log.region * log.geometry.j + n)) (sym row) ∙ opened.ready log.next (omega arith) room (inl refl))
@@ -114,11 +115,15 @@ module _ (log : LogValue) (m : Entries) (old new : Flash) (current : IsCurrent o
     other_page at other = ap (λ (f : Place → Page). f at) pages ∙ set_page-other old.page (next_place log) at v other
 
     pool_page : (at : Place) → first_pool log.geometry ≤ at.block → new.page at ≡ old.page at
-    pool_page at pool = other_page at (λ e. pool_no_log log.geometry log.region at.block low pool (subst (λ (q : Place). first_log log.geometry + log.region * log.geometry.j ≤ q.block × (q.block < first_log log.geometry + log.region * log.geometry.j + log.geometry.j)) (sym e) (log_within log.geometry log.region log.next room)))
+    pool_page at pool = other_page at (λ e. pool_no_log log.geometry log.region at.block low pool
+        (subst (λ (q : Place). first_log log.geometry + log.region * log.geometry.j ≤ q.block × (q.block < first_log log.geometry + log.region * log.geometry.j + log.geometry.j)) (sym e)
+        (log_within log.geometry log.region log.next room)))
 
     checkpoint_page : (r : ℕ) → r < 2 → checkpoint_region log.geometry new.page r ≡ checkpoint_region log.geometry old.page r
     checkpoint_page r low' = pages_from-same new.page old.page (checkpoint_at log.geometry r) 0 (checkpoint_pages log.geometry) (λ i within.
-        other_page (checkpoint_at log.geometry r i) (λ e. checkpoint_no_log log.geometry r log.region _ low' low (checkpoint_within log.geometry r i (omega arith)) (subst (λ (q : Place). first_log log.geometry + log.region * log.geometry.j ≤ q.block × (q.block < first_log log.geometry + log.region * log.geometry.j + log.geometry.j)) (sym e) (log_within log.geometry log.region log.next room))))
+        other_page (checkpoint_at log.geometry r i) (λ e. checkpoint_no_log log.geometry r log.region _ low' low (checkpoint_within log.geometry r i (omega arith))
+        (subst (λ (q : Place). first_log log.geometry + log.region * log.geometry.j ≤ q.block × (q.block < first_log log.geometry + log.region * log.geometry.j + log.geometry.j)) (sym e)
+        (log_within log.geometry log.region log.next room))))
 
     same_checkpoint : checkpoint_of log.geometry new.page ≡ Ok checkpoint_now
     same_checkpoint =
@@ -139,7 +144,9 @@ module _ (log : LogValue) (m : Entries) (old new : Flash) (current : IsCurrent o
       let is = appended.is_page in
       let map = current_map log old.page m current in
       load_from log.geometry new.page m
-      (ap (entries_of log.geometry) appended.pages ∙ log_appended log.geometry old.page checkpoint_now log.next ends room appended.page is.header log.buffered current.durable m (subst (λ e. header_at Log e log.next appended.page ≡ Some is.header) (sym current.era) is.head) is.records (loaded_is log.geometry old.page current.durable current.loads).0 current.buffered)
+      (ap (entries_of log.geometry) appended.pages ∙ log_appended log.geometry old.page checkpoint_now log.next ends room appended.page is.header log.buffered current.durable m
+      (subst (λ e. header_at Log e log.next appended.page ≡ Some is.header) (sym current.era) is.head) is.records
+      (loaded_is log.geometry old.page current.durable current.loads).0 current.buffered)
       (λ a e at. ap is_whole (pool_page appended.page appended.pages e.place (map.in_pool a e at).above) ∙ whole.whole a e at)
 
   pub flush_loads : AreWhole old.page m → LeavesLog log old new → LoadsOneOf log.geometry old.page new.page m
@@ -153,7 +160,9 @@ module _ (log : LogValue) (m : Entries) (old new : Flash) (current : IsCurrent o
   flush_pool (inr (inr appended)) at pool = pool_page appended.page appended.pages at pool
 
   pub flush_ready : AppendedReady log old new → (b : ℕ) → first_pool log.geometry ≤ b → new.next b ≡ old.next b
-  flush_ready done b pool = ap (λ (f : ℕ → Option ℕ). f b) done.next ∙ set-other old.next (next_place log).block b _ (λ e. pool_no_log log.geometry log.region b low pool (subst (λ n. first_log log.geometry + log.region * log.geometry.j ≤ n × (n < first_log log.geometry + log.region * log.geometry.j + log.geometry.j)) e (log_within log.geometry log.region log.next room)))
+  flush_ready done b pool = ap (λ (f : ℕ → Option ℕ). f b) done.next ∙ set-other old.next (next_place log).block b _
+      (λ e. pool_no_log log.geometry log.region b low pool (subst (λ n. first_log log.geometry + log.region * log.geometry.j ≤ n
+      × (n < first_log log.geometry + log.region * log.geometry.j + log.geometry.j)) e (log_within log.geometry log.region log.next room)))
 
   -- ---- and after Ok
 

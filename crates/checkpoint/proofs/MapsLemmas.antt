@@ -51,7 +51,9 @@ other_row p i j some lt which row = elim which [
 ]
 
 -- what is ready after a program of page i of a region
-pub ready_after : (g : Geometry) (base i j : ℕ) (next : ℕ → Option ℕ) → i < j → (j ≡ i + 1) ⊎ ((page_from g base j).page ≡ 0) → ((page_from g base j).page ≡ 0 → next (page_from g base j).block ≡ Some (page_from g base j).page) → set next (page_from g base i).block (Some ((page_from g base i).page + 1)) (page_from g base j).block ≡ Some (page_from g base j).page
+pub ready_after : (g : Geometry) (base i j : ℕ) (next : ℕ → Option ℕ) → i < j → (j ≡ i + 1) ⊎ ((page_from g base j).page ≡ 0)
+    → ((page_from g base j).page ≡ 0 → next (page_from g base j).block ≡ Some (page_from g base j).page)
+    → set next (page_from g base i).block (Some ((page_from g base i).page + 1)) (page_from g base j).block ≡ Some (page_from g base j).page
 ready_after g base i j next lt which was = elim (cases_eq (i / g.p) (j / g.p)) [
   | inl row ↦ set-here next _ _ _ (ap (λ n. base + n) row) ∙ ap Some (same_row g.p i j lt which row)
   | inr apart ↦ set-other next _ _ _ (λ e. apart (by_number base e)) ∙ was (other_row g.p i j (omega (arith, g.in_range.p_low)) lt which apart)
@@ -115,7 +117,9 @@ module _ (g : Geometry) (region era : ℕ) (rs : List Record) where
     pub maps_more : (next : Flash) → n < checkpoint_pages g → Programmed (IsMapPage era n (part rs n)) (checkpoint_at g region n) now next → MapsWritten g region era rs (n + 1) old next
     maps_more next within done = record {
       maps = λ i low. elim (cases_eq i n) [
-        | inl same ↦ subst (λ j. IsMapPage era j (part rs j) (next.page (checkpoint_at g region j))) (sym same) (subst (λ (q : Page). IsMapPage era n (part rs n) q) (sym (ap (λ (f : Place → Page). f (checkpoint_at g region n)) done.pages ∙ set_page-here now.page (checkpoint_at g region n) done.page)) done.is_kind)
+        | inl same ↦ subst (λ j. IsMapPage era j (part rs j) (next.page (checkpoint_at g region j))) (sym same)
+            (subst (λ (q : Page). IsMapPage era n (part rs n) q) (sym (ap (λ (f : Place → Page). f (checkpoint_at g region n)) done.pages
+            ∙ set_page-here now.page (checkpoint_at g region n) done.page)) done.is_kind)
         | inr other ↦ subst (λ (q : Page). IsMapPage era i (part rs i) q) (sym (else_where i other)) (so_far.maps i (omega arith))
       ];
       blank = λ i low within'. else_where i (λ e. absurd (omega arith)) ∙ so_far.blank i (omega arith) within';

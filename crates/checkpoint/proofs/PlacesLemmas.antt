@@ -4,27 +4,27 @@ use Rattle.std.proofs.lemmas.Nat.{div-add-mod', div_below}
 use Rattle.ft_base.specs.declared.geometry.Geometry.{Geometry}
 use Rattle.ft_base.specs.declared.block.Place.{Place}
 use Rattle.ft_base.specs.Layout.{k, first_log, first_pool, checkpoint_at, log_at, checkpoint_pages, log_pages}
-use Rattle.checkpoint.specs.Regions.{IsWithin, InCheckpoint, InLog}
+use Rattle.checkpoint.specs.Regions.{IsBlockWithin, InCheckpoint, InLog}
 
 pub product : (a b p : ℕ) → a ≤ b → a * p ≤ b * p
 product a b p le = grind arith
 
-within_from : (first count q : ℕ) → q < count → IsWithin first count (first + q)
+within_from : (first count q : ℕ) → q < count → IsBlockWithin first count (first + q)
 within_from first count q low = (omega arith, omega arith)
 
 -- the blocks of one of two regions that lie behind each other
-two_below : (base region n b : ℕ) → region < 2 → IsWithin (base + region * n) n b → (base ≤ b) × (b < base + 2 * n)
+two_below : (base region n b : ℕ) → region < 2 → IsBlockWithin (base + region * n) n b → (base ≤ b) × (b < base + 2 * n)
 two_below base zero n b low within = (omega (arith, within.0), omega (arith, within.1))
 two_below base (suc zero) n b low within = (omega (arith, within.0), omega (arith, within.1))
 two_below base (suc (suc region)) n b low within = absurd (omega arith)
 
-two_apart : (base region n b : ℕ) → region < 2 → IsWithin (base + region * n) n b → IsWithin (base + (1 - region) * n) n b → ⊥
+two_apart : (base region n b : ℕ) → region < 2 → IsBlockWithin (base + region * n) n b → IsBlockWithin (base + (1 - region) * n) n b → ⊥
 two_apart base zero n b low within other = omega (arith, within.1, other.0)
 two_apart base (suc zero) n b low within other = omega (arith, within.0, other.1)
 two_apart base (suc (suc region)) n b low within other = omega arith
 
 -- a checkpoint region has no base
-with_base : (region n b : ℕ) → IsWithin (region * n) n b → IsWithin (0 + region * n) n b
+with_base : (region n b : ℕ) → IsBlockWithin (region * n) n b → IsBlockWithin (0 + region * n) n b
 with_base region n b within = (omega (arith, within.0), omega (arith, within.1))
 
 pub checkpoint_within : (g : Geometry) (region i : ℕ) → i < checkpoint_pages g → InCheckpoint g region (checkpoint_at g region i).block
@@ -36,7 +36,7 @@ log_within g region i within = within_from (first_log g + region * g.j) g.j (i /
 pub checkpoint_low : (g : Geometry) (region b : ℕ) → region < 2 → InCheckpoint g region b → b < 2 * k g
 checkpoint_low g region b low within = by_number (k g) within
   where
-    by_number : (n : ℕ) → IsWithin (region * n) n b → b < 2 * n
+    by_number : (n : ℕ) → IsBlockWithin (region * n) n b → b < 2 * n
     by_number n within = let w = two_below 0 region n b low (with_base region n b within) in omega (arith, w.1)
 
 pub log_between : (g : Geometry) (region b : ℕ) → region < 2 → InLog g region b → (2 * k g ≤ b) × (b < 2 * k g + 2 * g.j)

@@ -24,7 +24,7 @@ use Rattle.cache_model.proofs.LogLemmas.{after_pages-one}
 use Rattle.cache_model.proofs.LoadLemmas.{newest_is, newest_below}
 use Rattle.cache_model.proofs.FitsLemmas.{load-map, after_all-map}
 use Rattle.cache_model.proofs.CheckpointLemmas.{checkpoint_from, sealed_chosen, sealed_entries}
-use Rattle.mapping.specs.Checkpoint.{IsCheckpoint as IsListing}
+use Rattle.mapping.specs.Checkpoint.{IsCheckpointOf as IsListing}
 use Rattle.mapping.proofs.RebuildLemmas.{rebuilt}
 use Rattle.op_log.specs.Log.{LogValue, restarted}
 use Rattle.op_log.specs.Refusals.{seal_of}
@@ -156,7 +156,9 @@ module _ (g : Geometry) (region era : ℕ) (m : Entries) (records : List Record)
     sealed_loads whole = load_from g new m sealed_found (λ a e at. ap is_whole (pool_stays g region old new low sealed.beside e.place (is_map.in_pool a e at).above) ∙ whole.whole a e at)
 
 -- and its log is empty
-pub written_stands : (g : Geometry) (region era : ℕ) (m : Entries) (records : List Record) (old new : Flash) → region < 2 → IsMap g m → IsListing g m records → IsWritten g region era records old new → newest g new.page ≡ Some (region, complete era (map_pages records) (seal_of g)) → AreWhole old.page m → IsCommitted new (record { geometry = g; region = region; era = era; next = 0; buffered = [] }) m
+pub written_stands : (g : Geometry) (region era : ℕ) (m : Entries) (records : List Record) (old new : Flash) → region < 2 → IsMap g m → IsListing g m records → IsWritten g region era records old new
+    → newest g new.page ≡ Some (region, complete era (map_pages records) (seal_of g)) → AreWhole old.page m
+    → IsCommitted new (record { geometry = g; region = region; era = era; next = 0; buffered = [] }) m
 written_stands g region era m records old new low is_map listed written counts whole = record {
   loads = sealed_loads g region era m records old.page new.page low is_map listed written.sealed counts whole;
   nothing = refl;
@@ -180,7 +182,9 @@ written_stands g region era m records old new low is_map listed written counts w
 
 -- ---- the other region, with the era after the log's
 
-pub sealed_newest : (log : LogValue) (m : Entries) (records : List Record) (old new : Place → Page) → IsCurrent old log m → IsListing log.geometry m records → IsSealed log.geometry (1 - log.region) ((log.era + 1) % 3) records old new → newest log.geometry new ≡ Some (1 - log.region, complete ((log.era + 1) % 3) (map_pages records) (seal_of log.geometry))
+pub sealed_newest : (log : LogValue) (m : Entries) (records : List Record) (old new : Place → Page) → IsCurrent old log m → IsListing log.geometry m records
+    → IsSealed log.geometry (1 - log.region) ((log.era + 1) % 3) records old new
+    → newest log.geometry new ≡ Some (1 - log.region, complete ((log.era + 1) % 3) (map_pages records) (seal_of log.geometry))
 sealed_newest log m records old new current listed sealed =
     let low = current_low log old m current in
     let was = newest_was log.geometry old (log.region, current.newest) (newest_is log.geometry old (log.region, current.newest) current.chosen) in
@@ -191,7 +195,8 @@ sealed_newest log m records old new current listed sealed =
 
 -- ---- the first region, where the other one isn't complete
 
-pub formatted : (g : Geometry) (era : ℕ) (m : Entries) (records : List Record) (old new : Flash) → IsMap g m → IsListing g m records → IsWritten g 0 era records old new → IsBare g 1 old.page → AreWhole old.page m → IsCommitted new (record { geometry = g; region = 0; era = era; next = 0; buffered = [] }) m
+pub formatted : (g : Geometry) (era : ℕ) (m : Entries) (records : List Record) (old new : Flash) → IsMap g m → IsListing g m records → IsWritten g 0 era records old new → IsBare g 1 old.page
+    → AreWhole old.page m → IsCommitted new (record { geometry = g; region = 0; era = era; next = 0; buffered = [] }) m
 formatted g era m records old new is_map listed written bare whole = written_stands g 0 era m records old new (omega arith) is_map listed written (ap₂ chosen (sealed_complete g 0 era m records old.page new.page (omega arith) is_map listed written.sealed) none) whole
   where
     none : checkpoint_in (checkpoint_region g new.page 1) ≡ None
@@ -203,11 +208,13 @@ formatted g era m records old new is_map listed written bare whole = written_sta
 
 -- ---- what a checkpoint leaves, whatever it answers
 
-pub loads_one_of : (log : LogValue) (m : Entries) (records : List Record) (old new : Place → Page) → IsCurrent old log m → AreWhole old m → IsListing log.geometry m records → IsUnsealed log.geometry (1 - log.region) old new ⊎ IsSealed log.geometry (1 - log.region) ((log.era + 1) % 3) records old new → LoadsOneOf log.geometry old new m
+pub loads_one_of : (log : LogValue) (m : Entries) (records : List Record) (old new : Place → Page) → IsCurrent old log m → AreWhole old m → IsListing log.geometry m records
+    → IsUnsealed log.geometry (1 - log.region) old new ⊎ IsSealed log.geometry (1 - log.region) ((log.era + 1) % 3) records old new → LoadsOneOf log.geometry old new m
 loads_one_of log m records old new current whole listed (inl unsealed) = inr (unsealed_loads log.geometry old new (log.region, current.newest) current.chosen unsealed)
 loads_one_of log m records old new current whole listed (inr sealed) = inl (sealed_loads log.geometry (1 - log.region) ((log.era + 1) % 3) m records old new (other_low log.region) (current_map log old m current) listed sealed (sealed_newest log m records old new current listed sealed) whole)
 
-pub log_goes_last : (log : LogValue) (m : Entries) (records : List Record) (old new : Place → Page) → IsCurrent old log m → IsListing log.geometry m records → IsUnsealed log.geometry (1 - log.region) old new ⊎ IsSealed log.geometry (1 - log.region) ((log.era + 1) % 3) records old new → LogGoesLast log old new
+pub log_goes_last : (log : LogValue) (m : Entries) (records : List Record) (old new : Place → Page) → IsCurrent old log m → IsListing log.geometry m records
+    → IsUnsealed log.geometry (1 - log.region) old new ⊎ IsSealed log.geometry (1 - log.region) ((log.era + 1) % 3) records old new → LogGoesLast log old new
 log_goes_last log m records old new current listed (inl unsealed) = inr (unsealed_log log.geometry (1 - log.region) old new (other_low log.region) unsealed)
 log_goes_last log m records old new current listed (inr sealed) = inl (complete ((log.era + 1) % 3) (map_pages records) (seal_of log.geometry), sealed_newest log m records old new current listed sealed)
 
@@ -217,8 +224,10 @@ pool_left log records old new (inr sealed) = pool_stays log.geometry (1 - log.re
 
 -- ---- and after Ok
 
-pub written_committed : (log : LogValue) (m : Entries) (records : List Record) (old new : Flash) → IsCurrent old.page log m → AreWhole old.page m → IsListing log.geometry m records → IsWritten log.geometry (1 - log.region) ((log.era + 1) % 3) records old new → IsCommitted new (log_checkpointed log) m
-written_committed log m records old new current whole listed written = written_stands log.geometry (1 - log.region) ((log.era + 1) % 3) m records old new (other_low log.region) (current_map log old.page m current) listed written (sealed_newest log m records old.page new.page current listed written.sealed) whole
+pub written_committed : (log : LogValue) (m : Entries) (records : List Record) (old new : Flash) → IsCurrent old.page log m → AreWhole old.page m → IsListing log.geometry m records
+    → IsWritten log.geometry (1 - log.region) ((log.era + 1) % 3) records old new → IsCommitted new (log_checkpointed log) m
+written_committed log m records old new current whole listed written = written_stands log.geometry (1 - log.region) ((log.era + 1) % 3) m records old new (other_low log.region)
+    (current_map log old.page m current) listed written (sealed_newest log m records old.page new.page current listed written.sealed) whole
 
 -- ---- as the code names it
 

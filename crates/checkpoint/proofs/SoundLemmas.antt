@@ -16,7 +16,7 @@ use Rattle.cache_model.specs.Spelling.{may_stand_in}
 use Rattle.cache_model.proofs.CountLemmas.{same_number}
 use Rattle.mapping.specs.declared.bits.Choice.TheVariants.{Mapped, MappedDirty}
 use Rattle.mapping.specs.Bits.{is_chosen, chosen_of}
-use Rattle.mapping.specs.Checkpoint.{IsCheckpoint, set_group_of, set_page_of}
+use Rattle.mapping.specs.Checkpoint.{IsCheckpointOf, set_group_of, set_page_of}
 use Rattle.mapping.proofs.AscendingLemmas.{Items}
 use Rattle.mapping.proofs.BitsLemmas.{bit_of_set, dirty_within}
 use Rattle.checkpoint.specs.Regions.{part}
@@ -63,10 +63,10 @@ module _ (g : Geometry) (m : Entries) (is_map : IsMap g m) where
   pages_sound [] each = refl
   pages_sound (x ∷ pages) each = and_from _ _ (sound_page x.0 x.1 each.0.0) (pages_sound pages each.1)
 
-  pub records_sound : (records : List Record) → IsCheckpoint g m records → list_all (may_stand_in Map) records ≡ true
+  pub records_sound : (records : List Record) → IsCheckpointOf g m records → list_all (may_stand_in Map) records ≡ true
   records_sound records listed =
       ap (list_all (may_stand_in Map)) listed.are
       ∙ all-append (may_stand_in Map) (map (set_group_of g m) listed.groups) (map set_page_of listed.pages) (groups_sound listed.groups listed.of_groups.each) (pages_sound listed.pages listed.of_pages.each)
 
-  pub part_sound : (records : List Record) → IsCheckpoint g m records → (i : ℕ) → list_all (may_stand_in Map) (part records i) ≡ true
+  pub part_sound : (records : List Record) → IsCheckpointOf g m records → (i : ℕ) → list_all (may_stand_in Map) (part records i) ≡ true
   part_sound records listed i = all-part (may_stand_in Map) records i (records_sound records listed)

@@ -14,7 +14,7 @@ use Rattle.cache_model.proofs.RegionLemmas.{lost_checkpoint, maps_alone}
 use Rattle.cache_model.proofs.LoadLemmas.{pages_from-same, bind_ok, newest_is, newest_below, load_same}
 use Rattle.cache_model.proofs.FitsLemmas.{replayed-map}
 use Rattle.cache_model.proofs.CheckpointLemmas.{beside}
-use Rattle.checkpoint.specs.Regions.{IsWithin, AreLost, StaysBeside, IsBare, IsUnsealed}
+use Rattle.checkpoint.specs.Regions.{IsBlockWithin, AreLost, StaysBeside, IsBare, IsUnsealed}
 use Rattle.checkpoint.proofs.PlacesLemmas.{checkpoint_within, log_within, checkpoint_alone, log_alone, checkpoint_no_log, pool_no_checkpoint, pool_no_log, other_low}
 use Rattle.checkpoint.proofs.ErasingLemmas.{lost_elsewhere}
 
@@ -43,7 +43,7 @@ all_lost : (first count : ℕ) (old new : Place → Page) (at : ℕ → Place) (
 all_lost first count old new at i zero lost = tt
 all_lost first count old new at i (suc n) lost = (by_page (lost (at i)), all_lost first count old new at (i + 1) n lost)
   where
-    by_page : (new (at i) ≡ old (at i)) ⊎ (IsWithin first count (at i).block × ((new (at i) ≡ Blank) ⊎ (new (at i) ≡ Torn))) → IsLost (old (at i)) (new (at i))
+    by_page : (new (at i) ≡ old (at i)) ⊎ (IsBlockWithin first count (at i).block × ((new (at i) ≡ Blank) ⊎ (new (at i) ≡ Torn))) → IsLost (old (at i)) (new (at i))
     by_page (inl same) = inl same
     by_page (inr gone) = inr gone.1
 

@@ -18,7 +18,7 @@ use Rattle.ft_base.specs.declared.block.Spare.{Spare}
 use Rattle.ft_media.specs.declared.media.PageRead.TheVariants as read
 use Rattle.ft_media.specs.Media.{Found as ReadFound}
 use Rattle.checkpoint.specs.declared.reading.Found.{Found}
-use Rattle.checkpoint.specs.Walk.{sealed_by, Finds}
+use Rattle.checkpoint.specs.Walk.{sealed_by, IsFoundAs}
 use Rattle.checkpoint.specs.Found.{in_region}
 use Rattle.ft_base.specs.Contents.{Contents}
 use Rattle.cache_model.proofs.LayoutLemmas.{checkpoint_least}
@@ -102,10 +102,10 @@ module _ (i count : ℕ) (rest : List Page) where
     walk_no_seal seal head is f = seal_step seal head is ∙ ap (λ b. option_or (option_map (complete (unwrap_or o h.era) i) (option_map numbers_of (cond b (Some (h, seal)) None))) None) f
 
 -- a page that was read, and what its bytes are
-pub whole_found : (page : Page) (block : Block) (spare : Spare) (f : Found) → ReadFound page read.Whole block spare → ((s : Spare) → Finds (Whole block s) f) → Finds page f
+pub whole_found : (page : Page) (block : Block) (spare : Spare) (f : Found) → ReadFound page read.Whole block spare → ((s : Spare) → IsFoundAs (Whole block s) f) → IsFoundAs page f
 whole_found Blank block spare f is finds = absurd (cc)
 whole_found Torn block spare f is finds = absurd (cc)
-whole_found (Whole b s) block spare f is finds = subst (λ (x : Block). Finds (Whole x s) f) is.1 (finds s)
+whole_found (Whole b s) block spare f is finds = subst (λ (x : Block). IsFoundAs (Whole x s) f) is.1 (finds s)
 
 -- ---- the whole walk
 
@@ -159,5 +159,5 @@ on_flash g region i low within = by_number (2 * k g + 2 * g.j) (checkpoint_below
     by_number n below = omega arith
 
 -- what was read of a page is what it was at first
-pub found_at : (contents now : Contents) (at here : Place) (f : Found) → now ≡ contents → at ≡ here → Finds (now.flash.page at) f → Finds (contents.flash.page here) f
-found_at contents now at here f same place finds = subst (λ (q : Page). Finds q f) (ap₂ (λ (x : Contents) (p : Place). x.flash.page p) same place) finds
+pub found_at : (contents now : Contents) (at here : Place) (f : Found) → now ≡ contents → at ≡ here → IsFoundAs (now.flash.page at) f → IsFoundAs (contents.flash.page here) f
+found_at contents now at here f same place finds = subst (λ (q : Page). IsFoundAs q f) (ap₂ (λ (x : Contents) (p : Place). x.flash.page p) same place) finds

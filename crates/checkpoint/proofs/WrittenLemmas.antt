@@ -17,7 +17,8 @@ use Rattle.checkpoint.proofs.MapsLemmas.{set_page-here, set-other, maps_bare, ba
 pub maps_unsealed : (g : Geometry) (region : ℕ) (old mid new : Flash) → IsPrepared g region old mid → LeavesMaps g region mid.page new.page → IsUnsealed g region old.page new.page
 maps_unsealed g region old mid new prepared left = inr (left.bare, λ at out out'. left.beside at out ∙ prepared.beside at out out')
 
-module _ (g : Geometry) (region era : ℕ) (records : List Record) (low : region < 2) (n count : ℕ) (all : n ≡ map_pages records) (is_count : count ≡ length records) (within : n < checkpoint_pages g) (old mid now new : Flash) (prepared : IsPrepared g region old mid) (maps : MapsWritten g region era records n mid now) where
+module _ (g : Geometry) (region era : ℕ) (records : List Record) (low : region < 2) (n count : ℕ) (all : n ≡ map_pages records) (is_count : count ≡ length records) (within : n < checkpoint_pages g)
+    (old mid now new : Flash) (prepared : IsPrepared g region old mid) (maps : MapsWritten g region era records n mid now) where
   module _ (v : Page) (pages : new.page ≡ set_page now.page (checkpoint_at g region n) v) where
     out_of : (at : Place) → (InCheckpoint g region at.block → ⊥) → new.page at ≡ now.page at
     out_of at out = ap (λ (f : Place → Page). f at) pages ∙ set_page-other now.page (checkpoint_at g region n) at v (outside g region n at within out)

@@ -29,7 +29,8 @@ pub record AreWhole (page : Place → Page) (m : Entries) : Type 0 where
 -- the pages before the log's next one are those that loading applies; and of those left the next one, and the first of each erase block, is the one to program in an erase block that is ready
 pub record IsOpenLog (flash : Flash) (log : LogValue) : Type 0 where
   pub before : ArePages Log log.era 0 (take log.next (log_region log.geometry flash.page log.region))
-  pub ready : (i : ℕ) → log.next ≤ i → i < log_pages log.geometry → (i ≡ log.next) ⊎ ((log_at log.geometry log.region i).page ≡ 0) → flash.next (log_at log.geometry log.region i).block ≡ Some (log_at log.geometry log.region i).page
+  pub ready : (i : ℕ) → log.next ≤ i → i < log_pages log.geometry → (i ≡ log.next) ⊎ ((log_at log.geometry log.region i).page ≡ 0)
+      → flash.next (log_at log.geometry log.region i).block ≡ Some (log_at log.geometry log.region i).page
 
 -- all that was buffered is on the flash, and the log can go on
 pub record IsCommitted (flash : Flash) (log : LogValue) (m : Entries) : Type 0 where
@@ -52,7 +53,9 @@ LoadsOneOf g old new m = (load g new ≡ Ok m) ⊎ (load g new ≡ load g old)
 
 -- the log of the other region is as before, for as long as a checkpoint there is complete; unless that one is the new one
 abbrev pub LogGoesLast : LogValue → (Place → Page) → (Place → Page) → Type 0
-LogGoesLast log old new = ((c : Complete) × (newest log.geometry new ≡ Some (1 - log.region, c))) ⊎ ((c : Complete) → checkpoint_in (checkpoint_region log.geometry new (1 - log.region)) ≡ Some c → log_region log.geometry new (1 - log.region) ≡ log_region log.geometry old (1 - log.region))
+LogGoesLast log old new = ((c : Complete) × (newest log.geometry new ≡ Some (1 - log.region, c)))
+    ⊎ ((c : Complete) → checkpoint_in (checkpoint_region log.geometry new (1 - log.region)) ≡ Some c
+    → log_region log.geometry new (1 - log.region) ≡ log_region log.geometry old (1 - log.region))
 
 -- the log after a checkpoint: empty, in the other region, of the next era
 abbrev pub log_checkpointed : LogValue → LogValue

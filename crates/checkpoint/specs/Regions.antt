@@ -7,7 +7,7 @@ use Rattle.ft_base.specs.declared.block.Page.{Page}
 use Rattle.ft_base.specs.declared.block.Page.TheVariants.{Blank, Torn}
 use Rattle.ft_base.specs.declared.record.Record.{Record}
 use Rattle.ft_base.specs.Contents.{Flash, set, set_page}
-use Rattle.ft_base.specs.Layout.{up, k, first_log, checkpoint_at, checkpoint_pages}
+use Rattle.ft_base.specs.Layout.{checkpoint_at, checkpoint_pages, first_log, k, most_page_records, up}
 use Rattle.cache_model.specs.declared.format.Header.{Header}
 use Rattle.cache_model.specs.declared.format.PageKind.TheVariants.{Map, Seal as SealPage}
 use Rattle.cache_model.specs.declared.format.SpareKind.TheVariants.{Map as MapSpare, Seal as SealSpare}
@@ -19,27 +19,27 @@ use Rattle.op_log.specs.Log.{HasSpare}
 use Rattle.op_log.specs.Refusals.{seal_of}
 
 -- one of so many erase blocks from the first on
-abbrev pub IsWithin : ℕ → ℕ → ℕ → Type 0
-IsWithin first count b = (first ≤ b) × (b < first + count)
+abbrev pub IsBlockWithin : ℕ → ℕ → ℕ → Type 0
+IsBlockWithin first count b = (first ≤ b) × (b < first + count)
 
 abbrev pub InCheckpoint : Geometry → ℕ → ℕ → Type 0
-InCheckpoint g region b = IsWithin (region * k g) (k g) b
+InCheckpoint g region b = IsBlockWithin (region * k g) (k g) b
 
 abbrev pub InLog : Geometry → ℕ → ℕ → Type 0
-InLog g region b = IsWithin (first_log g + region * g.j) g.j b
+InLog g region b = IsBlockWithin (first_log g + region * g.j) g.j b
 
 -- each page is as before, or is one of these erase blocks and is blank or torn
 abbrev pub AreLost : ℕ → ℕ → (Place → Page) → (Place → Page) → Type 0
-AreLost first count old new = (at : Place) → (new at ≡ old at) ⊎ (IsWithin first count at.block × ((new at ≡ Blank) ⊎ (new at ≡ Torn)))
+AreLost first count old new = (at : Place) → (new at ≡ old at) ⊎ (IsBlockWithin first count at.block × ((new at ≡ Blank) ⊎ (new at ≡ Torn)))
 
 -- each page of these erase blocks is blank, and the first is the one to program next
 pub record AreBlank (first count : ℕ) (flash : Flash) : Type 0 where
-  pub page : (at : Place) → IsWithin first count at.block → flash.page at ≡ Blank
-  pub next : (b : ℕ) → IsWithin first count b → flash.next b ≡ Some 0
+  pub page : (at : Place) → IsBlockWithin first count at.block → flash.page at ≡ Blank
+  pub next : (b : ℕ) → IsBlockWithin first count b → flash.next b ≡ Some 0
 
 -- what is ready elsewhere stays
 abbrev pub NextStays : ℕ → ℕ → Flash → Flash → Type 0
-NextStays first count old new = (b : ℕ) → ¬ IsWithin first count b → new.next b ≡ old.next b
+NextStays first count old new = (b : ℕ) → ¬ IsBlockWithin first count b → new.next b ≡ old.next b
 
 -- each page elsewhere than in the checkpoint region and its log is as before
 abbrev pub StaysBeside : Geometry → ℕ → (Place → Page) → (Place → Page) → Type 0
@@ -66,11 +66,11 @@ IsUnsealed g region old new = AreLost (region * k g) (k g) old new ⊎ (IsBare g
 
 -- the records of a map page
 unfoldable pub part : List Record → ℕ → List Record
-part records i = take 127 (drop (127 * i) records)
+part records i = take most_page_records (drop (most_page_records * i) records)
 
 -- the map pages of so many records
 abbrev pub map_pages : List Record → ℕ
-map_pages records = up (length records) 127
+map_pages records = up (length records) most_page_records
 
 -- the header of a map page with these records, and of a seal over so many pages with so many
 abbrev pub map_header : ℕ → ℕ → List Record → Header
@@ -108,7 +108,8 @@ pub record Programmed (kind : Page → Type 0) (at : Place) (old new : Flash) : 
 
 -- whatever is answered, the page is as before, torn or of this kind, and no other changed
 abbrev pub LeavesOne : (Page → Type 0) → Place → Flash → Flash → Type 0
-LeavesOne kind at old new = (new.page ≡ old.page) ⊎ (new.page ≡ set_page old.page at Torn) ⊎ ((page : Page) × kind page × (new.page ≡ set_page old.page at page))
+LeavesOne kind at old new = (new.page ≡ old.page) ⊎ (new.page ≡ set_page old.page at Torn)
+    ⊎ ((page : Page) × kind page × (new.page ≡ set_page old.page at page))
 
 -- the place is the next one of an erase block that is ready
 abbrev pub IsReadyAt : Place → Flash → Type 0
@@ -118,7 +119,8 @@ IsReadyAt at flash = flash.next at.block ≡ Some at.page
 pub record MapsWritten (g : Geometry) (region era : ℕ) (records : List Record) (n : ℕ) (old new : Flash) : Type 0 where
   pub maps : (i : ℕ) → i < n → IsMapPage era i (part records i) (new.page (checkpoint_at g region i))
   pub blank : (i : ℕ) → n ≤ i → i < checkpoint_pages g → new.page (checkpoint_at g region i) ≡ Blank
-  pub ready : (i : ℕ) → n ≤ i → i < checkpoint_pages g → (i ≡ n) ⊎ ((checkpoint_at g region i).page ≡ 0) → IsReadyAt (checkpoint_at g region i) new
+  pub ready : (i : ℕ) → n ≤ i → i < checkpoint_pages g → (i ≡ n) ⊎ ((checkpoint_at g region i).page ≡ 0)
+      → IsReadyAt (checkpoint_at g region i) new
   pub beside : (at : Place) → ¬ InCheckpoint g region at.block → new.page at ≡ old.page at
   pub next : (b : ℕ) → ¬ InCheckpoint g region b → new.next b ≡ old.next b
 

@@ -1,6 +1,7 @@
 -- The walk along a checkpoint region, page by page.
 use Rattle.std.specs.Prelude.{◌≡◌, ◌+◌, ◌≤◌, ℕ, Option, None, Some, option_and_then, List, [], ◌∷◌}
 use Rattle.ft_base.specs.declared.block.Page.{Page}
+use Rattle.ft_base.specs.Layout.{most_page_records}
 use Rattle.cache_model.specs.Reading.{read_page_header, read_seal}
 use Rattle.cache_model.specs.Loading.{Complete, complete, said, era_in, sealed_from}
 use Rattle.checkpoint.specs.declared.reading.Found.{Found}
@@ -10,14 +11,14 @@ use Rattle.checkpoint.specs.declared.walk.Step.{Step}
 use Rattle.checkpoint.specs.declared.walk.Step.TheVariants as step
 
 -- what a page of a checkpoint region was found to be
-abbrev pub Finds : Page → Found → Type 0
-Finds page (is.Records header) = said read_page_header page ≡ Some header
-Finds page (is.Sealed header seal) = (said read_page_header page ≡ None) × (said read_seal page ≡ Some (header, seal))
-Finds page is.Other = (said read_page_header page ≡ None) × (said read_seal page ≡ None)
+abbrev pub IsFoundAs : Page → Found → Type 0
+IsFoundAs page (is.Records header) = said read_page_header page ≡ Some header
+IsFoundAs page (is.Sealed header seal) = (said read_page_header page ≡ None) × (said read_seal page ≡ Some (header, seal))
+IsFoundAs page is.Other = (said read_page_header page ≡ None) × (said read_seal page ≡ None)
 
 -- a page has at most 127 records
 abbrev pub IsFew : Found → Type 0
-IsFew (is.Records header) = header.count ≤ 127
+IsFew (is.Records header) = header.count ≤ most_page_records
 IsFew (is.Sealed header seal) = Unit {0}
 IsFew is.Other = Unit {0}
 
@@ -29,6 +30,8 @@ sealed_by None i count (page ∷ pages) = option_and_then (λ era. sealed_from e
 
 -- what a page makes of a walk that stands at it
 abbrev pub Steps : Walk → ℕ → Page → Step → Type 0
-Steps walk i page (step.On next) = (next.records ≤ walk.records + 127) × ((rest : List Page) → sealed_by walk.era i walk.records (page ∷ rest) ≡ sealed_by next.era (i + 1) next.records rest)
-Steps walk i page (step.Complete era seal) = (rest : List Page) → sealed_by walk.era i walk.records (page ∷ rest) ≡ Some (complete era i seal)
+Steps walk i page (step.On next) = (next.records ≤ walk.records + most_page_records)
+    × ((rest : List Page) → sealed_by walk.era i walk.records (page ∷ rest) ≡ sealed_by next.era (i + 1) next.records rest)
+Steps walk i page (step.Complete era seal) = (rest : List Page)
+    → sealed_by walk.era i walk.records (page ∷ rest) ≡ Some (complete era i seal)
 Steps walk i page step.Ends = (rest : List Page) → sealed_by walk.era i walk.records (page ∷ rest) ≡ None

@@ -40,7 +40,8 @@ pub(crate) fn erase_regions<M: Media>(
     requires region { region < 2 }
     ensures done { OnOk result (IsPrepared geometry.now region (M.state media.old).contents.flash (M.state media.new).contents.flash) }
     ensures pages { IsUnsealed geometry.now region (M.state media.old).contents.flash.page (M.state media.new).contents.flash.page }
-    ensures counts { OnOk result ((M.state media.new).counts ≡ erases_counted (k geometry.now + geometry.now.j) (M.state media.old).counts) }
+    ensures counts { OnOk result ((M.state media.new).counts ≡ erases_counted (k geometry.now + geometry.now.j)
+        (M.state media.old).counts) }
     ensures programs { (M.state media.new).counts.programs ≡ (M.state media.old).counts.programs }
     ensures memory { IsErrOf result MediaError.OutOfMemory → ⊥ }
     ensures drives { DrivesFlash (M.state media.old) (M.state media.new) (failed result) (lost result) }

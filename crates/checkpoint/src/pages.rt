@@ -1,7 +1,8 @@
 ghost use Rattle.std.specs.Prelude.{◌<◌, ◌≤◌, ◌*◌, length};
+ghost use Rattle.ft_base.specs.Layout.{most_page_records};
 ghost use Rattle.cache_model.specs.Entries.{IsMap};
 ghost use Rattle.cache_model.specs.Spelling.{IsPage, IsSealOf};
-ghost use Rattle.mapping.specs.Checkpoint.{IsCheckpoint};
+ghost use Rattle.mapping.specs.Checkpoint.{IsCheckpointOf};
 ghost use Rattle.op_log.specs.Refusals.{seal_of};
 ghost use Rattle.checkpoint.specs.Regions.{part, map_header, seal_header};
 
@@ -16,9 +17,9 @@ pub(crate) const MOST: u32 = 127;
 /// Writes a map page: the records of the map from number 127 times its sequence on.
 pub(crate) fn write_map(out: &mut Block, map: &Map, era: u8, sequence: u32)
     requires is_map { IsMap map.now.geometry map.now.entries }
-    requires listing { IsCheckpoint map.now.geometry map.now.entries map.now.records }
+    requires listing { IsCheckpointOf map.now.geometry map.now.entries map.now.records }
     requires era { era ≤ 2 }
-    requires some { 127 * sequence < length map.now.records }
+    requires some { most_page_records * sequence < length map.now.records }
     ensures { IsPage out.new.0 (map_header era sequence (part map.now.records sequence)) (part map.now.records sequence) }
 {
     let mut records = [Record::Remove { lba: 0 }; MOST as usize];

@@ -5,7 +5,7 @@ ghost use Rattle.ft_base.specs.Layout.{blocks};
 ghost use Rattle.ft_media.specs.State.{failed, lost};
 ghost use Rattle.ft_media.specs.Reads.{ReadsFlash};
 ghost use Rattle.op_log.specs.Log.{FitsOn};
-ghost use Rattle.checkpoint.specs.Walk.{Finds, IsFew};
+ghost use Rattle.checkpoint.specs.Walk.{IsFoundAs, IsFew};
 
 use cache_model::{Header, Seal};
 use ft_base::{Block, Geometry, Place, Spare, zero_block};
@@ -25,7 +25,7 @@ pub(crate) enum Found {
 
 /// What a whole page is.
 fn kind_of(block: &Block) -> Found
-    ensures finds { (spare : SpareValue) → Finds (Whole block.now spare) result }
+    ensures finds { (spare : SpareValue) → IsFoundAs (Whole block.now spare) result }
     ensures few { IsFew result }
 {
     if let Some(header) = read_page_header(block) {
@@ -46,7 +46,7 @@ pub(crate) fn find<M: Media>(
     requires shape { FitsOn geometry.now (M.state media.old).contents.shape }
     requires block { at.block < blocks geometry.now }
     requires page { at.page < geometry.now.p }
-    ensures finds { IfOk result (λ f. Finds ((M.state media.old).contents.flash.page at) f) }
+    ensures finds { IfOk result (λ f. IsFoundAs ((M.state media.old).contents.flash.page at) f) }
     ensures few { IfOk result IsFew }
     ensures memory { IsErrOf result MediaError.OutOfMemory → ⊥ }
     ensures reads { ReadsFlash (M.state media.old) (M.state media.new) (failed result) (lost result) }

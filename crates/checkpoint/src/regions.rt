@@ -18,7 +18,8 @@ fn complete_in<M: Media>(
 ) -> Result<Option<Newest>, MediaError>
     requires shape { FitsOn geometry.now (M.state media.old).contents.shape }
     requires region { region < 2 }
-    ensures found { IfOk result (λ n. found n ≡ option_map (in_region region) (checkpoint_in (checkpoint_region geometry.now (M.state media.old).contents.flash.page region))) }
+    ensures found { IfOk result (λ n. found n ≡ option_map (in_region region)
+        (checkpoint_in (checkpoint_region geometry.now (M.state media.old).contents.flash.page region))) }
     ensures memory { IsErrOf result MediaError.OutOfMemory → ⊥ }
     ensures reads { ReadsFlash (M.state media.old) (M.state media.new) (failed result) (lost result) }
 {
@@ -46,7 +47,8 @@ fn complete_in<M: Media>(
 
 /// The later of the two regions' checkpoints.
 fn later(first: Option<Newest>, second: Option<Newest>) -> Option<Newest>
-    ensures { (x y : Option Complete) → found first ≡ option_map (in_region 0) x → found second ≡ option_map (in_region 1) y → found result ≡ chosen x y }
+    ensures { (x y : Option Complete) → found first ≡ option_map (in_region 0) x → found second ≡ option_map (in_region 1) y
+        → found result ≡ chosen x y }
 {
     match (first, second) {
         (Some(one), Some(two)) => {

@@ -36,7 +36,8 @@ struct Cache {
 /// Media of this geometry, whose first pool page is whole.
 fn fit<R: Rig>(rig: &mut R, alloc: Global, geometry: &Geometry) -> Result<(), Fail>
     ensures shape { OnOk result (FitsOn geometry.now (R.state rig.new).contents.shape) }
-    ensures blank { OnOk result ((at : PlaceValue) → at.block < first_pool geometry.now → (R.state rig.new).contents.flash.page at ≡ Blank) }
+    ensures blank { OnOk result ((at : PlaceValue) → at.block < first_pool geometry.now
+        → (R.state rig.new).contents.flash.page at ≡ Blank) }
     ensures ready { OnOk result ((block : ℕ) → block < first_pool geometry.now → (R.state rig.new).contents.flash.next block ≡ Some 0) }
 {
     rig.fit(alloc, geometry.blocks(), geometry.p, geometry.size)?;
@@ -74,7 +75,8 @@ fn program_first_seal<M: Media>(media: &mut M, geometry: &Geometry) -> Result<()
     requires shape { FitsOn geometry.now (M.state media.old).contents.shape }
     requires ready { (M.state media.old).contents.flash.next 0 ≡ Some 0 }
     ensures shape { FitsOn geometry.now (M.state media.new).contents.shape }
-    ensures done { OnOk result (Programmed (IsSealPage geometry.now 0 0 0) (checkpoint_at geometry.now 0 0) (M.state media.old).contents.flash (M.state media.new).contents.flash) }
+    ensures done { OnOk result (Programmed (IsSealPage geometry.now 0 0 0) (checkpoint_at geometry.now 0 0)
+        (M.state media.old).contents.flash (M.state media.new).contents.flash) }
 {
     let mut page = zero_block();
     write_seal_of(&mut page, geometry, 0, 0);

@@ -1,10 +1,11 @@
 ghost use Rattle.std.specs.Prelude.{◌≡◌, ◌≤◌, ◌*◌, ◌^◌, Some, None};
 ghost use Rattle.ft_base.specs.declared.block.Page.{Page};
+ghost use Rattle.ft_base.specs.Layout.{most_page_records};
 ghost use Rattle.cache_model.specs.declared.format.Seal.{Seal as SealValue};
 ghost use Rattle.cache_model.specs.Reading.{read_page_header, read_seal};
 ghost use Rattle.cache_model.specs.Loading.{said, is_page, is_seal_of};
 ghost use Rattle.cache_model.specs.declared.format.PageKind.TheVariants.{Map as map_page};
-ghost use Rattle.checkpoint.specs.Walk.{Finds, IsFew, Steps};
+ghost use Rattle.checkpoint.specs.Walk.{IsFoundAs, IsFew, Steps};
 
 use crate::reading::Found;
 use cache_model::{Header, PageKind, Seal};
@@ -43,9 +44,9 @@ pub(crate) enum Step {
 
 /// What page `sequence` of a region makes of a walk that stands at it.
 pub(crate) fn after_page(walk: Walk, sequence: u32, found: Found) -> Step
-    requires records { walk.records ≤ 127 * 2 ^ 16 }
+    requires records { walk.records ≤ most_page_records * 2 ^ 16 }
     requires few { IsFew found }
-    ensures { (page : Page) → Finds page found → Steps walk sequence page result }
+    ensures { (page : Page) → IsFoundAs page found → Steps walk sequence page result }
 {
     match found {
         Found::Records(header) => after_records(walk, sequence, &header),
@@ -56,8 +57,8 @@ pub(crate) fn after_page(walk: Walk, sequence: u32, found: Found) -> Step
 
 /// What a page of records makes of it.
 fn after_records(walk: Walk, sequence: u32, header: &Header) -> Step
-    requires records { walk.records ≤ 127 * 2 ^ 16 }
-    requires few { header.now.count ≤ 127 }
+    requires records { walk.records ≤ most_page_records * 2 ^ 16 }
+    requires few { header.now.count ≤ most_page_records }
     ensures { (page : Page) → said read_page_header page ≡ Some header.now → Steps walk sequence page result }
 {
     let era = walk.era.unwrap_or(header.era);
@@ -79,7 +80,8 @@ fn is_map_page(header: &Header, era: u8, sequence: u32) -> bool
 
 /// What a seal makes of it.
 fn after_seal(walk: Walk, sequence: u32, header: &Header, seal: &Seal) -> Step
-    ensures { (page : Page) → said read_page_header page ≡ None → said read_seal page ≡ Some (header.now, seal.now) → Steps walk sequence page result }
+    ensures { (page : Page) → said read_page_header page ≡ None → said read_seal page ≡ Some (header.now, seal.now)
+        → Steps walk sequence page result }
 {
     let era = walk.era.unwrap_or(header.era);
     if !ends(header, era, sequence, walk.records) {

@@ -1,12 +1,12 @@
 ghost use Rattle.std.specs.Prelude.{◌≡◌, ◌⊎◌, ◌<◌, ◌≤◌, ◌+◌, ◌*◌, length, OnOk, IsErrOf};
 ghost use Rattle.ft_base.specs.Count.{Rose};
-ghost use Rattle.ft_base.specs.Layout.{checkpoint_at, checkpoint_pages, k};
+ghost use Rattle.ft_base.specs.Layout.{checkpoint_at, checkpoint_pages, k, most_page_records};
 ghost use Rattle.ft_media.specs.State.{failed, lost};
 ghost use Rattle.ft_media.specs.Media.{program_counted};
 ghost use Rattle.ft_media.specs.Passes.{Spends};
 ghost use Rattle.ft_media.specs.Drives.{DrivesFlash};
 ghost use Rattle.cache_model.specs.Entries.{IsMap};
-ghost use Rattle.mapping.specs.Checkpoint.{IsCheckpoint};
+ghost use Rattle.mapping.specs.Checkpoint.{IsCheckpointOf};
 ghost use Rattle.op_log.specs.Log.{FitsOn};
 ghost use Rattle.checkpoint.specs.Counts.{programs_counted, checkpoint_counted};
 ghost use Rattle.checkpoint.specs.Regions.{AreBlank, IsReadyAt, IsMapPage, IsSealPage, Programmed, LeavesOne, MapsWritten, LeavesMaps, IsUnsealed, IsSealed, IsWritten, part, map_pages};
@@ -40,15 +40,17 @@ fn program_map<M: Media>(
     requires shape { FitsOn geometry.now (M.state media.old).contents.shape }
     requires map { map.now.geometry ≡ geometry.now }
     requires is_map { IsMap geometry.now map.now.entries }
-    requires listing { IsCheckpoint geometry.now map.now.entries map.now.records }
+    requires listing { IsCheckpointOf geometry.now map.now.entries map.now.records }
     requires region { target.now.region < 2 }
     requires era { target.now.era ≤ 2 }
-    requires some { 127 * sequence < length map.now.records }
+    requires some { most_page_records * sequence < length map.now.records }
     requires room { sequence < checkpoint_pages geometry.now }
     requires ready { IsReadyAt (checkpoint_at geometry.now target.now.region sequence) (M.state media.old).contents.flash }
-    ensures done { OnOk result (Programmed (IsMapPage target.now.era sequence (part map.now.records sequence)) (checkpoint_at geometry.now target.now.region sequence) (M.state media.old).contents.flash (M.state media.new).contents.flash) }
+    ensures done { OnOk result (Programmed (IsMapPage target.now.era sequence (part map.now.records sequence))
+        (checkpoint_at geometry.now target.now.region sequence) (M.state media.old).contents.flash (M.state media.new).contents.flash) }
     ensures counts { OnOk result ((M.state media.new).counts ≡ program_counted (M.state media.old).counts) }
-    ensures pages { LeavesOne (IsMapPage target.now.era sequence (part map.now.records sequence)) (checkpoint_at geometry.now target.now.region sequence) (M.state media.old).contents.flash (M.state media.new).contents.flash }
+    ensures pages { LeavesOne (IsMapPage target.now.era sequence (part map.now.records sequence))
+        (checkpoint_at geometry.now target.now.region sequence) (M.state media.old).contents.flash (M.state media.new).contents.flash }
     ensures programs { OnOk result (Rose (M.state media.old).counts.programs (M.state media.new).counts.programs) }
     ensures memory { IsErrOf result MediaError.OutOfMemory → ⊥ }
     ensures drives { DrivesFlash (M.state media.old) (M.state media.new) (failed result) (lost result) }
@@ -72,15 +74,17 @@ fn program_maps<M: Media>(
     requires shape { FitsOn geometry.now (M.state media.old).contents.shape }
     requires map { map.now.geometry ≡ geometry.now }
     requires is_map { IsMap geometry.now map.now.entries }
-    requires listing { IsCheckpoint geometry.now map.now.entries map.now.records }
+    requires listing { IsCheckpointOf geometry.now map.now.entries map.now.records }
     requires region { target.now.region < 2 }
     requires era { target.now.era ≤ 2 }
     requires all { pages ≡ map_pages map.now.records }
     requires room { pages < checkpoint_pages geometry.now }
     requires blank { AreBlank (target.now.region * k geometry.now) (k geometry.now) (M.state media.old).contents.flash }
-    ensures done { OnOk result (MapsWritten geometry.now target.now.region target.now.era map.now.records pages (M.state media.old).contents.flash (M.state media.new).contents.flash) }
+    ensures done { OnOk result (MapsWritten geometry.now target.now.region target.now.era map.now.records pages
+        (M.state media.old).contents.flash (M.state media.new).contents.flash) }
     ensures counts { OnOk result ((M.state media.new).counts ≡ programs_counted pages (M.state media.old).counts) }
-    ensures pages { LeavesMaps geometry.now target.now.region (M.state media.old).contents.flash.page (M.state media.new).contents.flash.page }
+    ensures pages { LeavesMaps geometry.now target.now.region (M.state media.old).contents.flash.page
+        (M.state media.new).contents.flash.page }
     ensures memory { IsErrOf result MediaError.OutOfMemory → ⊥ }
     ensures drives { DrivesFlash (M.state media.old) (M.state media.new) (failed result) (lost result) }
 {
@@ -104,9 +108,11 @@ pub(crate) fn program_seal<M: Media>(
     requires era { target.now.era ≤ 2 }
     requires room { pages < checkpoint_pages geometry.now }
     requires ready { IsReadyAt (checkpoint_at geometry.now target.now.region pages) (M.state media.old).contents.flash }
-    ensures done { OnOk result (Programmed (IsSealPage geometry.now target.now.era pages records) (checkpoint_at geometry.now target.now.region pages) (M.state media.old).contents.flash (M.state media.new).contents.flash) }
+    ensures done { OnOk result (Programmed (IsSealPage geometry.now target.now.era pages records)
+        (checkpoint_at geometry.now target.now.region pages) (M.state media.old).contents.flash (M.state media.new).contents.flash) }
     ensures counts { OnOk result ((M.state media.new).counts ≡ program_counted (M.state media.old).counts) }
-    ensures pages { LeavesOne (IsSealPage geometry.now target.now.era pages records) (checkpoint_at geometry.now target.now.region pages) (M.state media.old).contents.flash (M.state media.new).contents.flash }
+    ensures pages { LeavesOne (IsSealPage geometry.now target.now.era pages records) (checkpoint_at geometry.now target.now.region pages)
+        (M.state media.old).contents.flash (M.state media.new).contents.flash }
     ensures programs { OnOk result (Rose (M.state media.old).counts.programs (M.state media.new).counts.programs) }
     ensures spends { OnOk result (Spends 1 (M.state media.old) (M.state media.new)) }
     ensures memory { IsErrOf result MediaError.OutOfMemory → ⊥ }
@@ -132,11 +138,15 @@ pub(crate) fn write_checkpoint<M: Media>(
     requires is_map { IsMap geometry.now map.now.entries }
     requires region { target.now.region < 2 }
     requires era { target.now.era ≤ 2 }
-    ensures listing { IsCheckpoint geometry.now map.now.entries map.now.records }
-    ensures done { OnOk result (IsWritten geometry.now target.now.region target.now.era map.now.records (M.state media.old).contents.flash (M.state media.new).contents.flash) }
-    ensures counts { OnOk result ((M.state media.new).counts ≡ checkpoint_counted geometry.now (map_pages map.now.records) (M.state media.old).counts) }
-    ensures pages { IsUnsealed geometry.now target.now.region (M.state media.old).contents.flash.page (M.state media.new).contents.flash.page
-        ⊎ IsSealed geometry.now target.now.region target.now.era map.now.records (M.state media.old).contents.flash.page (M.state media.new).contents.flash.page }
+    ensures listing { IsCheckpointOf geometry.now map.now.entries map.now.records }
+    ensures done { OnOk result (IsWritten geometry.now target.now.region target.now.era map.now.records (M.state media.old).contents.flash
+        (M.state media.new).contents.flash) }
+    ensures counts { OnOk result ((M.state media.new).counts ≡ checkpoint_counted geometry.now (map_pages map.now.records)
+        (M.state media.old).counts) }
+    ensures pages { IsUnsealed geometry.now target.now.region (M.state media.old).contents.flash.page
+        (M.state media.new).contents.flash.page
+        ⊎ IsSealed geometry.now target.now.region target.now.era map.now.records (M.state media.old).contents.flash.page
+        (M.state media.new).contents.flash.page }
     ensures programs { OnOk result (Rose (M.state media.old).counts.programs (M.state media.new).counts.programs) }
     ensures spends { OnOk result (Spends 1 (M.state media.old) (M.state media.new)) }
     ensures memory { IsErrOf result MediaError.OutOfMemory → ⊥ }

@@ -19,7 +19,8 @@ option_rule name = record (new_rule name) { long = Some name; action = Some Set 
 
 -- a command without a program's name before its words, and with no flag for help or a version
 abbrev pub bare_app : App
-bare_app = on_top (λ s. record s { no_binary_name = true; disable_help_flag = true; disable_version_flag = true }) (new_app (codes "flashtier"))
+bare_app = on_top (λ s. record s { no_binary_name = true; disable_help_flag = true; disable_version_flag = true })
+    (new_app (codes "flashtier"))
 
 -- the same with these options and nothing else
 abbrev pub options_app : List Text → App

@@ -62,7 +62,8 @@ pub fn command_of(alloc: Global, words: &[String]) -> Result<Option<Command>, Al
     ensures command { IfOk result (λ c. IfSome c (AreWordsOf (map string_bytes words.now))) }
     ensures none { IfOk result (λ c. IfNone c ((o : Told) → IsCommand (map string_bytes words.now) o → ⊥)) }
     ensures none_inspected { IfOk result (λ c. IfNone c ((o : Told) → IsInspect (map string_bytes words.now) o → ⊥)) }
-    ensures none_made { IfOk result (λ c. IfNone c ((o : Told) (number count : ℕ) → IsGen (map string_bytes words.now) o number count → ⊥)) }
+    ensures none_made { IfOk result (λ c. IfNone c ((o : Told) (number count : ℕ)
+        → IsGen (map string_bytes words.now) o number count → ⊥)) }
 {
     let Some((first, others)) = words.split_first() else {
         return Ok(None);
@@ -81,7 +82,8 @@ pub fn command_of(alloc: Global, words: &[String]) -> Result<Option<Command>, Al
 
 /// The mode and the options that these words after the word of a command say, or None where they say none.
 fn run_of(alloc: Global, others: &[String]) -> Result<Option<(Mode, Options)>, AllocError>
-    ensures some { IfOk result (λ it. IfSome it (λ it. (word : Text) → IsRunOf word (word ∷ map string_bytes others.now) (told_for it.0 it.1))) }
+    ensures some { IfOk result (λ it. IfSome it (λ it. (word : Text)
+        → IsRunOf word (word ∷ map string_bytes others.now) (told_for it.0 it.1))) }
     ensures none { IfOk result (λ it. IfNone it ((word : Text) (o : Told) → IsRunOf word (word ∷ map string_bytes others.now) o → ⊥)) }
 {
     let Some(matches) = run_options(alloc, others)? else {
@@ -118,7 +120,8 @@ fn inspect_command(alloc: Global, others: &[String]) -> Result<Option<Command>, 
 /// The command that `gen` and these words after it say, or None where they are none.
 fn gen_command(alloc: Global, others: &[String]) -> Result<Option<Command>, AllocError>
     ensures command { IfOk result (λ c. IfSome c (AreWordsOf (codes "gen" ∷ map string_bytes others.now))) }
-    ensures none { IfOk result (λ c. IfNone c ((o : Told) (number count : ℕ) → IsGen (codes "gen" ∷ map string_bytes others.now) o number count → ⊥)) }
+    ensures none { IfOk result (λ c. IfNone c ((o : Told) (number count : ℕ)
+        → IsGen (codes "gen" ∷ map string_bytes others.now) o number count → ⊥)) }
 {
     let Some(matches) = gen_options(alloc, others)? else {
         return Ok(None);

@@ -54,9 +54,11 @@ fn parse<'a>(
     words: &'a [String],
 ) -> Result<Option<ArgMatches<'a>>, AllocError>
     requires { is_simple_and_free (options_app (map (λ s. s.now) names.now)) ≡ true }
-    ensures some { IfOk result (λ r. IfSome r (λ m. (fault_of (options_app (map (λ s. s.now) names.now)) (map string_bytes words.entry.now) ≡ [])
+    ensures some { IfOk result (λ r. IfSome r (λ m. (fault_of (options_app (map (λ s. s.now) names.now))
+        (map string_bytes words.entry.now) ≡ [])
         × (rows_of (found_of m) ≡ matches_of (options_app (map (λ s. s.now) names.now)) (map string_bytes words.entry.now)))) }
-    ensures none { IfOk result (λ r. IfNone r (fault_of (options_app (map (λ s. s.now) names.now)) (map string_bytes words.entry.now) ≢ [])) }
+    ensures none { IfOk result (λ r. IfNone r (fault_of (options_app (map (λ s. s.now) names.now))
+        (map string_bytes words.entry.now) ≢ [])) }
 {
     match command(alloc, names)?.try_get_matches_from(words) {
         Ok(matches) => Ok(Some(matches)),
@@ -98,9 +100,11 @@ fn options<'a>(
     words: &'a [String],
 ) -> Result<Option<ArgMatches<'a>>, AllocError>
     requires { list_all is_name (map (λ s. s.now) names.now) ≡ true }
-    ensures some { IfOk result (λ r. IfSome r (λ m. (settings : List Setting) × Spells (map (λ s. s.now) names.now) (map string_bytes words.entry.now) settings
+    ensures some { IfOk result (λ r. IfSome r (λ m. (settings : List Setting)
+        × Spells (map (λ s. s.now) names.now) (map string_bytes words.entry.now) settings
         × ((name : Text) → value_of m name ≡ value_in settings name))) }
-    ensures none { IfOk result (λ r. IfNone r ((settings : List Setting) → Spells (map (λ s. s.now) names.now) (map string_bytes words.entry.now) settings → ⊥)) }
+    ensures none { IfOk result (λ r. IfNone r ((settings : List Setting)
+        → Spells (map (λ s. s.now) names.now) (map string_bytes words.entry.now) settings → ⊥)) }
 {
     if !all_fair(words) {
         return Ok(None);
@@ -113,9 +117,11 @@ pub(crate) fn run_options<'a>(
     alloc: Global,
     words: &'a [String],
 ) -> Result<Option<ArgMatches<'a>>, AllocError>
-    ensures some { IfOk result (λ r. IfSome r (λ m. (settings : List Setting) × Spells option_names (map string_bytes words.entry.now) settings
+    ensures some { IfOk result (λ r. IfSome r (λ m. (settings : List Setting)
+        × Spells option_names (map string_bytes words.entry.now) settings
         × ((name : Text) → value_of m name ≡ value_in settings name))) }
-    ensures none { IfOk result (λ r. IfNone r ((settings : List Setting) → Spells option_names (map string_bytes words.entry.now) settings → ⊥)) }
+    ensures none { IfOk result (λ r. IfNone r ((settings : List Setting) → Spells option_names (map string_bytes words.entry.now) settings
+        → ⊥)) }
 {
     options(alloc, RUN_NAMES.as_slice(), words)
 }
@@ -127,7 +133,8 @@ pub(crate) fn gen_options<'a>(
 ) -> Result<Option<ArgMatches<'a>>, AllocError>
     ensures some { IfOk result (λ r. IfSome r (λ m. (settings : List Setting) × Spells gen_names (map string_bytes words.entry.now) settings
         × ((name : Text) → value_of m name ≡ value_in settings name))) }
-    ensures none { IfOk result (λ r. IfNone r ((settings : List Setting) → Spells gen_names (map string_bytes words.entry.now) settings → ⊥)) }
+    ensures none { IfOk result (λ r. IfNone r ((settings : List Setting) → Spells gen_names (map string_bytes words.entry.now) settings
+        → ⊥)) }
 {
     options(alloc, GEN_NAMES.as_slice(), words)
 }

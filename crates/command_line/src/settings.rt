@@ -61,8 +61,10 @@ fn dirty_of(matches: &ArgMatches<'_>, data_blocks: u32) -> Option<u32>
 
 /// What the volume is made with.
 fn options_of(matches: &ArgMatches<'_>) -> Option<Options>
-    ensures some { IfSome result (λ it. AreNumbers (value_of matches.now) it.geometry × IsDirty (value_of matches.now) it.geometry.c it.dirty) }
-    ensures none { IfNone result ((g : Geometry) (dirty : ℕ) → AreNumbers (value_of matches.now) g → IsDirty (value_of matches.now) g.c dirty → ⊥) }
+    ensures some { IfSome result (λ it. AreNumbers (value_of matches.now) it.geometry
+        × IsDirty (value_of matches.now) it.geometry.c it.dirty) }
+    ensures none { IfNone result ((g : Geometry) (dirty : ℕ) → AreNumbers (value_of matches.now) g
+        → IsDirty (value_of matches.now) g.c dirty → ⊥) }
 {
     let geometry = geometry_of(matches)?;
     let dirty = dirty_of(matches, geometry.c)?;

@@ -39,7 +39,8 @@ either false b = refl
 same_values : (v w : Values) → v.newest ≡ w.newest → v.earlier ≡ w.earlier → v ≡ w
 same_values v w newest earlier = λ i. record { newest = newest i; earlier = earlier i }
 
-module _ (before after : Blocks) (replaced later : List Replaced) (lba : ℕ) (block : Block) (fresh : Box Block Global) (old : Option (Box Block Global)) (was : old ≡ get nat_cmp before lba) (is : fresh.value ≡ block) (updates : Updates nat_cmp before after lba (Some fresh)) (pushed : later ≡ replaced ++ (record { lba = lba; block = old }) ∷ []) where
+module _ (before after : Blocks) (replaced later : List Replaced) (lba : ℕ) (block : Block) (fresh : Box Block Global) (old : Option (Box Block Global)) (was : old ≡ get nat_cmp before lba)
+    (is : fresh.value ≡ block) (updates : Updates nat_cmp before after lba (Some fresh)) (pushed : later ≡ replaced ++ (record { lba = lba; block = old }) ∷ []) where
   earlier : (a : ℕ) → replaced_at later a ≡ cond (lba == a) (block_in old ∷ []) [] ++ replaced_at replaced a
   earlier a = ap (λ l. replaced_at l a) pushed ∙ replaced_push replaced (record { lba = lba; block = old }) a
 
@@ -80,12 +81,15 @@ keep_newest outcome newest rest last keeps a = elim (cases_eq last.lba a) [
 ]
 
 -- a cut leaves the flushed value, and so the last one replaced is the newest again
-put_newest_back : (outcome : Outcome) (newest back : Blocks) (rest : List Replaced) (last : Replaced) → ((v : Values) → cut_value outcome last.lba v ≡ flushed_value v) → ((a : ℕ) → block_in (get nat_cmp back a) ≡ cond (last.lba == a) (block_in last.block) (block_in (get nat_cmp newest a))) → (a : ℕ) → cut_value outcome a (values_in back rest a) ≡ cut_value outcome a (values_in newest (rest ++ last ∷ []) a)
+put_newest_back : (outcome : Outcome) (newest back : Blocks) (rest : List Replaced) (last : Replaced) → ((v : Values) → cut_value outcome last.lba v ≡ flushed_value v)
+    → ((a : ℕ) → block_in (get nat_cmp back a) ≡ cond (last.lba == a) (block_in last.block) (block_in (get nat_cmp newest a))) → (a : ℕ)
+    → cut_value outcome a (values_in back rest a) ≡ cut_value outcome a (values_in newest (rest ++ last ∷ []) a)
 put_newest_back outcome newest back rest last flushes is a = elim (cases_eq last.lba a) [
   | inl same ↦
       let test : last.lba == last.lba ≡ true = eq-eqb last.lba last.lba refl in
       let now : values_in back rest last.lba ≡ record { newest = block_in last.block; earlier = replaced_at rest last.lba } = same_values _ _ (is last.lba ∙ ap (λ t. cond t (block_in last.block) (block_in (get nat_cmp newest last.lba))) test) refl in
-      let before : values_in newest (rest ++ last ∷ []) last.lba ≡ record { newest = block_in (get nat_cmp newest last.lba); earlier = block_in last.block ∷ replaced_at rest last.lba } = same_values _ _ refl (replaced_push rest last last.lba ∙ ap (λ t. cond t (block_in last.block ∷ []) [] ++ replaced_at rest last.lba) test) in
+      let before : values_in newest (rest ++ last ∷ []) last.lba ≡ record { newest = block_in (get nat_cmp newest last.lba); earlier = block_in last.block ∷ replaced_at rest last.lba } = same_values _
+      _ refl (replaced_push rest last last.lba ∙ ap (λ t. cond t (block_in last.block ∷ []) [] ++ replaced_at rest last.lba) test) in
       subst (λ k. cut_value outcome k (values_in back rest k) ≡ cut_value outcome k (values_in newest (rest ++ last ∷ []) k)) same (flushes (values_in back rest last.lba) ∙ ap flushed_value now ∙ sym (ap flushed_value before) ∙ sym (flushes (values_in newest (rest ++ last ∷ []) last.lba)))
   | inr apart ↦
       let test : last.lba == a ≡ false = grind (arith, nat_tests) in
@@ -120,5 +124,7 @@ module _ (newest : Blocks) (whole rest : List Replaced) (last : Replaced) (taken
   pub taken_keeps : (outcome : Outcome) → ((v : Values) → cut_value outcome last.lba v ≡ v.newest) → (a : ℕ) → cut_value outcome a (values_in newest rest a) ≡ cut_value outcome a (values_in newest whole a)
   taken_keeps outcome keeps a = keep_newest outcome newest rest last keeps a ∙ ap (λ l. cut_value outcome a (values_in newest l a)) (sym taken)
 
-  pub taken_back : (outcome : Outcome) (back : Blocks) → ((v : Values) → cut_value outcome last.lba v ≡ flushed_value v) → ((a : ℕ) → block_in (get nat_cmp back a) ≡ cond (last.lba == a) (block_in last.block) (block_in (get nat_cmp newest a))) → (a : ℕ) → cut_value outcome a (values_in back rest a) ≡ cut_value outcome a (values_in newest whole a)
+  pub taken_back : (outcome : Outcome) (back : Blocks) → ((v : Values) → cut_value outcome last.lba v ≡ flushed_value v)
+      → ((a : ℕ) → block_in (get nat_cmp back a) ≡ cond (last.lba == a) (block_in last.block) (block_in (get nat_cmp newest a))) → (a : ℕ)
+      → cut_value outcome a (values_in back rest a) ≡ cut_value outcome a (values_in newest whole a)
   taken_back outcome back flushes is a = put_newest_back outcome newest back rest last flushes is a ∙ ap (λ l. cut_value outcome a (values_in newest l a)) (sym taken)

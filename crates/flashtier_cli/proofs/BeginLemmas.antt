@@ -17,7 +17,7 @@ use Rattle.ft_media.specs.Media.{KeepsReady}
 use Rattle.ft_media.specs.Passes.{Passes}
 use Rattle.ft_media.specs.State.{State}
 use Rattle.ft_volume.proofs.MediaLemmas.{image_stands}
-use Rattle.ft_volume.specs.Opening.{ImageIs, IsNewest, IsOpened, nothing_held}
+use Rattle.ft_volume.specs.Opening.{ImageIs, IsNewestOnDisk, IsOpened, nothing_held}
 use Rattle.ft_volume.specs.Volume.{StandFor, VolumeState, told_for}
 use Rattle.ft_volume.specs.declared.options.Options.{Options}
 use Rattle.trace_model.specs.declared.line.Line.{Line}
@@ -40,7 +40,7 @@ table_none p size =
 
 -- a rig that was fitted, and what a volume that is made on it makes of it
 module _ (g : Geometry) (old made now : State) (fit : made ≡ fitted_for g old) where
-  newest_none : IsNewest g made.contents empty
+  newest_none : IsNewestOnDisk g made.contents empty
   newest_none a low = ap (λ (x : State). (x.contents.disk a).newest) fit
 
   stays_on : Passes made now false → now.power.on ≡ true
@@ -55,7 +55,7 @@ module _ (g : Geometry) (old made now : State) (fit : made ≡ fitted_for g old)
 -- a volume that was opened over what it was made on
 pub new_from : (mode : Mode) (options : Options) (owns : Contents → Type 0) (v : VolumeState) (old made now : State) → made ≡ fitted_for options.geometry old
     → owns now.contents → IsOpened (told_for mode options) nothing_held v
-    → ((d : PlainDisk) → IsNewest options.geometry made.contents d → StandFor (ImageIs (told_for mode options)) now.contents d)
+    → ((d : PlainDisk) → IsNewestOnDisk options.geometry made.contents d → StandFor (ImageIs (told_for mode options)) now.contents d)
     → KeepsReady made now → now.counts.disk_reads ≡ made.counts.disk_reads → now.counts.disk_writes ≡ made.counts.disk_writes → made.faults.cuts ≤ now.faults.cuts → Passes made now false
     → IsNewVolume (told_for mode options) owns v old now
 new_from mode options owns v old made now fit left opened stands ready reads writes cuts passes = record {

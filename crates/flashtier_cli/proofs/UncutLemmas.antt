@@ -9,7 +9,7 @@ use Rattle.trace_model.specs.declared.line.Line.{Line}
 use Rattle.trace_model.specs.declared.line.Line.TheVariants as line
 use Rattle.trace_model.specs.declared.ran.Ran.{Ran}
 use Rattle.trace_model.specs.Backs.{AreUncut, IsUncut}
-use Rattle.trace_model.specs.Fits.{Fits, FitsLine, armed_after, arming, block_count}
+use Rattle.trace_model.specs.Fits.{FitsRun, FitsLine, armed_after, arming, block_count}
 use Rattle.trace_model.specs.Run.{after_line, cut_count, cuts_in, disk_after, lines_of}
 use Rattle.trace_model.proofs.RunLemmas.{disk_after-line}
 use Rattle.trace_replay.specs.Said.{RoseAtLeast}
@@ -29,7 +29,7 @@ line_whole ack (line.Cut outcome) cuts kept lost old disk fits none = refl
 line_whole ack (line.Stop after outcome) cuts kept lost old disk fits none = refl
 line_whole ack line.Nothing cuts kept lost old disk fits none = refl
 
-pub disk_after-uncut : (ack : Ack) (run : List Ran) → Fits ack run → cuts_in run ≡ 0 → disk_after run ≡ disk_over (lines_of run) empty
+pub disk_after-uncut : (ack : Ack) (run : List Ran) → FitsRun ack run → cuts_in run ≡ 0 → disk_after run ≡ disk_over (lines_of run) empty
 disk_after-uncut ack [] fits none = refl
 disk_after-uncut ack (ran ∷ earlier) fits none =
     let before : disk_after earlier ≡ disk_over (lines_of earlier) empty = disk_after-uncut ack earlier fits.1 (omega (arith, none)) in
@@ -62,7 +62,7 @@ drop_none : (n : ℕ) (stops : List Stop) → n ≡ 0 → stops ≡ [] → drop 
 drop_none n stops zero none = ap (λ k. drop k stops) zero ∙ none
 
 -- without a stop line and a cut line no stop is armed, and power is never cut
-uncut_lines : (ack : Ack) (run : List Ran) → Fits ack run → AreUncut run → (armed_after run ≡ []) × (cuts_in run ≡ 0)
+uncut_lines : (ack : Ack) (run : List Ran) → FitsRun ack run → AreUncut run → (armed_after run ≡ []) × (cuts_in run ≡ 0)
 uncut_lines ack [] fits uncut = (refl, refl)
 uncut_lines ack (ran ∷ earlier) fits uncut =
     let before = uncut_lines ack earlier fits.1 uncut.1 in
@@ -83,7 +83,7 @@ none_risen n old new risen stands =
     omega (arith, below, rose)
 
 -- in both cases there was no cut, neither of the lines nor after them
-pub uncut_none : (ack : Ack) (run : List Ran) (cuts old new : ℕ) → Fits ack run → cuts ≤ length (armed_after run) → RoseAtLeast (cuts_in run + cuts) old new → AreUncut run ⊎ (Rose old new → ⊥) → cuts_in run ≡ 0
+pub uncut_none : (ack : Ack) (run : List Ran) (cuts old new : ℕ) → FitsRun ack run → cuts ≤ length (armed_after run) → RoseAtLeast (cuts_in run + cuts) old new → AreUncut run ⊎ (Rose old new → ⊥) → cuts_in run ≡ 0
 uncut_none ack run cuts old new fits few risen (inl uncut) = (uncut_lines ack run fits uncut).1
 uncut_none ack run cuts old new fits few risen (inr stands) =
     let none : cuts_in run + cuts ≡ 0 = none_risen (cuts_in run + cuts) old new risen stands in

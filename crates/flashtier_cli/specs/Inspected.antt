@@ -32,7 +32,10 @@ use Rattle.trace_replay.specs.Theorem.{EndsPart, RunsWhole}
 
 -- the four lines of a report
 unfoldable pub report_text : Report → List ℕ
-report_text r = codes "held " ++ (decimal r.held ++ (line_feed ++ (codes "dirty groups " ++ (decimal r.dirty_groups ++ (line_feed ++ (codes "buckets " ++ (decimal r.buckets ++ (line_feed ++ (codes "scrubbed " ++ (decimal r.scrubbed ++ line_feed))))))))))
+report_text r = codes "held " ++ (decimal r.held ++ (line_feed
+    ++ (codes "dirty groups " ++ (decimal r.dirty_groups
+    ++ (line_feed ++ (codes "buckets " ++ (decimal r.buckets
+    ++ (line_feed ++ (codes "scrubbed " ++ (decimal r.scrubbed ++ line_feed))))))))))
 
 -- flash is loaded as these entries
 abbrev pub Loads : Geometry → (Place → Page) → Entries → Type 0
@@ -96,20 +99,25 @@ abbrev pub TellsReport : Report → SinkState → SinkState → List Ran → Lis
 TellsReport report old new run answers = Prints report old new
 
 -- every line was run, over what is known of them; a report of the entries that the flash has at the end was printed and nothing else; and where no stop and no cut line was run, or power was not cut, the media stand for the plain disk after all block writes of the lines
-pub record Inspects (o : Told) (reads : List Reading → Bool → Type 0) (loads : (Place → Page) → Entries → Type 0) (old new : SinkState) (stands : Image → PlainDisk → Type 0) (first now : State) : Type 0 where
+pub record Inspects (o : Told) (reads : List Reading → Bool → Type 0) (loads : (Place → Page) → Entries → Type 0) (old new : SinkState)
+    (stands : Image → PlainDisk → Type 0) (first now : State) : Type 0 where
   pub report : Report
   pub is : IsReportOf o.geometry loads now report
   pub whole : RunsWhole o reads (TellsReport report old new) stands first now
-  pub uncut : AreUncut whole.run ⊎ (Rose first.faults.cuts now.faults.cuts → ⊥) → StandFor stands now.contents (disk_over (lines_of whole.run) empty)
+  pub uncut : AreUncut whole.run ⊎ (Rose first.faults.cuts now.faults.cuts → ⊥)
+      → StandFor stands now.contents (disk_over (lines_of whole.run) empty)
 
 -- ---- any other end
 
 -- of the next answer a front was printed: of a refusal, or of a report in place of the end line
-abbrev pub TellsInspectPart : Geometry → ((Place → Page) → Entries → Type 0) → State → SinkState → SinkState → List Ran → List Answer → Option Answer → Type 0
+abbrev pub TellsInspectPart : Geometry → ((Place → Page) → Entries → Type 0) → State → SinkState → SinkState → List Ran → List Answer
+    → Option Answer → Type 0
 TellsInspectPart g loads now old new run answers None = ⊥
-TellsInspectPart g loads now old new run answers (Some next) = TellsRefusalPart old new run answers (Some next) ⊎ ((is_end next ≡ true) × PrintsFront g loads now old new)
+TellsInspectPart g loads now old new run answers (Some next) = TellsRefusalPart old new run answers (Some next)
+    ⊎ ((is_end next ≡ true) × PrintsFront g loads now old new)
 
 -- it ended so before all of its text was printed: the media are the plain disk after the lines that were run, with first block writes of the next one; and where the sink did not fail nothing was printed
-pub record EndsInspecting (o : Told) (reads : List Reading → Bool → Type 0) (loads : (Place → Page) → Entries → Type 0) (old new : SinkState) (stands : Image → PlainDisk → Type 0) (first now : State) (e : Ended) : Type 0 where
+pub record EndsInspecting (o : Told) (reads : List Reading → Bool → Type 0) (loads : (Place → Page) → Entries → Type 0)
+    (old new : SinkState) (stands : Image → PlainDisk → Type 0) (first now : State) (e : Ended) : Type 0 where
   pub part : EndsPart o reads (TellsRefusal old new) (TellsInspectPart o.geometry loads now old new) stands first now e
   pub silent : e ≢ ended.Sink → Appends old.taken new.taken []

@@ -28,7 +28,8 @@ pub(crate) fn begin_back<R: Rig>(
     rig: &mut R,
     options: &Options,
 ) -> Result<WriteBack, Ended>
-    ensures new { IfOk result (λ v. IsNewVolume (told_for Back options.now) (back.IsLeft v) (back.state_of v) (R.state rig.old) (R.state rig.new)) }
+    ensures new { IfOk result (λ v. IsNewVolume (told_for Back options.now) (back.IsLeft v) (back.state_of v) (R.state rig.old)
+        (R.state rig.new)) }
     ensures begins { Begins result (R.state rig.old) (R.state rig.new) }
 {
     let Ok(()) = fit_for(alloc, rig, &options.geometry) else {
@@ -46,7 +47,8 @@ pub(crate) fn begin_through<R: Rig>(
     rig: &mut R,
     options: &Options,
 ) -> Result<WriteThrough, Ended>
-    ensures new { IfOk result (λ v. IsNewVolume (told_for Through options.now) (through.IsLeft v) (through.state_of v) (R.state rig.old) (R.state rig.new)) }
+    ensures new { IfOk result (λ v. IsNewVolume (told_for Through options.now) (through.IsLeft v) (through.state_of v) (R.state rig.old)
+        (R.state rig.new)) }
     ensures begins { Begins result (R.state rig.old) (R.state rig.new) }
 {
     let Ok(()) = fit_for(alloc, rig, &options.geometry) else {

@@ -38,13 +38,18 @@ fn inspect<I: Source, O: Sink, R: Rig, V: Volume<R>>(
     requires held { (a : ℕ) → (V.state volume.old).held a ≡ false }
     requires empty { StandFor (V.stands (V.state volume.old).told) (R.state rig.old).contents empty }
     ensures told { (V.state volume.new).told ≡ (V.state volume.old).told }
-    ensures whole { OnOk result (Inspects (V.state volume.old).told (Reads (V.state volume.old).told.geometry.size (I.state source.old) (I.state source.new)) (V.loads (V.state volume.old).told)
+    ensures whole { OnOk result (Inspects (V.state volume.old).told
+        (Reads (V.state volume.old).told.geometry.size (I.state source.old) (I.state source.new)) (V.loads (V.state volume.old).told)
         (O.state sink.old) (O.state sink.new) (V.stands (V.state volume.new).told) (R.state rig.old) (R.state rig.new)) }
-    ensures refused { IsErrOf result Ended.Trace → EndsRefused (V.state volume.old).told (Reads (V.state volume.old).told.geometry.size (I.state source.old) (I.state source.new))
+    ensures refused { IsErrOf result Ended.Trace → EndsRefused (V.state volume.old).told
+        (Reads (V.state volume.old).told.geometry.size (I.state source.old) (I.state source.new))
         (TellsRefusal (O.state sink.old) (O.state sink.new)) (V.stands (V.state volume.new).told) (R.state rig.old) (R.state rig.new) }
-    ensures unread { IsErrOf result Ended.Source → EndsUnread (V.state volume.old).told (Reads (V.state volume.old).told.geometry.size (I.state source.old) (I.state source.new))
+    ensures unread { IsErrOf result Ended.Source → EndsUnread (V.state volume.old).told
+        (Reads (V.state volume.old).told.geometry.size (I.state source.old) (I.state source.new))
         (TellsRefusal (O.state sink.old) (O.state sink.new)) (V.stands (V.state volume.new).told) (R.state rig.old) (R.state rig.new) }
-    ensures part { IfErr result (λ e. e ≢ Ended.Trace → e ≢ Ended.Source → EndsInspecting (V.state volume.old).told (Reads (V.state volume.old).told.geometry.size (I.state source.old) (I.state source.new)) (V.loads (V.state volume.old).told)
+    ensures part { IfErr result (λ e. e ≢ Ended.Trace → e ≢ Ended.Source
+        → EndsInspecting (V.state volume.old).told (Reads (V.state volume.old).told.geometry.size (I.state source.old) (I.state source.new))
+        (V.loads (V.state volume.old).told)
         (O.state sink.old) (O.state sink.new) (V.stands (V.state volume.new).told) (R.state rig.old) (R.state rig.new) e) }
     ensures source { IsErrOf result Ended.Source → Rose (I.state source.old).faults (I.state source.new).faults }
     ensures sink { IsErrOf result Ended.Sink → Rose (O.state sink.old).faults (O.state sink.new).faults }
@@ -73,21 +78,30 @@ pub fn inspect_with<I: Source, O: Sink, R: Rig>(
     sink: &mut O,
     rig: &mut R,
 ) -> Result<(), Ended>
-    ensures whole { OnOk result (Inspects (told_for mode options.now) (Reads options.now.geometry.size (I.state source.old) (I.state source.new)) (Loads options.now.geometry)
-        (O.state sink.old) (O.state sink.new) (ImageStandsFor options.now.geometry) (fitted_for options.now.geometry (R.state rig.old)) (R.state rig.new)) }
+    ensures whole { OnOk result (Inspects (told_for mode options.now)
+        (Reads options.now.geometry.size (I.state source.old) (I.state source.new)) (Loads options.now.geometry)
+        (O.state sink.old) (O.state sink.new) (ImageStandsFor options.now.geometry) (fitted_for options.now.geometry (R.state rig.old))
+        (R.state rig.new)) }
     ensures end { OnOk result (IsAtEnd (I.state source.new).left) }
-    ensures refused { IsErrOf result Ended.Trace → EndsRefused (told_for mode options.now) (Reads options.now.geometry.size (I.state source.old) (I.state source.new))
-        (TellsRefusal (O.state sink.old) (O.state sink.new)) (ImageStandsFor options.now.geometry) (fitted_for options.now.geometry (R.state rig.old)) (R.state rig.new) }
-    ensures unread { IsErrOf result Ended.Source → EndsUnread (told_for mode options.now) (Reads options.now.geometry.size (I.state source.old) (I.state source.new))
-        (TellsRefusal (O.state sink.old) (O.state sink.new)) (ImageStandsFor options.now.geometry) (fitted_for options.now.geometry (R.state rig.old)) (R.state rig.new) }
+    ensures refused { IsErrOf result Ended.Trace → EndsRefused (told_for mode options.now)
+        (Reads options.now.geometry.size (I.state source.old) (I.state source.new))
+        (TellsRefusal (O.state sink.old) (O.state sink.new)) (ImageStandsFor options.now.geometry)
+        (fitted_for options.now.geometry (R.state rig.old)) (R.state rig.new) }
+    ensures unread { IsErrOf result Ended.Source → EndsUnread (told_for mode options.now)
+        (Reads options.now.geometry.size (I.state source.old) (I.state source.new))
+        (TellsRefusal (O.state sink.old) (O.state sink.new)) (ImageStandsFor options.now.geometry)
+        (fitted_for options.now.geometry (R.state rig.old)) (R.state rig.new) }
 
     // Another end comes before anything was read or printed, with no call of the disk that reads or writes, and
     // with nothing armed where a device failed; or within the answers of a line, or within the report.
     ensures part { IfErr result (λ e. e ≢ Ended.Trace → e ≢ Ended.Source → ((source.new ≡ source.old) × (sink.new ≡ sink.old)
-        × ((R.state rig.new).counts.disk_reads ≡ (R.state rig.old).counts.disk_reads) × ((R.state rig.new).counts.disk_writes ≡ (R.state rig.old).counts.disk_writes)
+        × ((R.state rig.new).counts.disk_reads ≡ (R.state rig.old).counts.disk_reads)
+        × ((R.state rig.new).counts.disk_writes ≡ (R.state rig.old).counts.disk_writes)
         × ((e ≡ Ended.Flash) ⊎ (e ≡ Ended.Disk) → (R.state rig.new).power.stops ≡ []))
-        ⊎ EndsInspecting (told_for mode options.now) (Reads options.now.geometry.size (I.state source.old) (I.state source.new)) (Loads options.now.geometry)
-        (O.state sink.old) (O.state sink.new) (ImageStandsFor options.now.geometry) (fitted_for options.now.geometry (R.state rig.old)) (R.state rig.new) e) }
+        ⊎ EndsInspecting (told_for mode options.now) (Reads options.now.geometry.size (I.state source.old) (I.state source.new))
+        (Loads options.now.geometry)
+        (O.state sink.old) (O.state sink.new) (ImageStandsFor options.now.geometry) (fitted_for options.now.geometry (R.state rig.old))
+        (R.state rig.new) e) }
     ensures source { IsErrOf result Ended.Source → Rose (I.state source.old).faults (I.state source.new).faults }
     ensures sink { IsErrOf result Ended.Sink → Rose (O.state sink.old).faults (O.state sink.new).faults }
     ensures flash { IsErrOf result Ended.Flash → Rose (R.state rig.old).faults.flash (R.state rig.new).faults.flash }

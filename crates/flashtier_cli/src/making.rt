@@ -26,7 +26,8 @@ pub fn gen_with<O: Sink, R: Rig>(
     sink: &mut O,
     rig: &mut R,
 ) -> Result<(), Ended>
-    ensures whole { OnOk result (RunsWhole (told_for mode options.now) (Gives (made_trace number count options.now.geometry)) (TellsEnd (O.state sink.old) (O.state sink.new))
+    ensures whole { OnOk result (RunsWhole (told_for mode options.now) (Gives (made_trace number count options.now.geometry))
+        (TellsEnd (O.state sink.old) (O.state sink.new))
         (ImageStandsFor options.now.geometry) (fitted_for options.now.geometry (R.state rig.old)) (R.state rig.new)) }
 
     // No line of a made trace is refused, and no source is read.
@@ -36,9 +37,11 @@ pub fn gen_with<O: Sink, R: Rig>(
     // Another end comes before anything was printed, with no call of the disk that reads or writes, and with
     // nothing armed where a device failed; or within the answers of a line.
     ensures part { IfErr result (λ e. ((sink.new ≡ sink.old)
-        × ((R.state rig.new).counts.disk_reads ≡ (R.state rig.old).counts.disk_reads) × ((R.state rig.new).counts.disk_writes ≡ (R.state rig.old).counts.disk_writes)
+        × ((R.state rig.new).counts.disk_reads ≡ (R.state rig.old).counts.disk_reads)
+        × ((R.state rig.new).counts.disk_writes ≡ (R.state rig.old).counts.disk_writes)
         × ((e ≡ Ended.Flash) ⊎ (e ≡ Ended.Disk) → (R.state rig.new).power.stops ≡ []))
-        ⊎ EndsPart (told_for mode options.now) (Gives (made_trace number count options.now.geometry)) (TellsEnd (O.state sink.old) (O.state sink.new)) (TellsEndPart (O.state sink.old) (O.state sink.new))
+        ⊎ EndsPart (told_for mode options.now) (Gives (made_trace number count options.now.geometry))
+        (TellsEnd (O.state sink.old) (O.state sink.new)) (TellsEndPart (O.state sink.old) (O.state sink.new))
         (ImageStandsFor options.now.geometry) (fitted_for options.now.geometry (R.state rig.old)) (R.state rig.new) e) }
     ensures sink { IsErrOf result Ended.Sink → Rose (O.state sink.old).faults (O.state sink.new).faults }
     ensures flash { IsErrOf result Ended.Flash → Rose (R.state rig.old).faults.flash (R.state rig.new).faults.flash }

@@ -72,11 +72,15 @@ pub fn run<I: Source, O: Sink, R: Rig>(
     // The text is what a plain disk prints that holds, after each recovery, a prefix of the block writes
     // with every acknowledged one; and the media are that disk, wherever power stops next. Of a made trace it is
     // the end line of that text. With `inspect` the media are so, and the text is a report of what the flash has.
-    ensures whole { result ≡ 0 → ((o : Told) × IsCommand (map string_bytes words.now) o × RunsWhole o (Reads o.geometry.size (I.state source.old) (I.state source.new)) (Tells (O.state sink.old) (O.state sink.new))
+    ensures whole { result ≡ 0 → ((o : Told) × IsCommand (map string_bytes words.now) o
+        × RunsWhole o (Reads o.geometry.size (I.state source.old) (I.state source.new)) (Tells (O.state sink.old) (O.state sink.new))
         (ImageStandsFor o.geometry) (fitted_for o.geometry (R.state rig.old)) (R.state rig.new))
-        ⊎ (((o : Told) × (number : ℕ) × (count : ℕ) × IsGen (map string_bytes words.now) o number count × RunsWhole o (Gives (made_trace number count o.geometry)) (TellsEnd (O.state sink.old) (O.state sink.new))
+        ⊎ (((o : Told) × (number : ℕ) × (count : ℕ) × IsGen (map string_bytes words.now) o number count
+        × RunsWhole o (Gives (made_trace number count o.geometry)) (TellsEnd (O.state sink.old) (O.state sink.new))
         (ImageStandsFor o.geometry) (fitted_for o.geometry (R.state rig.old)) (R.state rig.new))
-        ⊎ ((o : Told) × IsInspect (map string_bytes words.now) o × Inspects o (Reads o.geometry.size (I.state source.old) (I.state source.new)) (Loads o.geometry) (O.state sink.old) (O.state sink.new)
+        ⊎ ((o : Told) × IsInspect (map string_bytes words.now) o
+        × Inspects o (Reads o.geometry.size (I.state source.old) (I.state source.new)) (Loads o.geometry) (O.state sink.old)
+        (O.state sink.new)
         (ImageStandsFor o.geometry) (fitted_for o.geometry (R.state rig.old)) (R.state rig.new))) }
     ensures end { result ≡ 0 → (o : Told) → IsCommand (map string_bytes words.now) o → IsAtEnd (I.state source.new).left }
     ensures end_inspected { result ≡ 0 → (o : Told) → IsInspect (map string_bytes words.now) o → IsAtEnd (I.state source.new).left }
@@ -87,28 +91,42 @@ pub fn run<I: Source, O: Sink, R: Rig>(
     // Words that are no command touch nothing, also where memory for reading them is refused.
     ensures words { result ≡ 1 → AreCommand (map string_bytes words.now) → ⊥ }
     ensures no_command { (AreCommand (map string_bytes words.now) → ⊥) → (result ≡ 1) ⊎ (result ≡ 7) }
-    ensures nothing { (AreCommand (map string_bytes words.now) → ⊥) → (source.new ≡ source.old) × (sink.new ≡ sink.old) × (rig.new ≡ rig.old) }
+    ensures nothing { (AreCommand (map string_bytes words.now) → ⊥) → (source.new ≡ source.old) × (sink.new ≡ sink.old)
+        × (rig.new ≡ rig.old) }
 
     // A made trace has no line that is refused and no source that fails, so these come with a trace that is read.
-    ensures refused { result ≡ 2 → ((o : Told) × IsCommand (map string_bytes words.now) o × EndsRefused o (Reads o.geometry.size (I.state source.old) (I.state source.new)) (Tells (O.state sink.old) (O.state sink.new))
+    ensures refused { result ≡ 2 → ((o : Told) × IsCommand (map string_bytes words.now) o
+        × EndsRefused o (Reads o.geometry.size (I.state source.old) (I.state source.new)) (Tells (O.state sink.old) (O.state sink.new))
         (ImageStandsFor o.geometry) (fitted_for o.geometry (R.state rig.old)) (R.state rig.new))
-        ⊎ ((o : Told) × IsInspect (map string_bytes words.now) o × EndsRefused o (Reads o.geometry.size (I.state source.old) (I.state source.new)) (TellsRefusal (O.state sink.old) (O.state sink.new))
+        ⊎ ((o : Told) × IsInspect (map string_bytes words.now) o
+        × EndsRefused o (Reads o.geometry.size (I.state source.old) (I.state source.new))
+        (TellsRefusal (O.state sink.old) (O.state sink.new))
         (ImageStandsFor o.geometry) (fitted_for o.geometry (R.state rig.old)) (R.state rig.new)) }
-    ensures unread { result ≡ 3 → ((o : Told) × IsCommand (map string_bytes words.now) o × EndsUnread o (Reads o.geometry.size (I.state source.old) (I.state source.new)) (Tells (O.state sink.old) (O.state sink.new))
+    ensures unread { result ≡ 3 → ((o : Told) × IsCommand (map string_bytes words.now) o
+        × EndsUnread o (Reads o.geometry.size (I.state source.old) (I.state source.new)) (Tells (O.state sink.old) (O.state sink.new))
         (ImageStandsFor o.geometry) (fitted_for o.geometry (R.state rig.old)) (R.state rig.new))
-        ⊎ ((o : Told) × IsInspect (map string_bytes words.now) o × EndsUnread o (Reads o.geometry.size (I.state source.old) (I.state source.new)) (TellsRefusal (O.state sink.old) (O.state sink.new))
+        ⊎ ((o : Told) × IsInspect (map string_bytes words.now) o
+        × EndsUnread o (Reads o.geometry.size (I.state source.old) (I.state source.new))
+        (TellsRefusal (O.state sink.old) (O.state sink.new))
         (ImageStandsFor o.geometry) (fitted_for o.geometry (R.state rig.old)) (R.state rig.new)) }
 
     // Another end comes before anything was read or printed, with no call of the disk that reads or writes, and
     // with nothing armed where a device failed; or within the answers of a line, or within the report.
     ensures part { 4 ≤ result → ((source.new ≡ source.old) × (sink.new ≡ sink.old)
-        × ((R.state rig.new).counts.disk_reads ≡ (R.state rig.old).counts.disk_reads) × ((R.state rig.new).counts.disk_writes ≡ (R.state rig.old).counts.disk_writes)
+        × ((R.state rig.new).counts.disk_reads ≡ (R.state rig.old).counts.disk_reads)
+        × ((R.state rig.new).counts.disk_writes ≡ (R.state rig.old).counts.disk_writes)
         × ((result ≡ 5) ⊎ (result ≡ 6) → (R.state rig.new).power.stops ≡ []))
-        ⊎ (((o : Told) × (e : ended.Ended) × IsCommand (map string_bytes words.now) o × (result ≡ status.status_of (Err e)) × EndsPart o (Reads o.geometry.size (I.state source.old) (I.state source.new)) (Tells (O.state sink.old) (O.state sink.new)) (TellsPart (O.state sink.old) (O.state sink.new))
+        ⊎ (((o : Told) × (e : ended.Ended) × IsCommand (map string_bytes words.now) o × (result ≡ status.status_of (Err e))
+        × EndsPart o (Reads o.geometry.size (I.state source.old) (I.state source.new)) (Tells (O.state sink.old) (O.state sink.new))
+        (TellsPart (O.state sink.old) (O.state sink.new))
         (ImageStandsFor o.geometry) (fitted_for o.geometry (R.state rig.old)) (R.state rig.new) e)
-        ⊎ (((o : Told) × (number : ℕ) × (count : ℕ) × (e : ended.Ended) × IsGen (map string_bytes words.now) o number count × (result ≡ status.status_of (Err e)) × EndsPart o (Gives (made_trace number count o.geometry)) (TellsEnd (O.state sink.old) (O.state sink.new)) (TellsEndPart (O.state sink.old) (O.state sink.new))
+        ⊎ (((o : Told) × (number : ℕ) × (count : ℕ) × (e : ended.Ended) × IsGen (map string_bytes words.now) o number count
+        × (result ≡ status.status_of (Err e)) × EndsPart o (Gives (made_trace number count o.geometry))
+        (TellsEnd (O.state sink.old) (O.state sink.new)) (TellsEndPart (O.state sink.old) (O.state sink.new))
         (ImageStandsFor o.geometry) (fitted_for o.geometry (R.state rig.old)) (R.state rig.new) e)
-        ⊎ ((o : Told) × (e : ended.Ended) × IsInspect (map string_bytes words.now) o × (result ≡ status.status_of (Err e)) × EndsInspecting o (Reads o.geometry.size (I.state source.old) (I.state source.new)) (Loads o.geometry) (O.state sink.old) (O.state sink.new)
+        ⊎ ((o : Told) × (e : ended.Ended) × IsInspect (map string_bytes words.now) o × (result ≡ status.status_of (Err e))
+        × EndsInspecting o (Reads o.geometry.size (I.state source.old) (I.state source.new)) (Loads o.geometry) (O.state sink.old)
+        (O.state sink.new)
         (ImageStandsFor o.geometry) (fitted_for o.geometry (R.state rig.old)) (R.state rig.new) e))) }
     ensures known { result ≤ 7 }
 
@@ -124,14 +142,22 @@ pub fn run<I: Source, O: Sink, R: Rig>(
     ensures rig_lent { (R.state rig.new).lent ≡ (R.state rig.old).lent }
 
     // Where nothing failed, memory was there and no line is refused, every line is run.
-    ensures complete { (o : Told) → IsCommand (map string_bytes words.now) o → (Rose (I.state source.old).faults (I.state source.new).faults → ⊥) → (Rose (O.state sink.old).faults (O.state sink.new).faults → ⊥)
-        → (Rose (R.state rig.old).faults.flash (R.state rig.new).faults.flash → ⊥) → (Rose (R.state rig.old).faults.disk (R.state rig.new).faults.disk → ⊥)
+    ensures complete { (o : Told) → IsCommand (map string_bytes words.now) o
+        → (Rose (I.state source.old).faults (I.state source.new).faults → ⊥)
+        → (Rose (O.state sink.old).faults (O.state sink.new).faults → ⊥)
+        → (Rose (R.state rig.old).faults.flash (R.state rig.new).faults.flash → ⊥)
+        → (Rose (R.state rig.old).faults.disk (R.state rig.new).faults.disk → ⊥)
         → (result ≡ 0) ⊎ (result ≡ 2) ⊎ (result ≡ 7) }
-    ensures complete_inspected { (o : Told) → IsInspect (map string_bytes words.now) o → (Rose (I.state source.old).faults (I.state source.new).faults → ⊥) → (Rose (O.state sink.old).faults (O.state sink.new).faults → ⊥)
-        → (Rose (R.state rig.old).faults.flash (R.state rig.new).faults.flash → ⊥) → (Rose (R.state rig.old).faults.disk (R.state rig.new).faults.disk → ⊥)
+    ensures complete_inspected { (o : Told) → IsInspect (map string_bytes words.now) o
+        → (Rose (I.state source.old).faults (I.state source.new).faults → ⊥)
+        → (Rose (O.state sink.old).faults (O.state sink.new).faults → ⊥)
+        → (Rose (R.state rig.old).faults.flash (R.state rig.new).faults.flash → ⊥)
+        → (Rose (R.state rig.old).faults.disk (R.state rig.new).faults.disk → ⊥)
         → (result ≡ 0) ⊎ (result ≡ 2) ⊎ (result ≡ 7) }
-    ensures complete_made { (o : Told) (number count : ℕ) → IsGen (map string_bytes words.now) o number count → (Rose (O.state sink.old).faults (O.state sink.new).faults → ⊥)
-        → (Rose (R.state rig.old).faults.flash (R.state rig.new).faults.flash → ⊥) → (Rose (R.state rig.old).faults.disk (R.state rig.new).faults.disk → ⊥)
+    ensures complete_made { (o : Told) (number count : ℕ) → IsGen (map string_bytes words.now) o number count
+        → (Rose (O.state sink.old).faults (O.state sink.new).faults → ⊥)
+        → (Rose (R.state rig.old).faults.flash (R.state rig.new).faults.flash → ⊥)
+        → (Rose (R.state rig.old).faults.disk (R.state rig.new).faults.disk → ⊥)
         → (result ≡ 0) ⊎ (result ≡ 7) }
 {
     let Ok(command) = command_of(alloc, words) else {

@@ -25,19 +25,24 @@ pub fn replay_with<I: Source, O: Sink, R: Rig>(
     sink: &mut O,
     rig: &mut R,
 ) -> Result<(), Ended>
-    ensures whole { OnOk result (RunsWhole (told_for mode options.now) (Reads options.now.geometry.size (I.state source.old) (I.state source.new)) (Tells (O.state sink.old) (O.state sink.new))
+    ensures whole { OnOk result (RunsWhole (told_for mode options.now)
+        (Reads options.now.geometry.size (I.state source.old) (I.state source.new)) (Tells (O.state sink.old) (O.state sink.new))
         (ImageStandsFor options.now.geometry) (fitted_for options.now.geometry (R.state rig.old)) (R.state rig.new)) }
     ensures end { OnOk result (IsAtEnd (I.state source.new).left) }
-    ensures refused { IsErrOf result Ended.Trace → EndsRefused (told_for mode options.now) (Reads options.now.geometry.size (I.state source.old) (I.state source.new)) (Tells (O.state sink.old) (O.state sink.new))
+    ensures refused { IsErrOf result Ended.Trace → EndsRefused (told_for mode options.now)
+        (Reads options.now.geometry.size (I.state source.old) (I.state source.new)) (Tells (O.state sink.old) (O.state sink.new))
         (ImageStandsFor options.now.geometry) (fitted_for options.now.geometry (R.state rig.old)) (R.state rig.new) }
-    ensures unread { IsErrOf result Ended.Source → EndsUnread (told_for mode options.now) (Reads options.now.geometry.size (I.state source.old) (I.state source.new)) (Tells (O.state sink.old) (O.state sink.new))
+    ensures unread { IsErrOf result Ended.Source → EndsUnread (told_for mode options.now)
+        (Reads options.now.geometry.size (I.state source.old) (I.state source.new)) (Tells (O.state sink.old) (O.state sink.new))
         (ImageStandsFor options.now.geometry) (fitted_for options.now.geometry (R.state rig.old)) (R.state rig.new) }
     // Another end comes before anything was read or printed, with no call of the disk that reads or writes, and
     // with nothing armed where a device failed; or within the answers of a line.
     ensures part { IfErr result (λ e. e ≢ Ended.Trace → e ≢ Ended.Source → ((source.new ≡ source.old) × (sink.new ≡ sink.old)
-        × ((R.state rig.new).counts.disk_reads ≡ (R.state rig.old).counts.disk_reads) × ((R.state rig.new).counts.disk_writes ≡ (R.state rig.old).counts.disk_writes)
+        × ((R.state rig.new).counts.disk_reads ≡ (R.state rig.old).counts.disk_reads)
+        × ((R.state rig.new).counts.disk_writes ≡ (R.state rig.old).counts.disk_writes)
         × ((e ≡ Ended.Flash) ⊎ (e ≡ Ended.Disk) → (R.state rig.new).power.stops ≡ []))
-        ⊎ EndsPart (told_for mode options.now) (Reads options.now.geometry.size (I.state source.old) (I.state source.new)) (Tells (O.state sink.old) (O.state sink.new)) (TellsPart (O.state sink.old) (O.state sink.new))
+        ⊎ EndsPart (told_for mode options.now) (Reads options.now.geometry.size (I.state source.old) (I.state source.new))
+        (Tells (O.state sink.old) (O.state sink.new)) (TellsPart (O.state sink.old) (O.state sink.new))
         (ImageStandsFor options.now.geometry) (fitted_for options.now.geometry (R.state rig.old)) (R.state rig.new) e) }
     ensures source { IsErrOf result Ended.Source → Rose (I.state source.old).faults (I.state source.new).faults }
     ensures sink { IsErrOf result Ended.Sink → Rose (O.state sink.old).faults (O.state sink.new).faults }

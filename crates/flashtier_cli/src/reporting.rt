@@ -43,10 +43,12 @@ fn report_once<R: Rig, V: Volume<R>>(rig: &mut R, volume: &mut V) -> Result<Opti
     requires ack { (V.state volume.old).told.ack ≡ ack.Write }
     ensures owns { V.owns volume.new (R.state rig.new).contents }
     ensures told { (V.state volume.new).told ≡ (V.state volume.old).told }
-    ensures kept { Keeps (V.stands (V.state volume.old).told) (V.stands (V.state volume.new).told) (R.state rig.old).contents (R.state rig.new).contents }
+    ensures kept { Keeps (V.stands (V.state volume.old).told) (V.stands (V.state volume.new).told) (R.state rig.old).contents
+        (R.state rig.new).contents }
     ensures asks { Asks (cuts_by result) (R.state rig.old) (R.state rig.new) }
     ensures ready { IfOk result (λ found. OnSome found (KeepsReady (R.state rig.old) (R.state rig.new))) }
-    ensures report { IfOk result (λ found. IfSome found (λ report. IsReportOf (V.state volume.old).told.geometry (V.loads (V.state volume.old).told) (R.state rig.new) report)) }
+    ensures report { IfOk result (λ found. IfSome found
+        (λ report. IsReportOf (V.state volume.old).told.geometry (V.loads (V.state volume.old).told) (R.state rig.new) report)) }
     ensures flash { IsErrOf result Ended.Flash → Rose (R.state rig.old).faults.flash (R.state rig.new).faults.flash }
     ensures disk { IsErrOf result Ended.Disk → Rose (R.state rig.old).faults.disk (R.state rig.new).faults.disk }
     ensures only { OnErr result (IsErrOf result Ended.Flash ⊎ IsErrOf result Ended.Disk ⊎ IsErrOf result Ended.Memory) }
@@ -70,9 +72,12 @@ pub(crate) fn report_through<R: Rig, V: Volume<R>>(
     requires ack { (V.state volume.old).told.ack ≡ ack.Write }
     ensures owns { V.owns volume.new (R.state rig.new).contents }
     ensures told { (V.state volume.new).told ≡ (V.state volume.old).told }
-    ensures kept { Keeps (V.stands (V.state volume.old).told) (V.stands (V.state volume.new).told) (R.state rig.old).contents (R.state rig.new).contents }
-    ensures asks { (cuts : ℕ) × Asks cuts (R.state rig.old) (R.state rig.new) × OnOk result (cuts ≡ 0 → KeepsReady (R.state rig.old) (R.state rig.new)) }
-    ensures report { IfOk result (λ report. IsReportOf (V.state volume.old).told.geometry (V.loads (V.state volume.old).told) (R.state rig.new) report) }
+    ensures kept { Keeps (V.stands (V.state volume.old).told) (V.stands (V.state volume.new).told) (R.state rig.old).contents
+        (R.state rig.new).contents }
+    ensures asks { (cuts : ℕ) × Asks cuts (R.state rig.old) (R.state rig.new)
+        × OnOk result (cuts ≡ 0 → KeepsReady (R.state rig.old) (R.state rig.new)) }
+    ensures report { IfOk result (λ report. IsReportOf (V.state volume.old).told.geometry (V.loads (V.state volume.old).told)
+        (R.state rig.new) report) }
     ensures flash { IsErrOf result Ended.Flash → Rose (R.state rig.old).faults.flash (R.state rig.new).faults.flash }
     ensures disk { IsErrOf result Ended.Disk → Rose (R.state rig.old).faults.disk (R.state rig.new).faults.disk }
     ensures only { OnErr result (IsErrOf result Ended.Flash ⊎ IsErrOf result Ended.Disk ⊎ IsErrOf result Ended.Memory) }
@@ -103,7 +108,8 @@ fn text_of(alloc: Global, report: &Report) -> Result<String, AllocError>
 /// Prints the four lines of a report together.
 fn print_report<O: Sink>(alloc: Global, sink: &mut O, report: &Report) -> Result<(), Ended>
     ensures printed { OnOk result (Prints report.now (O.state sink.old) (O.state sink.new)) }
-    ensures short { IsErrOf result Ended.Sink → (n : ℕ) × (n < length (report_text report.now)) × Appends (O.state sink.old).taken (O.state sink.new).taken (take n (report_text report.now)) }
+    ensures short { IsErrOf result Ended.Sink → (n : ℕ) × (n < length (report_text report.now))
+        × Appends (O.state sink.old).taken (O.state sink.new).taken (take n (report_text report.now)) }
     ensures silent { IsErrOf result Ended.Memory → sink.new ≡ sink.old }
     ensures rose { IsErrOf result Ended.Sink → Rose (O.state sink.old).faults (O.state sink.new).faults }
     ensures only { OnErr result (IsErrOf result Ended.Sink ⊎ IsErrOf result Ended.Memory) }
@@ -129,10 +135,14 @@ pub(crate) fn tell_report<O: Sink, R: Rig, V: Volume<R>>(
     requires on { (R.state rig.old).power.on ≡ true }
     requires ack { (V.state volume.old).told.ack ≡ ack.Write }
     ensures told { (V.state volume.new).told ≡ (V.state volume.old).told }
-    ensures kept { Keeps (V.stands (V.state volume.old).told) (V.stands (V.state volume.new).told) (R.state rig.old).contents (R.state rig.new).contents }
-    ensures asks { (cuts : ℕ) × Asks cuts (R.state rig.old) (R.state rig.new) × OnOk result (cuts ≡ 0 → KeepsReady (R.state rig.old) (R.state rig.new)) }
-    ensures printed { OnOk result (PrintsReport (V.state volume.old).told.geometry (V.loads (V.state volume.old).told) (R.state rig.new) (O.state sink.old) (O.state sink.new)) }
-    ensures short { IsErrOf result Ended.Sink → PrintsFront (V.state volume.old).told.geometry (V.loads (V.state volume.old).told) (R.state rig.new) (O.state sink.old) (O.state sink.new) }
+    ensures kept { Keeps (V.stands (V.state volume.old).told) (V.stands (V.state volume.new).told) (R.state rig.old).contents
+        (R.state rig.new).contents }
+    ensures asks { (cuts : ℕ) × Asks cuts (R.state rig.old) (R.state rig.new)
+        × OnOk result (cuts ≡ 0 → KeepsReady (R.state rig.old) (R.state rig.new)) }
+    ensures printed { OnOk result (PrintsReport (V.state volume.old).told.geometry (V.loads (V.state volume.old).told) (R.state rig.new)
+        (O.state sink.old) (O.state sink.new)) }
+    ensures short { IsErrOf result Ended.Sink → PrintsFront (V.state volume.old).told.geometry (V.loads (V.state volume.old).told)
+        (R.state rig.new) (O.state sink.old) (O.state sink.new) }
     ensures silent { IfErr result (λ e. e ≢ Ended.Sink → sink.new ≡ sink.old) }
     ensures sink { IsErrOf result Ended.Sink → Rose (O.state sink.old).faults (O.state sink.new).faults }
     ensures flash { IsErrOf result Ended.Flash → Rose (R.state rig.old).faults.flash (R.state rig.new).faults.flash }

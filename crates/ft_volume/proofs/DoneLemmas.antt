@@ -6,7 +6,7 @@ use Rattle.ft_base.specs.Contents.{Contents, Image}
 use Rattle.ft_base.specs.PlainDisk.{PlainDisk, BlockWrite, after_writes}
 use Rattle.ft_base.specs.Told.{Told}
 use Rattle.ft_volume.specs.declared.volume.VolumeError.{VolumeError}
-use Rattle.ft_volume.specs.Volume.{Call, Done, Finds, IsAny, IsDisk, IsUnopened, Leaves, StandFor, StandForEither, VolumeState, WasDone, WasOne, stages, writes_of}
+use Rattle.ft_volume.specs.Volume.{Call, Done, Finds, IsAny, IsDisk, IsUnopened, LeavesOwed, StandFor, StandForEither, VolumeState, WasDone, WasOne, stages, writes_of}
 
 -- ---- writes in a row
 
@@ -26,7 +26,7 @@ append_none (w ∷ ws) = ap (λ vs. w ∷ vs) (append_none ws)
 all_kept : (k : ℕ) (ws : List BlockWrite) → [] ≡ drop k ws → take k ws ≡ ws
 all_kept k ws none = sym (append_none (take k ws)) ∙ ap (λ vs. take k ws ++ vs) none ∙ take-append-drop k ws
 
-leaves_all : (stands : Image → PlainDisk → Type 0) (after : Contents) (owed all : List BlockWrite) (d : PlainDisk) → owed ≡ [] → Leaves stands after owed all d → StandFor stands after (after_writes all d)
+leaves_all : (stands : Image → PlainDisk → Type 0) (after : Contents) (owed all : List BlockWrite) (d : PlainDisk) → owed ≡ [] → LeavesOwed stands after owed all d → StandFor stands after (after_writes all d)
 leaves_all stands after owed all d none leaves = subst (λ ws. StandFor stands after (after_writes ws d)) (all_kept leaves.kept all (sym none ∙ leaves.owes)) leaves.media
 
 -- ---- one disk of several
@@ -46,7 +46,7 @@ on_ok (Ok v) A B step holds = step holds
 on_ok (Err e) A B step holds = tt
 
 -- with what is owed on top
-leaves_disk : (stands : Told → Image → PlainDisk → Type 0) (new : VolumeState) (after : Contents) (all : List BlockWrite) (base : PlainDisk) → Leaves (stands new.told) after new.owed all base → IsDisk stands new after (after_writes all base)
+leaves_disk : (stands : Told → Image → PlainDisk → Type 0) (new : VolumeState) (after : Contents) (all : List BlockWrite) (base : PlainDisk) → LeavesOwed (stands new.told) after new.owed all base → IsDisk stands new after (after_writes all base)
 leaves_disk stands new after all base leaves = record {
   base = after_writes (take leaves.kept all) base;
   media = leaves.media;
@@ -96,7 +96,8 @@ pub under_ok : {T : Type 0} (result : Result T VolumeError) (A B : PlainDisk →
 under_ok (Ok v) A B each = each
 under_ok (Err e) A B each = tt
 
-pub answered : {T : Type 0} (stands : Told → Image → PlainDisk → Type 0) (call : Call) (old new : VolumeState) (before after : Contents) (result : Result T VolumeError) (v : T) (d : PlainDisk) → result ≡ Ok v → Done stands call old new before after result → IsDisk stands old before d → IsDisk stands new after (after_writes (writes_of call) d) × Finds call d
+pub answered : {T : Type 0} (stands : Told → Image → PlainDisk → Type 0) (call : Call) (old new : VolumeState) (before after : Contents) (result : Result T VolumeError) (v : T) (d : PlainDisk)
+    → result ≡ Ok v → Done stands call old new before after result → IsDisk stands old before d → IsDisk stands new after (after_writes (writes_of call) d) × Finds call d
 answered {T = T} stands call old new before after result v d ok done is = still_disk stands call old new before after (Ok v) d is (subst (λ (r : Result T VolumeError). Done stands call old new before after r) ok done)
 
 -- ---- for who makes a volume: a call that did so to each plain disk, and owes nothing, is done
@@ -109,7 +110,7 @@ take_whole : (ws : List BlockWrite) → take (length ws) ws ≡ ws
 take_whole [] = refl
 take_whole (w ∷ ws) = ap (λ vs. w ∷ vs) (take_whole ws)
 
-leaves_none : (stands : Image → PlainDisk → Type 0) (after : Contents) (owed all : List BlockWrite) (d : PlainDisk) → owed ≡ [] → StandFor stands after (after_writes all d) → Leaves stands after owed all d
+leaves_none : (stands : Image → PlainDisk → Type 0) (after : Contents) (owed all : List BlockWrite) (d : PlainDisk) → owed ≡ [] → StandFor stands after (after_writes all d) → LeavesOwed stands after owed all d
 leaves_none stands after owed all d none stand = record {
   kept = length all;
   owes = none ∙ sym (drop_whole all);
@@ -120,7 +121,8 @@ at_stage : (p : PlainDisk → Type 0) (owed writes : List BlockWrite) (d : Plain
 at_stage p owed writes d none (inl is) = inl is
 at_stage p owed writes d none (inr is) = inr (inr (inl (subst (λ (ws : List BlockWrite). p (after_writes writes (after_writes ws d))) (sym none) is)))
 
-pub done_of_one : {T : Type 0} (stands : Told → Image → PlainDisk → Type 0) (call : Call) (old new : VolumeState) (after : Contents) (result : Result T VolumeError) (d : PlainDisk) → old.owed ≡ [] → new.owed ≡ [] → WasOne (stands new.told) call after result d → OnErr result (new.down ≡ false → StandFor (stands new.told) after d) → WasDone stands call old new after result d
+pub done_of_one : {T : Type 0} (stands : Told → Image → PlainDisk → Type 0) (call : Call) (old new : VolumeState) (after : Contents) (result : Result T VolumeError) (d : PlainDisk) → old.owed ≡ []
+    → new.owed ≡ [] → WasOne (stands new.told) call after result d → OnErr result (new.down ≡ false → StandFor (stands new.told) after d) → WasDone stands call old new after result d
 done_of_one {T = T} stands call old new after result d none none_new one up = record {
   images = λ x now. at_stage (stands new.told x) old.owed (writes_of call) d none (one.images x now);
   lost = λ is. at_stage (StandFor (stands new.told) after) old.owed (writes_of call) d none (one.one is);
@@ -130,10 +132,10 @@ done_of_one {T = T} stands call old new after result d none none_new one up = re
   memory = λ is. as_before (one.memory is);
 }
   where
-    as_before : StandFor (stands new.told) after d → Leaves (stands new.told) after new.owed old.owed d
+    as_before : StandFor (stands new.told) after d → LeavesOwed (stands new.told) after new.owed old.owed d
     as_before stand = leaves_none (stands new.told) after new.owed old.owed d none_new (subst (λ (ws : List BlockWrite). StandFor (stands new.told) after (after_writes ws d)) (sym none) stand)
 
-    on_err : (r : Result T VolumeError) → OnErr r (new.down ≡ false → StandFor (stands new.told) after d) → OnErr r (new.down ≡ false → Leaves (stands new.told) after new.owed old.owed d)
+    on_err : (r : Result T VolumeError) → OnErr r (new.down ≡ false → StandFor (stands new.told) after d) → OnErr r (new.down ≡ false → LeavesOwed (stands new.told) after new.owed old.owed d)
     on_err (Ok v) up = tt
     on_err (Err e) up = λ now. as_before (up now)
 

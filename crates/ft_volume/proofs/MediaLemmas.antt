@@ -11,12 +11,12 @@ use Rattle.ft_base.specs.Told.{Told}
 use Rattle.ft_base.proofs.Images.{newest_image, set_here, value_image, with_newest, with_value}
 use Rattle.cache_model.specs.Cache.{CacheList}
 use Rattle.cache_model.specs.Records.{Entries}
-use Rattle.cache_model.specs.Stands.{ImageStandsFor, MediaStandFor, StandsFor, held_at}
+use Rattle.cache_model.specs.Stands.{ImageStandsFor, MediaStandFor, FlashStandsFor, held_at}
 use Rattle.ft_volume.specs.Opening.{ImageIs, Opens}
 use Rattle.ft_volume.specs.Volume.{StandFor}
 
 -- flash stands for one list at most
-same_list : (g : Geometry) (page : Place → Page) (s t : CacheList) → StandsFor g page s → StandsFor g page t → (a : ℕ) → get s a ≡ get t a
+same_list : (g : Geometry) (page : Place → Page) (s t : CacheList) → FlashStandsFor g page s → FlashStandsFor g page t → (a : ℕ) → get s a ≡ get t a
 same_list g page s t first second a =
     let same = sym first.loads ∙ second.loads in
     let loaded : first.loaded ≡ second.loaded = cc in
@@ -46,7 +46,7 @@ opening_keeps told old new f l d opens stand x now =
     let before = stand y (record { pages = refl; blocks = λ lba. opens.values lba (x.block lba) (now.blocks lba) }) in
     record {
       list = before.list;
-      flash = subst (λ (page : Place → Page). StandsFor told.geometry page before.list) (sym now.pages) (opens.lists before.list before.flash);
+      flash = subst (λ (page : Place → Page). FlashStandsFor told.geometry page before.list) (sym now.pages) (opens.lists before.list before.flash);
       agrees = before.agrees;
       suits = before.suits;
       volume = before.volume;

@@ -131,7 +131,8 @@ module _ {S T : Type 0} (stands : Told → Image → PlainDisk → Type 0) (load
   pub costs_refused : (call : Call) (m : Entries) → Costs {T = T} call (opened_of old m) new before after (Err e)
   costs_refused call m = costs_err call (opened_of old m) new before after e up.disk_reads up.disk_writes
 
-pub done_refused : {S T : Type 0} (stands : Told → Image → PlainDisk → Type 0) (loads : Told → (Place → Page) → Entries → Type 0) (call : Call) (old new : VolumeState) (before after : State) (e : VolumeError) → ComesUp {T = S} stands loads old new before after (Err e) → Done {T = T} stands call old new before.contents after.contents (Err e)
+pub done_refused : {S T : Type 0} (stands : Told → Image → PlainDisk → Type 0) (loads : Told → (Place → Page) → Entries → Type 0) (call : Call) (old new : VolumeState) (before after : State)
+    (e : VolumeError) → ComesUp {T = S} stands loads old new before after (Err e) → Done {T = T} stands call old new before.contents after.contents (Err e)
 done_refused {T = T} stands loads call old new before after PowerLost up bases any = inl (any_map (StandFor (stands new.told) after.contents) (WasDone {T = T} stands call old new after.contents (Err PowerLost)) (λ base stand. record {
   images = λ x now. inl (stand x now);
   lost = λ is. inl stand;

@@ -13,7 +13,7 @@ use Rattle.ft_base.specs.declared.told.Mode.{Mode}
 use Rattle.ft_base.specs.declared.told.Mode.TheVariants.{Back, Through}
 use Rattle.cache_model.specs.Cache.{Agrees, CacheList, Held, dirty_between, vol}
 use Rattle.cache_model.specs.Loading.{load}
-use Rattle.cache_model.specs.Stands.{StandsFor, settled}
+use Rattle.cache_model.specs.Stands.{FlashStandsFor, settled}
 use Rattle.ft_volume.specs.Volume.{VolumeState}
 
 -- a cache that writes through has no block that the disk lacks
@@ -24,14 +24,14 @@ Suits Through s = (a : ℕ) (h : Held) → get s a ≡ Some h → h.dirty ≡ fa
 -- an image is this plain disk, below the size: what its flash stands for, over its disk, with which it agrees
 pub record ImageIs (told : Told) (image : Image) (d : PlainDisk) : Type 0 where
   pub list : CacheList
-  pub flash : StandsFor told.geometry image.page list
+  pub flash : FlashStandsFor told.geometry image.page list
   pub agrees : Agrees list (settled image.block)
   pub suits : Suits told.mode list
   pub volume : (a : ℕ) → a < told.geometry.size → vol list image.block a ≡ d a
 
 -- where flash stands for a list, a volume of this mode may be opened over it and this disk
 abbrev pub MayOpen : Told → Contents → Type 0
-MayOpen told contents = (s : CacheList) → StandsFor told.geometry contents.flash.page s → Agrees s contents.disk × Suits told.mode s
+MayOpen told contents = (s : CacheList) → FlashStandsFor told.geometry contents.flash.page s → Agrees s contents.disk × Suits told.mode s
 
 -- a volume that was made so, and opened over flash which stood for this list
 pub record IsOpened (made : Told) (s : CacheList) (v : VolumeState) : Type 0 where
@@ -43,8 +43,8 @@ pub record IsOpened (made : Told) (s : CacheList) (v : VolumeState) : Type 0 whe
   pub log_room : v.log_room ≡ log_pages made.geometry
 
 -- the plain disk is what the disk has, below the size
-abbrev pub IsNewest : Geometry → Contents → PlainDisk → Type 0
-IsNewest g contents d = (a : ℕ) → a < g.size → (contents.disk a).newest ≡ d a
+abbrev pub IsNewestOnDisk : Geometry → Contents → PlainDisk → Type 0
+IsNewestOnDisk g contents d = (a : ℕ) → a < g.size → (contents.disk a).newest ≡ d a
 
 -- what a new volume holds
 abbrev pub nothing_held : CacheList
@@ -53,7 +53,7 @@ nothing_held = empty
 -- what an opening makes of the media, whatever it answers: the flash stands for what it stood for, and the disk is flushed
 pub record Opens (g : Geometry) (old new : Contents) (disk_failed was_lost : Bool) : Type 0 where
   pub loads : load g new.flash.page ≡ load g old.flash.page
-  pub lists : (s : CacheList) → StandsFor g old.flash.page s → StandsFor g new.flash.page s
+  pub lists : (s : CacheList) → FlashStandsFor g old.flash.page s → FlashStandsFor g new.flash.page s
   pub values : (lba : ℕ) (b : Block) → HasValue (new.disk lba) b → HasValue (old.disk lba) b
   pub flushed : disk_failed ≡ false → was_lost ≡ false → (lba : ℕ) → new.disk lba ≡ flushed (old.disk lba)
   pub unflushed : disk_failed ≡ true → new.disk ≡ old.disk

@@ -108,7 +108,8 @@ abbrev pub stages : List BlockWrite → List BlockWrite → PlainDisk → List P
 stages owed writes base = base ∷ after_writes owed base ∷ after_writes writes (after_writes owed base) ∷ []
 
 -- the first of these writes are on the media, and the others are owed
-pub record Leaves (stands : Image → PlainDisk → Type 0) (contents : Contents) (owed all : List BlockWrite) (base : PlainDisk) : Type 0 where
+pub record LeavesOwed (stands : Image → PlainDisk → Type 0) (contents : Contents) (owed all : List BlockWrite)
+    (base : PlainDisk) : Type 0 where
   pub kept : ℕ
   pub owes : owed ≡ drop kept all
   pub media : StandFor stands contents (after_writes (take kept all) base)
@@ -120,32 +121,37 @@ fixes (Err PowerLost) = true
 fixes (Err e) = false
 
 -- a call that found this plain disk on the media
-pub record WasDone {T : Type 0} (stands : Told → Image → PlainDisk → Type 0) (call : Call) (old new : VolumeState) (after : Contents) (result : Result T VolumeError) (base : PlainDisk) : Type 0 where
+pub record WasDone {T : Type 0} (stands : Told → Image → PlainDisk → Type 0) (call : Call) (old new : VolumeState) (after : Contents)
+    (result : Result T VolumeError) (base : PlainDisk) : Type 0 where
   pub images : StandForAny (stands new.told) after (stages old.owed (writes_of call) base)
   pub lost : IsErrOf result PowerLost → StandForOneOf (stands new.told) after (stages old.owed (writes_of call) base)
-  pub done : OnOk result (Leaves (stands new.told) after new.owed (old.owed ++ writes_of call) base)
+  pub done : OnOk result (LeavesOwed (stands new.told) after new.owed (old.owed ++ writes_of call) base)
   pub found : OnOk result (Finds call (after_writes old.owed base))
   -- refused, it wrote nothing where it stays up, and for want of memory
-  pub up : OnErr result (new.down ≡ false → Leaves (stands new.told) after new.owed old.owed base)
-  pub memory : IsErrOf result OutOfMemory → Leaves (stands new.told) after new.owed old.owed base
+  pub up : OnErr result (new.down ≡ false → LeavesOwed (stands new.told) after new.owed old.owed base)
+  pub memory : IsErrOf result OutOfMemory → LeavesOwed (stands new.told) after new.owed old.owed base
 
 -- the opening was refused, so each of these plain disks is still possible, and the volume is down
-pub record IsUnopened {T : Type 0} (stands : Told → Image → PlainDisk → Type 0) (old new : VolumeState) (after : Contents) (result : Result T VolumeError) (bases : List PlainDisk) : Type 0 where
+pub record IsUnopened {T : Type 0} (stands : Told → Image → PlainDisk → Type 0) (old new : VolumeState) (after : Contents)
+    (result : Result T VolumeError) (bases : List PlainDisk) : Type 0 where
   pub fixes : fixes result ≡ false
   pub inside : (IsErrOf result OutOfVolume → ⊥) → (old.down ≡ true) × (new.down ≡ true)
   pub images : StandForAny (stands new.told) after bases
 
 -- of the plain disks that were possible a call fixes one, unless its opening is refused
-abbrev pub Done : {T : Type 0} → (Told → Image → PlainDisk → Type 0) → Call → VolumeState → VolumeState → Contents → Contents → Result T VolumeError → Type 0
+abbrev pub Done : {T : Type 0} → (Told → Image → PlainDisk → Type 0) → Call → VolumeState → VolumeState → Contents → Contents
+    → Result T VolumeError → Type 0
 Done stands call old new before after result = (bases : List PlainDisk) → StandForAny (stands old.told) before bases
     → IsAny (WasDone stands call old new after result) bases ⊎ IsUnopened stands old new after result bases
 
 -- and so does a cut
 abbrev pub Fixes : (Told → Image → PlainDisk → Type 0) → VolumeState → VolumeState → Contents → Contents → Type 0
-Fixes stands old new before after = (bases : List PlainDisk) → StandForAny (stands old.told) before bases → StandForOneOf (stands new.told) after bases
+Fixes stands old new before after = (bases : List PlainDisk) → StandForAny (stands old.told) before bases
+    → StandForOneOf (stands new.told) after bases
 
 -- a call that found one plain disk, with nothing owed before or after it
-pub record WasOne {T : Type 0} (stands : Image → PlainDisk → Type 0) (call : Call) (after : Contents) (result : Result T VolumeError) (d : PlainDisk) : Type 0 where
+pub record WasOne {T : Type 0} (stands : Image → PlainDisk → Type 0) (call : Call) (after : Contents) (result : Result T VolumeError)
+    (d : PlainDisk) : Type 0 where
   pub kept : writes_of call ≡ [] → StandFor stands after d
   pub found : OnOk result (Finds call d)
   pub done : OnOk result (StandFor stands after (after_writes (writes_of call) d))
@@ -195,7 +201,12 @@ dirty_lbas m = map (λ x. x.0) (filter (λ x. x.1.dirty) (entries m))
 
 -- it is opened over flash that has these entries; its log is empty then
 abbrev pub opened : VolumeState → Entries → VolumeState
-opened old m = record old { down = false; held = λ a. is_some (get m a); table = table_of old.told.geometry.p [] (dirty_lbas m); log_room = log_pages old.told.geometry }
+opened old m = record old {
+  down = false;
+  held = λ a. is_some (get m a);
+  table = table_of old.told.geometry.p [] (dirty_lbas m);
+  log_room = log_pages old.told.geometry;
+}
 
 -- where it is down it is opened first
 abbrev pub opened_of : VolumeState → Entries → VolumeState
@@ -240,14 +251,14 @@ pub record LieIn (told : Told) (call : Call) (held : ℕ → Bool) (groups : Lis
   pub all : (a : ℕ) → (held a ≡ true) ⊎ IsOwn call a → list_any (λ k. k == a / told.geometry.p) groups ≡ true
 
 -- what is held after an answer: also its own address, and no other new one; all of it, where few groups are held
-pub record Holds (told : Told) (call : Call) (old new : ℕ → Bool) : Type 0 where
+pub record HoldsAfter (told : Told) (call : Call) (old new : ℕ → Bool) : Type 0 where
   pub own : (a : ℕ) → IsOwn call a → new a ≡ true
   pub only : (a : ℕ) → new a ≡ true → (old a ≡ true) ⊎ IsOwn call a
   pub stays : (groups : List ℕ) → LieIn told call old groups → (a : ℕ) → old a ≡ true → new a ≡ true
 
 pub record Costs {T : Type 0} (call : Call) (old new : VolumeState) (before after : State) (result : Result T VolumeError) : Type 0 where
   pub table : OnOk result (new.table ≡ table_after call old.told old.table)
-  pub held : OnOk result (Holds old.told call old.held new.held)
+  pub held : OnOk result (HoldsAfter old.told call old.held new.held)
   pub disk_writes : OnOk result (RoseBy (backs_of call old.told old.table) before.counts.disk_writes after.counts.disk_writes)
   pub most_writes : after.counts.disk_writes ≤ before.counts.disk_writes + backs_of call old.told old.table
   pub most_reads : after.counts.disk_reads ≤ before.counts.disk_reads + misses call old.held
@@ -255,7 +266,8 @@ pub record Costs {T : Type 0} (call : Call) (old new : VolumeState) (before afte
 -- ---- what an idle step answers, of so many dirty groups and so many pages left of the log
 
 abbrev pub idled_of : Told → ℕ → ℕ → Idled
-idled_of told groups room = if goes_back told.mode told.dirty groups then Cleaned else (if nat_le (2 * room) (log_pages told.geometry) then Checkpointed else Nothing)
+idled_of told groups room = if goes_back told.mode told.dirty groups then Cleaned else
+    (if nat_le (2 * room) (log_pages told.geometry) then Checkpointed else Nothing)
 
 -- ---- what a report says
 
@@ -279,7 +291,8 @@ IsFixed stands contents true ds = StandForOneOf stands contents ds
 IsFixed stands contents false ds = StandForAny stands contents ds
 
 -- a volume is opened where it is down, before a call does its work
-pub record ComesUp {T : Type 0} (stands : Told → Image → PlainDisk → Type 0) (loads : Told → (Place → Page) → Entries → Type 0) (old new : VolumeState) (before after : State) (result : Result T VolumeError) : Type 0 where
+pub record ComesUp {T : Type 0} (stands : Told → Image → PlainDisk → Type 0) (loads : Told → (Place → Page) → Entries → Type 0)
+    (old new : VolumeState) (before after : State) (result : Result T VolumeError) : Type 0 where
   pub told : new.told ≡ old.told
   pub owed : new.owed ≡ old.owed
   pub same : old.down ≡ false → (new ≡ old) × (after ≡ before)
@@ -289,7 +302,8 @@ pub record ComesUp {T : Type 0} (stands : Told → Image → PlainDisk → Type 
   -- whatever it answers, it neither reads nor writes a block of the disk
   pub disk_reads : after.counts.disk_reads ≡ before.counts.disk_reads
   pub disk_writes : after.counts.disk_writes ≡ before.counts.disk_writes
-  pub fixed : (bases : List PlainDisk) → StandForAny (stands old.told) before.contents bases → IsFixed (stands new.told) after.contents (fixes result) bases
+  pub fixed : (bases : List PlainDisk) → StandForAny (stands old.told) before.contents bases
+      → IsFixed (stands new.told) after.contents (fixes result) bases
   pub ready : OnOk result (KeepsReady before after)
   pub within : IsErrOf result OutOfVolume → ⊥
   pub cause : HasCause before.faults after.faults result

@@ -30,8 +30,10 @@ pub fn answers_law<R: Rig, V: Volume<R>, T>()
 /// Media whose images are a plain disk are that disk as they are, and the flash agrees with every value
 /// that a disk block may show.
 pub fn media_law()
-    ensures media { (g : Geometry) (contents : Contents) (d : PlainDisk) → StandFor (ImageStandsFor g) contents d → MediaStandFor g contents d }
-    ensures images { (g : Geometry) (contents : Contents) (d : PlainDisk) → MediaStandFor g contents d → StandFor (ImageStandsFor g) contents d }
+    ensures media { (g : Geometry) (contents : Contents) (d : PlainDisk) → StandFor (ImageStandsFor g) contents d
+        → MediaStandFor g contents d }
+    ensures images { (g : Geometry) (contents : Contents) (d : PlainDisk) → MediaStandFor g contents d
+        → StandFor (ImageStandsFor g) contents d }
     ensures of_mode { (told : Told) (image : Image) (d : PlainDisk) → ImageIs told image d → ImageStandsFor told.geometry image d }
 {}
 

@@ -135,7 +135,8 @@ pub trait Volume<R: Rig> {
         ensures costs { (m : Entries) → loads (state self.old).told (R.state rig.old).contents.flash.page m
             → Costs Idles (opened_of (state self.old) m) (state self.new) (R.state rig.old) (R.state rig.new) result }
         ensures idled { IfOk result (λ idled. (m : Entries) → loads (state self.old).told (R.state rig.old).contents.flash.page m
-            → idled ≡ idled_of (state self.old).told (length (opened_of (state self.old) m).table) (opened_of (state self.old) m).log_room) }
+            → idled ≡ idled_of (state self.old).told (length (opened_of (state self.old) m).table)
+            (opened_of (state self.old) m).log_room) }
         ensures within { IsErrOf result VolumeError.OutOfVolume → ⊥ };
 
     /// Puts all that is buffered or owed on the media, reads every page that is held, and says what there

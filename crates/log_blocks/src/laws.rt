@@ -16,7 +16,8 @@ pub fn laws_of_a_block_put_at_the_end()
 pub fn laws_of_a_block_taken_out()
     ensures is_in { (other block : ℕ) (list : List ℕ) → is_in other (without block list) ≡ (not (block == other) && is_in other list) }
     ensures last { (block last : ℕ) (list : List ℕ) → block ≢ last → last_of list ≡ Some last → last_of (without block list) ≡ Some last }
-    ensures length { (block : ℕ) (list : List ℕ) → IsDistinct nat_eq list → is_in block list ≡ true → length (without block list) + 1 ≡ length list }
+    ensures length { (block : ℕ) (list : List ℕ) → IsDistinct nat_eq list → is_in block list ≡ true
+        → length (without block list) + 1 ≡ length list }
     ensures oldest { (block : ℕ) (list : List ℕ) → IsDistinct nat_eq (block ∷ list) → without block (block ∷ list) ≡ list }
 {}
 

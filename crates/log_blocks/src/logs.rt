@@ -32,7 +32,8 @@ impl Model for LogBlocks {
 
     ghost view = { λ b. record { geometry = b.geometry; used = b.used.items; open_block = b.open_block; room = b.room } };
 
-    ghost invariant = { λ b. IsSound (record { geometry = b.geometry; used = b.used.items; open_block = b.open_block; room = b.room }) × (b.geometry.l ≤ vec_capacity b.used) };
+    ghost invariant = { λ b. IsSound (record { geometry = b.geometry; used = b.used.items; open_block = b.open_block; room = b.room })
+        × (b.geometry.l ≤ vec_capacity b.used) };
 }
 
 impl LogBlocks {
@@ -133,12 +134,15 @@ impl LogBlocks {
         requires shape { (M.state media.old).contents.shape.pages ≡ self.old.geometry.p }
         requires ready { (M.state media.old).contents.flash.next (next_place self.old).block ≡ Some (next_place self.old).page }
         ensures place { IfOk result (λ at. at ≡ next_place self.old) }
-        ensures programmed { OnOk result ((M.state media.new).contents.flash ≡ after_program (M.state media.old).contents.flash (next_place self.old) block.now (data_spare lba)) }
+        ensures programmed { OnOk result ((M.state media.new).contents.flash ≡ after_program (M.state media.old).contents.flash
+            (next_place self.old) block.now (data_spare lba)) }
         ensures logs { OnOk result (self.new ≡ record self.old { room = self.old.room - 1 }) }
         ensures refused { OnErr result (self.new ≡ self.old) }
         // Whatever is answered, and wherever power went off, no other page changes.
-        ensures page { LeavesPage (M.state media.old).contents.flash (M.state media.new).contents.flash (next_place self.old) block.now (data_spare lba) }
-        ensures not_ready { IsErrOf result MediaError.Failed → (M.state media.new).contents.flash.next ≡ set (M.state media.old).contents.flash.next (next_place self.old).block None }
+        ensures page { LeavesPage (M.state media.old).contents.flash (M.state media.new).contents.flash (next_place self.old) block.now
+            (data_spare lba) }
+        ensures not_ready { IsErrOf result MediaError.Failed
+            → (M.state media.new).contents.flash.next ≡ set (M.state media.old).contents.flash.next (next_place self.old).block None }
         ensures sound { IsSound self.new }
         ensures counts { (M.state media.new).counts ≡ if_ok result (program_counted (M.state media.old).counts) (M.state media.old).counts }
         ensures spends { OnOk result (Spends 1 (M.state media.old) (M.state media.new)) }

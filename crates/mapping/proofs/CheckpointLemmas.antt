@@ -76,7 +76,9 @@ module _ {X : Type 0} (f : X → Record) where
   pub items_none : (items : List X) (before from : ℕ) (out : List Record) → ItemsOffered items before from out out 0 before
   items_none items before from out = record { at_is = omega arith; window = λ records long has. subst (λ (l : List Record). HasWindow l from out) (sym (append-nil records)) has }
 
-  pub items_more : (items : List X) (before from : ℕ) (old now now' : List Record) (i at : ℕ) (d : X) → i < length items → ItemsOffered items before from old now i at → ((records : List Record) → length records ≡ at → HasWindow records from now → HasWindow (records ++ f (get_or items i d) ∷ []) from now') → ItemsOffered items before from old now' (i + 1) (at + 1)
+  pub items_more : (items : List X) (before from : ℕ) (old now now' : List Record) (i at : ℕ) (d : X) → i < length items → ItemsOffered items before from old now i at
+      → ((records : List Record) → length records ≡ at → HasWindow records from now → HasWindow (records ++ f (get_or items i d) ∷ []) from now')
+      → ItemsOffered items before from old now' (i + 1) (at + 1)
   items_more items before from old now now' i at d within so_far offer =
       let x = get_or items i d in
       let more : map f (take (i + 1) items) ≡ map f (take i items) ++ f (get_or items i d) ∷ [] = ap (map f) (take_more items i d within) ∙ map-append f (take i items) (get_or items i d ∷ []) in
@@ -137,7 +139,8 @@ module _ {X : Type 0} (f : X → Record) (slots : List (Option X)) where
       ∙ ap items_of (take-append-add (take (32 * i) slots) (drop (32 * i) slots) 32)
       ∙ items_of-append (take (32 * i) slots) (take 32 (drop (32 * i) slots))
 
-  pub groups_more : (before from : ℕ) (old now now' : List Record) (i at : ℕ) (items : List X) → 32 * i < length slots → items ≡ items_of (group slots i) → GroupsOffered before from old now i at → ((records : List Record) → length records ≡ at → HasWindow records from now → HasWindow (records ++ map f items) from now') → GroupsOffered before from old now' (i + 1) (at + length items)
+  pub groups_more : (before from : ℕ) (old now now' : List Record) (i at : ℕ) (items : List X) → 32 * i < length slots → items ≡ items_of (group slots i) → GroupsOffered before from old now i at
+      → ((records : List Record) → length records ≡ at → HasWindow records from now → HasWindow (records ++ map f items) from now') → GroupsOffered before from old now' (i + 1) (at + length items)
   groups_more before from old now now' i at items within are so_far offer =
       let front = items_of (take (32 * i) slots) in
       let more : items_of (take (32 * (i + 1)) slots) ≡ items_of (take (32 * i) slots) ++ items = one_group i (omega arith) ∙ ap (λ (l : List X). items_of (take (32 * i) slots) ++ l) (sym are) in

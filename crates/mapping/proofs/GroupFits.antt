@@ -124,7 +124,10 @@ module _ (g : Geometry) (old : Entries) (is_map : IsMap g old) (group block pres
   pub too_many_blocks : (has b : Bool) → ((has ≡ true → HasPageBelow present g.p) × (HasPageBelow present g.p → has ≡ true)) → ((b ≡ true → MayHave g old BlockMapped group has) × (MayHave g old BlockMapped group has → b ≡ true)) → b ≡ false → Fits g (SetGroup group block present dirty) old → ⊥
   too_many_blocks has b is may f fits = both_ways b f (may.1 ((may_have_fits g BlockMapped group old (after g (SetGroup group block present dirty) old) has (mapped_change has is) is_map.data_blocks).1 (fits_group g old is_map group block present dirty fits).data_blocks))
 
-  pub group_decides : (has has' b b' : Bool) → IsInReach g (SetGroup group block present dirty) → BlockMayCome g group block present old → ((has ≡ true → HasPageBelow present g.p) × (HasPageBelow present g.p → has ≡ true)) → ((b ≡ true → MayHave g old BlockMapped group has) × (MayHave g old BlockMapped group has → b ≡ true)) → b ≡ true → ((has' ≡ true → HasPageBelow (bit_and present dirty) g.p) × (HasPageBelow (bit_and present dirty) g.p → has' ≡ true)) → ((b' ≡ true → MayHave g old Dirty group has') × (MayHave g old Dirty group has' → b' ≡ true)) → IsTrue b' ↔ Fits g (SetGroup group block present dirty) old
+  pub group_decides : (has has' b b' : Bool) → IsInReach g (SetGroup group block present dirty) → BlockMayCome g group block present old
+      → ((has ≡ true → HasPageBelow present g.p) × (HasPageBelow present g.p → has ≡ true)) → ((b ≡ true → MayHave g old BlockMapped group has) × (MayHave g old BlockMapped group has → b ≡ true))
+      → b ≡ true → ((has' ≡ true → HasPageBelow (bit_and present dirty) g.p) × (HasPageBelow (bit_and present dirty) g.p → has' ≡ true))
+      → ((b' ≡ true → MayHave g old Dirty group has') × (MayHave g old Dirty group has' → b' ≡ true)) → IsTrue b' ↔ Fits g (SetGroup group block present dirty) old
   group_decides has has' b b' reach come is may t is' may' =
       let blocks_fit = (may_have_fits g BlockMapped group old (after g (SetGroup group block present dirty) old) has (mapped_change has is) is_map.data_blocks).0 (may.0 t) in
       let decide = may_have_fits g Dirty group old (after g (SetGroup group block present dirty) old) has' (dirty_change has' is') is_map.dirty_groups in (

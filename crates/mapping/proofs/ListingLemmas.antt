@@ -1,5 +1,6 @@
 -- The records of a checkpoint in the order of the buckets: each data block and each log page once.
-use Rattle.std.proofs.Common.{◌≡◌, ℕ, zero, suc, ◌+◌, ◌*◌, ◌/◌, ◌%◌, ◌^◌, ◌<◌, ◌≤◌, ◌==◌, ◌||◌, Bool, true, false, cond, not, List, [], ◌∷◌, ◌++◌, length, map, filter, Option, Some, None, Result, Ok, Err, OnOk, OnErr, refl, sym, ◌∙◌, ap, ap₂, arith, inl, inr, ◌⊎◌, nat_cmp, nat_le, eqb-true, eq-eqb, ne_eqb, pow-suc}
+use Rattle.std.proofs.Common.{◌≡◌, ℕ, zero, suc, ◌+◌, ◌*◌, ◌/◌, ◌%◌, ◌^◌, ◌<◌, ◌≤◌, ◌==◌, ◌||◌, Bool, true, false, cond, not, List, [], ◌∷◌, ◌++◌, length, map}
+use Rattle.std.proofs.Common.{filter, Option, Some, None, Result, Ok, Err, OnOk, OnErr, refl, sym, ◌∙◌, ap, ap₂, arith, inl, inr, ◌⊎◌, nat_cmp, nat_le, eqb-true, eq-eqb, ne_eqb, pow-suc}
 use Rattle.std.specs.Bool.{then_some}
 use Rattle.std.specs.List.{AllByRecursion}
 use Rattle.std.specs.FinMap.{get, entries, find}
@@ -18,10 +19,10 @@ use Rattle.block_map.proofs.PageSetLemmas.{empty_set}
 use Rattle.sparse_map.specs.Home.{IsDoubledFor}
 use Rattle.sparse_map.specs.Slots.{items_of}
 use Rattle.sparse_map.specs.Moved.{IsDistinct}
-use Rattle.sparse_map.specs.Packed.{Table, map_of, len_of, buckets_of, IsSound}
+use Rattle.sparse_map.specs.Packed.{PackedTable, map_of, len_of, buckets_of, IsSound}
 use Rattle.sparse_map.proofs.MapLemmas.{get-map_of, IsDistinct-items_of, len_of-items}
 use Rattle.mapping.specs.declared.log_page.LogPage.{LogPage}
-use Rattle.mapping.specs.Checkpoint.{set_group_of, set_page_of, IsCheckpoint}
+use Rattle.mapping.specs.Checkpoint.{set_group_of, set_page_of, IsCheckpointOf}
 use Rattle.mapping.specs.Bits.{IsDataBlock}
 use Rattle.mapping.specs.Counts.{page_mapped_count, data_block_count}
 use Rattle.mapping.specs.Packed.{HeldValue, page_record, block_record, entries_of, page_in, entry_in, IsPackedMap, records_of}
@@ -78,7 +79,7 @@ module _ {V : Type 0} where
     distinct_found es d.1 P (λ k v is. each k v (ap (λ b. cond b (Some e.1) (find nat_cmp k es)) (eq_key k e.0 ∙ ne_eqb k e.0 (λ s. none_some v (sym d.0 ∙ ap (λ n. find nat_cmp n es) (sym s) ∙ is))) ∙ is)),
   )
 
-  module _ (t : Table V) (sound : IsSound t) where
+  module _ (t : PackedTable V) (sound : IsSound t) where
     distinct : IsDistinct (items_of t.slots)
     distinct = IsDistinct-items_of t.slots sound.packed.once
 
@@ -123,7 +124,7 @@ some_page set p some below = elim (search_page set p) [
 
 -- ---- the listing
 
-module _ (g : Geometry) (pages : Table LogPage) (blocks : Table BlockPages) (packed : IsPackedMap g pages blocks) where
+module _ (g : Geometry) (pages : PackedTable LogPage) (blocks : PackedTable BlockPages) (packed : IsPackedMap g pages blocks) where
   abbrev m : Entries
   m = entries_of g (map_of pages) (map_of blocks)
 
@@ -208,7 +209,9 @@ module _ (g : Geometry) (pages : Table LogPage) (blocks : Table BlockPages) (pac
   log_item : ℕ × LogPage → ℕ × Entry
   log_item x = (x.0, in_log_block x.1.place x.1.dirty)
 
-  items_entries : (xs : List (ℕ × LogPage)) → AllByRecursion (λ (x : ℕ × LogPage). get (map_of pages) x.0 ≡ Some x.1) xs → AllByRecursion (λ (x : ℕ × Entry). (get (entries_of g (map_of pages) (map_of blocks)) x.0 ≡ Some x.1) × (page_mapped x.1 ≡ true)) (map (λ (x : ℕ × LogPage). (x.0, in_log_block x.1.place x.1.dirty)) xs)
+  items_entries : (xs : List (ℕ × LogPage)) → AllByRecursion (λ (x : ℕ × LogPage). get (map_of pages) x.0 ≡ Some x.1) xs
+      → AllByRecursion (λ (x : ℕ × Entry). (get (entries_of g (map_of pages) (map_of blocks)) x.0 ≡ Some x.1) × (page_mapped x.1 ≡ true))
+      (map (λ (x : ℕ × LogPage). (x.0, in_log_block x.1.place x.1.dirty)) xs)
   items_entries [] all = tt
   items_entries (x ∷ xs) all = ((page_entry x.0 x.1 all.0, refl), items_entries xs all.1)
 
@@ -224,7 +227,7 @@ module _ (g : Geometry) (pages : Table LogPage) (blocks : Table BlockPages) (pac
   groups_as f [] = refl
   groups_as f (x ∷ xs) = ap (λ (l : List Record). f x.0 ∷ l) (groups_as f xs)
 
-  pub listed : IsCheckpoint g (entries_of g (map_of pages) (map_of blocks)) (records_of g (entries_of g (map_of pages) (map_of blocks)) (items_of pages.slots) (items_of blocks.slots))
+  pub listed : IsCheckpointOf g (entries_of g (map_of pages) (map_of blocks)) (records_of g (entries_of g (map_of pages) (map_of blocks)) (items_of pages.slots) (items_of blocks.slots))
   listed = record {
     groups = map (λ (x : ℕ × BlockPages). x.0) (items_of blocks.slots);
     pages = map (λ (x : ℕ × LogPage). (x.0, in_log_block x.1.place x.1.dirty)) (items_of pages.slots);
@@ -323,7 +326,7 @@ doubled_or_same (Ok x) need narrow wide few old doubled same = doubled_few need 
 doubled_or_same (Err e) need narrow wide few old doubled same = omega (arith, same, old)
 
 -- a table whose buckets and room stay as they were shows the same
-abbrev pub held_of : Geometry → Table LogPage → Table BlockPages → HeldValue
+abbrev pub held_of : Geometry → PackedTable LogPage → PackedTable BlockPages → HeldValue
 held_of g pages blocks = record {
   geometry = g;
   entries = entries_of g (map_of pages) (map_of blocks);
@@ -334,7 +337,7 @@ held_of g pages blocks = record {
   group_buckets = buckets_of blocks;
 }
 
-pub pages_refused : {T E : Type 0} (r : Result T E) (g : Geometry) (pages new : Table LogPage) (blocks : Table BlockPages) → map_of new ≡ map_of pages → OnErr r (new.slots ≡ pages.slots) → OnErr r (new.spare ≡ pages.spare) → OnErr r (held_of g new blocks ≡ held_of g pages blocks)
+pub pages_refused : {T E : Type 0} (r : Result T E) (g : Geometry) (pages new : PackedTable LogPage) (blocks : PackedTable BlockPages) → map_of new ≡ map_of pages → OnErr r (new.slots ≡ pages.slots) → OnErr r (new.spare ≡ pages.spare) → OnErr r (held_of g new blocks ≡ held_of g pages blocks)
 pages_refused (Ok x) g pages new blocks same slots spare = tt
 pages_refused (Err e) g pages new blocks same slots spare = λ t. record {
   geometry = g;
@@ -346,7 +349,7 @@ pages_refused (Err e) g pages new blocks same slots spare = λ t. record {
   group_buckets = buckets_of blocks;
 }
 
-pub blocks_refused : {T E : Type 0} (r : Result T E) (g : Geometry) (pages : Table LogPage) (blocks new : Table BlockPages) → map_of new ≡ map_of blocks → OnErr r (new.slots ≡ blocks.slots) → OnErr r (new.spare ≡ blocks.spare) → OnErr r (held_of g pages new ≡ held_of g pages blocks)
+pub blocks_refused : {T E : Type 0} (r : Result T E) (g : Geometry) (pages : PackedTable LogPage) (blocks new : PackedTable BlockPages) → map_of new ≡ map_of blocks → OnErr r (new.slots ≡ blocks.slots) → OnErr r (new.spare ≡ blocks.spare) → OnErr r (held_of g pages new ≡ held_of g pages blocks)
 blocks_refused (Ok x) g pages blocks new same slots spare = tt
 blocks_refused (Err e) g pages blocks new same slots spare = λ t. record {
   geometry = g;

@@ -44,7 +44,9 @@ counts_group g mark m group = (
 )
 
 -- the count of the groups, before and after
-pub group_counts : (g : Geometry) (mark : Mark) (group : ℕ) (old new : Entries) (had has : Bool) → ((a : ℕ) → (a / g.p ≡ group → ⊥) → get new a ≡ get old a) → ((had ≡ true → HasMarkIn g old mark group) × (HasMarkIn g old mark group → had ≡ true)) → ((has ≡ true → HasMarkIn g new mark group) × (HasMarkIn g new mark group → has ≡ true)) → length (groups_with g (has_mark mark) new) + cond had 1 0 ≡ length (groups_with g (has_mark mark) old) + cond has 1 0
+pub group_counts : (g : Geometry) (mark : Mark) (group : ℕ) (old new : Entries) (had has : Bool) → ((a : ℕ) → (a / g.p ≡ group → ⊥) → get new a ≡ get old a)
+    → ((had ≡ true → HasMarkIn g old mark group) × (HasMarkIn g old mark group → had ≡ true)) → ((has ≡ true → HasMarkIn g new mark group) × (HasMarkIn g new mark group → has ≡ true))
+    → length (groups_with g (has_mark mark) new) + cond had 1 0 ≡ length (groups_with g (has_mark mark) old) + cond has 1 0
 group_counts g mark group old new had has others before after =
     let f : ℕ × Entry → ℕ = λ x. x.0 / g.p in
     let t : Entry → Bool = λ e. has_mark mark e in
@@ -75,7 +77,8 @@ counts_some g mark m group n had is before t = let some = some_counted (numbers 
     ]
 
 -- the group may have the mark from now on exactly where at most C groups have it then
-pub may_have_fits : (g : Geometry) (mark : Mark) (group : ℕ) (old new : Entries) (has : Bool) → ChangesGroup g mark group old new has → length (groups_with g (has_mark mark) old) ≤ g.c → (MayHave g old mark group has → length (groups_with g (has_mark mark) new) ≤ g.c) × (length (groups_with g (has_mark mark) new) ≤ g.c → MayHave g old mark group has)
+pub may_have_fits : (g : Geometry) (mark : Mark) (group : ℕ) (old new : Entries) (has : Bool) → ChangesGroup g mark group old new has → length (groups_with g (has_mark mark) old) ≤ g.c
+    → (MayHave g old mark group has → length (groups_with g (has_mark mark) new) ≤ g.c) × (length (groups_with g (has_mark mark) new) ≤ g.c → MayHave g old mark group has)
 may_have_fits g mark group old new has change few =
     let had = member group (numbers (λ x. x.0 / g.p) (has_mark mark) (entries old)) in
     let sum = group_counts g mark group old new had has change.others (counts_group g mark old group) ((λ t. let x = change.there t in (x.0, x.3, (x.1, x.2, x.4))), λ x. change.from x.0 x.2.0 x.2.1 x.1 x.2.2) in (

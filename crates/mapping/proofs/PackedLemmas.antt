@@ -1,5 +1,6 @@
 -- What two packed maps have at an address, and what a change of them makes of their entries.
-use Rattle.std.proofs.Common.{◌≡◌, ℕ, ◌+◌, ◌-◌, ◌*◌, ◌/◌, ◌%◌, ◌<◌, ◌≤◌, ◌==◌, ◌&&◌, Bool, true, false, cond, not, List, [], ◌∷◌, Option, Some, None, option_map, refl, sym, ◌∙◌, ap, ap₂, subst, arith, inl, inr, nat_cmp, eqb-true, eq-eqb, ne_eqb, ◌||◌, is_some, IfSome, IfNone, length, map, nat_lt, lt-ltb, ltb-true, le-ltb, length-append}
+use Rattle.std.proofs.Common.{◌≡◌, ℕ, ◌+◌, ◌-◌, ◌*◌, ◌/◌, ◌%◌, ◌<◌, ◌≤◌, ◌==◌, ◌&&◌, Bool, true, false, cond, not, List, [], ◌∷◌, Option, Some, None, option_map}
+use Rattle.std.proofs.Common.{refl, sym, ◌∙◌, ap, ap₂, subst, arith, inl, inr, nat_cmp, eqb-true, eq-eqb, ne_eqb, ◌||◌, is_some, IfSome, IfNone, length, map, nat_lt, lt-ltb, ltb-true, le-ltb, length-append}
 use Rattle.std.specs.Bool.{then_some}
 use Rattle.std.specs.Cmp.{nat_cmp_total}
 use Rattle.std.specs.FinMap.{get, insert, remove, entries, find, get-entries, get-empty, same_map, nat_cmp-IsAntisymmetric}
@@ -21,9 +22,9 @@ use Rattle.mapping.specs.declared.bits.Choice.TheVariants.{Mapped, MappedDirty}
 use Rattle.mapping.specs.Checkpoint.{set_group_of}
 use Rattle.mapping.specs.Bits.{is_chosen, chosen_of, IsDataBlock}
 use Rattle.sparse_map.specs.Slots.{items_of}
-use Rattle.sparse_map.specs.Packed.{Table, map_of, len_of, buckets_of, IsSound as IsSoundTable}
+use Rattle.sparse_map.specs.Packed.{PackedTable, map_of, len_of, buckets_of, IsSound as IsSoundTable}
 use Rattle.sparse_map.proofs.MapLemmas.{len_of-items}
-use Rattle.mapping.specs.Packed.{records_of, Pages, Blocks, page_record, block_record, with_blocks, with_logs, entries_of, page_in, entry_in, AreBlocks, AreApart, IsLeftOut}
+use Rattle.mapping.specs.Packed.{records_of, Pages, Blocks, page_record, block_record, with_blocks, with_logs, entries_of, page_in, entry_in, AreBlocks, AreDisjoint, IsLeftOut}
 use Rattle.mapping.proofs.BitsLemmas.{bit_of_set, set_of_none}
 
 -- ---- options and tests
@@ -121,13 +122,13 @@ module _ (g : Geometry) where
         choose true o r = refl
         choose false o r = refl
 
-    page_apart : page_in (get blocks (lba / g.p)) (lba % g.p) ≡ None → AreApart g pages blocks → AreApart g pages' blocks
+    page_apart : page_in (get blocks (lba / g.p)) (lba % g.p) ≡ None → AreDisjoint g pages blocks → AreDisjoint g pages' blocks
     page_apart none apart a y at = elim (cases_eq a lba) [
       | inl same ↦ ap (λ n. page_in (get blocks (n / g.p)) (n % g.p)) same ∙ none
       | inr other ↦ apart a y (sym (page_there a ∙ ap (λ b. cond b (Some x) (get pages a)) (ne_eqb a lba other)) ∙ at)
     ]
 
-    pub page_put_apart : get (entries_of g pages blocks) lba ≡ None → AreApart g pages blocks → AreApart g pages' blocks
+    pub page_put_apart : get (entries_of g pages blocks) lba ≡ None → AreDisjoint g pages blocks → AreDisjoint g pages' blocks
     page_put_apart absent apart = page_apart (none_in (get pages lba) (page_in (get blocks (lba / g.p)) (lba % g.p)) (sym (get_held pages blocks lba) ∙ absent)).1 apart
 
     -- the log page is clean
@@ -146,7 +147,7 @@ module _ (g : Geometry) where
         ]
         ∙ sym (get-after g (Clean lba) (entries_of g pages blocks) q))
 
-    pub page_cleaned_apart : (y : LogPage) → get pages lba ≡ Some y → AreApart g pages blocks → AreApart g pages' blocks
+    pub page_cleaned_apart : (y : LogPage) → get pages lba ≡ Some y → AreDisjoint g pages blocks → AreDisjoint g pages' blocks
     page_cleaned_apart y at apart = page_apart (apart lba y at) apart
 
   -- ---- one data block more
@@ -176,7 +177,7 @@ module _ (g : Geometry) where
         ]
         ∙ sym (get-after g (SetGroup k b.block b.present b.dirty) (entries_of g pages blocks) q))
 
-    pub block_put_apart : ((i : ℕ) → i < g.p → get (entries_of g pages blocks) (k * g.p + i) ≡ None) → AreApart g pages blocks → AreApart g pages blocks'
+    pub block_put_apart : ((i : ℕ) → i < g.p → get (entries_of g pages blocks) (k * g.p + i) ≡ None) → AreDisjoint g pages blocks → AreDisjoint g pages blocks'
     block_put_apart free apart a x at = elim (cases_eq (a / g.p) k) [
       | inl same ↦ no_some x (sym (free_group pages blocks k free a same) ∙ at)
       | inr other ↦ ap (λ o. page_in o (a % g.p)) (block_there (a / g.p) ∙ ap (λ c. cond c (Some b) (get blocks (a / g.p))) (ne_eqb (a / g.p) k other)) ∙ apart a x at
@@ -225,11 +226,13 @@ module _ (g : Geometry) where
 
         page_left : (i : ℕ) (c : Bool) → (i == page) ≡ c → page_of_group b.block b.present b.dirty i ≡ cond c None (page_of_group a.block a.present a.dirty i)
         page_left i true is' = ap (λ t. then_some t (record { place = record { block = b.block; page = i }; dirty = has_bit b.dirty i; block_mapped = true })) (present i ∙ ap (λ c. has_bit a.present i && not c) is' ∙ gone (has_bit a.present i))
-        page_left i false is' = λ t. then_some ((present i ∙ ap (λ c. has_bit a.present i && not c) is' ∙ kept (has_bit a.present i)) t) (record { place = record { block = block t; page = i }; dirty = (dirty i ∙ ap (λ c. has_bit a.dirty i && not c) is' ∙ kept (has_bit a.dirty i)) t; block_mapped = true })
+        page_left i false is' = λ t. then_some ((present i ∙ ap (λ c. has_bit a.present i && not c) is' ∙ kept (has_bit a.present i)) t)
+            (record { place = record { block = block t; page = i }; dirty = (dirty i ∙ ap (λ c. has_bit a.dirty i && not c) is' ∙ kept (has_bit a.dirty i)) t; block_mapped = true })
 
     -- ---- a block with one of its pages clean
 
-    clean_page : (a : BlockPages) (lba : ℕ) → k ≡ lba / g.p → get blocks k ≡ Some a → b.block ≡ a.block → b.present ≡ a.present → IsLeftWithout a.dirty (lba % g.p) b.dirty → (q : ℕ) → page_in (get blocks' (q / g.p)) (q % g.p) ≡ cond (q == lba) (option_map cleaned (page_in (get blocks (q / g.p)) (q % g.p))) (page_in (get blocks (q / g.p)) (q % g.p))
+    clean_page : (a : BlockPages) (lba : ℕ) → k ≡ lba / g.p → get blocks k ≡ Some a → b.block ≡ a.block → b.present ≡ a.present → IsLeftWithout a.dirty (lba % g.p) b.dirty → (q : ℕ)
+        → page_in (get blocks' (q / g.p)) (q % g.p) ≡ cond (q == lba) (option_map cleaned (page_in (get blocks (q / g.p)) (q % g.p))) (page_in (get blocks (q / g.p)) (q % g.p))
     clean_page a lba group at block present dirty q =
         ap (λ o. page_in o (q % g.p)) (block_there (q / g.p)) ∙ elim (cases_Bool (q / g.p == k)) [
           | inl t ↦
@@ -270,13 +273,15 @@ module _ (g : Geometry) where
         ∙ ap (λ o. cond (q == lba) (option_map cleaned o) o) (sym (get_held pages blocks q))
         ∙ sym (get-after g (Clean lba) (entries_of g pages blocks) q))
       where
-        at_address : (q : ℕ) (c : Bool) → (q == lba) ≡ c → entry_in (get pages q) (cond c (option_map cleaned (page_in (get blocks (q / g.p)) (q % g.p))) (page_in (get blocks (q / g.p)) (q % g.p))) ≡ cond c (option_map cleaned (entry_in (get pages q) (page_in (get blocks (q / g.p)) (q % g.p)))) (entry_in (get pages q) (page_in (get blocks (q / g.p)) (q % g.p)))
+        at_address : (q : ℕ) (c : Bool) → (q == lba) ≡ c → entry_in (get pages q)
+            (cond c (option_map cleaned (page_in (get blocks (q / g.p)) (q % g.p))) (page_in (get blocks (q / g.p)) (q % g.p))) ≡ cond c
+            (option_map cleaned (entry_in (get pages q) (page_in (get blocks (q / g.p)) (q % g.p)))) (entry_in (get pages q) (page_in (get blocks (q / g.p)) (q % g.p)))
         at_address q true is' =
             let no : get pages q ≡ None = ap (get pages) (eqb-true q lba is') ∙ none in
             ap (λ o. entry_in o (option_map cleaned (page_in (get blocks (q / g.p)) (q % g.p)))) no ∙ sym (ap (λ o. option_map cleaned (entry_in o (page_in (get blocks (q / g.p)) (q % g.p)))) no)
         at_address q false is' = refl
 
-    pub block_cleaned_apart : (a : BlockPages) (lba : ℕ) → k ≡ lba / g.p → get blocks k ≡ Some a → b.block ≡ a.block → b.present ≡ a.present → IsLeftWithout a.dirty (lba % g.p) b.dirty → AreApart g pages blocks → AreApart g pages blocks'
+    pub block_cleaned_apart : (a : BlockPages) (lba : ℕ) → k ≡ lba / g.p → get blocks k ≡ Some a → b.block ≡ a.block → b.present ≡ a.present → IsLeftWithout a.dirty (lba % g.p) b.dirty → AreDisjoint g pages blocks → AreDisjoint g pages blocks'
     block_cleaned_apart a lba group at block present dirty apart q x held =
         clean_page a lba group at block present dirty q ∙ ap (λ o. cond (q == lba) (option_map cleaned o) o) (apart q x held) ∙ nothing (q == lba)
       where
@@ -358,7 +363,7 @@ module _ (g : Geometry) where
         both true o r = refl
         both false o r = refl
 
-    pub removed_apart : AreApart g pages blocks → AreApart g pages' blocks'
+    pub removed_apart : AreDisjoint g pages blocks → AreDisjoint g pages' blocks'
     removed_apart apart a x at = block_gone a ∙ by_test (a == lba) (sym (page_gone a) ∙ at)
       where
         by_test : (c : Bool) → cond c None (get pages a) ≡ Some x → cond c None (page_in (get blocks (a / g.p)) (a % g.p)) ≡ None
@@ -382,7 +387,7 @@ module _ (g : Geometry) where
         both true o r i = refl
         both false o r i = refl
 
-    pub group_removed_apart : AreApart g pages blocks → AreApart g pages' blocks'
+    pub group_removed_apart : AreDisjoint g pages blocks → AreDisjoint g pages' blocks'
     group_removed_apart apart a x at = ap (λ o. page_in o (a % g.p)) (block_less (a / g.p)) ∙ by_test (a / g.p == k) (sym (gone a) ∙ at)
       where
         by_test : (c : Bool) → cond c None (get pages a) ≡ Some x → page_in (cond c None (get blocks (a / g.p))) (a % g.p) ≡ None
@@ -405,7 +410,7 @@ module _ (g : Geometry) where
 
   -- ---- the data block of a group
 
-  module _ (pages : Pages) (blocks : Blocks) (all : AreBlocks g blocks) (apart : AreApart g pages blocks) where
+  module _ (pages : Pages) (blocks : Blocks) (all : AreBlocks g blocks) (apart : AreDisjoint g pages blocks) where
     abbrev held : Entries
     held = entries_of g pages blocks
 
@@ -446,7 +451,9 @@ module _ (g : Geometry) where
     is_past i f = ltb-false i g.p f
 
     present_is : (k : ℕ) (b : BlockPages) → get blocks k ≡ Some b → b.present ≡ chosen_of Mapped g (entries_of g pages blocks) k
-    present_is k b at = same_from_bits b.present (chosen_of Mapped g (entries_of g pages blocks) k) (λ i. bit_is b.present (chosen_of Mapped g (entries_of g pages blocks) k) i (sym (bit_of_set (λ n. is_chosen Mapped (get (entries_of g pages blocks) (k * g.p + n))) g.p i ∙ by_place i (nat_lt i g.p) refl)))
+    present_is k b at = same_from_bits b.present (chosen_of Mapped g (entries_of g pages blocks) k)
+        (λ i. bit_is b.present (chosen_of Mapped g (entries_of g pages blocks) k) i
+        (sym (bit_of_set (λ n. is_chosen Mapped (get (entries_of g pages blocks) (k * g.p + n))) g.p i ∙ by_place i (nat_lt i g.p) refl)))
       where
         shown : (i : ℕ) (c : Bool) → is_chosen Mapped (then_some c (record { place = record { block = b.block; page = i }; dirty = has_bit b.dirty i; block_mapped = true })) ≡ c
         shown i true = refl
@@ -457,7 +464,9 @@ module _ (g : Geometry) where
         by_place i false past = sym (all.below k b at i (is_past i past))
 
     dirty_pages_are : (k : ℕ) (b : BlockPages) → get blocks k ≡ Some b → b.dirty ≡ chosen_of MappedDirty g (entries_of g pages blocks) k
-    dirty_pages_are k b at = same_from_bits b.dirty (chosen_of MappedDirty g (entries_of g pages blocks) k) (λ i. bit_is b.dirty (chosen_of MappedDirty g (entries_of g pages blocks) k) i (sym (bit_of_set (λ n. is_chosen MappedDirty (get (entries_of g pages blocks) (k * g.p + n))) g.p i ∙ by_place i (nat_lt i g.p) refl)))
+    dirty_pages_are k b at = same_from_bits b.dirty (chosen_of MappedDirty g (entries_of g pages blocks) k)
+        (λ i. bit_is b.dirty (chosen_of MappedDirty g (entries_of g pages blocks) k) i
+        (sym (bit_of_set (λ n. is_chosen MappedDirty (get (entries_of g pages blocks) (k * g.p + n))) g.p i ∙ by_place i (nat_lt i g.p) refl)))
       where
         within : (i : ℕ) → has_bit b.dirty i ≡ true → has_bit b.present i ≡ true
         within i t = (all.sound k b at).within i t
@@ -494,16 +503,16 @@ module _ (g : Geometry) where
     pub no_data_block : (k : ℕ) → get blocks k ≡ None → chosen_of Mapped g (entries_of g pages blocks) k ≡ 0
     no_data_block k none = set_of_none (λ i. is_chosen Mapped (get (entries_of g pages blocks) (k * g.p + i))) g.p (λ i low. mapped_is k i low ∙ ap (λ o. is_chosen Mapped (page_in o i)) none)
 
-  pub block_found : (pages : Pages) (blocks : Blocks) → AreBlocks g blocks → AreApart g pages blocks → (k : ℕ) (o : Option BlockPages) → o ≡ get blocks k → IfSome o (IsDataBlock g (entries_of g pages blocks) k)
+  pub block_found : (pages : Pages) (blocks : Blocks) → AreBlocks g blocks → AreDisjoint g pages blocks → (k : ℕ) (o : Option BlockPages) → o ≡ get blocks k → IfSome o (IsDataBlock g (entries_of g pages blocks) k)
   block_found pages blocks all apart k None is = tt
   block_found pages blocks all apart k (Some b) is = data_block_is pages blocks all apart k b (sym is)
 
-  pub block_not_found : (pages : Pages) (blocks : Blocks) → AreBlocks g blocks → AreApart g pages blocks → (k : ℕ) (o : Option BlockPages) → o ≡ get blocks k → IfNone o (chosen_of Mapped g (entries_of g pages blocks) k ≡ 0)
+  pub block_not_found : (pages : Pages) (blocks : Blocks) → AreBlocks g blocks → AreDisjoint g pages blocks → (k : ℕ) (o : Option BlockPages) → o ≡ get blocks k → IfNone o (chosen_of Mapped g (entries_of g pages blocks) k ≡ 0)
   block_not_found pages blocks all apart k None is = no_data_block pages blocks all apart k (sym is)
   block_not_found pages blocks all apart k (Some b) is = tt
 
   -- a group without entries has no data block
-  pub block_absent : (pages : Pages) (blocks : Blocks) → AreBlocks g blocks → AreApart g pages blocks → (k : ℕ) → ((i : ℕ) → i < g.p → get (entries_of g pages blocks) (k * g.p + i) ≡ None) → get blocks k ≡ None
+  pub block_absent : (pages : Pages) (blocks : Blocks) → AreBlocks g blocks → AreDisjoint g pages blocks → (k : ℕ) → ((i : ℕ) → i < g.p → get (entries_of g pages blocks) (k * g.p + i) ≡ None) → get blocks k ≡ None
   block_absent pages blocks all apart k free = by_block (get blocks k) refl
     where
       empty_set : chosen_of Mapped g (entries_of g pages blocks) k ≡ 0
@@ -515,7 +524,7 @@ module _ (g : Geometry) where
 
   -- ---- how many records a checkpoint has
 
-  pub records_long : (m : Entries) (pages : Table LogPage) (blocks : Table BlockPages) → IsSoundTable pages → IsSoundTable blocks → length (records_of g m (items_of pages.slots) (items_of blocks.slots)) ≡ len_of blocks + len_of pages
+  pub records_long : (m : Entries) (pages : PackedTable LogPage) (blocks : PackedTable BlockPages) → IsSoundTable pages → IsSoundTable blocks → length (records_of g m (items_of pages.slots) (items_of blocks.slots)) ≡ len_of blocks + len_of pages
   records_long m pages blocks sound sound' =
       length-append (map (λ (x : ℕ × BlockPages). set_group_of g m x.0) (items_of blocks.slots)) (map page_record (items_of pages.slots))
       ∙ ap₂ (λ x y. x + y)
@@ -525,20 +534,20 @@ module _ (g : Geometry) where
   -- ---- the log pages of a group
 
   -- those before page i are gone
-  pub record PagesGone (group : ℕ) (old new : Table LogPage) (i : ℕ) : Type 0 where
+  pub record PagesGone (group : ℕ) (old new : PackedTable LogPage) (i : ℕ) : Type 0 where
     pub gone : (q : ℕ) → get (map_of new) q ≡ cond ((q / g.p == group) && nat_lt (q % g.p) i) None (get (map_of old) q)
     pub spare : new.spare ≡ old.spare
     pub buckets : buckets_of new ≡ buckets_of old
     pub sound : IsSoundTable new
 
-  pub none_gone : (group : ℕ) (old : Table LogPage) → IsSoundTable old → PagesGone group old old 0
+  pub none_gone : (group : ℕ) (old : PackedTable LogPage) → IsSoundTable old → PagesGone group old old 0
   none_gone group old sound = record { gone = λ q. sym (ap (λ c. cond c None (get (map_of old) q)) (ap (λ c. (q / g.p == group) && c) (le-ltb (q % g.p) 0 (omega arith)) ∙ never (q / g.p == group))); spare = refl; buckets = refl; sound = sound }
     where
       never : (c : Bool) → (c && false) ≡ false
       never true = refl
       never false = refl
 
-  pub one_gone : (group i : ℕ) (old now new : Table LogPage) → i < g.p → PagesGone group old now i → map_of new ≡ remove (map_of now) (group * g.p + i) → new.spare ≡ now.spare → buckets_of new ≡ buckets_of now → IsSoundTable new → PagesGone group old new (i + 1)
+  pub one_gone : (group i : ℕ) (old now new : PackedTable LogPage) → i < g.p → PagesGone group old now i → map_of new ≡ remove (map_of now) (group * g.p + i) → new.spare ≡ now.spare → buckets_of new ≡ buckets_of now → IsSoundTable new → PagesGone group old new (i + 1)
   one_gone group i old now new low so_far is spare buckets sound = record {
     gone = λ q.
         ap (λ m. get m q) is ∙ get_remove (map_of now) (group * g.p + i) q
@@ -562,7 +571,7 @@ module _ (g : Geometry) where
       joined true false false l' o is' = sym (ap (λ c. cond c None o) is')
       joined false e l l' o is' = refl
 
-  pub all_gone : (group : ℕ) (old new : Table LogPage) → PagesGone group old new g.p → (q : ℕ) → get (map_of new) q ≡ cond (q / g.p == group) None (get (map_of old) q)
+  pub all_gone : (group : ℕ) (old new : PackedTable LogPage) → PagesGone group old new g.p → (q : ℕ) → get (map_of new) q ≡ cond (q / g.p == group) None (get (map_of old) q)
   all_gone group old new so_far q = so_far.gone q ∙ ap (λ c. cond ((q / g.p == group) && c) None (get (map_of old) q)) (lt-ltb _ _ (mod_below q g.p some_pages)) ∙ ap (λ c. cond c None (get (map_of old) q)) (always (q / g.p == group))
     where
       always : (c : Bool) → (c && true) ≡ c

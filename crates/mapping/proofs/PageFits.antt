@@ -190,7 +190,9 @@ module _ (g : Geometry) (m : Entries) (is_map : IsMap g m) (lba : ℕ) (at : Pla
   dirty_decides false = (λ may. clean_page, λ fits. inl refl)
 
   -- all tests passed but the last
-  pub page_decides : (dirty b : Bool) (n : ℕ) → lba < g.size → InPool g at → (IsTaken m lba at → ⊥) → IsNotIn g (MappedBeside lba) m at.block → n ≡ length (blocks_with page_mapped (after g (SetPage lba at dirty) m)) → n ≤ g.l → ((b ≡ true → MayHave g m Dirty (lba / g.p) dirty) × (MayHave g m Dirty (lba / g.p) dirty → b ≡ true)) → IsTrue b ↔ Fits g (SetPage lba at dirty) m
+  pub page_decides : (dirty b : Bool) (n : ℕ) → lba < g.size → InPool g at → (IsTaken m lba at → ⊥) → IsNotIn g (MappedBeside lba) m at.block
+      → n ≡ length (blocks_with page_mapped (after g (SetPage lba at dirty) m)) → n ≤ g.l → ((b ≡ true → MayHave g m Dirty (lba / g.p) dirty) × (MayHave g m Dirty (lba / g.p) dirty → b ≡ true))
+      → IsTrue b ↔ Fits g (SetPage lba at dirty) m
   page_decides dirty b n low pool free own is most may = (
     λ t. page_fits g m is_map lba at dirty (record {
       low = low;

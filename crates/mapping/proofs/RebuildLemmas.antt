@@ -21,7 +21,7 @@ use Rattle.cache_model.proofs.MapLemmas.{all_entries}
 use Rattle.mapping.proofs.MarksLemmas.{member_from, member_to}
 use Rattle.mapping.specs.declared.bits.Choice.TheVariants.{Mapped, MappedDirty}
 use Rattle.mapping.specs.Bits.{chosen_of, is_chosen}
-use Rattle.mapping.specs.Checkpoint.{set_group_of, set_page_of, block_below, checkpoint_records, ListsGroups, ListsPages, IsCheckpoint}
+use Rattle.mapping.specs.Checkpoint.{set_group_of, set_page_of, block_below, checkpoint_records, ListsGroups, ListsPages, IsCheckpointOf}
 use Rattle.mapping.proofs.BitsLemmas.{bit_of_set, set_below}
 use Rattle.mapping.proofs.CountsLemmas.{div_mono}
 use Rattle.mapping.proofs.ChosenLemmas.{block_is}
@@ -68,7 +68,11 @@ module _ (g : Geometry) (m : Entries) (is_map : IsMap g m) where
             let own = is_map.own_block a a e e is is t refl in
             let block_same : block_below m (group * g.p) g.p ≡ e.place.block = block_is m (group * g.p) g.p (a % g.p) e low (ap (get m) whole ∙ is) t (λ j f low' at mapped. is_map.one_block a (group * g.p + j) e f is at t mapped (div-mul-add group g.p j low' ∙ sym in_group)) in
             let dirty_same : has_bit (chosen_of MappedDirty g m group) (a % g.p) ≡ e.dirty = dirty_bit true ∙ ap (is_chosen MappedDirty) is ∙ ap (λ b. b && e.dirty) t in
-            let same : record { place = record { block = block_below m (group * g.p) g.p; page = a % g.p }; dirty = has_bit (chosen_of MappedDirty g m group) (a % g.p); block_mapped = true } ≡ e = λ k. record { place = record { block = block_same k; page = sym own.page k }; dirty = dirty_same k; block_mapped = sym t k } in
+            let same : record {
+              place = record { block = block_below m (group * g.p) g.p; page = a % g.p };
+              dirty = has_bit (chosen_of MappedDirty g m group) (a % g.p);
+              block_mapped = true;
+            } ≡ e = λ k. record { place = record { block = block_same k; page = sym own.page k }; dirty = dirty_same k; block_mapped = sym t k } in
             ap (λ b. then_some b (record { place = record { block = block_below m (group * g.p) g.p; page = a % g.p }; dirty = has_bit (chosen_of MappedDirty g m group) (a % g.p); block_mapped = true })) (bit true ∙ ap (is_chosen Mapped) is ∙ t)
             ∙ ap (λ (x : Entry). Some x) same ∙ sym (ap (λ b. cond b (Some e) None) t)
         | inr f ↦
@@ -265,7 +269,7 @@ module _ (g : Geometry) (m : Entries) (is_map : IsMap g m) where
         | inr f' ↦ absurd (both_ways (member a (pages_of pages)) f (listed e is (ap not f')))
       ]
 
-  pub rebuilt : (records : List Record) → IsCheckpoint g m records → after_all g records no_entries ≡ Some m
+  pub rebuilt : (records : List Record) → IsCheckpointOf g m records → after_all g records no_entries ≡ Some m
   rebuilt records listed =
       let one = groups_built listed.groups no_entries (record { held = λ a e is. absurd (none_some e (sym (nothing a) ∙ is)) }) (are_groups listed.groups listed.of_groups) in
       let two = pages_built listed.pages one.0 one.1.part (all_held listed.pages listed.of_pages.each) in
@@ -299,7 +303,7 @@ all_kept P t (x ∷ es) all = elim (cases_Bool (t x.1)) [
   | inr f ↦ subst (λ b. AllByRecursion (λ x. P x × (t x.1 ≡ true)) (cond b (x ∷ filter (λ x. t x.1) es) (filter (λ x. t x.1) es))) (sym f) (all_kept P t es all.1)
 ]
 
-pub ascending : (g : Geometry) (m : Entries) → IsCheckpoint g m (checkpoint_records g m)
+pub ascending : (g : Geometry) (m : Entries) → IsCheckpointOf g m (checkpoint_records g m)
 ascending g m = record {
   groups = groups_with g (λ e. e.block_mapped) m;
   pages = filter (λ x. page_mapped x.1) (entries m);

@@ -17,7 +17,7 @@ use Rattle.cache_model.proofs.MapLemmas.{get_remove}
 use Rattle.cache_model.proofs.FitsLemmas.{no_entries-nil}
 use Rattle.cache_model.proofs.CountLemmas.{member, numbers, same_number, each_once-same, counts_beside, less-map, member_of}
 use Rattle.ft_base.specs.declared.record.Record.{Record}
-use Rattle.mapping.specs.Checkpoint.{IsCheckpoint, set_group_of, set_page_of}
+use Rattle.mapping.specs.Checkpoint.{IsCheckpointOf, set_group_of, set_page_of}
 use Rattle.mapping.specs.Numbers.{pool_pages, number_of}
 use Rattle.mapping.specs.declared.index.LogCounts.{LogCounts}
 use Rattle.mapping.specs.declared.index.Index.{Index}
@@ -164,7 +164,7 @@ all_pass [] = refl
 all_pass (x ∷ es) = ap suc (all_pass es)
 
 -- a checkpoint has few records
-pub records_few : (g : Geometry) (m : Entries) (records : List Record) → IsMap g m → IsCheckpoint g m records → length records ≤ 73856
+pub records_few : (g : Geometry) (m : Entries) (records : List Record) → IsMap g m → IsCheckpointOf g m records → length records ≤ 73856
 records_few g m records is_map x =
     let long : length records ≡ length (map (set_group_of g m) x.groups) + length (map set_page_of x.pages) = ap length x.are ∙ length-append (map (set_group_of g m) x.groups) (map set_page_of x.pages) in
     let groups = length-map x.groups (set_group_of g m) in
@@ -245,7 +245,9 @@ used_same m a e is mapped =
     ap (λ k. member k (numbers f page_mapped (entries m))) (sym y.3) ∙ member_from f page_mapped m y.0.0 y.0.1 (sym (others_there m a y.0.0 (λ s. none_some y.0.1 (sym (not_there m a) ∙ ap (get (remove m a)) (sym s) ∙ y.1))) ∙ y.1) y.2)
     (λ mem.
     let y = member_to f page_mapped m n mem in
-    ap (λ k. member k (numbers f page_mapped (entries (remove m a)))) (sym y.3) ∙ member_from f page_mapped (remove m a) y.0.0 y.0.1 (others_there m a y.0.0 (λ s. both_ways y.0.1.block_mapped (not-true y.0.1.block_mapped y.2) (ap (λ (z : Entry). z.block_mapped) (some_is y.0.1 e (sym y.1 ∙ ap (get m) s ∙ is)) ∙ mapped)) ∙ y.1) y.2))
+    ap (λ k. member k (numbers f page_mapped (entries (remove m a)))) (sym y.3)
+    ∙ member_from f page_mapped (remove m a) y.0.0 y.0.1 (others_there m a y.0.0
+    (λ s. both_ways y.0.1.block_mapped (not-true y.0.1.block_mapped y.2) (ap (λ (z : Entry). z.block_mapped) (some_is y.0.1 e (sym y.1 ∙ ap (get m) s ∙ is)) ∙ mapped)) ∙ y.1) y.2))
 
 log_tally_same : (m : Entries) (a x : ℕ) (e : Entry) → get m a ≡ Some e → is_log_page_in x e ≡ false → tally (is_log_page_in x) (remove m a) ≡ tally (is_log_page_in x) m
 log_tally_same m a x e is f =
@@ -333,7 +335,9 @@ module _ (g : Geometry) (m : Entries) (is_map : IsMap g m) (a : ℕ) (e : Entry)
   pub used_here : page_mapped e ≡ true → length (blocks_with page_mapped (remove m a)) + cond (tally (is_log_page_in (first_pool g + (e.place.block - first_pool g))) (remove m a) == 0) 1 0 ≡ length (blocks_with page_mapped m)
   used_here t = ap (λ x. length (blocks_with page_mapped (remove m a)) + cond (tally (is_log_page_in x) (remove m a) == 0) 1 0) whole ∙ used_without m a e is t
 
-  pub logs_without : (old new : LogCounts) → page_mapped e ≡ true → LogsAre g m old → new.pages.items ≡ set old.pages.items (e.place.block - first_pool g) (get_or old.pages.items (e.place.block - first_pool g) 0 - 1) → new.used + cond (get_or old.pages.items (e.place.block - first_pool g) 0 - 1 == 0) 1 0 ≡ old.used → LogsAre g (remove m a) new
+  pub logs_without : (old new : LogCounts) → page_mapped e ≡ true → LogsAre g m old
+      → new.pages.items ≡ set old.pages.items (e.place.block - first_pool g) (get_or old.pages.items (e.place.block - first_pool g) 0 - 1)
+      → new.used + cond (get_or old.pages.items (e.place.block - first_pool g) 0 - 1 == 0) 1 0 ≡ old.used → LogsAre g (remove m a) new
   logs_without old new t all items used = record {
     long = ap length items ∙ length-set old.pages.items (e.place.block - first_pool g) _ ∙ all.long;
     pages = λ c within. ap (λ (l : List ℕ). get_or l c 0) items ∙ elim (cases_eq c (e.place.block - first_pool g)) [
@@ -343,13 +347,16 @@ module _ (g : Geometry) (m : Entries) (is_map : IsMap g m) (a : ℕ) (e : Entry)
           ∙ count_left ∙ ap (λ k. tally (is_log_page_in (first_pool g + k)) (remove m a)) (sym same)
       | inr other ↦ get_or-set_other old.pages.items (e.place.block - first_pool g) c _ 0 other ∙ all.pages c within ∙ sym (log_tally_same m a (first_pool g + c) e is (log_not c other))
     ];
-    used = left_is new.used old.used (length (blocks_with page_mapped m)) (length (blocks_with page_mapped (remove m a))) (cond (get_or old.pages.items (e.place.block - first_pool g) 0 - 1 == 0) 1 0) (cond (tally (is_log_page_in (first_pool g + (e.place.block - first_pool g))) (remove m a) == 0) 1 0) used all.used (used_here t) (ap (λ k. cond (k == 0) 1 0) count_left);
+    used = left_is new.used old.used (length (blocks_with page_mapped m)) (length (blocks_with page_mapped (remove m a))) (cond (get_or old.pages.items (e.place.block - first_pool g) 0 - 1 == 0) 1 0)
+        (cond (tally (is_log_page_in (first_pool g + (e.place.block - first_pool g))) (remove m a) == 0) 1 0) used all.used (used_here t) (ap (λ k. cond (k == 0) 1 0) count_left);
   }
     where
       count_left : get_or old.pages.items (e.place.block - first_pool g) 0 - 1 ≡ tally (is_log_page_in (first_pool g + (e.place.block - first_pool g))) (remove m a)
       count_left = let here = count_here old t all in omega arith
 
-  pub logs_with : (old new : LogCounts) → page_mapped e ≡ true → LogsAre g (remove m a) old → new.pages.items ≡ set old.pages.items (e.place.block - first_pool g) (get_or old.pages.items (e.place.block - first_pool g) 0 + 1) → new.used ≡ old.used + cond (get_or old.pages.items (e.place.block - first_pool g) 0 == 0) 1 0 → LogsAre g m new
+  pub logs_with : (old new : LogCounts) → page_mapped e ≡ true → LogsAre g (remove m a) old
+      → new.pages.items ≡ set old.pages.items (e.place.block - first_pool g) (get_or old.pages.items (e.place.block - first_pool g) 0 + 1)
+      → new.used ≡ old.used + cond (get_or old.pages.items (e.place.block - first_pool g) 0 == 0) 1 0 → LogsAre g m new
   logs_with old new t all items used = record {
     long = ap length items ∙ length-set old.pages.items (e.place.block - first_pool g) _ ∙ all.long;
     pages = λ c within. ap (λ (l : List ℕ). get_or l c 0) items ∙ elim (cases_eq c (e.place.block - first_pool g)) [
@@ -359,7 +366,9 @@ module _ (g : Geometry) (m : Entries) (is_map : IsMap g m) (a : ℕ) (e : Entry)
           ∙ ap (λ k. k + 1) (all.pages (e.place.block - first_pool g) low) ∙ one_page_more t ∙ ap (λ k. tally (is_log_page_in (first_pool g + k)) m) (sym same)
       | inr other ↦ get_or-set_other old.pages.items (e.place.block - first_pool g) c _ 0 other ∙ all.pages c within ∙ log_tally_same m a (first_pool g + c) e is (log_not c other)
     ];
-    used = more_is new.used old.used (length (blocks_with page_mapped m)) (length (blocks_with page_mapped (remove m a))) (cond (get_or old.pages.items (e.place.block - first_pool g) 0 == 0) 1 0) (cond (tally (is_log_page_in (first_pool g + (e.place.block - first_pool g))) (remove m a) == 0) 1 0) used all.used (used_here t) (ap (λ k. cond (k == 0) 1 0) (all.pages (e.place.block - first_pool g) low));
+    used = more_is new.used old.used (length (blocks_with page_mapped m)) (length (blocks_with page_mapped (remove m a))) (cond (get_or old.pages.items (e.place.block - first_pool g) 0 == 0) 1 0)
+        (cond (tally (is_log_page_in (first_pool g + (e.place.block - first_pool g))) (remove m a) == 0) 1 0) used all.used (used_here t)
+        (ap (λ k. cond (k == 0) 1 0) (all.pages (e.place.block - first_pool g) low));
   }
 
   -- ---- the same by what the code reads
@@ -373,7 +382,8 @@ module _ (g : Geometry) (m : Entries) (is_map : IsMap g m) (a : ℕ) (e : Entry)
   pub used_some : (logs : LogCounts) → page_mapped e ≡ true → LogsAre g m logs → 1 ≤ logs.used
   used_some logs t all = let some = some_counted (numbers (λ (x : ℕ × Entry). x.1.place.block) page_mapped (entries m)) e.place.block (member_from (λ (x : ℕ × Entry). x.1.place.block) page_mapped m a e is t) in let count = all.used in omega (arith, some, count)
 
-  pub left_logs : (old new : LogCounts) (first x : ℕ) → page_mapped e ≡ true → first ≡ first_pool g → x ≡ get_or old.pages.items (e.place.block - first) x → new.pages.items ≡ set old.pages.items (e.place.block - first) (x - 1) → new.used + cond (x - 1 == 0) 1 0 ≡ old.used → LogsAre g m old → LogsAre g (remove m a) new
+  pub left_logs : (old new : LogCounts) (first x : ℕ) → page_mapped e ≡ true → first ≡ first_pool g → x ≡ get_or old.pages.items (e.place.block - first) x
+      → new.pages.items ≡ set old.pages.items (e.place.block - first) (x - 1) → new.used + cond (x - 1 == 0) 1 0 ≡ old.used → LogsAre g m old → LogsAre g (remove m a) new
   left_logs old new first x t is_first read items used all =
       let same = read_is old first x is_first read all.long in
       logs_without old new t all (items ∙ ap₂ (λ n y. set old.pages.items (e.place.block - n) (y - 1)) is_first same) (ap (λ y. new.used + cond (y - 1 == 0) 1 0) (sym same) ∙ used)
@@ -384,7 +394,8 @@ module _ (g : Geometry) (m : Entries) (is_map : IsMap g m) (a : ℕ) (e : Entry)
   pub used_few : (logs : LogCounts) → LogsAre g (remove m a) logs → logs.used ≤ 64
   used_few logs all = let few = (without_map g m a is_map).log_blocks in let count = all.used in omega (arith, few, count, g.in_range.l_high)
 
-  pub entered_logs : (old new : LogCounts) (first x : ℕ) → page_mapped e ≡ true → first ≡ first_pool g → x ≡ get_or old.pages.items (e.place.block - first) x → new.pages.items ≡ set old.pages.items (e.place.block - first) (x + 1) → new.used ≡ old.used + cond (x == 0) 1 0 → LogsAre g (remove m a) old → LogsAre g m new
+  pub entered_logs : (old new : LogCounts) (first x : ℕ) → page_mapped e ≡ true → first ≡ first_pool g → x ≡ get_or old.pages.items (e.place.block - first) x
+      → new.pages.items ≡ set old.pages.items (e.place.block - first) (x + 1) → new.used ≡ old.used + cond (x == 0) 1 0 → LogsAre g (remove m a) old → LogsAre g m new
   entered_logs old new first x t is_first read items used all =
       let same = read_is old first x is_first read all.long in
       logs_with old new t all (items ∙ ap₂ (λ n y. set old.pages.items (e.place.block - n) (y + 1)) is_first same) (used ∙ ap (λ y. old.used + cond (y == 0) 1 0) same)

@@ -14,8 +14,8 @@ use Rattle.mapping.specs.Numbers.{IsGroupIn}
 use Rattle.mapping.specs.Seeking.{HasMarkIn}
 
 -- something of the group is held
-abbrev pub IsHeld : Geometry → Entries → ℕ → Type 0
-IsHeld g m group = (a : ℕ) × (e : Entry) × (get m a ≡ Some e) × (a / g.p ≡ group)
+abbrev pub IsGroupHeld : Geometry → Entries → ℕ → Type 0
+IsGroupHeld g m group = (a : ℕ) × (e : Entry) × (get m a ≡ Some e) × (a / g.p ≡ group)
 
 -- something of the group is held in a data block
 abbrev pub HasDataBlock : Geometry → Entries → ℕ → Type 0
@@ -44,8 +44,10 @@ pub record IsCandidateIn (g : Geometry) (m : Entries) (block count : ℕ) : Type
 -- for each erase block of the pool: the held pages of the data block that it is, where its group may give way; and else 65,535
 pub record AreCandidates (g : Geometry) (m : Entries) (counts : List ℕ) : Type 0 where
   pub long : length counts ≡ g.c + g.l + 1
-  pub counted : (i : ℕ) → i < length counts → (slice_index_or counts i 0 ≡ 65535) ⊎ IsCandidateIn g m (first_pool g + i) (slice_index_or counts i 0)
-  pub all : (group block : ℕ) → IsCandidate g m group → IsGroupIn g m block group → slice_index_or counts (block - first_pool g) 0 ≡ pages_held g m group
+  pub counted : (i : ℕ) → i < length counts → (slice_index_or counts i 0 ≡ 65535)
+      ⊎ IsCandidateIn g m (first_pool g + i) (slice_index_or counts i 0)
+  pub all : (group block : ℕ) → IsCandidate g m group → IsGroupIn g m block group
+      → slice_index_or counts (block - first_pool g) 0 ≡ pages_held g m group
 
 -- the erase block of a data block is one of the pool
 abbrev pub StandsInPool : Geometry → BlockPages → Type 0

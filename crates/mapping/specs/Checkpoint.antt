@@ -31,7 +31,8 @@ set_page_of x = SetPage x.0 x.1.place x.1.dirty
 
 -- the groups with a data block, each once, in some order
 pub record ListsGroups (g : Geometry) (m : Entries) (groups : List ℕ) : Type 0 where
-  pub each : (k : ℕ) → list_any (λ n. n == k) groups ≡ true → (a : ℕ) × (e : Entry) × (get m a ≡ Some e) × (e.block_mapped ≡ true) × (a / g.p ≡ k)
+  pub each : (k : ℕ) → list_any (λ n. n == k) groups ≡ true → (a : ℕ) × (e : Entry) × (get m a ≡ Some e) × (e.block_mapped ≡ true)
+      × (a / g.p ≡ k)
   pub all : (a : ℕ) (e : Entry) → get m a ≡ Some e → e.block_mapped ≡ true → list_any (λ n. n == a / g.p) groups ≡ true
   pub once : length groups ≡ length (groups_with g (λ e. e.block_mapped) m)
 
@@ -42,7 +43,7 @@ pub record ListsPages (m : Entries) (pages : List (ℕ × Entry)) : Type 0 where
   pub once : length pages ≡ length (filter (λ x. page_mapped x.1) (entries m))
 
 -- what sets each group with a data block, and then what sets each page-mapped entry, each once, in some order
-pub record IsCheckpoint (g : Geometry) (m : Entries) (records : List Record) : Type 0 where
+pub record IsCheckpointOf (g : Geometry) (m : Entries) (records : List Record) : Type 0 where
   pub groups : List ℕ
   pub pages : List (ℕ × Entry)
   pub are : records ≡ map (set_group_of g m) groups ++ map set_page_of pages
@@ -51,8 +52,10 @@ pub record IsCheckpoint (g : Geometry) (m : Entries) (records : List Record) : T
 
 -- each group with a data block, and then each page-mapped entry, in ascending order
 abbrev pub checkpoint_records : Geometry → Entries → List Record
-checkpoint_records g m = map (set_group_of g m) (groups_with g (λ e. e.block_mapped) m) ++ map set_page_of (filter (λ x. page_mapped x.1) (entries m))
+checkpoint_records g m = map (set_group_of g m) (groups_with g (λ e. e.block_mapped) m)
+    ++ map set_page_of (filter (λ x. page_mapped x.1) (entries m))
 
 -- the list has those of these records that are numbered from here on, as far as it goes
 pub record HasWindow (records : List Record) (from : ℕ) (out : List Record) : Type 0 where
-  pub at : (j : ℕ) (d : Record) → from ≤ j → j < length records → j < from + length out → slice_index_or out (j - from) d ≡ slice_index_or records j d
+  pub at : (j : ℕ) (d : Record) → from ≤ j → j < length records → j < from + length out
+      → slice_index_or out (j - from) d ≡ slice_index_or records j d

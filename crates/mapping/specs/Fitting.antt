@@ -23,4 +23,5 @@ EndsBelowSize g group present = (i : ℕ) → i < g.p → has_bit present i ≡ 
 pub record BlockMayCome (g : Geometry) (group block present : ℕ) (m : Entries) : Type 0 where
   pub sizes : EndsBelowSize g group present
   pub pool : (i : ℕ) → i < g.p → has_bit present i ≡ true → (first_pool g ≤ block) × (block < blocks g)
-  pub foreign : (i : ℕ) → i < g.p → has_bit present i ≡ true → (a : ℕ) (e : Entry) → get m a ≡ Some e → (a / g.p ≡ group → ⊥) → e.place.block ≡ block → ⊥
+  pub foreign : (i : ℕ) → i < g.p → has_bit present i ≡ true → (a : ℕ) (e : Entry) → get m a ≡ Some e → (a / g.p ≡ group → ⊥)
+      → e.place.block ≡ block → ⊥

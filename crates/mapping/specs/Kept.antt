@@ -9,7 +9,7 @@ use Rattle.mapping.specs.Index.{IsIndex}
 use Rattle.mapping.specs.Packed.{HeldValue}
 
 -- the entries are a map, what is kept beside them is theirs, and there is the room that is told
-pub record IsKept (g : Geometry) (held : HeldValue) (kept : Index) (candidates : List ℕ) (dirty blocks pages groups : ℕ) : Type 0 where
+pub record KeepsMap (g : Geometry) (held : HeldValue) (kept : Index) (candidates : List ℕ) (dirty blocks pages groups : ℕ) : Type 0 where
   pub geometry : held.geometry ≡ g
   pub is_map : IsMap g held.entries
   pub index : IsIndex g held.entries kept

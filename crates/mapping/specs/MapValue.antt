@@ -14,7 +14,8 @@ abbrev pub place_code : Coded Place
 place_code = code_by (ℕ × ℕ) (coded× coded_ℕ coded_ℕ) (λ p. (p.block, p.page)) (λ x. record { block = x.0; page = x.1 }) (λ _. refl)
 
 abbrev pub entry_code : Coded Entry
-entry_code = code_by (Place × (Bool × Bool)) (coded× place_code (coded× coded_bool coded_bool)) (λ e. (e.place, (e.dirty, e.block_mapped))) (λ x. record { place = x.0; dirty = x.1.0; block_mapped = x.1.1 }) (λ _. refl)
+entry_code = code_by (Place × (Bool × Bool)) (coded× place_code (coded× coded_bool coded_bool)) (λ e. (e.place, (e.dirty, e.block_mapped)))
+    (λ x. record { place = x.0; dirty = x.1.0; block_mapped = x.1.1 }) (λ _. refl)
 
 abbrev pub entries_code : Coded Entries
 entries_code = code coded_ℕ entry_code

@@ -35,7 +35,8 @@ StandsNoneIn m block = (a : ℕ) (e : Entry) → get m a ≡ Some e → e.place.
 
 -- the erase block is the data block of the group
 abbrev pub IsGroupIn : Geometry → Entries → ℕ → ℕ → Type 0
-IsGroupIn g m block group = (a : ℕ) × (e : Entry) × (get m a ≡ Some e) × (e.block_mapped ≡ true) × (e.place.block ≡ block) × (a / g.p ≡ group)
+IsGroupIn g m block group = (a : ℕ) × (e : Entry) × (get m a ≡ Some e) × (e.block_mapped ≡ true) × (e.place.block ≡ block)
+    × (a / g.p ≡ group)
 
 -- the erase block is no data block
 abbrev pub IsNoDataBlock : Entries → ℕ → Type 0

@@ -8,7 +8,7 @@ use Rattle.ft_base.specs.declared.record.Record.TheVariants.{SetPage, SetGroup}
 use Rattle.cache_model.specs.declared.entry.Entry.{Entry}
 use Rattle.cache_model.specs.Records.{Entries, no_entries, after, has_bit, in_log_block, page_of_group}
 use Rattle.block_map.specs.PageSets.{BlockPages, IsSound as IsSoundBlock}
-use Rattle.sparse_map.specs.Packed.{Table, map_of, buckets_of, IsSound}
+use Rattle.sparse_map.specs.Packed.{PackedTable, map_of, buckets_of, IsSound}
 use Rattle.mapping.specs.declared.log_page.LogPage.{LogPage}
 use Rattle.mapping.specs.Checkpoint.{set_group_of}
 
@@ -54,15 +54,15 @@ pub record AreBlocks (g : Geometry) (blocks : Blocks) : Type 0 where
   pub below : (k : ℕ) (b : BlockPages) → get blocks k ≡ Some b → (i : ℕ) → g.p ≤ i → has_bit b.present i ≡ false
 
 -- no address has a log page and a page of a data block
-abbrev pub AreApart : Geometry → Pages → Blocks → Type 0
-AreApart g pages blocks = (a : ℕ) (x : LogPage) → get pages a ≡ Some x → page_in (get blocks (a / g.p)) (a % g.p) ≡ None
+abbrev pub AreDisjoint : Geometry → Pages → Blocks → Type 0
+AreDisjoint g pages blocks = (a : ℕ) (x : LogPage) → get pages a ≡ Some x → page_in (get blocks (a / g.p)) (a % g.p) ≡ None
 
 -- what two packed maps keep
-pub record IsPackedMap (g : Geometry) (pages : Table LogPage) (blocks : Table BlockPages) : Type 0 where
+pub record IsPackedMap (g : Geometry) (pages : PackedTable LogPage) (blocks : PackedTable BlockPages) : Type 0 where
   pub pages_sound : IsSound pages
   pub blocks_sound : IsSound blocks
   pub are_blocks : AreBlocks g (map_of blocks)
-  pub apart : AreApart g (map_of pages) (map_of blocks)
+  pub apart : AreDisjoint g (map_of pages) (map_of blocks)
   pub few_pages : buckets_of pages ≤ 2 ^ 32
   pub few_blocks : buckets_of blocks ≤ 2 ^ 32
 

@@ -42,8 +42,10 @@ impl Candidates {
         now: Option<BlockAt>,
         is_dirty: bool,
     )
-        requires { (m : Entries) × (n : Entries) × (group : ℕ) × ChangesOne geometry.now m n group before now is_dirty × AreCandidates geometry.now m self.old.counts.items }
-        ensures { (m n : Entries) (group : ℕ) → ChangesOne geometry.now m n group before now is_dirty → AreCandidates geometry.now m self.old.counts.items → AreCandidates geometry.now n self.new.counts.items }
+        requires { (m : Entries) × (n : Entries) × (group : ℕ) × ChangesOne geometry.now m n group before now is_dirty
+            × AreCandidates geometry.now m self.old.counts.items }
+        ensures { (m n : Entries) (group : ℕ) → ChangesOne geometry.now m n group before now is_dirty
+            → AreCandidates geometry.now m self.old.counts.items → AreCandidates geometry.now n self.new.counts.items }
     {
         self.forget(geometry, before);
         if is_dirty {

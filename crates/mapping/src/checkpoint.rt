@@ -12,7 +12,8 @@ use sparse_map::SparseMap;
 
 /// Puts record number `at` where it belongs, if the window from number `from` on has it.
 fn offer(out: &mut [Record], from: usize, at: usize, change: Record)
-    ensures window { (records : List RecordValue) → length records ≡ at → HasWindow records from out.old → HasWindow (records ++ change ∷ []) from out.new }
+    ensures window { (records : List RecordValue) → length records ≡ at → HasWindow records from out.old
+        → HasWindow (records ++ change ∷ []) from out.new }
 {
     if at >= from && at - from < out.len() {
         out[at - from] = change;
@@ -53,7 +54,8 @@ fn block_record(item: &(u64, BlockAt)) -> Record
 /// Offers the records of these log pages, which come after so many others.
 fn offer_pages(items: &[(u64, LogPage)], before: usize, from: usize, out: &mut [Record])
     requires { before + length items.now < 2 ^ 64 }
-    ensures { (records : List RecordValue) → length records ≡ before → HasWindow records from out.old → HasWindow (records ++ map page_record items.now) from out.new }
+    ensures { (records : List RecordValue) → length records ≡ before → HasWindow records from out.old
+        → HasWindow (records ++ map page_record items.now) from out.new }
 {
     if is_outside(out, from, before, items.len()) {
         return;
@@ -68,7 +70,8 @@ fn offer_pages(items: &[(u64, LogPage)], before: usize, from: usize, out: &mut [
 /// Offers the records of these data blocks, which come after so many others.
 fn offer_blocks(items: &[(u64, BlockAt)], before: usize, from: usize, out: &mut [Record])
     requires { before + length items.now < 2 ^ 64 }
-    ensures { (records : List RecordValue) → length records ≡ before → HasWindow records from out.old → HasWindow (records ++ map block_record items.now) from out.new }
+    ensures { (records : List RecordValue) → length records ≡ before → HasWindow records from out.old
+        → HasWindow (records ++ map block_record items.now) from out.new }
 {
     if is_outside(out, from, before, items.len()) {
         return;
@@ -89,7 +92,8 @@ pub fn offer_all_pages(
 ) -> usize
     requires { before + length (items_of pages.now.slots) < 2 ^ 64 }
     ensures count { result ≡ before + length (items_of pages.now.slots) }
-    ensures window { (records : List RecordValue) → length records ≡ before → HasWindow records from out.old → HasWindow (records ++ map page_record (items_of pages.now.slots)) from out.new }
+    ensures window { (records : List RecordValue) → length records ≡ before → HasWindow records from out.old
+        → HasWindow (records ++ map page_record (items_of pages.now.slots)) from out.new }
 {
     let mut at = before;
     for group in 0..pages.groups() {
@@ -109,7 +113,8 @@ pub fn offer_all_blocks(
 ) -> usize
     requires { before + length (items_of blocks.now.slots) < 2 ^ 64 }
     ensures count { result ≡ before + length (items_of blocks.now.slots) }
-    ensures window { (records : List RecordValue) → length records ≡ before → HasWindow records from out.old → HasWindow (records ++ map block_record (items_of blocks.now.slots)) from out.new }
+    ensures window { (records : List RecordValue) → length records ≡ before → HasWindow records from out.old
+        → HasWindow (records ++ map block_record (items_of blocks.now.slots)) from out.new }
 {
     let mut at = before;
     for group in 0..blocks.groups() {

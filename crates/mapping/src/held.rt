@@ -7,7 +7,7 @@ ghost use Rattle.block_map.specs.PageSets.{IsSound as IsSoundBlock};
 ghost use Rattle.sparse_map.specs.Packed.{map_of, buckets_of, IsSound};
 ghost use Rattle.mapping.specs.declared.bits.Choice.TheVariants.{Mapped};
 ghost use Rattle.mapping.specs.Bits.{chosen_of, IsDataBlock};
-ghost use Rattle.mapping.specs.Checkpoint.{IsCheckpoint, HasWindow};
+ghost use Rattle.mapping.specs.Checkpoint.{IsCheckpointOf, HasWindow};
 ghost use Rattle.mapping.specs.Room.{LogsGrew, BlocksGrew};
 ghost use Rattle.cache_model.specs.Buckets.{AreBucketsFor};
 ghost use Rattle.mapping.specs.Packed.{page_in, IsLeftOut};
@@ -42,7 +42,16 @@ impl Model for Held {
 
     ghost coded = { Prim.hlevel (codes, entries_code, geometry_row.the_row.coded, record_row.the_row.coded) };
 
-    ghost view = { λ h. record { geometry = h.geometry; entries = entries_of h.geometry (map_of h.pages) (map_of h.blocks); spare_pages = h.pages.spare; spare_blocks = h.blocks.spare; records = records_of h.geometry (entries_of h.geometry (map_of h.pages) (map_of h.blocks)) (items_of h.pages.slots) (items_of h.blocks.slots); buckets = buckets_of h.pages; group_buckets = buckets_of h.blocks } };
+    ghost view = { λ h. record {
+      geometry = h.geometry;
+      entries = entries_of h.geometry (map_of h.pages) (map_of h.blocks);
+      spare_pages = h.pages.spare;
+      spare_blocks = h.blocks.spare;
+      records = records_of h.geometry
+          (entries_of h.geometry (map_of h.pages) (map_of h.blocks)) (items_of h.pages.slots) (items_of h.blocks.slots);
+      buckets = buckets_of h.pages;
+      group_buckets = buckets_of h.blocks;
+    } };
 
     ghost invariant = { λ h. IsPackedMap h.geometry h.pages h.blocks };
 }
@@ -132,7 +141,8 @@ impl Held {
         requires below { (i : ℕ) → self.old.geometry.p ≤ i → has_bit block.present i ≡ false }
         requires room { 1 ≤ self.old.spare_blocks }
         ensures geometry { self.new.geometry ≡ self.old.geometry }
-        ensures entries { self.new.entries ≡ after self.old.geometry (SetGroup group block.block block.present block.dirty) self.old.entries }
+        ensures entries { self.new.entries ≡ after self.old.geometry (SetGroup group block.block block.present block.dirty)
+            self.old.entries }
         ensures pages { self.new.spare_pages ≡ self.old.spare_pages }
         ensures blocks { self.new.spare_blocks + 1 ≡ self.old.spare_blocks }
         ensures buckets { self.new.buckets ≡ self.old.buckets }
@@ -213,7 +223,7 @@ impl Held {
     /// How many records a checkpoint has.
     pub fn checkpoint_len(&self) -> u64
         ensures count { result ≡ length self.now.records }
-        ensures listing { IsCheckpoint self.now.geometry self.now.entries self.now.records }
+        ensures listing { IsCheckpointOf self.now.geometry self.now.entries self.now.records }
     {
         self.blocks.len() + self.pages.len()
     }

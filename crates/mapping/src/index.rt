@@ -45,7 +45,8 @@ impl LogCounts {
     /// Takes note that the entry of an address goes.
     fn leave(&mut self, geometry: &Geometry, lba: u64, entry: &Entry)
         requires { (m : Entries) × IsMap geometry.now m × LogsAre geometry.now m self.old × (get m lba ≡ Some entry.now) }
-        ensures { (m : Entries) → IsMap geometry.now m → LogsAre geometry.now m self.old → get m lba ≡ Some entry.now → LogsAre geometry.now (remove m lba) self.new }
+        ensures { (m : Entries) → IsMap geometry.now m → LogsAre geometry.now m self.old → get m lba ≡ Some entry.now
+            → LogsAre geometry.now (remove m lba) self.new }
     {
         if entry.block_mapped {
             return;
@@ -61,7 +62,8 @@ impl LogCounts {
     /// Takes note that the entry of an address comes.
     fn enter(&mut self, geometry: &Geometry, lba: u64, entry: &Entry)
         requires { (m : Entries) × IsMap geometry.now m × LogsAre geometry.now (remove m lba) self.old × (get m lba ≡ Some entry.now) }
-        ensures { (m : Entries) → IsMap geometry.now m → LogsAre geometry.now (remove m lba) self.old → get m lba ≡ Some entry.now → LogsAre geometry.now m self.new }
+        ensures { (m : Entries) → IsMap geometry.now m → LogsAre geometry.now (remove m lba) self.old → get m lba ≡ Some entry.now
+            → LogsAre geometry.now m self.new }
     {
         if entry.block_mapped {
             return;
@@ -106,7 +108,8 @@ impl Index {
     /// Takes note that the entry of an address goes.
     pub fn leave(&mut self, geometry: &Geometry, lba: u64, entry: &Entry)
         requires { (m : Entries) × IsMap geometry.now m × IsIndex geometry.now m self.old × (get m lba ≡ Some entry.now) }
-        ensures { (m : Entries) → IsMap geometry.now m → IsIndex geometry.now m self.old → get m lba ≡ Some entry.now → IsIndex geometry.now (remove m lba) self.new }
+        ensures { (m : Entries) → IsMap geometry.now m → IsIndex geometry.now m self.old → get m lba ≡ Some entry.now
+            → IsIndex geometry.now (remove m lba) self.new }
     {
         self.owners[number_of(geometry, entry.place) as usize] = None;
         self.logs.leave(geometry, lba, entry);
@@ -117,7 +120,8 @@ impl Index {
     /// Takes note that the entry of an address comes.
     pub fn enter(&mut self, geometry: &Geometry, lba: u64, entry: &Entry)
         requires { (m : Entries) × IsMap geometry.now m × IsIndex geometry.now (remove m lba) self.old × (get m lba ≡ Some entry.now) }
-        ensures { (m : Entries) → IsMap geometry.now m → IsIndex geometry.now (remove m lba) self.old → get m lba ≡ Some entry.now → IsIndex geometry.now m self.new }
+        ensures { (m : Entries) → IsMap geometry.now m → IsIndex geometry.now (remove m lba) self.old → get m lba ≡ Some entry.now
+            → IsIndex geometry.now m self.new }
     {
         self.owners[number_of(geometry, entry.place) as usize] = Some(lba);
         self.logs.enter(geometry, lba, entry);

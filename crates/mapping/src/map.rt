@@ -5,7 +5,7 @@ ghost use Rattle.cache_model.specs.Entries.{Fits, IsMap, blocks_with, page_mappe
 ghost use Rattle.mapping.specs.MapValue.{pages_taken, groups_taken};
 ghost use Rattle.mapping.specs.Counts.{held_count, dirty_count, dirty_group_count, data_block_count, Owns, place_and_mark};
 ghost use Rattle.mapping.specs.declared.bits.Choice.TheVariants.{Held as held_choice, Dirty, Mapped};
-ghost use Rattle.mapping.specs.Checkpoint.{IsCheckpoint};
+ghost use Rattle.mapping.specs.Checkpoint.{IsCheckpointOf};
 ghost use Rattle.mapping.specs.Candidates.{AreCandidates};
 ghost use Rattle.mapping.specs.Numbers.{pool_pages, HasNumber, HasNone, AreNumbered, StandsNoneIn, IsGroupIn, IsNoDataBlock};
 ghost use Rattle.mapping.specs.Bits.{chosen_of, IsDataBlock};
@@ -46,15 +46,24 @@ impl Model for Map {
     ghost use Rattle.ft_base.specs.contracts.geometry.Geometry as geometry_row;
     ghost use Rattle.ft_base.specs.contracts.record.Record as record_row;
     ghost use Rattle.mapping.specs.MapValue.{MapValue, entries_code};
-    ghost use Rattle.mapping.specs.Kept.{IsKept};
+    ghost use Rattle.mapping.specs.Kept.{KeepsMap};
 
     ghost Value = { MapValue };
 
     ghost coded = { Prim.hlevel (codes, entries_code, geometry_row.the_row.coded, record_row.the_row.coded) };
 
-    ghost view = { λ m. record { geometry = m.geometry; entries = m.held.entries; spare_pages = m.spare_pages; spare_groups = m.spare_groups; records = m.held.records; buckets = m.held.buckets; group_buckets = m.held.group_buckets } };
+    ghost view = { λ m. record {
+      geometry = m.geometry;
+      entries = m.held.entries;
+      spare_pages = m.spare_pages;
+      spare_groups = m.spare_groups;
+      records = m.held.records;
+      buckets = m.held.buckets;
+      group_buckets = m.held.group_buckets;
+    } };
 
-    ghost invariant = { λ m. IsKept m.geometry m.held m.index m.candidates.counts.items m.dirty_groups m.data_blocks m.spare_pages m.spare_groups };
+    ghost invariant = { λ m. KeepsMap m.geometry m.held m.index m.candidates.counts.items m.dirty_groups m.data_blocks m.spare_pages
+        m.spare_groups };
 }
 
 impl Map {
@@ -189,7 +198,8 @@ impl Map {
         ensures group_buckets { OnOk result (GrewForGroups self.old self.new self.new.spare_groups) }
         ensures err_pages { OnErr result (self.new.spare_pages ≡ self.old.spare_pages) }
         ensures err_groups { OnErr result (self.new.spare_groups ≡ self.old.spare_groups) }
-        ensures err_buckets { OnErr result ((self.new.buckets ≡ self.old.buckets) ⊎ GrewForPages self.old self.new (max self.old.spare_pages pages)) }
+        ensures err_buckets { OnErr result ((self.new.buckets ≡ self.old.buckets)
+            ⊎ GrewForPages self.old self.new (max self.old.spare_pages pages)) }
         ensures err_group_buckets { OnErr result (self.new.group_buckets ≡ self.old.group_buckets) }
     {
         let pages = self.spare_pages.max(pages);
@@ -295,7 +305,7 @@ impl Map {
     /// each page-mapped address.
     pub fn checkpoint_len(&self) -> u32
         ensures count { result ≡ length self.now.records }
-        ensures listing { IsCheckpoint self.now.geometry self.now.entries self.now.records }
+        ensures listing { IsCheckpointOf self.now.geometry self.now.entries self.now.records }
         ensures is_map { IsMap self.now.geometry self.now.entries }
     {
         self.held.checkpoint_len() as u32

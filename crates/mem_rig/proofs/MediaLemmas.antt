@@ -14,13 +14,14 @@ use Rattle.ft_base.proofs.Images.{set_here, set_other}
 use Rattle.ft_media.specs.declared.media.MediaError.TheVariants as error
 use Rattle.ft_media.specs.State.{State, Power}
 use Rattle.ft_media.specs.Media.{DiskStays, LeavesPage, PagesErased, DeviceWrite, KeepsReady, after_write}
-use Rattle.ft_media.specs.Rig.{Cut}
+use Rattle.ft_media.specs.Rig.{Cut, SettledByStop}
+use Rattle.ft_base.specs.declared.power.Stop.{Stop}
 use Rattle.device_calls.specs.declared.ending.Ending.{Ending}
 use Rattle.device_calls.specs.declared.ending.Ending.TheVariants as ending
 use Rattle.nand_model.specs.Steps.{torn, in_thirds, cut_erase, program_left, erase_left}
 use Rattle.ft_media.specs.Rig.{after_cut, cut_value, flushed_value, oldest}
 use Rattle.disk_model.specs.Steps.{write_left, flush_left}
-use Rattle.mem_rig.specs.Power.{PowerLeft, WasCounted}
+use Rattle.mem_rig.specs.Power.{FellDue, PowerLeft, WasCounted}
 use Rattle.mem_rig.specs.Steps.{cut_contents, cut_bumped}
 
 -- a cut leaves one of the values
@@ -51,6 +52,27 @@ disk_cut old new left cut = record { stays = λ kept. cc; values = λ lba block 
 
 on_off : (on : Bool) → on ≡ true → on ≡ false → ⊥
 on_off on is_on is_off = cc
+
+-- the stop that cut a device write was the front one
+same_front : (front other : Stop) (later rest : List Stop) → front ∷ later ≡ other ∷ rest → front ≡ other
+same_front front other later rest same = cc
+
+pub settled_by : (old new : State) (left : Outcome) (disk : ℕ → Values) → FellDue old.power new.power left → new.contents.disk ≡ after_cut left disk → SettledByStop old new true disk
+settled_by old new left disk fell cut = record {
+  settled = λ on lost front later stops lba.
+      let same : fell.front ≡ front = same_front fell.front front new.power.stops later (sym fell.stops ∙ stops) in
+      ap (λ (d : ℕ → Values). d lba) cut ∙ ap (λ o. after_cut o disk lba) (sym fell.outcome ∙ ap (λ (s : Stop). s.outcome) same);
+}
+
+-- no stop cut one that was not lost, nor one that found power off
+pub settled_kept : (old new : State) (disk : ℕ → Values) → SettledByStop old new false disk
+settled_kept old new disk = record { settled = λ on lost. absurd (true_false lost) }
+  where
+    true_false : false ≡ true → ⊥
+    true_false same = cc
+
+pub settled_off : (old new : State) (was_lost : Bool) (disk : ℕ → Values) → old.power.on ≡ false → SettledByStop old new was_lost disk
+settled_off old new was_lost disk off = record { settled = λ on lost. absurd (on_off old.power.on on off) }
 
 -- a device write that was done
 pub device_done : (old new : State) → new.contents.shape ≡ old.contents.shape → WasCounted old.power new.power → KeepsReady old new → DeviceWrite old new (Ok (tt {0}))
@@ -203,3 +225,12 @@ values_refused old new lba block same at b has = inl (subst (λ (s : State). Has
 -- the same of a device write whose ending is known to be this
 pub done_power : (how : Ending) (old new : Power) → how ≡ ending.Done → PowerLeft how old new → WasCounted old new
 done_power how old new is left = subst (λ h. PowerLeft h old new) is left
+
+pub off_power : (how : Ending) (old new : Power) → how ≡ ending.Off → PowerLeft how old new → old.on ≡ false
+off_power how old new is left = (subst (λ h. PowerLeft h old new) is left).0
+
+pub settled_write : (how : Ending) (old new : State) (left : Outcome) (lba : ℕ) (block : Block) → how ≡ ending.Cut left → PowerLeft how old.power new.power
+    → new.contents.disk ≡ write_left how old.contents.disk lba block → SettledByStop old new true (after_write old.contents.disk lba block)
+settled_write how old new left lba block is power disk =
+    settled_by old new left (after_write old.contents.disk lba block) (subst (λ h. PowerLeft h old.power new.power) is power)
+    (disk ∙ ap (λ h. write_left h old.contents.disk lba block) is)

@@ -16,6 +16,7 @@ impl Media for MemRig {
     ghost use Rattle.ft_media.specs.State.{lost, failed};
     ghost use Rattle.ft_media.specs.Passes.{Passes};
     ghost use Rattle.ft_media.specs.Media.{Found, LeavesPage, PagesErased, after_program, after_erase, after_write, if_ok, program_counted, erase_counted, read_counted, write_counted, flush_counted, DiskStays, FlashStays, Crashed, FlashCause, DiskCause, ReadPower, DeviceWrite, OnlyCutsRose, UnlessWhole};
+    ghost use Rattle.ft_media.specs.Rig.{SettledByStop};
     ghost use Rattle.device_calls.specs.Calls.{faults_small};
     ghost use Rattle.nand_model.specs.Steps.{program_left, erase_left};
     ghost use Rattle.disk_model.specs.Steps.{write_left, flush_left};
@@ -90,11 +91,14 @@ impl Media for MemRig {
     fn program(&mut self, at: Place, block: &Block, spare: &Spare) -> Result<(), MediaError>
         requires ready { (state_of self.old).contents.flash.next at.block ≡ Some at.page }
         requires page { at.page < (state_of self.old).contents.shape.pages }
-        ensures ok { OnOk result ((state_of self.new).contents.flash ≡ after_program (state_of self.old).contents.flash at block.now spare.now) }
+        ensures ok { OnOk result ((state_of self.new).contents.flash ≡ after_program
+            (state_of self.old).contents.flash at block.now spare.now) }
         ensures page { LeavesPage (state_of self.old).contents.flash (state_of self.new).contents.flash at block.now spare.now }
-        ensures not_ready { IsErrOf result MediaError.Failed → (state_of self.new).contents.flash.next ≡ set (state_of self.old).contents.flash.next at.block None }
+        ensures not_ready { IsErrOf result MediaError.Failed
+            → (state_of self.new).contents.flash.next ≡ set (state_of self.old).contents.flash.next at.block None }
         ensures disk { DiskStays (state_of self.old).contents (state_of self.new).contents (lost result) }
         ensures crash { lost result ≡ true → Crashed (state_of self.new).contents }
+        ensures settled { SettledByStop (state_of self.old) (state_of self.new) (lost result) (state_of self.old).contents.disk }
         ensures counts { (state_of self.new).counts ≡ if_ok result (program_counted (state_of self.old).counts) (state_of self.old).counts }
         ensures cause { FlashCause (state_of self.old).faults (state_of self.new).faults (failed result) (lost result) }
         ensures memory { IsErrOf result MediaError.OutOfMemory → ⊥ }
@@ -118,9 +122,11 @@ impl Media for MemRig {
         requires { block < (state_of self.old).contents.shape.blocks }
         ensures ok { OnOk result ((state_of self.new).contents.flash ≡ after_erase (state_of self.old).contents.flash block) }
         ensures pages { PagesErased (state_of self.old).contents.flash (state_of self.new).contents.flash block }
-        ensures not_ready { IsErrOf result MediaError.Failed → (state_of self.new).contents.flash.next ≡ set (state_of self.old).contents.flash.next block None }
+        ensures not_ready { IsErrOf result MediaError.Failed
+            → (state_of self.new).contents.flash.next ≡ set (state_of self.old).contents.flash.next block None }
         ensures disk { DiskStays (state_of self.old).contents (state_of self.new).contents (lost result) }
         ensures crash { lost result ≡ true → Crashed (state_of self.new).contents }
+        ensures settled { SettledByStop (state_of self.old) (state_of self.new) (lost result) (state_of self.old).contents.disk }
         ensures counts { (state_of self.new).counts ≡ if_ok result (erase_counted (state_of self.old).counts) (state_of self.old).counts }
         ensures cause { FlashCause (state_of self.old).faults (state_of self.new).faults (failed result) (lost result) }
         ensures memory { IsErrOf result MediaError.OutOfMemory → ⊥ }
@@ -160,7 +166,8 @@ impl Media for MemRig {
 
     fn write_block(&mut self, lba: u64, block: &Block) -> Result<(), MediaError>
         requires { lba < (state_of self.old).contents.shape.size }
-        ensures ok { OnOk result ((at : ℕ) → (state_of self.new).contents.disk at ≡ after_write (state_of self.old).contents.disk lba block.now at) }
+        ensures ok { OnOk result ((at : ℕ) → (state_of self.new).contents.disk at ≡ after_write
+            (state_of self.old).contents.disk lba block.now at) }
         // Whatever is answered, a disk block has a value that it had, or the one that is written.
         ensures values { (at : ℕ) (b : Block) → HasValue ((state_of self.new).contents.disk at) b
             → HasValue ((state_of self.old).contents.disk at) b ⊎ ((at ≡ lba) × (b ≡ block.now)) }
@@ -169,6 +176,8 @@ impl Media for MemRig {
         ensures memory { IsErrOf result MediaError.OutOfMemory → state_of self.new ≡ state_of self.old }
         ensures flash { FlashStays (state_of self.old).contents (state_of self.new).contents (lost result) }
         ensures crash { lost result ≡ true → Crashed (state_of self.new).contents }
+        ensures settled { SettledByStop (state_of self.old) (state_of self.new) (lost result)
+            (after_write (state_of self.old).contents.disk lba block.now) }
         ensures counts { (state_of self.new).counts ≡ if_ok result (write_counted (state_of self.old).counts) (state_of self.old).counts }
         ensures cause { DiskCause (state_of self.old).faults (state_of self.new).faults (failed result) (lost result) }
         ensures device { DeviceWrite (state_of self.old) (state_of self.new) result }
@@ -193,11 +202,13 @@ impl Media for MemRig {
 
     fn flush_disk(&mut self) -> Result<(), MediaError>
         ensures ok { OnOk result ((lba : ℕ) → (state_of self.new).contents.disk lba ≡ flushed ((state_of self.old).contents.disk lba)) }
-        ensures values { (lba : ℕ) (b : Block) → HasValue ((state_of self.new).contents.disk lba) b → HasValue ((state_of self.old).contents.disk lba) b }
+        ensures values { (lba : ℕ) (b : Block) → HasValue ((state_of self.new).contents.disk lba) b
+            → HasValue ((state_of self.old).contents.disk lba) b }
         ensures failed { IsErrOf result MediaError.Failed → (state_of self.new).contents.disk ≡ (state_of self.old).contents.disk }
         ensures memory { IsErrOf result MediaError.OutOfMemory → ⊥ }
         ensures flash { FlashStays (state_of self.old).contents (state_of self.new).contents (lost result) }
         ensures crash { lost result ≡ true → Crashed (state_of self.new).contents }
+        ensures settled { SettledByStop (state_of self.old) (state_of self.new) (lost result) (state_of self.old).contents.disk }
         ensures counts { (state_of self.new).counts ≡ if_ok result (flush_counted (state_of self.old).counts) (state_of self.old).counts }
         ensures cause { DiskCause (state_of self.old).faults (state_of self.new).faults (failed result) (lost result) }
         ensures device { DeviceWrite (state_of self.old) (state_of self.new) result }

@@ -42,7 +42,8 @@ module _ (parts : Parts) (old new : Contents) (agree : Agree parts old) (ahead :
 
   module _ (shape : new.shape ≡ old.shape) (ok : new.flash ≡ after_program old.flash (next_place parts.logs) block spare) where
     beside : ChangedBeside parts.geometry parts.map.entries agree.sound.current.durable old.flash.page new.flash.page
-    beside = subst (λ (f : Flash). ChangedBeside parts.geometry parts.map.entries agree.sound.current.durable old.flash.page f.page) (sym ok) (set_beside parts.geometry parts.map.entries agree.sound.current.durable old.flash.page (next_place parts.logs) (Whole block spare) high blank agree.sound.whole.whole loaded)
+    beside = subst (λ (f : Flash). ChangedBeside parts.geometry parts.map.entries agree.sound.current.durable old.flash.page f.page) (sym ok)
+        (set_beside parts.geometry parts.map.entries agree.sound.current.durable old.flash.page (next_place parts.logs) (Whole block spare) high blank agree.sound.whole.whole loaded)
 
     opened : IsOpenBlock (one_page_less parts.logs) new.flash
     opened = λ more.

@@ -14,7 +14,7 @@ use Rattle.checkpoint.specs.Current.{IsCurrent}
 use Rattle.checkpoint.specs.Found.{found}
 use Rattle.checkpoint.specs.declared.walk.Newest.{Newest}
 use Rattle.checkpoint.proofs.BegunLemmas.{empty_whole}
-use Rattle.silent_evict.specs.Candidates.{IsHeld}
+use Rattle.silent_evict.specs.Candidates.{IsGroupHeld}
 use Rattle.silent_evict.proofs.GroupLemmas.{chosen_some}
 use Rattle.log_blocks.specs.Logs as list
 use Rattle.merge_engine.specs.declared.parts.Parts.{Parts}
@@ -44,7 +44,7 @@ first_sound parts contents g of_one own shape none log loads first roles sound c
   open_block = λ some. absurd (omega arith);
 }
 
-pub some_held : (parts : Parts) (group bits : ℕ) → AreOfOne parts → bits ≡ chosen_of Held parts.map.geometry parts.map.entries group → bits ≢ 0 → IsHeld parts.geometry parts.map.entries group
+pub some_held : (parts : Parts) (group bits : ℕ) → AreOfOne parts → bits ≡ chosen_of Held parts.map.geometry parts.map.entries group → bits ≢ 0 → IsGroupHeld parts.geometry parts.map.entries group
 some_held parts group bits of_one is some =
     let at = chosen_some parts.geometry parts.map.entries group Held (λ none. some (is ∙ ap (λ (h : Geometry). chosen_of Held h parts.map.entries group) of_one.map ∙ none)) in
     (at.0, at.1, at.2, at.3)

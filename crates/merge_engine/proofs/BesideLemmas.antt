@@ -20,7 +20,7 @@ use Rattle.cache_model.specs.Loading.{◌>>=◌, after_all, checkpoint_of, load,
 use Rattle.cache_model.specs.Loading.Refusal.{NotFormatted}
 use Rattle.cache_model.specs.Laws.{ArePages, LoadsAlike, SameBut}
 use Rattle.cache_model.specs.Cache.{CacheList, held}
-use Rattle.cache_model.specs.Stands.{StandsFor, held_at, block_in}
+use Rattle.cache_model.specs.Stands.{FlashStandsFor, held_at, block_in}
 use Rattle.cache_model.proofs.MapLemmas.{by_get}
 use Rattle.cache_model.proofs.LoadLemmas.{checkpoint_below, log_below, loaded_is, newest_below, newest_is, same_for, load_same, stands_but, set_page-other, pages_from-same}
 use Rattle.cache_model.proofs.FitsLemmas.{load-map, after_all-map}
@@ -91,7 +91,7 @@ current_alike page page' log m k alike = record {
 }
 
 -- what is loaded is one
-pub loaded_durable : (g : Geometry) (page : Place → Page) (list : CacheList) (stands : StandsFor g page list) (m : Entries) → load g page ≡ Ok m → stands.loaded ≡ m
+pub loaded_durable : (g : Geometry) (page : Place → Page) (list : CacheList) (stands : FlashStandsFor g page list) (m : Entries) → load g page ≡ Ok m → stands.loaded ≡ m
 loaded_durable g page list stands m loads = cc
 
 -- the place of a page that isn't whole is none of an entry of what is loaded
@@ -102,7 +102,7 @@ loaded_whole g page m loads = by_get m (λ a e. is_whole (page e.place) ≡ true
 pub lists_as : (p q : Parts) (page : Place → Page) (list durable : CacheList) → q.map ≡ p.map → q.geometry ≡ p.geometry → Lists p page list durable → Lists q page list durable
 lists_as p q page list durable map_is geometry_is lists = record {
   held = λ a. lists.held a ∙ ap (λ (m : MapValue). option_and_then (held_at page) (get m.entries a)) (sym map_is);
-  stands = subst (λ (g : Geometry). StandsFor g page durable) (sym geometry_is) lists.stands;
+  stands = subst (λ (g : Geometry). FlashStandsFor g page durable) (sym geometry_is) lists.stands;
 }
 
 -- ---- the parts over a flash that changed there
@@ -125,7 +125,7 @@ module _ (parts : Parts) (old new : Contents) (agree : Agree parts old) (beside 
   load-beside = sym (load_same parts.geometry old.flash.page new.flash.page alike)
 
   -- and stands for what it stood for
-  pub stands_beside : (durable : CacheList) → StandsFor parts.geometry old.flash.page durable → StandsFor parts.geometry new.flash.page durable
+  pub stands_beside : (durable : CacheList) → FlashStandsFor parts.geometry old.flash.page durable → FlashStandsFor parts.geometry new.flash.page durable
   stands_beside durable stands =
       stands_but parts.geometry old.flash.page new.flash.page durable stands
       (subst (λ (n : Entries). SameBut parts.geometry n old.flash.page new.flash.page) (sym (loaded_durable parts.geometry old.flash.page durable stands agree.sound.current.durable loads)) but)

@@ -10,7 +10,7 @@ use Rattle.cache_model.specs.Records.{Entries}
 use Rattle.cache_model.specs.Entries.{IsMap}
 use Rattle.cache_model.specs.Loading.{load, is_whole}
 use Rattle.cache_model.specs.Cache.{CacheList}
-use Rattle.cache_model.specs.Stands.{StandsFor}
+use Rattle.cache_model.specs.Stands.{FlashStandsFor}
 use Rattle.cache_model.proofs.FitsLemmas.{load-map}
 use Rattle.op_log.specs.Log.{LogValue, FitsOn}
 use Rattle.checkpoint.specs.Current.{IsCommitted, PoolStays, PoolReadyStays, LoadsOneOf}
@@ -28,7 +28,7 @@ pub pool_same : (g : Geometry) (page page' : Place → Page) (m : Entries) → I
 pool_same g page page' m is_map stays a e is = sym (stays e.place (is_map.in_pool a e is).above)
 
 -- flash that is loaded as a map whose pages are as before stands for the list that it made before
-pub stands_by_pool : (g : Geometry) (page page' : Place → Page) (m : Entries) (list : CacheList) → IsMap g m → PoolStays g page page' → load g page' ≡ Ok m → IsListOn page m list → StandsFor g page' list
+pub stands_by_pool : (g : Geometry) (page page' : Place → Page) (m : Entries) (list : CacheList) → IsMap g m → PoolStays g page page' → load g page' ≡ Ok m → IsListOn page m list → FlashStandsFor g page' list
 stands_by_pool g page page' m list is_map stays loads on = record {
   loaded = m;
   loads = loads;
@@ -36,7 +36,7 @@ stands_by_pool g page page' m list is_map stays loads on = record {
 }
 
 -- flash that is loaded as before, with its pool as before, stands for what it stood for
-pub stands_as_before : (g : Geometry) (page page' : Place → Page) (list : CacheList) → PoolStays g page page' → load g page' ≡ load g page → StandsFor g page list → StandsFor g page' list
+pub stands_as_before : (g : Geometry) (page page' : Place → Page) (list : CacheList) → PoolStays g page page' → load g page' ≡ load g page → FlashStandsFor g page list → FlashStandsFor g page' list
 stands_as_before g page page' list stays same stands = stands_by_pool g page page' stands.loaded list (load-map g page stands.loaded stands.loads) stays (same ∙ stands.loads) stands.held
 
 -- ---- after a commit
@@ -59,10 +59,10 @@ module _ (old : Parts) (log : LogValue) (marks : Geometry) (before now : Content
 
   -- whatever is answered
   pub committed_stands : LoadsOneOf old.log.geometry before.flash.page now.flash.page old.map.entries → (list durable : CacheList) → Lists old before.flash.page list durable
-      → StandsFor old.geometry now.flash.page durable ⊎ StandsFor old.geometry now.flash.page list
+      → FlashStandsFor old.geometry now.flash.page durable ⊎ FlashStandsFor old.geometry now.flash.page list
   committed_stands one list durable lists = by (subst (λ (h : Geometry). LoadsOneOf h before.flash.page now.flash.page old.map.entries) own one)
     where
-      by : LoadsOneOf old.geometry before.flash.page now.flash.page old.map.entries → StandsFor old.geometry now.flash.page durable ⊎ StandsFor old.geometry now.flash.page list
+      by : LoadsOneOf old.geometry before.flash.page now.flash.page old.map.entries → FlashStandsFor old.geometry now.flash.page durable ⊎ FlashStandsFor old.geometry now.flash.page list
       by (inl loads) = inr (stands_by_pool old.geometry before.flash.page now.flash.page old.map.entries list is_map stays loads lists.held)
       by (inr as_before) = inl (stands_as_before old.geometry before.flash.page now.flash.page durable stays as_before lists.stands)
 

@@ -145,7 +145,8 @@ free_or_used pool from (suc n) = elim (free_or_used pool (suc from) n) [
   | inr rest ↦ by (role_of pool from) refl rest
 ]
   where
-    by : (role : Role) → role_of pool from ≡ role → ((b : ℕ) → suc from ≤ b → b < suc from + n → (role_of pool b ≡ Data) ⊎ (role_of pool b ≡ Log)) → ((b : ℕ) × (from ≤ b) × (b < from + suc n) × (role_of pool b ≡ Free)) ⊎ ((b : ℕ) → from ≤ b → b < from + suc n → (role_of pool b ≡ Data) ⊎ (role_of pool b ≡ Log))
+    by : (role : Role) → role_of pool from ≡ role → ((b : ℕ) → suc from ≤ b → b < suc from + n → (role_of pool b ≡ Data) ⊎ (role_of pool b ≡ Log))
+        → ((b : ℕ) × (from ≤ b) × (b < from + suc n) × (role_of pool b ≡ Free)) ⊎ ((b : ℕ) → from ≤ b → b < from + suc n → (role_of pool b ≡ Data) ⊎ (role_of pool b ≡ Log))
     by Free is rest = inl (from, omega arith, omega arith, is)
     by Data is rest = inr (λ b low high. elim (cases_eq b from) [
       | inl same ↦ inl (ap (role_of pool) same ∙ is)

@@ -19,12 +19,12 @@ use Rattle.checkpoint.specs.Current.{AreWhole}
 use Rattle.mapping.specs.Bits.{chosen_of}
 use Rattle.mapping.specs.declared.bits.Choice.TheVariants.{Dirty}
 use Rattle.mapping.proofs.MarksLemmas.{member_from, member_to}
-use Rattle.silent_evict.specs.Candidates.{HasDataBlock, IsHeld, IsClean, IsVictim}
+use Rattle.silent_evict.specs.Candidates.{HasDataBlock, IsGroupHeld, IsClean, IsVictim}
 use Rattle.silent_evict.specs.Candidates as entries_are
 use Rattle.silent_evict.proofs.GroupLemmas.{chosen_none, chosen_some}
 use Rattle.merge_engine.specs.Agreement.{IsListOn}
-use Rattle.merge_engine.specs.Merges.{HasBlockOrRoom, OthersStay, StandsForEither, dropped, list_without}
-use Rattle.merge_engine.specs.Room.{GaveRoom, GaveWay, GivesRoom, HasNoCandidate, LacksRoom, StandsForGiven}
+use Rattle.merge_engine.specs.Merges.{HasBlockOrRoom, OthersStay, FlashStandsForEither, dropped, list_without}
+use Rattle.merge_engine.specs.Room.{GaveRoom, GaveWay, GivesRoom, HasNoCandidate, LacksRoom, FlashStandsForGiven}
 use Rattle.merge_engine.specs.Steps.{IsMerged, OthersStayOrGo, PageMappedStay}
 use Rattle.merge_engine.proofs.MovedLemmas.{dropped_here, dropped_other}
 
@@ -117,7 +117,7 @@ module _ (g : Geometry) (m : Entries) (page : Place → Page) (s : CacheList) (w
   -- ---- how many groups there are
 
   -- where the group is held and lacks room, there are more than C
-  too_many : (group : ℕ) → LacksRoom g m group → IsHeld g m group → g.c < length (groups g s)
+  too_many : (group : ℕ) → LacksRoom g m group → IsGroupHeld g m group → g.c < length (groups g s)
   too_many group lacks x =
       let longer = one_longer group (mapped_numbers g m) (is_absent g m group lacks.none) in
       let few = each_once-le (group ∷ mapped_numbers g m) (group_numbers g s) (λ n t. of_longer group n (mapped_numbers g m) t
@@ -140,7 +140,7 @@ module _ (g : Geometry) (m : Entries) (page : Place → Page) (s : CacheList) (w
       is_listed g (list_without g gone s) a y.0 (get_without gone a ∙ ap (λ b. cond b None (get s a)) (ne_eqb (a / g.p) gone other) ∙ y.1)
 
   -- without another group that has a data block, C are left
-  left_by_other : (group gone : ℕ) → LacksRoom g m group → IsHeld g m group → HasDataBlock g m gone → g.c ≤ length (groups g (list_without g gone s))
+  left_by_other : (group gone : ℕ) → LacksRoom g m group → IsGroupHeld g m group → HasDataBlock g m gone → g.c ≤ length (groups g (list_without g gone s))
   left_by_other group gone lacks x has =
       let ns = mapped_numbers g m in
       let differ : group ≡ gone → ⊥ = λ same. lacks.none (subst (λ k. HasDataBlock g m k) (sym same) has) in
@@ -162,7 +162,7 @@ module _ (g : Geometry) (m : Entries) (page : Place → Page) (s : CacheList) (w
       let full = lacks.full in
       omega (arith, few, full)
 
-  gave_room : (group gone : ℕ) → LacksRoom g m group → IsHeld g m group → entries_are.IsWhollyClean g m gone → g.c ≤ length (groups g (list_without g gone s)) → GaveRoom g s (list_without g gone s)
+  gave_room : (group gone : ℕ) → LacksRoom g m group → IsGroupHeld g m group → entries_are.IsWhollyClean g m gone → g.c ≤ length (groups g (list_without g gone s)) → GaveRoom g s (list_without g gone s)
   gave_room group gone lacks x clean left = record {
     gone = λ k. k == gone;
     stays = get_without gone;
@@ -173,7 +173,7 @@ module _ (g : Geometry) (m : Entries) (page : Place → Page) (s : CacheList) (w
 
   -- ---- a group gives way for another
 
-  pub other_gave : (group gone : ℕ) → LacksRoom g m group → IsHeld g m group → IsVictim g m gone → GivesRoom g s (list_without g gone s)
+  pub other_gave : (group gone : ℕ) → LacksRoom g m group → IsGroupHeld g m group → IsVictim g m gone → GivesRoom g s (list_without g gone s)
   other_gave group gone lacks x victim =
       let has = victim.candidate.some in
       inr (gave_room group gone lacks x (record { held = (has.0, has.1, has.2, has.3); clean = victim.candidate.clean }) (left_by_other group gone lacks x has))
@@ -181,7 +181,7 @@ module _ (g : Geometry) (m : Entries) (page : Place → Page) (s : CacheList) (w
   pub other_way : (group gone : ℕ) → LacksRoom g m group → IsVictim g m gone → GaveWay g m group s (list_without g gone s)
   other_way group gone lacks victim = record { gone = Some gone; given_up = (lacks, inl victim); stays = get_without gone }
 
-  pub itself_gave : (group : ℕ) → LacksRoom g m group → IsHeld g m group → IsClean g m group → GivesRoom g s (list_without g group s)
+  pub itself_gave : (group : ℕ) → LacksRoom g m group → IsGroupHeld g m group → IsClean g m group → GivesRoom g s (list_without g group s)
   itself_gave group lacks x clean = inr (gave_room group group lacks x (record { held = x; clean = clean }) (left_by_itself group lacks))
 
   pub itself_way : (group : ℕ) → LacksRoom g m group → HasNoCandidate g m → GaveWay g m group s (list_without g group s)
@@ -217,7 +217,7 @@ module _ (g : Geometry) (m : Entries) (group : ℕ) where
   victim_other : (gone : ℕ) → LacksRoom g m group → IsVictim g m gone → group ≡ gone → ⊥
   victim_other gone lacks victim same = lacks.none (subst (λ k. HasDataBlock g m k) (sym same) victim.candidate.some)
 
-  pub held_still : (gone : ℕ) → LacksRoom g m group → IsVictim g m gone → IsHeld g m group → IsHeld g (dropped g m gone) group
+  pub held_still : (gone : ℕ) → LacksRoom g m group → IsVictim g m gone → IsGroupHeld g m group → IsGroupHeld g (dropped g m gone) group
   held_still gone lacks victim x = (x.0, x.1, dropped_other g m gone x.0 (λ here. victim_other gone lacks victim (sym x.3 ∙ here)) ∙ x.2, x.3)
 
   -- a data block is left for it
@@ -272,6 +272,6 @@ module _ (g : Geometry) (m : Entries) (group : ℕ) where
 
 -- ---- what the flash stands for
 
-pub given_either : (g : Geometry) (page : Place → Page) (durable list v : CacheList) → GivesRoom g list v → StandsForEither g page durable v → StandsForGiven g page durable list
+pub given_either : (g : Geometry) (page : Place → Page) (durable list v : CacheList) → GivesRoom g list v → FlashStandsForEither g page durable v → FlashStandsForGiven g page durable list
 given_either g page durable list v gives (inl stands) = inl stands
 given_either g page durable list v gives (inr stands) = inr (v, gives, stands)

@@ -7,7 +7,7 @@ use Rattle.cache_model.specs.Cache.{CacheList}
 use Rattle.op_log.specs.Log.{LogValue}
 use Rattle.merge_engine.specs.declared.parts.Parts.{Parts}
 use Rattle.merge_engine.specs.Agreement.{Lists}
-use Rattle.merge_engine.specs.Room.{GivesRoom, StandsForGiven}
+use Rattle.merge_engine.specs.Room.{GivesRoom, FlashStandsForGiven}
 use Rattle.merge_engine.specs.Steps.{GoesOn}
 use Rattle.merge_engine.proofs.BesideLemmas.{lists_as}
 use Rattle.merge_engine.proofs.RoomLemmas.{gives_again}
@@ -22,11 +22,11 @@ goes_as log p q page list durable map_is geometry_is log_is (inr gone) = inr (
 
 module _ (log : LogValue) (mid : Parts) (page : Place → Page) (g : Geometry) (is : mid.geometry ≡ g) (list durable : CacheList) where
   -- what a later step may leave, whatever it answers
-  pub given_then : (page' : Place → Page) → GoesOn log mid page list durable → ((l d : CacheList) → Lists mid page l d → StandsForGiven mid.geometry page' d l) → StandsForGiven g page' durable list
-  given_then page' (inl same) later = subst (λ (h : Geometry). StandsForGiven h page' durable list) is (later list durable same.1)
-  given_then page' (inr gone) later = subst (λ (h : Geometry). StandsForGiven h page' durable list) is (from (later gone.1.0 gone.1.0 gone.1.2))
+  pub given_then : (page' : Place → Page) → GoesOn log mid page list durable → ((l d : CacheList) → Lists mid page l d → FlashStandsForGiven mid.geometry page' d l) → FlashStandsForGiven g page' durable list
+  given_then page' (inl same) later = subst (λ (h : Geometry). FlashStandsForGiven h page' durable list) is (later list durable same.1)
+  given_then page' (inr gone) later = subst (λ (h : Geometry). FlashStandsForGiven h page' durable list) is (from (later gone.1.0 gone.1.0 gone.1.2))
     where
-      from : StandsForGiven mid.geometry page' gone.1.0 gone.1.0 → StandsForGiven mid.geometry page' durable list
+      from : FlashStandsForGiven mid.geometry page' gone.1.0 gone.1.0 → FlashStandsForGiven mid.geometry page' durable list
       from (inl stands) = inr (gone.1.0, gone.1.1, stands)
       from (inr w) = inr (w.0, gives_again mid.geometry list gone.1.0 w.0 gone.1.1 w.1, w.2)
 
@@ -47,5 +47,5 @@ module _ (log : LogValue) (mid : Parts) (page : Place → Page) (g : Geometry) (
       from (inr more) = inr (more.0, (more.1.0, gives_again new.geometry list gone.1.0 more.1.0 (subst (λ (h : Geometry). GivesRoom h list gone.1.0) geometries gone.1.1) more.1.1, more.1.2))
 
   -- and what the flash stands for then
-  pub given_from : GoesOn log mid page list durable → StandsForGiven g page durable list
+  pub given_from : GoesOn log mid page list durable → FlashStandsForGiven g page durable list
   given_from goes = given_then page goes (λ l d lists. inl lists.stands)

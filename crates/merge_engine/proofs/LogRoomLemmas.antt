@@ -9,7 +9,7 @@ use Rattle.op_log.specs.Log.{LogValue}
 use Rattle.log_blocks.specs.Logs.{LogBlocksValue}
 use Rattle.merge_engine.specs.declared.parts.Parts.{Parts}
 use Rattle.merge_engine.specs.Agreement.{Lists}
-use Rattle.merge_engine.specs.Merges.{StandsForEither}
+use Rattle.merge_engine.specs.Merges.{FlashStandsForEither}
 use Rattle.merge_engine.specs.Steps.{CanBeginLog, HasLogRoom, KeepsList}
 use Rattle.merge_engine.proofs.BesideLemmas.{lists_as}
 
@@ -28,9 +28,9 @@ given_same old mid new logs same is = is ∙ ap (λ (p : Parts). record p { pool
 
 -- a step that changes no page of the lists comes after one that keeps the list
 module _ (log : LogValue) (mid : Parts) (page page' : Place → Page) (list durable : CacheList) (later : (l d : CacheList) → Lists mid page l d → Lists mid page' l d) where
-  pub keeps_stands : (g : Geometry) → mid.geometry ≡ g → KeepsList log mid page list durable → StandsForEither g page' durable list
-  keeps_stands g is (inl on) = subst (λ (h : Geometry). StandsForEither h page' durable list) is (inl (later list durable on.1).stands)
-  keeps_stands g is (inr all) = subst (λ (h : Geometry). StandsForEither h page' durable list) is (inr (later list list all.1).stands)
+  pub keeps_stands : (g : Geometry) → mid.geometry ≡ g → KeepsList log mid page list durable → FlashStandsForEither g page' durable list
+  keeps_stands g is (inl on) = subst (λ (h : Geometry). FlashStandsForEither h page' durable list) is (inl (later list durable on.1).stands)
+  keeps_stands g is (inr all) = subst (λ (h : Geometry). FlashStandsForEither h page' durable list) is (inr (later list list all.1).stands)
 
   pub keeps_then : (new : Parts) → new.log ≡ mid.log → new.map ≡ mid.map → new.geometry ≡ mid.geometry → KeepsList log mid page list durable → KeepsList log new page' list durable
   keeps_then new log_is map_is geometry_is (inl on) = inl (log_is ∙ on.0, lists_as mid new page' list durable map_is geometry_is (later list durable on.1))

@@ -11,12 +11,12 @@ use Rattle.block_map.specs.PageSets.{BlockPages}
 use Rattle.mapping.specs.declared.bits.Choice.TheVariants.{Mapped}
 use Rattle.mapping.specs.Bits.{chosen_of, IsDataBlock}
 use Rattle.mapping.specs.Counts.{data_block_count}
-use Rattle.silent_evict.specs.Candidates.{IsCandidate, IsHeld, IsVictim}
+use Rattle.silent_evict.specs.Candidates.{IsCandidate, IsGroupHeld, IsVictim}
 use Rattle.silent_evict.proofs.GroupLemmas.{chosen_none, chosen_some}
 use Rattle.merge_engine.specs.declared.parts.Parts.{Parts}
 use Rattle.merge_engine.specs.Agreement.{Agree, Lists}
-use Rattle.merge_engine.specs.Merges.{HasBlockOrRoom, OthersStay, StandsForEither, dropped, list_without}
-use Rattle.merge_engine.specs.Room.{GaveWay, GivesRoom, HasNoCandidate, LacksRoom, StandsForGiven}
+use Rattle.merge_engine.specs.Merges.{HasBlockOrRoom, OthersStay, FlashStandsForEither, dropped, list_without}
+use Rattle.merge_engine.specs.Room.{GaveWay, GivesRoom, HasNoCandidate, LacksRoom, FlashStandsForGiven}
 use Rattle.merge_engine.specs.Steps.{IsMerged, OthersStayOrGo, PageMappedStay}
 use Rattle.merge_engine.proofs.TakeLemmas.{agree_map}
 use Rattle.merge_engine.proofs.MoveLemmas.{either_same}
@@ -56,7 +56,7 @@ module _ (g h : Geometry) (m : Entries) (group : ℕ) (same : h ≡ g) where
 
 -- ---- a victim gives way, and then the group moves
 
-module _ (old : Parts) (contents : Contents) (agree : Agree old contents) (group : ℕ) (lacks : LacksRoom old.geometry old.map.entries group) (is_held : IsHeld old.geometry old.map.entries group) where
+module _ (old : Parts) (contents : Contents) (agree : Agree old contents) (group : ℕ) (lacks : LacksRoom old.geometry old.map.entries group) (is_held : IsGroupHeld old.geometry old.map.entries group) where
   pub victim_gave : (gone : ℕ) (list durable : CacheList) → IsVictim old.geometry old.map.entries gone → Lists old contents.flash.page list durable → GivesRoom old.geometry list (list_without old.geometry gone list)
   victim_gave gone list durable victim lists = other_gave old.geometry old.map.entries contents.flash.page list agree.sound.whole lists.held group gone lacks is_held victim
 
@@ -75,8 +75,8 @@ stays_way old contents group list durable agree room lists = none_way old.geomet
 -- ---- after the victim went
 
 module _ (g h : Geometry) (m n : Entries) (group gone : ℕ) (same : h ≡ g) (is : n ≡ dropped g m gone) where
-  pub held_then : LacksRoom g m group → IsVictim g m gone → IsHeld g m group → IsHeld h n group
-  held_then lacks victim held = subst (λ (k : Geometry). IsHeld k n group) (sym same) (subst (λ (x : Entries). IsHeld g x group) (sym is) (held_still g m group gone lacks victim held))
+  pub held_then : LacksRoom g m group → IsVictim g m gone → IsGroupHeld g m group → IsGroupHeld h n group
+  held_then lacks victim held = subst (λ (k : Geometry). IsGroupHeld k n group) (sym same) (subst (λ (x : Entries). IsGroupHeld g x group) (sym is) (held_still g m group gone lacks victim held))
 
   pub room_then : LacksRoom g m group → IsVictim g m gone → HasBlockOrRoom h n group
   room_then lacks victim = subst (λ (k : Geometry). HasBlockOrRoom k n group) (sym same) (subst (λ (x : Entries). HasBlockOrRoom g x group) (sym is) (room_made g m group gone lacks victim))
@@ -107,9 +107,9 @@ module _ (g : Geometry) (m n : Entries) (group : ℕ) (is : n ≡ dropped g m gr
 
 -- ---- what the flash stands for
 
-pub given_itself : (g : Geometry) (page : Place → Page) (durable list : CacheList) → StandsForEither g page durable list → StandsForGiven g page durable list
+pub given_itself : (g : Geometry) (page : Place → Page) (durable list : CacheList) → FlashStandsForEither g page durable list → FlashStandsForGiven g page durable list
 given_itself g page durable list either = given_either g page durable list list (inl refl) either
 
 -- the flash stands for the list that gave room already
-pub given_after : (g h : Geometry) (page : Place → Page) (durable list v : CacheList) → h ≡ g → GivesRoom g list v → StandsForEither h page v v → StandsForGiven g page durable list
-given_after g h page durable list v same gives either = inr (v, gives, either_same g page v (subst (λ (k : Geometry). StandsForEither k page v v) same either))
+pub given_after : (g h : Geometry) (page : Place → Page) (durable list v : CacheList) → h ≡ g → GivesRoom g list v → FlashStandsForEither h page v v → FlashStandsForGiven g page durable list
+given_after g h page durable list v same gives either = inr (v, gives, either_same g page v (subst (λ (k : Geometry). FlashStandsForEither k page v v) same either))

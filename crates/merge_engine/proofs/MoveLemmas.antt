@@ -17,14 +17,14 @@ use Rattle.ft_media.proofs.DrivesLemmas.{drives_then}
 use Rattle.cache_model.specs.declared.entry.Entry.{Entry}
 use Rattle.cache_model.specs.Records.{Entries}
 use Rattle.cache_model.specs.Cache.{CacheList}
-use Rattle.cache_model.specs.Stands.{StandsFor}
+use Rattle.cache_model.specs.Stands.{FlashStandsFor}
 use Rattle.checkpoint.specs.Current.{PoolStays}
 use Rattle.block_pool.specs.Pool.{PoolValue, IsFree, IsInPool, role_of}
 use Rattle.log_blocks.specs.Logs.{IsInUse, next_place}
-use Rattle.silent_evict.specs.Candidates.{IsHeld}
+use Rattle.silent_evict.specs.Candidates.{IsGroupHeld}
 use Rattle.merge_engine.specs.declared.parts.Parts.{Parts}
 use Rattle.merge_engine.specs.Agreement.{Agree, IsOpenBlock, Lists, RolesAgree}
-use Rattle.merge_engine.specs.Merges.{HasBlockOrRoom, OthersStay, ReachesTo, StandsForEither, dropped, move_counted, moved, programs_counted}
+use Rattle.merge_engine.specs.Merges.{HasBlockOrRoom, OthersStay, ReachesTo, FlashStandsForEither, dropped, move_counted, moved, programs_counted}
 use Rattle.merge_engine.specs.Room.{LacksRoom}
 use Rattle.merge_engine.specs.Steps.{HasFillers, IsCopied, IsFilledUp, IsMerged, IsUnheld, filler_page}
 use Rattle.merge_engine.proofs.BesideLemmas.{ChangedBeside, erased_beside, agree_beside, nothing_buffered}
@@ -77,8 +77,8 @@ module _ (g h : Geometry) (m n : Entries) (group : ℕ) (same : h ≡ g) (is : n
   pub room_still : HasBlockOrRoom g m group → HasBlockOrRoom h n group
   room_still room = subst (λ (k : Geometry). HasBlockOrRoom k n group) (sym same) (subst (λ (x : Entries). HasBlockOrRoom g x group) (sym is) room)
 
-  pub held_still : IsHeld g m group → IsHeld h n group
-  held_still held = subst (λ (k : Geometry). IsHeld k n group) (sym same) (subst (λ (x : Entries). IsHeld g x group) (sym is) held)
+  pub held_still : IsGroupHeld g m group → IsGroupHeld h n group
+  held_still held = subst (λ (k : Geometry). IsGroupHeld k n group) (sym same) (subst (λ (x : Entries). IsGroupHeld g x group) (sym is) held)
 
   pub copied_still : (block : ℕ) (page : Place → Page) → IsCopied g m group block page → IsCopied h n group block page
   copied_still block page copied = subst (λ (k : Geometry). IsCopied k n group block page) (sym same) (subst (λ (x : Entries). IsCopied g x group block page) (sym is) copied)
@@ -86,14 +86,14 @@ module _ (g h : Geometry) (m n : Entries) (group : ℕ) (same : h ≡ g) (is : n
   pub moved_still : (block : ℕ) → moved h n group block ≡ moved g m group block
   moved_still block = ap₂ (λ (k : Geometry) (x : Entries). moved k x group block) same is
 
-pub stands_still : (g h : Geometry) (page : Place → Page) (s t : CacheList) → h ≡ g → StandsForEither h page s t → StandsForEither g page s t
-stands_still g h page s t same stands = subst (λ (k : Geometry). StandsForEither k page s t) same stands
+pub stands_still : (g h : Geometry) (page : Place → Page) (s t : CacheList) → h ≡ g → FlashStandsForEither h page s t → FlashStandsForEither g page s t
+stands_still g h page s t same stands = subst (λ (k : Geometry). FlashStandsForEither k page s t) same stands
 
 -- the flash stands for the list of parts whose list is all on the flash
-pub stands_listed : (g : Geometry) (parts : Parts) (page : Place → Page) (durable list : CacheList) → parts.geometry ≡ g → Lists parts page list list → StandsForEither g page durable list
-stands_listed g parts page durable list same lists = inr (subst (λ (k : Geometry). StandsFor k page list) same lists.stands)
+pub stands_listed : (g : Geometry) (parts : Parts) (page : Place → Page) (durable list : CacheList) → parts.geometry ≡ g → Lists parts page list list → FlashStandsForEither g page durable list
+stands_listed g parts page durable list same lists = inr (subst (λ (k : Geometry). FlashStandsFor k page list) same lists.stands)
 
-pub either_same : (g : Geometry) (page : Place → Page) (s : CacheList) → StandsForEither g page s s → StandsFor g page s
+pub either_same : (g : Geometry) (page : Place → Page) (s : CacheList) → FlashStandsForEither g page s s → FlashStandsFor g page s
 either_same g page s (inl stands) = stands
 either_same g page s (inr stands) = stands
 

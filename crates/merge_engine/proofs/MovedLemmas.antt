@@ -23,7 +23,7 @@ use Rattle.mapping.proofs.BitsLemmas.{bit_of_set, set_below}
 use Rattle.mapping.proofs.CountsLemmas.{div_mono}
 use Rattle.mapping.proofs.FittingLemmas.{group_fits}
 use Rattle.mapping.proofs.MarksLemmas.{member_from, member_to}
-use Rattle.silent_evict.specs.Candidates.{IsHeld}
+use Rattle.silent_evict.specs.Candidates.{IsGroupHeld}
 use Rattle.merge_engine.specs.Merges.{move_record, moved, dropped, HasBlockOrRoom}
 use Rattle.merge_engine.specs.Steps.{IsUnheld}
 
@@ -59,7 +59,7 @@ module _ (g : Geometry) (m : Entries) (group : ℕ) where
       is_some None t = absurd (let f : is_chosen Held None ≡ false = refl in both_ways (is_chosen Held None) f t)
       is_some (Some e) t = (e, refl)
 
-  not_nothing : IsHeld g m group → 0 < chosen_of Held g m group
+  not_nothing : IsGroupHeld g m group → 0 < chosen_of Held g m group
   not_nothing held = positive (chosen_of Held g m group) (bit_is Held held.0 held.3 ∙ ap (is_chosen Held) held.2)
     where
       positive : (n : ℕ) → has_bit n (held.0 % g.p) ≡ true → 0 < n
@@ -85,12 +85,12 @@ module _ (g : Geometry) (m : Entries) (group : ℕ) where
   pub dropped_other : (a : ℕ) → (a / g.p ≡ group → ⊥) → get (dropped g m group) a ≡ get m a
   dropped_other a other = get-after g (RemoveGroup group) m a ∙ ap (λ b. cond b None (get m a)) (ne_eqb (a / g.p) group other)
 
-  in_reach : IsMap g m → IsHeld g m group → group ≤ (g.size - 1) / g.p
+  in_reach : IsMap g m → IsGroupHeld g m group → group ≤ (g.size - 1) / g.p
   in_reach is_map held =
       let low = is_map.within held.0 held.1 held.2 in
       subst (λ n. n ≤ (g.size - 1) / g.p) held.3 (div_mono held.0 (g.size - 1) g.p some_pages (omega (arith, low)))
 
-  pub drop_fits : IsMap g m → IsHeld g m group → Fits g (RemoveGroup group) m
+  pub drop_fits : IsMap g m → IsGroupHeld g m group → Fits g (RemoveGroup group) m
   drop_fits is_map held = remove_group_fits g group m is_map (in_reach is_map held)
 
 module _ (g : Geometry) (m : Entries) (group block : ℕ) where
@@ -171,7 +171,7 @@ module _ (g : Geometry) (m : Entries) (group block : ℕ) where
       omega (arith, fewer, most)
 
   -- the group may move into an erase block in which nothing of another group stands
-  pub switch_fits : IsMap g m → IsHeld g m group → HasBlockOrRoom g m group → IsInPool g block → ((a : ℕ) (e : Entry) → get m a ≡ Some e → (a / g.p ≡ group → ⊥) → e.place.block ≡ block → ⊥) → Fits g (move_record g m group block) m
+  pub switch_fits : IsMap g m → IsGroupHeld g m group → HasBlockOrRoom g m group → IsInPool g block → ((a : ℕ) (e : Entry) → get m a ≡ Some e → (a / g.p ≡ group → ⊥) → e.place.block ≡ block → ⊥) → Fits g (move_record g m group block) m
   switch_fits is_map held room in_pool own = group_fits g m is_map group block (chosen_of Held g m group) (chosen_of Dirty g m group) (record {
     reach = (in_reach g m group is_map held, set_below (λ i. is_chosen Held (get m (group * g.p + i))) g.p, set_below (λ i. is_chosen Dirty (get m (group * g.p + i))) g.p);
     sizes = λ i low t. let x = in_set g m group i low t in is_map.within (group * g.p + i) x.0 x.1;
@@ -181,10 +181,10 @@ module _ (g : Geometry) (m : Entries) (group block : ℕ) where
     dirty_groups = few_dirty is_map;
   })
 
-  pub move_fits : IsMap g m → IsHeld g m group → HasBlockOrRoom g m group → IsInPool g block → IsUnheld m block → Fits g (move_record g m group block) m
+  pub move_fits : IsMap g m → IsGroupHeld g m group → HasBlockOrRoom g m group → IsInPool g block → IsUnheld m block → Fits g (move_record g m group block) m
   move_fits is_map held room in_pool unheld = switch_fits is_map held room in_pool (λ a e is other same. unheld a e is same)
 
   -- ---- it can be spelled
 
-  pub move_spelled : IsHeld g m group → IsTrue (may_stand_in log_page (move_record g m group block))
+  pub move_spelled : IsGroupHeld g m group → IsTrue (may_stand_in log_page (move_record g m group block))
   move_spelled held = and_from _ _ (and_from _ _ (lt-ltb _ _ (not_nothing g m group held)) (eq-eqb _ _ (dirty_is_held g m group))) refl

@@ -26,7 +26,7 @@ use Rattle.mapping.specs.MapValue.{MapValue}
 use Rattle.block_pool.specs.Pool.{PoolValue, IsFree, IsInPool, role_of}
 use Rattle.block_pool.specs.declared.pool.Role.TheVariants.{Data, Log}
 use Rattle.log_blocks.specs.Logs.{IsInUse}
-use Rattle.silent_evict.specs.Candidates.{IsHeld}
+use Rattle.silent_evict.specs.Candidates.{IsGroupHeld}
 use Rattle.merge_engine.specs.declared.parts.Parts.{Parts}
 use Rattle.merge_engine.specs.Agreement.{Agree, AreOfOne, IsDataBlockOf, RolesAgree, Lists}
 use Rattle.merge_engine.specs.Merges.{HasBlockOrRoom, OthersStay, move_record, moved, dropped, list_without}
@@ -65,7 +65,7 @@ agree_noted parts contents map change pool agree fit is one whole roles =
 
 -- ---- a group that is dropped
 
-module _ (parts : Parts) (contents : Contents) (group : ℕ) (agree : Agree parts contents) (held : IsHeld parts.geometry parts.map.entries group) where
+module _ (parts : Parts) (contents : Contents) (group : ℕ) (agree : Agree parts contents) (held : IsGroupHeld parts.geometry parts.map.entries group) where
   is_map : IsMap parts.geometry parts.map.entries
   is_map = agree_map parts contents agree
 
@@ -134,7 +134,7 @@ copy_held : (page : Place → Page) (from to : Place) (lba : ℕ) (dirty : Bool)
 copy_held page from to lba dirty copied = ap (λ q. option_map (λ block. held block dirty) (block_in q)) copied.original ∙ sym (ap (λ q. option_map (λ block. held block dirty) (block_in q)) copied.copy)
 
 module _ (parts : Parts) (group block present dirty : ℕ) (one : AreOfOne parts) (is_map : IsMap parts.geometry parts.map.entries) (roles : RolesAgree parts)
-    (held : IsHeld parts.geometry parts.map.entries group) (room : HasBlockOrRoom parts.geometry parts.map.entries group) (free : IsFree parts.pool block)
+    (held : IsGroupHeld parts.geometry parts.map.entries group) (room : HasBlockOrRoom parts.geometry parts.map.entries group) (free : IsFree parts.pool block)
     (present_is : present ≡ chosen_of Held parts.map.geometry parts.map.entries group) (dirty_is : dirty ≡ chosen_of Dirty parts.map.geometry parts.map.entries group) where
   change_is : SetGroup group block present dirty ≡ move_record parts.geometry parts.map.entries group block
   change_is = ap₂ (λ p d. SetGroup group block p d) (present_is ∙ ap (λ (g : Geometry). chosen_of Held g parts.map.entries group) one.map) (dirty_is ∙ ap (λ (g : Geometry). chosen_of Dirty g parts.map.entries group) one.map)
@@ -246,7 +246,7 @@ same_geometry old new is = ap (λ (p : Parts). p.geometry) is
 pub of_one_roles : (parts : Parts) (pool : PoolValue) → pool.geometry ≡ parts.pool.geometry → AreOfOne parts → AreOfOne (record parts { pool = pool })
 of_one_roles parts pool same one = record { map = one.map; log = one.log; pool = same ∙ one.pool; victims = one.victims; logs = one.logs; marks = one.marks }
 
-module _ (old new : Parts) (contents : Contents) (group : ℕ) (agree : Agree old contents) (held : IsHeld old.geometry old.map.entries group)
+module _ (old new : Parts) (contents : Contents) (group : ℕ) (agree : Agree old contents) (held : IsGroupHeld old.geometry old.map.entries group)
     (is : new ≡ noted old new.map (RemoveGroup group) new.pool) (entries : new.map.entries ≡ dropped old.geometry old.map.entries group)
     (one : AreOfOne new) (follows : FollowsGroup old.geometry group old.map.entries new.map.entries old.pool new.pool) where
   pub agree_without : Agree new contents
@@ -256,7 +256,7 @@ module _ (old new : Parts) (contents : Contents) (group : ℕ) (agree : Agree ol
   lists_without list durable lists = subst (λ (p : Parts). Lists p contents.flash.page (list_without old.geometry group list) durable) (sym is) (lists_dropped old contents group agree held new.map new.pool entries (subst (λ (p : Parts). AreOfOne p) is one) follows list durable lists)
 
 module _ (old new : Parts) (pool : PoolValue) (group block present dirty : ℕ) (one : AreOfOne old) (is_map : IsMap old.geometry old.map.entries) (roles : RolesAgree old)
-    (held : IsHeld old.geometry old.map.entries group) (room : HasBlockOrRoom old.geometry old.map.entries group) (free : IsFree old.pool block)
+    (held : IsGroupHeld old.geometry old.map.entries group) (room : HasBlockOrRoom old.geometry old.map.entries group) (free : IsFree old.pool block)
     (present_is : present ≡ chosen_of Held old.map.geometry old.map.entries group) (dirty_is : dirty ≡ chosen_of Dirty old.map.geometry old.map.entries group)
     (is : new ≡ noted old new.map (SetGroup group block present dirty) new.pool)
     (entries : new.map.entries ≡ after old.geometry (SetGroup group block present dirty) old.map.entries)

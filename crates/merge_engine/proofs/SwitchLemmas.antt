@@ -10,7 +10,7 @@ use Rattle.cache_model.specs.declared.entry.Entry.{Entry}
 use Rattle.cache_model.specs.Records.{Entries}
 use Rattle.cache_model.specs.Entries.{IsMap}
 use Rattle.mapping.specs.Counts.{Owns, place_and_mark}
-use Rattle.silent_evict.specs.Candidates.{IsHeld}
+use Rattle.silent_evict.specs.Candidates.{IsGroupHeld}
 use Rattle.log_blocks.specs.Logs.{LogBlocksValue, IsInUse, released}
 use Rattle.merge_engine.specs.declared.parts.Parts.{Parts}
 use Rattle.merge_engine.specs.Merges.{dropped, moved}
@@ -29,7 +29,7 @@ one_place m a e at is owns =
     ap (λ (x : Entry). x.place) same ∙ owns.2
 
 -- the first address of a group that is held is below the size
-pub first_low : (g : Geometry) (m : Entries) (group : ℕ) → IsMap g m → IsHeld g m group → group * g.p < g.size
+pub first_low : (g : Geometry) (m : Entries) (group : ℕ) → IsMap g m → IsGroupHeld g m group → group * g.p < g.size
 first_low g m group is_map held =
     let within = is_map.within held.0 held.1 held.2 in
     let whole : group * g.p + held.0 % g.p ≡ held.0 = ap (λ q. q * g.p + held.0 % g.p) (sym held.3) ∙ div-add-mod' held.0 g.p in

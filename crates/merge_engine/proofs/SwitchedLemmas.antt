@@ -25,7 +25,7 @@ use Rattle.block_pool.specs.Pool.{PoolValue, IsInPool, role_of}
 use Rattle.block_pool.specs.declared.pool.Role.TheVariants.{Data}
 use Rattle.log_blocks.specs.Logs.{LogBlocksValue, IsInUse, released}
 use Rattle.log_blocks.specs.Logs as list
-use Rattle.silent_evict.specs.Candidates.{IsHeld}
+use Rattle.silent_evict.specs.Candidates.{IsGroupHeld}
 use Rattle.merge_engine.specs.declared.parts.Parts.{Parts}
 use Rattle.merge_engine.specs.Agreement.{Agree, AreOfOne, IsDataBlockOf, RolesAgree, Lists}
 use Rattle.merge_engine.specs.Merges.{HasBlockOrRoom, OthersStay, move_record, moved}
@@ -42,7 +42,7 @@ abbrev pub switched_to : Parts → MapValue → Record → PoolValue → ℕ →
 switched_to parts map change pool block = record parts { map = map; log = pushed change parts.log; pool = pool; logs = released block parts.logs }
 
 module _ (parts : Parts) (group block present dirty : ℕ) (one : AreOfOne parts) (is_map : IsMap parts.geometry parts.map.entries) (roles : RolesAgree parts)
-    (is_held : IsHeld parts.geometry parts.map.entries group) (room : HasBlockOrRoom parts.geometry parts.map.entries group) (switch : CanSwitch parts group block)
+    (is_held : IsGroupHeld parts.geometry parts.map.entries group) (room : HasBlockOrRoom parts.geometry parts.map.entries group) (switch : CanSwitch parts group block)
     (present_is : present ≡ chosen_of Held parts.map.geometry parts.map.entries group) (dirty_is : dirty ≡ chosen_of Dirty parts.map.geometry parts.map.entries group) where
   change_is : SetGroup group block present dirty ≡ move_record parts.geometry parts.map.entries group block
   change_is = ap₂ (λ p d. SetGroup group block p d) (present_is ∙ ap (λ (g : Geometry). chosen_of Held g parts.map.entries group) one.map) (dirty_is ∙ ap (λ (g : Geometry). chosen_of Dirty g parts.map.entries group) one.map)
@@ -176,7 +176,7 @@ pub of_one_switched : (parts : Parts) (pool : PoolValue) (logs : LogBlocksValue)
 of_one_switched parts pool logs same of_logs one = record { map = one.map; log = one.log; pool = same ∙ one.pool; victims = one.victims; logs = of_logs ∙ one.logs; marks = one.marks }
 
 module _ (old noted : Parts) (pool : PoolValue) (logs : LogBlocksValue) (group block present dirty : ℕ) (one : AreOfOne old) (is_map : IsMap old.geometry old.map.entries) (roles : RolesAgree old)
-    (is_held : IsHeld old.geometry old.map.entries group) (room : HasBlockOrRoom old.geometry old.map.entries group) (switch : CanSwitch old group block)
+    (is_held : IsGroupHeld old.geometry old.map.entries group) (room : HasBlockOrRoom old.geometry old.map.entries group) (switch : CanSwitch old group block)
     (present_is : present ≡ chosen_of Held old.map.geometry old.map.entries group) (dirty_is : dirty ≡ chosen_of Dirty old.map.geometry old.map.entries group)
     (is : noted ≡ record old { map = noted.map; log = noted.log; pool = noted.pool }) (log : noted.log ≡ pushed (SetGroup group block present dirty) old.log)
     (entries : noted.map.entries ≡ after old.geometry (SetGroup group block present dirty) old.map.entries)

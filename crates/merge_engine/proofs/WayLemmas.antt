@@ -4,7 +4,7 @@ use Rattle.std.specs.Cmp.{nat_cmp_total}
 use Rattle.std.specs.FinMap.{get, same_map, nat_cmp-IsAntisymmetric}
 use Rattle.ft_base.specs.Contents.{Contents}
 use Rattle.cache_model.specs.Cache.{CacheList}
-use Rattle.silent_evict.specs.Candidates.{IsHeld}
+use Rattle.silent_evict.specs.Candidates.{IsGroupHeld}
 use Rattle.merge_engine.specs.declared.parts.Parts.{Parts}
 use Rattle.merge_engine.specs.Agreement.{Agree, Lists}
 use Rattle.merge_engine.specs.Merges.{list_without}
@@ -12,7 +12,7 @@ use Rattle.merge_engine.specs.Room.{GaveWay, GivesRoom, IsGivenUp, is_group}
 use Rattle.merge_engine.proofs.GaveLemmas.{get_without}
 use Rattle.merge_engine.proofs.MergeLemmas.{victim_gave, group_gave}
 
-module _ (parts : Parts) (contents : Contents) (group : ℕ) (list durable v : CacheList) (agree : Agree parts contents) (held : IsHeld parts.geometry parts.map.entries group) (lists : Lists parts contents.flash.page list durable) where
+module _ (parts : Parts) (contents : Contents) (group : ℕ) (list durable v : CacheList) (agree : Agree parts contents) (held : IsGroupHeld parts.geometry parts.map.entries group) (lists : Lists parts contents.flash.page list durable) where
   is_without : (one : ℕ) → ((a : ℕ) → get v a ≡ cond (a / parts.geometry.p == one) None (get list a)) → list_without parts.geometry one list ≡ v
   is_without one stays = same_map nat_cmp_total nat_cmp-IsAntisymmetric (list_without parts.geometry one list) v (λ a. get_without parts.geometry parts.map.entries contents.flash.page list agree.sound.whole lists.held one a ∙ sym (stays a))
 

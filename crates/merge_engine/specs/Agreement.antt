@@ -9,7 +9,7 @@ use Rattle.ft_base.specs.Contents.{Contents, Flash}
 use Rattle.cache_model.specs.declared.entry.Entry.{Entry}
 use Rattle.cache_model.specs.Records.{Entries}
 use Rattle.cache_model.specs.Cache.{CacheList}
-use Rattle.cache_model.specs.Stands.{StandsFor, held_at}
+use Rattle.cache_model.specs.Stands.{FlashStandsFor, held_at}
 use Rattle.op_log.specs.Log.{FitsOn}
 use Rattle.checkpoint.specs.Current.{IsCurrent, AreWhole, IsOpenLog}
 use Rattle.block_pool.specs.Pool.{IsInPool, role_of}
@@ -33,7 +33,8 @@ IsDataBlockOf m block = (a : ℕ) × (e : Entry) × (get m a ≡ Some e) × (e.b
 
 -- something of the group stands in the erase block as in its data block
 abbrev pub IsGroupBlock : Geometry → Entries → ℕ → ℕ → Type 0
-IsGroupBlock g m group block = (a : ℕ) × (e : Entry) × (get m a ≡ Some e) × (a / g.p ≡ group) × (e.block_mapped ≡ true) × (e.place.block ≡ block)
+IsGroupBlock g m group block = (a : ℕ) × (e : Entry) × (get m a ≡ Some e) × (a / g.p ≡ group) × (e.block_mapped ≡ true)
+    × (e.place.block ≡ block)
 
 -- the roles of the pool are what the map and the log blocks use it for
 pub record RolesAgree (parts : Parts) : Type 0 where
@@ -70,4 +71,4 @@ IsListOn page m s = (a : ℕ) → get s a ≡ option_and_then (held_at page) (ge
 -- the map is this list on the flash; and the flash, loaded now, stands for another, which lacks what is buffered
 pub record Lists (parts : Parts) (page : Place → Page) (list durable : CacheList) : Type 0 where
   pub held : IsListOn page parts.map.entries list
-  pub stands : StandsFor parts.geometry page durable
+  pub stands : FlashStandsFor parts.geometry page durable

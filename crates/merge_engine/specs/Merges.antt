@@ -11,7 +11,7 @@ use Rattle.ft_media.specs.Media.{program_counted, erase_counted}
 use Rattle.cache_model.specs.declared.entry.Entry.{Entry}
 use Rattle.cache_model.specs.Records.{Entries, after, is_in_group}
 use Rattle.cache_model.specs.Cache.{CacheList}
-use Rattle.cache_model.specs.Stands.{StandsFor}
+use Rattle.cache_model.specs.Stands.{FlashStandsFor}
 use Rattle.mapping.specs.declared.bits.Choice.TheVariants.{Held, Dirty}
 use Rattle.mapping.specs.Bits.{chosen_of}
 use Rattle.mapping.specs.Counts.{data_block_count}
@@ -42,8 +42,8 @@ abbrev pub OthersStay : Geometry → ℕ → Entries → Entries → Type 0
 OthersStay g group old new = (a : ℕ) → (a / g.p ≡ group → ⊥) → get new a ≡ get old a
 
 -- the flash stands for one list or for another
-abbrev pub StandsForEither : Geometry → (Place → Page) → CacheList → CacheList → Type 0
-StandsForEither g page s t = StandsFor g page s ⊎ StandsFor g page t
+abbrev pub FlashStandsForEither : Geometry → (Place → Page) → CacheList → CacheList → Type 0
+FlashStandsForEither g page s t = FlashStandsFor g page s ⊎ FlashStandsFor g page t
 
 -- ---- what a merge costs
 

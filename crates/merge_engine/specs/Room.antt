@@ -6,7 +6,7 @@ use Rattle.ft_base.specs.declared.block.Place.{Place}
 use Rattle.ft_base.specs.declared.block.Page.{Page}
 use Rattle.cache_model.specs.Records.{Entries}
 use Rattle.cache_model.specs.Cache.{CacheList, IsWhollyClean, groups}
-use Rattle.cache_model.specs.Stands.{StandsFor}
+use Rattle.cache_model.specs.Stands.{FlashStandsFor}
 use Rattle.mapping.specs.Counts.{data_block_count}
 use Rattle.silent_evict.specs.Candidates.{HasDataBlock, IsCandidate, IsVictim}
 
@@ -47,5 +47,5 @@ pub record GaveWay (g : Geometry) (m : Entries) (group : ℕ) (s v : CacheList) 
   pub stays : (a : ℕ) → get v a ≡ (if is_group gone (a / g.p) then None else get s a)
 
 -- the flash stands for the list without what was buffered, or for the list, which may have given room
-abbrev pub StandsForGiven : Geometry → (Place → Page) → CacheList → CacheList → Type 0
-StandsForGiven g page durable list = StandsFor g page durable ⊎ ((v : CacheList) × GivesRoom g list v × StandsFor g page v)
+abbrev pub FlashStandsForGiven : Geometry → (Place → Page) → CacheList → CacheList → Type 0
+FlashStandsForGiven g page durable list = FlashStandsFor g page durable ⊎ ((v : CacheList) × GivesRoom g list v × FlashStandsFor g page v)

@@ -56,7 +56,8 @@ pub record IsCopyOf (page : Place → Page) (from to : Place) (lba : ℕ) : Type
 
 -- each held address of the group has a copy at its own page of the erase block
 abbrev pub IsCopied : Geometry → Entries → ℕ → ℕ → (Place → Page) → Type 0
-IsCopied g m group block page = (a : ℕ) (e : Entry) → get m a ≡ Some e → a / g.p ≡ group → IsCopyOf page e.place (record { block = block; page = a % g.p }) a
+IsCopied g m group block page = (a : ℕ) (e : Entry) → get m a ≡ Some e → a / g.p ≡ group
+    → IsCopyOf page e.place (record { block = block; page = a % g.p }) a
 
 -- a filler page: the zero block, with the spare bytes of a filler
 abbrev pub filler_page : Page
@@ -64,11 +65,13 @@ filler_page = Whole zero_block (record { 0 = spelled_spare (spare_fields Filler 
 
 -- each page of the erase block before the last held one of the group that no held address has is a filler
 abbrev pub IsFilledUp : Geometry → Entries → ℕ → ℕ → (Place → Page) → Type 0
-IsFilledUp g m group block page = (a b : ℕ) (e : Entry) → a / g.p ≡ group → get m a ≡ None → b / g.p ≡ group → get m b ≡ Some e → a < b → page (record { block = block; page = a % g.p }) ≡ filler_page
+IsFilledUp g m group block page = (a b : ℕ) (e : Entry) → a / g.p ≡ group → get m a ≡ None → b / g.p ≡ group → get m b ≡ Some e → a < b
+    → page (record { block = block; page = a % g.p }) ≡ filler_page
 
 -- each page of the group's data block before the last held one that no held address has is a filler
 abbrev pub HasFillers : Geometry → Entries → ℕ → (Place → Page) → Type 0
-HasFillers g m group page = (a b : ℕ) (e : Entry) → a / g.p ≡ group → get m a ≡ None → b / g.p ≡ group → get m b ≡ Some e → a < b → page (record { block = e.place.block; page = a % g.p }) ≡ filler_page
+HasFillers g m group page = (a b : ℕ) (e : Entry) → a / g.p ≡ group → get m a ≡ None → b / g.p ≡ group → get m b ≡ Some e → a < b
+    → page (record { block = e.place.block; page = a % g.p }) ≡ filler_page
 
 -- each address of the group that is held stands in its data block
 abbrev pub IsMerged : Geometry → Entries → ℕ → Type 0

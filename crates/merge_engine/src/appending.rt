@@ -5,12 +5,13 @@ ghost use Rattle.ft_media.specs.Drives.{DrivesFlash};
 ghost use Rattle.ft_media.specs.Passes.{Spends};
 ghost use Rattle.ft_media.specs.Media.{program_counted};
 ghost use Rattle.ft_base.specs.Contents.{Contents};
+ghost use Rattle.ft_base.specs.Layout.{page_records};
 ghost use Rattle.cache_model.specs.Cache.{CacheList};
 ghost use Rattle.block_pool.specs.Pool.{IsFree, IsInPool};
 ghost use Rattle.log_blocks.specs.Logs.{IsInUse, IsSound, begun};
-ghost use Rattle.merge_engine.specs.Merges.{StandsForEither};
+ghost use Rattle.merge_engine.specs.Merges.{FlashStandsForEither};
 ghost use Rattle.merge_engine.specs.Agreement.{Agree, AreOfOne, Lists, RolesAgree};
-ghost use Rattle.merge_engine.specs.Room.{StandsForGiven};
+ghost use Rattle.merge_engine.specs.Room.{FlashStandsForGiven};
 ghost use Rattle.merge_engine.specs.Steps.{CanBeginLog, GoesOn, HasLogRoom, HasUnheldLog, IsNewPage, KeepsList};
 
 use crate::Parts;
@@ -31,23 +32,30 @@ pub fn append<M: Media>(
 ) -> Result<Place, MediaError>
     requires agree { Agree cache.old (M.state media.old).contents }
     requires groups { cache.old.geometry.p ≤ cache.old.map.spare_groups }
-    requires room { length cache.old.log.buffered < 127 }
+    requires room { length cache.old.log.buffered < page_records cache.old.log.geometry }
     ensures geometry { cache.new.geometry ≡ cache.old.geometry }
     ensures pages { cache.new.map.spare_pages ≡ cache.old.map.spare_pages }
     ensures groups { cache.old.map.spare_groups ≤ cache.new.map.spare_groups + cache.old.geometry.p }
     ensures agree { OnOk result (Agree cache.new (M.state media.new).contents) }
-    ensures room { OnOk result (length cache.new.log.buffered < 127) }
+    ensures room { OnOk result (length cache.new.log.buffered < page_records cache.new.log.geometry) }
     ensures place { IfOk result (λ at. IsNewPage cache.new (M.state media.new).contents.flash.page at lba block.now) }
-    ensures lists { OnOk result ((list durable : CacheList) → Lists cache.old (M.state media.old).contents.flash.page list durable → GoesOn cache.old.log cache.new (M.state media.new).contents.flash.page list durable) }
+    ensures lists { OnOk result ((list durable : CacheList) → Lists cache.old (M.state media.old).contents.flash.page list durable
+        → GoesOn cache.old.log cache.new (M.state media.new).contents.flash.page list durable) }
     // Whatever is answered, and wherever power went off.
-    ensures stands { (list durable : CacheList) → Lists cache.old (M.state media.old).contents.flash.page list durable → StandsForGiven cache.old.geometry (M.state media.new).contents.flash.page durable list }
+    ensures stands { (list durable : CacheList) → Lists cache.old (M.state media.old).contents.flash.page list durable
+        → FlashStandsForGiven cache.old.geometry (M.state media.new).contents.flash.page durable list }
     // Where a log block can be had without a merge, the map stays and nothing gives way.
     ensures map_stays { HasLogRoom cache.old → cache.new.map ≡ cache.old.map }
-    ensures list_stands { HasLogRoom cache.old → (list durable : CacheList) → Lists cache.old (M.state media.old).contents.flash.page list durable → StandsForEither cache.old.geometry (M.state media.new).contents.flash.page durable list }
-    ensures list_stays { OnOk result (HasLogRoom cache.old → (list durable : CacheList) → Lists cache.old (M.state media.old).contents.flash.page list durable → KeepsList cache.old.log cache.new (M.state media.new).contents.flash.page list durable) }
+    ensures list_stands { HasLogRoom cache.old → (list durable : CacheList)
+        → Lists cache.old (M.state media.old).contents.flash.page list durable
+        → FlashStandsForEither cache.old.geometry (M.state media.new).contents.flash.page durable list }
+    ensures list_stays { OnOk result (HasLogRoom cache.old → (list durable : CacheList)
+        → Lists cache.old (M.state media.old).contents.flash.page list durable
+        → KeepsList cache.old.log cache.new (M.state media.new).contents.flash.page list durable) }
     // Where the open log block has a page left: one program, no erase, and nothing gives way.
     ensures one_program { OnOk result (1 ≤ cache.old.logs.room
-        → (cache.new ≡ record cache.old { logs = record cache.old.logs { room = cache.old.logs.room - 1 } }) × ((M.state media.new).counts ≡ program_counted (M.state media.old).counts)) }
+        → (cache.new ≡ record cache.old { logs = record cache.old.logs { room = cache.old.logs.room - 1 } })
+        × ((M.state media.new).counts ≡ program_counted (M.state media.old).counts)) }
     ensures rises { OnOk result (Rose (M.state media.old).counts.programs (M.state media.new).counts.programs) }
     ensures spends { OnOk result (Spends 1 (M.state media.old) (M.state media.new)) }
     ensures memory { IsErrOf result MediaError.OutOfMemory → ⊥ }
@@ -72,7 +80,8 @@ fn program_next<M: Media>(
     ensures agree { OnOk result (Agree cache.new (M.state media.new).contents) }
     ensures place { IfOk result (λ at. IsNewPage cache.new (M.state media.new).contents.flash.page at lba block.now) }
     // Whatever is answered, no page that an entry names changed.
-    ensures lists { (list durable : CacheList) → Lists cache.old (M.state media.old).contents.flash.page list durable → Lists cache.old (M.state media.new).contents.flash.page list durable }
+    ensures lists { (list durable : CacheList) → Lists cache.old (M.state media.old).contents.flash.page list durable
+        → Lists cache.old (M.state media.new).contents.flash.page list durable }
     ensures counts { OnOk result ((M.state media.new).counts ≡ program_counted (M.state media.old).counts) }
     ensures spends { OnOk result (Spends 1 (M.state media.old) (M.state media.new)) }
     ensures memory { IsErrOf result MediaError.OutOfMemory → ⊥ }
@@ -85,19 +94,25 @@ fn program_next<M: Media>(
 fn open_if_closed<M: Media>(cache: &mut Parts, media: &mut M) -> Result<(), MediaError>
     requires agree { Agree cache.old (M.state media.old).contents }
     requires groups { cache.old.geometry.p ≤ cache.old.map.spare_groups }
-    requires room { length cache.old.log.buffered < 127 }
+    requires room { length cache.old.log.buffered < page_records cache.old.log.geometry }
     ensures inside { 1 ≤ cache.old.logs.room → IsOk result × (cache.new ≡ cache.old) × (M.state media.new ≡ M.state media.old) }
     ensures geometry { cache.new.geometry ≡ cache.old.geometry }
     ensures pages { cache.new.map.spare_pages ≡ cache.old.map.spare_pages }
     ensures groups { cache.old.map.spare_groups ≤ cache.new.map.spare_groups + cache.old.geometry.p }
     ensures opened { OnOk result (1 ≤ cache.new.logs.room) }
     ensures agree { OnOk result (Agree cache.new (M.state media.new).contents) }
-    ensures room { OnOk result (length cache.new.log.buffered < 127) }
-    ensures lists { OnOk result ((list durable : CacheList) → Lists cache.old (M.state media.old).contents.flash.page list durable → GoesOn cache.old.log cache.new (M.state media.new).contents.flash.page list durable) }
-    ensures stands { (list durable : CacheList) → Lists cache.old (M.state media.old).contents.flash.page list durable → StandsForGiven cache.old.geometry (M.state media.new).contents.flash.page durable list }
+    ensures room { OnOk result (length cache.new.log.buffered < page_records cache.new.log.geometry) }
+    ensures lists { OnOk result ((list durable : CacheList) → Lists cache.old (M.state media.old).contents.flash.page list durable
+        → GoesOn cache.old.log cache.new (M.state media.new).contents.flash.page list durable) }
+    ensures stands { (list durable : CacheList) → Lists cache.old (M.state media.old).contents.flash.page list durable
+        → FlashStandsForGiven cache.old.geometry (M.state media.new).contents.flash.page durable list }
     ensures map_stays { HasLogRoom cache.old → cache.new.map ≡ cache.old.map }
-    ensures list_stands { HasLogRoom cache.old → (list durable : CacheList) → Lists cache.old (M.state media.old).contents.flash.page list durable → StandsForEither cache.old.geometry (M.state media.new).contents.flash.page durable list }
-    ensures list_stays { OnOk result (HasLogRoom cache.old → (list durable : CacheList) → Lists cache.old (M.state media.old).contents.flash.page list durable → KeepsList cache.old.log cache.new (M.state media.new).contents.flash.page list durable) }
+    ensures list_stands { HasLogRoom cache.old → (list durable : CacheList)
+        → Lists cache.old (M.state media.old).contents.flash.page list durable
+        → FlashStandsForEither cache.old.geometry (M.state media.new).contents.flash.page durable list }
+    ensures list_stays { OnOk result (HasLogRoom cache.old → (list durable : CacheList)
+        → Lists cache.old (M.state media.old).contents.flash.page list durable
+        → KeepsList cache.old.log cache.new (M.state media.new).contents.flash.page list durable) }
     ensures memory { IsErrOf result MediaError.OutOfMemory → ⊥ }
     ensures drives { DrivesFlash (M.state media.old) (M.state media.new) (failed result) (lost result) }
 {
@@ -117,9 +132,10 @@ fn commit_and_take<M: Media>(cache: &mut Parts, media: &mut M) -> Result<(), Med
     ensures nothing_waits { OnOk result (cache.new.log.buffered ≡ []) }
     ensures opened { OnOk result (1 ≤ cache.new.logs.room) }
     ensures agree { OnOk result (Agree cache.new (M.state media.new).contents) }
-    ensures lists { OnOk result ((list durable : CacheList) → Lists cache.old (M.state media.old).contents.flash.page list durable → Lists cache.new (M.state media.new).contents.flash.page list list) }
+    ensures lists { OnOk result ((list durable : CacheList) → Lists cache.old (M.state media.old).contents.flash.page list durable
+        → Lists cache.new (M.state media.new).contents.flash.page list list) }
     ensures stands { (list durable : CacheList) → Lists cache.old (M.state media.old).contents.flash.page list durable
-        → StandsForEither cache.old.geometry (M.state media.new).contents.flash.page durable list }
+        → FlashStandsForEither cache.old.geometry (M.state media.new).contents.flash.page durable list }
     ensures memory { IsErrOf result MediaError.OutOfMemory → ⊥ }
     ensures drives { DrivesFlash (M.state media.old) (M.state media.new) (failed result) (lost result) }
 {
@@ -136,7 +152,8 @@ fn take_log_block<M: Media>(cache: &mut Parts, media: &mut M) -> Result<(), Medi
     ensures opened { OnOk result (cache.new.logs.room ≡ cache.old.geometry.p) }
     ensures agree { OnOk result (Agree cache.new (M.state media.new).contents) }
     // Whatever is answered, no page that an entry names changed.
-    ensures lists { (list durable : CacheList) → Lists cache.old (M.state media.old).contents.flash.page list durable → Lists cache.old (M.state media.new).contents.flash.page list durable }
+    ensures lists { (list durable : CacheList) → Lists cache.old (M.state media.old).contents.flash.page list durable
+        → Lists cache.old (M.state media.new).contents.flash.page list durable }
     ensures programs { (M.state media.new).counts.programs ≡ (M.state media.old).counts.programs }
     ensures memory { IsErrOf result MediaError.OutOfMemory → ⊥ }
     ensures drives { DrivesFlash (M.state media.old) (M.state media.new) (failed result) (lost result) }
@@ -166,16 +183,19 @@ fn begin_log_block(cache: &mut Parts, block: u32)
 fn make_room<M: Media>(cache: &mut Parts, media: &mut M) -> Result<(), MediaError>
     requires agree { Agree cache.old (M.state media.old).contents }
     requires groups { cache.old.geometry.p ≤ cache.old.map.spare_groups }
-    requires room { length cache.old.log.buffered < 127 }
+    requires room { length cache.old.log.buffered < page_records cache.old.log.geometry }
     ensures geometry { cache.new.geometry ≡ cache.old.geometry }
     ensures pages { cache.new.map.spare_pages ≡ cache.old.map.spare_pages }
     ensures groups { cache.old.map.spare_groups ≤ cache.new.map.spare_groups + cache.old.geometry.p }
     ensures few { OnOk result (length cache.new.logs.used < cache.new.geometry.l) }
     ensures agree { OnOk result (Agree cache.new (M.state media.new).contents) }
-    ensures room { OnOk result (length cache.new.log.buffered < 127) }
-    ensures lists { OnOk result ((list durable : CacheList) → Lists cache.old (M.state media.old).contents.flash.page list durable → GoesOn cache.old.log cache.new (M.state media.new).contents.flash.page list durable) }
-    ensures stands { (list durable : CacheList) → Lists cache.old (M.state media.old).contents.flash.page list durable → StandsForGiven cache.old.geometry (M.state media.new).contents.flash.page durable list }
-    ensures no_merge { CanBeginLog cache.old → IsOk result × (cache.new ≡ record cache.old { pool = cache.new.pool; logs = cache.new.logs }) × (M.state media.new ≡ M.state media.old) }
+    ensures room { OnOk result (length cache.new.log.buffered < page_records cache.new.log.geometry) }
+    ensures lists { OnOk result ((list durable : CacheList) → Lists cache.old (M.state media.old).contents.flash.page list durable
+        → GoesOn cache.old.log cache.new (M.state media.new).contents.flash.page list durable) }
+    ensures stands { (list durable : CacheList) → Lists cache.old (M.state media.old).contents.flash.page list durable
+        → FlashStandsForGiven cache.old.geometry (M.state media.new).contents.flash.page durable list }
+    ensures no_merge { CanBeginLog cache.old → IsOk result × (cache.new ≡ record cache.old { pool = cache.new.pool; logs = cache.new.logs })
+        × (M.state media.new ≡ M.state media.old) }
     ensures memory { IsErrOf result MediaError.OutOfMemory → ⊥ }
     ensures drives { DrivesFlash (M.state media.old) (M.state media.new) (failed result) (lost result) }
 {

@@ -7,7 +7,7 @@ ghost use Rattle.ft_media.specs.Passes.{Spends};
 ghost use Rattle.ft_media.specs.Media.{program_counted};
 ghost use Rattle.cache_model.specs.Cache.{CacheList};
 ghost use Rattle.checkpoint.specs.Current.{PoolStays, PoolReadyStays, LoadsOneOf, log_committed, log_checkpointed};
-ghost use Rattle.merge_engine.specs.Merges.{StandsForEither};
+ghost use Rattle.merge_engine.specs.Merges.{FlashStandsForEither};
 ghost use Rattle.merge_engine.specs.Agreement.{Agree, IsSound, Lists};
 
 use crate::Parts;
@@ -23,13 +23,17 @@ pub fn commit<M: Media>(cache: &mut Parts, media: &mut M) -> Result<(), MediaErr
     ensures nothing_waits { OnOk result (cache.new.log.buffered ≡ []) }
     ensures refused { OnErr result (cache.new ≡ cache.old) }
     ensures agree { OnOk result (Agree cache.new (M.state media.new).contents) }
-    ensures lists { OnOk result ((list durable : CacheList) → Lists cache.old (M.state media.old).contents.flash.page list durable → Lists cache.new (M.state media.new).contents.flash.page list list) }
+    ensures lists { OnOk result ((list durable : CacheList) → Lists cache.old (M.state media.old).contents.flash.page list durable
+        → Lists cache.new (M.state media.new).contents.flash.page list list) }
     ensures stands { (list durable : CacheList) → Lists cache.old (M.state media.old).contents.flash.page list durable
-        → StandsForEither cache.old.geometry (M.state media.new).contents.flash.page durable list }
+        → FlashStandsForEither cache.old.geometry (M.state media.new).contents.flash.page durable list }
     ensures pool { PoolStays cache.old.geometry (M.state media.old).contents.flash.page (M.state media.new).contents.flash.page }
-    ensures pool_ready { OnOk result (PoolReadyStays cache.old.geometry (M.state media.old).contents.flash (M.state media.new).contents.flash) }
-    ensures one_page { OnOk result (cache.old.log.buffered ≢ [] → cache.old.log.next < log_pages cache.old.geometry → (M.state media.new).counts ≡ program_counted (M.state media.old).counts) }
-    ensures rises { OnOk result (cache.old.log.buffered ≢ [] → Rose (M.state media.old).counts.programs (M.state media.new).counts.programs) }
+    ensures pool_ready { OnOk result (PoolReadyStays cache.old.geometry (M.state media.old).contents.flash
+        (M.state media.new).contents.flash) }
+    ensures one_page { OnOk result (cache.old.log.buffered ≢ [] → cache.old.log.next < log_pages cache.old.geometry
+        → (M.state media.new).counts ≡ program_counted (M.state media.old).counts) }
+    ensures rises { OnOk result (cache.old.log.buffered ≢ []
+        → Rose (M.state media.old).counts.programs (M.state media.new).counts.programs) }
     ensures spends { OnOk result (cache.old.log.buffered ≢ [] → Spends 1 (M.state media.old) (M.state media.new)) }
     ensures memory { IsErrOf result MediaError.OutOfMemory → ⊥ }
     ensures drives { DrivesFlash (M.state media.old) (M.state media.new) (failed result) (lost result) }
@@ -45,10 +49,12 @@ pub fn make_checkpoint<M: Media>(cache: &mut Parts, media: &mut M) -> Result<(),
     ensures log { OnOk result (cache.new.log ≡ log_checkpointed cache.old.log) }
     ensures refused { OnErr result (cache.new ≡ cache.old) }
     ensures agree { OnOk result (Agree cache.new (M.state media.new).contents) }
-    ensures lists { OnOk result ((list durable : CacheList) → Lists cache.old (M.state media.old).contents.flash.page list durable → Lists cache.new (M.state media.new).contents.flash.page list list) }
+    ensures lists { OnOk result ((list durable : CacheList) → Lists cache.old (M.state media.old).contents.flash.page list durable
+        → Lists cache.new (M.state media.new).contents.flash.page list list) }
     ensures stands { (list durable : CacheList) → Lists cache.old (M.state media.old).contents.flash.page list durable
-        → StandsForEither cache.old.geometry (M.state media.new).contents.flash.page durable list }
-    ensures loads { LoadsOneOf cache.old.geometry (M.state media.old).contents.flash.page (M.state media.new).contents.flash.page cache.old.map.entries }
+        → FlashStandsForEither cache.old.geometry (M.state media.new).contents.flash.page durable list }
+    ensures loads { LoadsOneOf cache.old.geometry (M.state media.old).contents.flash.page
+        (M.state media.new).contents.flash.page cache.old.map.entries }
     ensures pool { PoolStays cache.old.geometry (M.state media.old).contents.flash.page (M.state media.new).contents.flash.page }
     ensures rises { OnOk result (Rose (M.state media.old).counts.programs (M.state media.new).counts.programs) }
     ensures spends { OnOk result (Spends 1 (M.state media.old) (M.state media.new)) }

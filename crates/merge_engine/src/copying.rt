@@ -34,10 +34,12 @@ pub(crate) fn copy_group<M: Media>(
     requires erased { (M.state media.old).contents.flash.next block ≡ Some 0 }
     ensures agree { OnOk result (Agree cache.now (M.state media.new).contents) }
     // Whatever is answered, and wherever power went off: no page that an entry names changed.
-    ensures lists { (list durable : CacheList) → Lists cache.now (M.state media.old).contents.flash.page list durable → Lists cache.now (M.state media.new).contents.flash.page list durable }
+    ensures lists { (list durable : CacheList) → Lists cache.now (M.state media.old).contents.flash.page list durable
+        → Lists cache.now (M.state media.new).contents.flash.page list durable }
     ensures copied { OnOk result (IsCopied cache.now.geometry cache.now.map.entries group block (M.state media.new).contents.flash.page) }
     ensures filled { OnOk result (IsFilledUp cache.now.geometry cache.now.map.entries group block (M.state media.new).contents.flash.page) }
-    ensures counts { OnOk result ((pages : ℕ) → ReachesTo cache.now.geometry cache.now.map.entries group pages → (M.state media.new).counts ≡ programs_counted pages (M.state media.old).counts) }
+    ensures counts { OnOk result ((pages : ℕ) → ReachesTo cache.now.geometry cache.now.map.entries group pages
+        → (M.state media.new).counts ≡ programs_counted pages (M.state media.old).counts) }
     ensures memory { IsErrOf result MediaError.OutOfMemory → ⊥ }
     ensures drives { DrivesFlash (M.state media.old) (M.state media.new) (failed result) (lost result) }
 {
@@ -63,10 +65,13 @@ fn copy_page<M: Media>(
     requires ready { (M.state media.old).contents.flash.next to.block ≡ Some to.page }
     requires page { to.page < cache.now.geometry.p }
     ensures agree { OnOk result (Agree cache.now (M.state media.new).contents) }
-    ensures lists { (list durable : CacheList) → Lists cache.now (M.state media.old).contents.flash.page list durable → Lists cache.now (M.state media.new).contents.flash.page list durable }
-    ensures copied { OnOk result ((e : Entry) → get cache.now.map.entries lba ≡ Some e → IsCopyOf (M.state media.new).contents.flash.page e.place to lba) }
+    ensures lists { (list durable : CacheList) → Lists cache.now (M.state media.old).contents.flash.page list durable
+        → Lists cache.now (M.state media.new).contents.flash.page list durable }
+    ensures copied { OnOk result ((e : Entry) → get cache.now.map.entries lba ≡ Some e
+        → IsCopyOf (M.state media.new).contents.flash.page e.place to lba) }
     ensures filler { OnOk result (get cache.now.map.entries lba ≡ None → (M.state media.new).contents.flash.page to ≡ filler_page) }
-    ensures others { OnOk result ((at : PlaceValue) → (at ≡ to → ⊥) → (M.state media.new).contents.flash.page at ≡ (M.state media.old).contents.flash.page at) }
+    ensures others { OnOk result ((at : PlaceValue) → (at ≡ to → ⊥)
+        → (M.state media.new).contents.flash.page at ≡ (M.state media.old).contents.flash.page at) }
     ensures next { OnOk result ((M.state media.new).contents.flash.next to.block ≡ Some (to.page + 1)) }
     ensures counts { OnOk result ((M.state media.new).counts ≡ program_counted (M.state media.old).counts) }
     ensures memory { IsErrOf result MediaError.OutOfMemory → ⊥ }
@@ -93,9 +98,11 @@ fn program_unheld<M: Media>(
     requires free { IsFree cache.now.pool at.block }
     requires ready { (M.state media.old).contents.flash.next at.block ≡ Some at.page }
     requires page { at.page < cache.now.geometry.p }
-    ensures programmed { OnOk result ((M.state media.new).contents.flash ≡ after_program (M.state media.old).contents.flash at block.now spare.now) }
+    ensures programmed { OnOk result ((M.state media.new).contents.flash ≡ after_program
+        (M.state media.old).contents.flash at block.now spare.now) }
     ensures agree { OnOk result (Agree cache.now (M.state media.new).contents) }
-    ensures lists { (list durable : CacheList) → Lists cache.now (M.state media.old).contents.flash.page list durable → Lists cache.now (M.state media.new).contents.flash.page list durable }
+    ensures lists { (list durable : CacheList) → Lists cache.now (M.state media.old).contents.flash.page list durable
+        → Lists cache.now (M.state media.new).contents.flash.page list durable }
     ensures counts { OnOk result ((M.state media.new).counts ≡ program_counted (M.state media.old).counts) }
     ensures memory { IsErrOf result MediaError.OutOfMemory → ⊥ }
     ensures drives { DrivesFlash (M.state media.old) (M.state media.new) (failed result) (lost result) }

@@ -3,10 +3,11 @@ ghost use Rattle.ft_media.specs.State.{failed, lost};
 ghost use Rattle.ft_media.specs.Drives.{DrivesFlash};
 ghost use Rattle.cache_model.specs.Cache.{CacheList};
 ghost use Rattle.ft_base.specs.Contents.{Contents};
+ghost use Rattle.ft_base.specs.Layout.{page_records};
 ghost use Rattle.block_pool.specs.Pool.{IsInPool};
 ghost use Rattle.log_blocks.specs.Logs.{IsInUse, released};
 ghost use Rattle.merge_engine.specs.Agreement.{Agree, AreOfOne, Lists, RolesAgree};
-ghost use Rattle.merge_engine.specs.Room.{StandsForGiven};
+ghost use Rattle.merge_engine.specs.Room.{FlashStandsForGiven};
 ghost use Rattle.merge_engine.specs.Steps.{GoesOn, IsUnheld, IsUnowned, PageMappedStay};
 ghost use Rattle.merge_engine.specs.Switch.{LogsStayOrLose};
 
@@ -23,20 +24,24 @@ pub fn free_log_block<M: Media>(cache: &mut Parts, media: &mut M) -> Result<(), 
     requires agree { Agree cache.old (M.state media.old).contents }
     requires used { 1 ≤ length cache.old.logs.used }
     requires groups { cache.old.geometry.p ≤ cache.old.map.spare_groups }
-    requires room { length cache.old.log.buffered < 127 }
+    requires room { length cache.old.log.buffered < page_records cache.old.log.geometry }
     ensures geometry { cache.new.geometry ≡ cache.old.geometry }
-    ensures logs { OnOk result ((oldest : ℕ) → slice_get cache.old.logs.used 0 ≡ Some oldest → cache.new.logs ≡ released oldest cache.old.logs) }
+    ensures logs { OnOk result ((oldest : ℕ) → slice_get cache.old.logs.used 0 ≡ Some oldest
+        → cache.new.logs ≡ released oldest cache.old.logs) }
     // Whatever is answered, there is no log block that wasn't one.
     ensures used { (b : ℕ) → IsInUse cache.new.logs b → IsInUse cache.old.logs b }
     ensures unheld { (oldest : ℕ) → slice_get cache.old.logs.used 0 ≡ Some oldest → IsUnheld cache.old.map.entries oldest
-        → IsOk result × (cache.new ≡ record cache.old { pool = cache.new.pool; logs = cache.new.logs }) × (M.state media.new ≡ M.state media.old) }
+        → IsOk result × (cache.new ≡ record cache.old { pool = cache.new.pool; logs = cache.new.logs })
+        × (M.state media.new ≡ M.state media.old) }
     ensures pages { cache.new.map.spare_pages ≡ cache.old.map.spare_pages }
     ensures groups { cache.old.map.spare_groups ≤ cache.new.map.spare_groups + cache.old.geometry.p }
     ensures agree { OnOk result (Agree cache.new (M.state media.new).contents) }
-    ensures room { OnOk result (length cache.new.log.buffered < 127) }
-    ensures lists { OnOk result ((list durable : CacheList) → Lists cache.old (M.state media.old).contents.flash.page list durable → GoesOn cache.old.log cache.new (M.state media.new).contents.flash.page list durable) }
+    ensures room { OnOk result (length cache.new.log.buffered < page_records cache.new.log.geometry) }
+    ensures lists { OnOk result ((list durable : CacheList) → Lists cache.old (M.state media.old).contents.flash.page list durable
+        → GoesOn cache.old.log cache.new (M.state media.new).contents.flash.page list durable) }
     // Whatever is answered, and wherever power went off.
-    ensures stands { (list durable : CacheList) → Lists cache.old (M.state media.old).contents.flash.page list durable → StandsForGiven cache.old.geometry (M.state media.new).contents.flash.page durable list }
+    ensures stands { (list durable : CacheList) → Lists cache.old (M.state media.old).contents.flash.page list durable
+        → FlashStandsForGiven cache.old.geometry (M.state media.new).contents.flash.page durable list }
     ensures memory { IsErrOf result MediaError.OutOfMemory → ⊥ }
     ensures drives { DrivesFlash (M.state media.old) (M.state media.new) (failed result) (lost result) }
 {
@@ -53,17 +58,20 @@ fn merge_owners<M: Media>(cache: &mut Parts, media: &mut M, block: u32) -> Resul
     requires agree { Agree cache.old (M.state media.old).contents }
     requires in_use { IsInUse cache.old.logs block }
     requires groups { cache.old.geometry.p ≤ cache.old.map.spare_groups }
-    requires room { length cache.old.log.buffered < 127 }
+    requires room { length cache.old.log.buffered < page_records cache.old.log.geometry }
     ensures geometry { cache.new.geometry ≡ cache.old.geometry }
-    ensures nothing { IsUnheld cache.old.map.entries block → IsOk result × (cache.new ≡ cache.old) × (M.state media.new ≡ M.state media.old) }
+    ensures nothing { IsUnheld cache.old.map.entries block → IsOk result × (cache.new ≡ cache.old)
+        × (M.state media.new ≡ M.state media.old) }
     ensures logs { LogsStayOrLose block cache.old.logs cache.new.logs }
     ensures pages { cache.new.map.spare_pages ≡ cache.old.map.spare_pages }
     ensures groups { cache.old.map.spare_groups ≤ cache.new.map.spare_groups + cache.old.geometry.p }
     ensures agree { OnOk result (Agree cache.new (M.state media.new).contents) }
-    ensures room { OnOk result (length cache.new.log.buffered < 127) }
+    ensures room { OnOk result (length cache.new.log.buffered < page_records cache.new.log.geometry) }
     ensures unheld { OnOk result (IsInUse cache.new.logs block → IsUnheld cache.new.map.entries block) }
-    ensures lists { OnOk result ((list durable : CacheList) → Lists cache.old (M.state media.old).contents.flash.page list durable → GoesOn cache.old.log cache.new (M.state media.new).contents.flash.page list durable) }
-    ensures stands { (list durable : CacheList) → Lists cache.old (M.state media.old).contents.flash.page list durable → StandsForGiven cache.old.geometry (M.state media.new).contents.flash.page durable list }
+    ensures lists { OnOk result ((list durable : CacheList) → Lists cache.old (M.state media.old).contents.flash.page list durable
+        → GoesOn cache.old.log cache.new (M.state media.new).contents.flash.page list durable) }
+    ensures stands { (list durable : CacheList) → Lists cache.old (M.state media.old).contents.flash.page list durable
+        → FlashStandsForGiven cache.old.geometry (M.state media.new).contents.flash.page durable list }
     ensures memory { IsErrOf result MediaError.OutOfMemory → ⊥ }
     ensures drives { DrivesFlash (M.state media.old) (M.state media.new) (failed result) (lost result) }
 {
@@ -79,18 +87,20 @@ fn merge_owner<M: Media>(cache: &mut Parts, media: &mut M, at: Place) -> Result<
     requires agree { Agree cache.old (M.state media.old).contents }
     requires in_pool { IsInPool cache.old.geometry at.block }
     requires groups { 1 ≤ cache.old.map.spare_groups }
-    requires room { length cache.old.log.buffered < 127 }
+    requires room { length cache.old.log.buffered < page_records cache.old.log.geometry }
     ensures geometry { cache.new.geometry ≡ cache.old.geometry }
     ensures nothing { IsUnowned cache.old.map.entries at → IsOk result × (cache.new ≡ cache.old) × (M.state media.new ≡ M.state media.old) }
     ensures logs { LogsStayOrLose at.block cache.old.logs cache.new.logs }
     ensures pages { cache.new.map.spare_pages ≡ cache.old.map.spare_pages }
     ensures groups { cache.old.map.spare_groups ≤ cache.new.map.spare_groups + 1 }
     ensures agree { OnOk result (Agree cache.new (M.state media.new).contents) }
-    ensures room { OnOk result (length cache.new.log.buffered < 127) }
+    ensures room { OnOk result (length cache.new.log.buffered < page_records cache.new.log.geometry) }
     ensures unowned { OnOk result (IsInUse cache.new.logs at.block → IsUnowned cache.new.map.entries at) }
     ensures page_mapped { OnOk result (PageMappedStay cache.old.map.entries cache.new.map.entries) }
-    ensures lists { OnOk result ((list durable : CacheList) → Lists cache.old (M.state media.old).contents.flash.page list durable → GoesOn cache.old.log cache.new (M.state media.new).contents.flash.page list durable) }
-    ensures stands { (list durable : CacheList) → Lists cache.old (M.state media.old).contents.flash.page list durable → StandsForGiven cache.old.geometry (M.state media.new).contents.flash.page durable list }
+    ensures lists { OnOk result ((list durable : CacheList) → Lists cache.old (M.state media.old).contents.flash.page list durable
+        → GoesOn cache.old.log cache.new (M.state media.new).contents.flash.page list durable) }
+    ensures stands { (list durable : CacheList) → Lists cache.old (M.state media.old).contents.flash.page list durable
+        → FlashStandsForGiven cache.old.geometry (M.state media.new).contents.flash.page durable list }
     ensures memory { IsErrOf result MediaError.OutOfMemory → ⊥ }
     ensures drives { DrivesFlash (M.state media.old) (M.state media.new) (failed result) (lost result) }
 {
@@ -111,7 +121,8 @@ fn give_back_used(cache: &mut Parts, block: u32)
     ensures cache { cache.new ≡ record cache.old { pool = cache.new.pool; logs = cache.new.logs } }
     ensures used { IsInUse cache.old.logs block → cache.new.logs ≡ released block cache.old.logs }
     ensures switched { (IsInUse cache.old.logs block → ⊥) → cache.new.logs ≡ cache.old.logs }
-    ensures agree { (contents : Contents) → Agree cache.old contents → (IsInUse cache.old.logs block → IsUnheld cache.old.map.entries block) → Agree cache.new contents }
+    ensures agree { (contents : Contents) → Agree cache.old contents → (IsInUse cache.old.logs block → IsUnheld cache.old.map.entries block)
+        → Agree cache.new contents }
 {
     if cache.pool.role(block) == Role::Log {
         give_back(cache, block);

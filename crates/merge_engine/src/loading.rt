@@ -34,7 +34,13 @@ pub fn loaded(
     ensures of_one { IfOk result (λ parts. AreOfOne parts) }
     ensures geometry { IfOk result (λ parts. parts.geometry ≡ geometry.now) }
     ensures map { IfOk result (λ parts. parts.map ≡ map) }
-    ensures log { IfOk result (λ parts. parts.log ≡ record { geometry = geometry.now; region = region; era = era; next = 0; buffered = [] }) }
+    ensures log { IfOk result (λ parts. parts.log ≡ record {
+      geometry = geometry.now;
+      region = region;
+      era = era;
+      next = 0;
+      buffered = [];
+    }) }
     ensures roles { IfOk result (λ parts. RolesAgree parts) }
     ensures logs { IfOk result (λ parts. list.IsSound parts.logs) }
     ensures ascending { IfOk result (λ parts. AreAscending parts.logs.used) }
@@ -61,7 +67,13 @@ fn unused(
     ensures of_one { IfOk result (λ parts. AreOfOne parts) }
     ensures geometry { IfOk result (λ parts. parts.geometry ≡ geometry.now) }
     ensures map { IfOk result (λ parts. parts.map ≡ map) }
-    ensures log { IfOk result (λ parts. parts.log ≡ record { geometry = geometry.now; region = region; era = era; next = 0; buffered = [] }) }
+    ensures log { IfOk result (λ parts. parts.log ≡ record {
+      geometry = geometry.now;
+      region = region;
+      era = era;
+      next = 0;
+      buffered = [];
+    }) }
     ensures free { IfOk result (λ parts. (b : ℕ) → IsInPool geometry.now b → IsFree parts.pool b) }
     ensures logs { IfOk result (λ parts. parts.logs ≡ record { geometry = geometry.now; used = []; open_block = None; room = 0 }) }
 {
@@ -101,7 +113,8 @@ fn set_role_at(parts: &mut Parts, i: u32)
     requires map { IsMap parts.old.geometry parts.old.map.entries }
     ensures parts { parts.new ≡ record parts.old { pool = parts.new.pool } }
     ensures of_one { AreOfOne parts.new }
-    ensures roles { RolesSoFar parts.old.geometry parts.old.map.entries parts.old.pool i → RolesSoFar parts.old.geometry parts.old.map.entries parts.new.pool (i + 1) }
+    ensures roles { RolesSoFar parts.old.geometry parts.old.map.entries parts.old.pool i
+        → RolesSoFar parts.old.geometry parts.old.map.entries parts.new.pool (i + 1) }
 {
     let Some((lba, at)) = parts.map.nth(i) else {
         return;

@@ -1,16 +1,16 @@
 ghost use Rattle.std.specs.Prelude.{◌≡◌, ◌≢◌, ◌≤◌, ◌<◌, ◌+◌, ℕ, [], length, OnOk, IfOk, IsErrOf};
 ghost use Rattle.ft_base.specs.Contents.{Contents};
 ghost use Rattle.ft_media.specs.State.{failed, lost};
-ghost use Rattle.ft_base.specs.Layout.{log_pages};
+ghost use Rattle.ft_base.specs.Layout.{log_pages, page_records};
 ghost use Rattle.ft_media.specs.Media.{erase_counted, program_counted};
 ghost use Rattle.ft_media.specs.Drives.{DrivesFlash};
 ghost use Rattle.cache_model.specs.Cache.{CacheList};
 ghost use Rattle.cache_model.specs.Entries.{IsMap};
 ghost use Rattle.block_pool.specs.Pool.{IsFree};
-ghost use Rattle.silent_evict.specs.Candidates.{IsHeld};
+ghost use Rattle.silent_evict.specs.Candidates.{IsGroupHeld};
 ghost use Rattle.merge_engine.specs.Agreement.{Agree, AreOfOne, Lists, RolesAgree};
-ghost use Rattle.merge_engine.specs.Merges.{HasBlockOrRoom, OthersStay, ReachesTo, StandsForEither, dropped, list_without, move_counted, moved, programs_counted};
-ghost use Rattle.merge_engine.specs.Room.{GaveWay, StandsForGiven};
+ghost use Rattle.merge_engine.specs.Merges.{HasBlockOrRoom, OthersStay, ReachesTo, FlashStandsForEither, dropped, list_without, move_counted, moved, programs_counted};
+ghost use Rattle.merge_engine.specs.Room.{GaveWay, FlashStandsForGiven};
 ghost use Rattle.merge_engine.specs.Steps.{HasFillers, IsCopied, IsFilledUp, IsMerged, OthersStayOrGo, PageMappedStay};
 ghost use Rattle.merge_engine.specs.Switch.{CanSwitch, CannotSwitch, IsSwitched, LogsStayOrSwitch};
 
@@ -29,9 +29,9 @@ use ft_media::{Media, MediaError};
 /// is clean then, is dropped. What was buffered is committed with it. It takes no memory.
 pub fn merge_group<M: Media>(cache: &mut Parts, media: &mut M, group: u64) -> Result<(), MediaError>
     requires agree { Agree cache.old (M.state media.old).contents }
-    requires held { IsHeld cache.old.geometry cache.old.map.entries group }
+    requires held { IsGroupHeld cache.old.geometry cache.old.map.entries group }
     requires groups { 1 ≤ cache.old.map.spare_groups }
-    requires room { length cache.old.log.buffered < 127 }
+    requires room { length cache.old.log.buffered < page_records cache.old.log.geometry }
     ensures geometry { cache.new.geometry ≡ cache.old.geometry }
     // Whatever is answered.
     ensures logs { LogsStayOrSwitch cache.old group cache.new.logs }
@@ -40,22 +40,27 @@ pub fn merge_group<M: Media>(cache: &mut Parts, media: &mut M, group: u64) -> Re
     ensures agree { OnOk result (Agree cache.new (M.state media.new).contents) }
     ensures nothing_waits { OnOk result (cache.new.log.buffered ≡ []) }
     ensures lists { OnOk result ((list durable : CacheList) → Lists cache.old (M.state media.old).contents.flash.page list durable
-        → (v : CacheList) × GaveWay cache.old.geometry cache.old.map.entries group list v × Lists cache.new (M.state media.new).contents.flash.page v v) }
+        → (v : CacheList) × GaveWay cache.old.geometry cache.old.map.entries group list v
+        × Lists cache.new (M.state media.new).contents.flash.page v v) }
     ensures merged { OnOk result (IsMerged cache.old.geometry cache.new.map.entries group) }
     ensures filled { OnOk result (HasFillers cache.old.geometry cache.new.map.entries group (M.state media.new).contents.flash.page) }
     ensures others { OnOk result (OthersStayOrGo cache.old.geometry group cache.old.map.entries cache.new.map.entries) }
     ensures page_mapped { OnOk result (PageMappedStay cache.old.map.entries cache.new.map.entries) }
     // Where no group gives way and a log block can become the data block, it does: with one program and no erase.
-    ensures switched { OnOk result (HasBlockOrRoom cache.old.geometry cache.old.map.entries group → (block : ℕ) → CanSwitch cache.old group block
+    ensures switched { OnOk result (HasBlockOrRoom cache.old.geometry cache.old.map.entries group → (block : ℕ)
+        → CanSwitch cache.old group block
         → IsSwitched cache.old cache.new group block) }
-    ensures one_program { OnOk result (HasBlockOrRoom cache.old.geometry cache.old.map.entries group → (block : ℕ) → CanSwitch cache.old group block
+    ensures one_program { OnOk result (HasBlockOrRoom cache.old.geometry cache.old.map.entries group → (block : ℕ)
+        → CanSwitch cache.old group block
         → cache.old.log.next < log_pages cache.old.geometry → (M.state media.new).counts ≡ program_counted (M.state media.old).counts) }
     // Where none can: one erase, a program for each page up to the last held one, and one for the log page.
     ensures counts { OnOk result (HasBlockOrRoom cache.old.geometry cache.old.map.entries group → CannotSwitch cache.old group
         → cache.old.log.buffered ≡ [] → cache.old.log.next < log_pages cache.old.geometry
-        → (pages : ℕ) → ReachesTo cache.old.geometry cache.old.map.entries group pages → (M.state media.new).counts ≡ move_counted pages (M.state media.old).counts) }
+        → (pages : ℕ) → ReachesTo cache.old.geometry cache.old.map.entries group pages
+        → (M.state media.new).counts ≡ move_counted pages (M.state media.old).counts) }
     // Whatever is answered, and wherever power went off.
-    ensures stands { (list durable : CacheList) → Lists cache.old (M.state media.old).contents.flash.page list durable → StandsForGiven cache.old.geometry (M.state media.new).contents.flash.page durable list }
+    ensures stands { (list durable : CacheList) → Lists cache.old (M.state media.old).contents.flash.page list durable
+        → FlashStandsForGiven cache.old.geometry (M.state media.new).contents.flash.page durable list }
     ensures memory { IsErrOf result MediaError.OutOfMemory → ⊥ }
     ensures drives { DrivesFlash (M.state media.old) (M.state media.new) (failed result) (lost result) }
 {
@@ -75,8 +80,8 @@ pub fn merge_group<M: Media>(cache: &mut Parts, media: &mut M, group: u64) -> Re
 /// Drops a group, and commits that.
 fn drop_group<M: Media>(cache: &mut Parts, media: &mut M, group: u64) -> Result<(), MediaError>
     requires agree { Agree cache.old (M.state media.old).contents }
-    requires held { IsHeld cache.old.geometry cache.old.map.entries group }
-    requires room { length cache.old.log.buffered < 127 }
+    requires held { IsGroupHeld cache.old.geometry cache.old.map.entries group }
+    requires room { length cache.old.log.buffered < page_records cache.old.log.geometry }
     ensures cache { cache.new ≡ record cache.old { map = cache.new.map; log = cache.new.log; pool = cache.new.pool } }
     ensures entries { cache.new.map.entries ≡ dropped cache.old.geometry cache.old.map.entries group }
     ensures pages { cache.new.map.spare_pages ≡ cache.old.map.spare_pages }
@@ -84,10 +89,12 @@ fn drop_group<M: Media>(cache: &mut Parts, media: &mut M, group: u64) -> Result<
     ensures agree { OnOk result (Agree cache.new (M.state media.new).contents) }
     ensures nothing_waits { OnOk result (cache.new.log.buffered ≡ []) }
     ensures lists { OnOk result ((list durable : CacheList) → Lists cache.old (M.state media.old).contents.flash.page list durable
-        → Lists cache.new (M.state media.new).contents.flash.page (list_without cache.old.geometry group list) (list_without cache.old.geometry group list)) }
+        → Lists cache.new (M.state media.new).contents.flash.page (list_without cache.old.geometry group list)
+        (list_without cache.old.geometry group list)) }
     // Whatever is answered, and wherever power went off.
     ensures stands { (list durable : CacheList) → Lists cache.old (M.state media.old).contents.flash.page list durable
-        → StandsForEither cache.old.geometry (M.state media.new).contents.flash.page durable (list_without cache.old.geometry group list) }
+        → FlashStandsForEither cache.old.geometry (M.state media.new).contents.flash.page durable
+        (list_without cache.old.geometry group list) }
     ensures memory { IsErrOf result MediaError.OutOfMemory → ⊥ }
     ensures drives { DrivesFlash (M.state media.old) (M.state media.new) (failed result) (lost result) }
 {
@@ -99,27 +106,36 @@ fn drop_group<M: Media>(cache: &mut Parts, media: &mut M, group: u64) -> Result<
 /// becomes its data block as it is; where there is none, the group is copied.
 fn move_group<M: Media>(cache: &mut Parts, media: &mut M, group: u64) -> Result<(), MediaError>
     requires agree { Agree cache.old (M.state media.old).contents }
-    requires held { IsHeld cache.old.geometry cache.old.map.entries group }
+    requires held { IsGroupHeld cache.old.geometry cache.old.map.entries group }
     requires block { HasBlockOrRoom cache.old.geometry cache.old.map.entries group }
     requires groups { 1 ≤ cache.old.map.spare_groups }
-    requires room { length cache.old.log.buffered < 127 }
-    ensures cache { cache.new ≡ record cache.old { map = cache.new.map; log = cache.new.log; pool = cache.new.pool; logs = cache.new.logs } }
+    requires room { length cache.old.log.buffered < page_records cache.old.log.geometry }
+    ensures cache { cache.new ≡ record cache.old {
+      map = cache.new.map;
+      log = cache.new.log;
+      pool = cache.new.pool;
+      logs = cache.new.logs;
+    } }
     ensures logs { LogsStayOrSwitch cache.old group cache.new.logs }
     ensures pages { cache.new.map.spare_pages ≡ cache.old.map.spare_pages }
     ensures groups { cache.old.map.spare_groups ≤ cache.new.map.spare_groups + 1 }
     ensures agree { OnOk result (Agree cache.new (M.state media.new).contents) }
     ensures nothing_waits { OnOk result (cache.new.log.buffered ≡ []) }
-    ensures lists { OnOk result ((list durable : CacheList) → Lists cache.old (M.state media.old).contents.flash.page list durable → Lists cache.new (M.state media.new).contents.flash.page list list) }
+    ensures lists { OnOk result ((list durable : CacheList) → Lists cache.old (M.state media.old).contents.flash.page list durable
+        → Lists cache.new (M.state media.new).contents.flash.page list list) }
     ensures merged { OnOk result (IsMerged cache.old.geometry cache.new.map.entries group) }
     ensures filled { OnOk result (HasFillers cache.old.geometry cache.new.map.entries group (M.state media.new).contents.flash.page) }
     ensures others { OnOk result (OthersStay cache.old.geometry group cache.old.map.entries cache.new.map.entries) }
     ensures switched { OnOk result ((block : ℕ) → CanSwitch cache.old group block → IsSwitched cache.old cache.new group block) }
     ensures one_program { OnOk result ((block : ℕ) → CanSwitch cache.old group block → cache.old.log.next < log_pages cache.old.geometry
         → (M.state media.new).counts ≡ program_counted (M.state media.old).counts) }
-    ensures counts { OnOk result (CannotSwitch cache.old group → cache.old.log.buffered ≡ [] → cache.old.log.next < log_pages cache.old.geometry
-        → (pages : ℕ) → ReachesTo cache.old.geometry cache.old.map.entries group pages → (M.state media.new).counts ≡ move_counted pages (M.state media.old).counts) }
+    ensures counts { OnOk result (CannotSwitch cache.old group → cache.old.log.buffered ≡ []
+        → cache.old.log.next < log_pages cache.old.geometry
+        → (pages : ℕ) → ReachesTo cache.old.geometry cache.old.map.entries group pages
+        → (M.state media.new).counts ≡ move_counted pages (M.state media.old).counts) }
     // Whatever is answered, and wherever power went off.
-    ensures stands { (list durable : CacheList) → Lists cache.old (M.state media.old).contents.flash.page list durable → StandsForEither cache.old.geometry (M.state media.new).contents.flash.page durable list }
+    ensures stands { (list durable : CacheList) → Lists cache.old (M.state media.old).contents.flash.page list durable
+        → FlashStandsForEither cache.old.geometry (M.state media.new).contents.flash.page durable list }
     ensures memory { IsErrOf result MediaError.OutOfMemory → ⊥ }
     ensures drives { DrivesFlash (M.state media.old) (M.state media.new) (failed result) (lost result) }
 {
@@ -132,7 +148,7 @@ fn move_group<M: Media>(cache: &mut Parts, media: &mut M, group: u64) -> Result<
 /// Copies a group into an erase block that is taken, makes that its data block, and commits that.
 fn gather_group<M: Media>(cache: &mut Parts, media: &mut M, group: u64) -> Result<(), MediaError>
     requires agree { Agree cache.old (M.state media.old).contents }
-    requires held { IsHeld cache.old.geometry cache.old.map.entries group }
+    requires held { IsGroupHeld cache.old.geometry cache.old.map.entries group }
     requires block { HasBlockOrRoom cache.old.geometry cache.old.map.entries group }
     requires groups { 1 ≤ cache.old.map.spare_groups }
     ensures cache { cache.new ≡ record cache.old { map = cache.new.map; log = cache.new.log; pool = cache.new.pool } }
@@ -140,14 +156,17 @@ fn gather_group<M: Media>(cache: &mut Parts, media: &mut M, group: u64) -> Resul
     ensures groups { cache.old.map.spare_groups ≤ cache.new.map.spare_groups + 1 }
     ensures agree { OnOk result (Agree cache.new (M.state media.new).contents) }
     ensures nothing_waits { OnOk result (cache.new.log.buffered ≡ []) }
-    ensures lists { OnOk result ((list durable : CacheList) → Lists cache.old (M.state media.old).contents.flash.page list durable → Lists cache.new (M.state media.new).contents.flash.page list list) }
+    ensures lists { OnOk result ((list durable : CacheList) → Lists cache.old (M.state media.old).contents.flash.page list durable
+        → Lists cache.new (M.state media.new).contents.flash.page list list) }
     ensures merged { OnOk result (IsMerged cache.old.geometry cache.new.map.entries group) }
     ensures filled { OnOk result (HasFillers cache.old.geometry cache.new.map.entries group (M.state media.new).contents.flash.page) }
     ensures others { OnOk result (OthersStay cache.old.geometry group cache.old.map.entries cache.new.map.entries) }
     ensures counts { OnOk result (cache.old.log.buffered ≡ [] → cache.old.log.next < log_pages cache.old.geometry
-        → (pages : ℕ) → ReachesTo cache.old.geometry cache.old.map.entries group pages → (M.state media.new).counts ≡ move_counted pages (M.state media.old).counts) }
+        → (pages : ℕ) → ReachesTo cache.old.geometry cache.old.map.entries group pages
+        → (M.state media.new).counts ≡ move_counted pages (M.state media.old).counts) }
     // Whatever is answered, and wherever power went off.
-    ensures stands { (list durable : CacheList) → Lists cache.old (M.state media.old).contents.flash.page list durable → StandsForEither cache.old.geometry (M.state media.new).contents.flash.page durable list }
+    ensures stands { (list durable : CacheList) → Lists cache.old (M.state media.old).contents.flash.page list durable
+        → FlashStandsForEither cache.old.geometry (M.state media.new).contents.flash.page durable list }
     ensures memory { IsErrOf result MediaError.OutOfMemory → ⊥ }
     ensures drives { DrivesFlash (M.state media.old) (M.state media.new) (failed result) (lost result) }
 {
@@ -164,11 +183,15 @@ fn copy_out<M: Media>(cache: &mut Parts, media: &mut M, group: u64) -> Result<u3
     ensures cache { cache.new ≡ record cache.old { pool = cache.new.pool } }
     ensures agree { OnOk result (Agree cache.new (M.state media.new).contents) }
     // Whatever is answered, and wherever power went off: no page that an entry names changed.
-    ensures lists { (list durable : CacheList) → Lists cache.old (M.state media.old).contents.flash.page list durable → Lists cache.new (M.state media.new).contents.flash.page list durable }
+    ensures lists { (list durable : CacheList) → Lists cache.old (M.state media.old).contents.flash.page list durable
+        → Lists cache.new (M.state media.new).contents.flash.page list durable }
     ensures free { IfOk result (IsFree cache.new.pool) }
-    ensures copied { IfOk result (λ block. IsCopied cache.old.geometry cache.old.map.entries group block (M.state media.new).contents.flash.page) }
-    ensures filled { IfOk result (λ block. IsFilledUp cache.old.geometry cache.old.map.entries group block (M.state media.new).contents.flash.page) }
-    ensures counts { OnOk result ((pages : ℕ) → ReachesTo cache.old.geometry cache.old.map.entries group pages → (M.state media.new).counts ≡ programs_counted pages (erase_counted (M.state media.old).counts)) }
+    ensures copied { IfOk result (λ block. IsCopied cache.old.geometry cache.old.map.entries group block
+        (M.state media.new).contents.flash.page) }
+    ensures filled { IfOk result (λ block. IsFilledUp cache.old.geometry cache.old.map.entries group block
+        (M.state media.new).contents.flash.page) }
+    ensures counts { OnOk result ((pages : ℕ) → ReachesTo cache.old.geometry cache.old.map.entries group pages
+        → (M.state media.new).counts ≡ programs_counted pages (erase_counted (M.state media.old).counts)) }
     ensures memory { IsErrOf result MediaError.OutOfMemory → ⊥ }
     ensures drives { DrivesFlash (M.state media.old) (M.state media.new) (failed result) (lost result) }
 {
@@ -182,19 +205,21 @@ fn put_group(cache: &mut Parts, group: u64, block: u32)
     requires of_one { AreOfOne cache.old }
     requires is_map { IsMap cache.old.geometry cache.old.map.entries }
     requires roles { RolesAgree cache.old }
-    requires held { IsHeld cache.old.geometry cache.old.map.entries group }
+    requires held { IsGroupHeld cache.old.geometry cache.old.map.entries group }
     requires block { HasBlockOrRoom cache.old.geometry cache.old.map.entries group }
     requires free { IsFree cache.old.pool block }
     requires groups { 1 ≤ cache.old.map.spare_groups }
-    requires room { length cache.old.log.buffered < 127 }
+    requires room { length cache.old.log.buffered < page_records cache.old.log.geometry }
     ensures cache { cache.new ≡ record cache.old { map = cache.new.map; log = cache.new.log; pool = cache.new.pool } }
     ensures entries { cache.new.map.entries ≡ moved cache.old.geometry cache.old.map.entries group block }
     ensures pages { cache.new.map.spare_pages ≡ cache.old.map.spare_pages }
     ensures groups { cache.new.map.spare_groups + 1 ≡ cache.old.map.spare_groups }
     ensures waits { cache.new.log.buffered ≢ [] }
     ensures next { cache.new.log.next ≡ cache.old.log.next }
-    ensures agree { (contents : Contents) → IsCopied cache.old.geometry cache.old.map.entries group block contents.flash.page → Agree cache.old contents → Agree cache.new contents }
-    ensures lists { (contents : Contents) (list durable : CacheList) → IsCopied cache.old.geometry cache.old.map.entries group block contents.flash.page
+    ensures agree { (contents : Contents) → IsCopied cache.old.geometry cache.old.map.entries group block contents.flash.page
+        → Agree cache.old contents → Agree cache.new contents }
+    ensures lists { (contents : Contents) (list durable : CacheList)
+        → IsCopied cache.old.geometry cache.old.map.entries group block contents.flash.page
         → Lists cache.old contents.flash.page list durable → Lists cache.new contents.flash.page list durable }
 {
     let change = Record::SetGroup {

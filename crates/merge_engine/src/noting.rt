@@ -3,6 +3,7 @@ ghost use Rattle.std.specs.Prelude.{◌≡◌, ◌≤◌, ◌<◌, ◌/◌, ◌+
 ghost use Rattle.ft_base.specs.declared.record.Record.TheVariants.{SetPage, Remove, Clean};
 ghost use Rattle.ft_base.specs.declared.block.Block.{Block};
 ghost use Rattle.ft_base.specs.Contents.{Contents};
+ghost use Rattle.ft_base.specs.Layout.{page_records};
 ghost use Rattle.cache_model.specs.Cache.{CacheList, evicted, held, made_clean};
 ghost use Rattle.cache_model.specs.Entries.{Fits, IsMap};
 ghost use Rattle.cache_model.specs.Records.{after};
@@ -25,15 +26,18 @@ pub fn put_page(cache: &mut Parts, lba: u64, place: Place, dirty: bool)
     requires roles { RolesAgree cache.old }
     requires fits { Fits cache.old.geometry (SetPage lba place dirty) cache.old.map.entries }
     requires pages { 1 ≤ cache.old.map.spare_pages }
-    requires room { length cache.old.log.buffered < 127 }
+    requires room { length cache.old.log.buffered < page_records cache.old.log.geometry }
     ensures cache { cache.new ≡ record cache.old { map = cache.new.map; log = cache.new.log; pool = cache.new.pool } }
     ensures entries { cache.new.map.entries ≡ after cache.old.geometry (SetPage lba place dirty) cache.old.map.entries }
     ensures log { cache.new.log ≡ pushed (SetPage lba place dirty) cache.old.log }
     ensures pages { cache.new.map.spare_pages + 1 ≡ cache.old.map.spare_pages }
     ensures groups { cache.new.map.spare_groups ≡ cache.old.map.spare_groups }
-    ensures agree { (contents : Contents) (block : Block) → Agree cache.old contents → IsNewPage cache.old contents.flash.page place lba block → Agree cache.new contents }
-    ensures lists { (contents : Contents) (block : Block) (list durable : CacheList) → IsNewPage cache.old contents.flash.page place lba block
-        → Lists cache.old contents.flash.page list durable → Lists cache.new contents.flash.page (insert list lba (held block dirty)) durable }
+    ensures agree { (contents : Contents) (block : Block) → Agree cache.old contents
+        → IsNewPage cache.old contents.flash.page place lba block → Agree cache.new contents }
+    ensures lists { (contents : Contents) (block : Block) (list durable : CacheList)
+        → IsNewPage cache.old contents.flash.page place lba block
+        → Lists cache.old contents.flash.page list durable
+        → Lists cache.new contents.flash.page (insert list lba (held block dirty)) durable }
 {
     let change = Record::SetPage { lba, place, dirty };
     note(cache, &change, lba / cache.geometry.p as u64);
@@ -45,12 +49,16 @@ pub fn put_out(cache: &mut Parts, lba: u64)
     requires is_map { IsMap cache.old.geometry cache.old.map.entries }
     requires roles { RolesAgree cache.old }
     requires fits { Fits cache.old.geometry (Remove lba) cache.old.map.entries }
-    requires room { length cache.old.log.buffered < 127 }
+    requires room { length cache.old.log.buffered < page_records cache.old.log.geometry }
     ensures cache { cache.new ≡ record cache.old { map = cache.new.map; log = cache.new.log; pool = cache.new.pool } }
-    ensures map { cache.new.map ≡ record cache.old.map { entries = after cache.old.geometry (Remove lba) cache.old.map.entries; records = cache.new.map.records } }
+    ensures map { cache.new.map ≡ record cache.old.map {
+      entries = after cache.old.geometry (Remove lba) cache.old.map.entries;
+      records = cache.new.map.records;
+    } }
     ensures log { cache.new.log ≡ pushed (Remove lba) cache.old.log }
     ensures agree { (contents : Contents) → Agree cache.old contents → Agree cache.new contents }
-    ensures lists { (contents : Contents) (list durable : CacheList) → Lists cache.old contents.flash.page list durable → Lists cache.new contents.flash.page (evicted lba list) durable }
+    ensures lists { (contents : Contents) (list durable : CacheList) → Lists cache.old contents.flash.page list durable
+        → Lists cache.new contents.flash.page (evicted lba list) durable }
 {
     let change = Record::Remove { lba };
     note(cache, &change, lba / cache.geometry.p as u64);
@@ -60,12 +68,16 @@ pub fn put_out(cache: &mut Parts, lba: u64)
 pub fn put_clean(cache: &mut Parts, lba: u64)
     requires of_one { AreOfOne cache.old }
     requires fits { Fits cache.old.geometry (Clean lba) cache.old.map.entries }
-    requires room { length cache.old.log.buffered < 127 }
+    requires room { length cache.old.log.buffered < page_records cache.old.log.geometry }
     ensures cache { cache.new ≡ record cache.old { map = cache.new.map; log = cache.new.log } }
-    ensures map { cache.new.map ≡ record cache.old.map { entries = after cache.old.geometry (Clean lba) cache.old.map.entries; records = cache.new.map.records } }
+    ensures map { cache.new.map ≡ record cache.old.map {
+      entries = after cache.old.geometry (Clean lba) cache.old.map.entries;
+      records = cache.new.map.records;
+    } }
     ensures log { cache.new.log ≡ pushed (Clean lba) cache.old.log }
     ensures agree { (contents : Contents) → Agree cache.old contents → Agree cache.new contents }
-    ensures lists { (contents : Contents) (list durable : CacheList) → Lists cache.old contents.flash.page list durable → Lists cache.new contents.flash.page (made_clean lba list) durable }
+    ensures lists { (contents : Contents) (list durable : CacheList) → Lists cache.old contents.flash.page list durable
+        → Lists cache.new contents.flash.page (made_clean lba list) durable }
 {
     let change = Record::Clean { lba };
     cache.log.push(change);
@@ -81,7 +93,7 @@ pub(crate) fn note(cache: &mut Parts, change: &Record, group: u64)
     requires sound { IsTrue (may_stand_in log_page change.now) }
     requires pages { pages_taken change.now ≤ cache.old.map.spare_pages }
     requires groups { groups_taken change.now ≤ cache.old.map.spare_groups }
-    requires room { length cache.old.log.buffered < 127 }
+    requires room { length cache.old.log.buffered < page_records cache.old.log.geometry }
     ensures cache { cache.new ≡ record cache.old { map = cache.new.map; log = cache.new.log; pool = cache.new.pool } }
     ensures of_one { AreOfOne cache.new }
     ensures entries { cache.new.map.entries ≡ after cache.old.geometry change.now cache.old.map.entries }

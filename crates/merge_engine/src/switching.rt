@@ -1,7 +1,7 @@
 //! Switch merges: a log block whose pages hold a group in order becomes its data block, with no copy.
 ghost use Rattle.std.specs.Prelude.{◌≡◌, ◌≢◌, ◌≤◌, ◌<◌, ◌+◌, ◌↔◌, ◌^◌, ℕ, [], length, OnOk, IfSome, IfNone, IsTrue, IsErrOf};
 ghost use Rattle.ft_base.specs.Contents.{Contents};
-ghost use Rattle.ft_base.specs.Layout.{log_pages};
+ghost use Rattle.ft_base.specs.Layout.{log_pages, page_records};
 ghost use Rattle.ft_media.specs.State.{failed, lost};
 ghost use Rattle.ft_media.specs.Drives.{DrivesFlash};
 ghost use Rattle.ft_media.specs.Media.{program_counted};
@@ -10,9 +10,9 @@ ghost use Rattle.cache_model.specs.Entries.{IsMap};
 ghost use Rattle.log_blocks.specs.Logs.{released};
 ghost use Rattle.log_blocks.specs.Logs as list;
 ghost use Rattle.mapping.specs.Counts.{Owns};
-ghost use Rattle.silent_evict.specs.Candidates.{IsHeld};
+ghost use Rattle.silent_evict.specs.Candidates.{IsGroupHeld};
 ghost use Rattle.merge_engine.specs.Agreement.{Agree, AreOfOne, Lists, RolesAgree};
-ghost use Rattle.merge_engine.specs.Merges.{HasBlockOrRoom, StandsForEither, moved};
+ghost use Rattle.merge_engine.specs.Merges.{HasBlockOrRoom, FlashStandsForEither, moved};
 ghost use Rattle.merge_engine.specs.Switch.{CanSwitch, CannotSwitch, IsInOrderUpTo};
 
 use crate::Parts;
@@ -27,7 +27,7 @@ pub(crate) fn log_block_in_order(cache: &Parts, group: u64) -> Option<u32>
     requires of_one { AreOfOne cache.now }
     requires is_map { IsMap cache.now.geometry cache.now.map.entries }
     requires roles { RolesAgree cache.now }
-    requires held { IsHeld cache.now.geometry cache.now.map.entries group }
+    requires held { IsGroupHeld cache.now.geometry cache.now.map.entries group }
     ensures some { IfSome result (CanSwitch cache.now group) }
     ensures none { IfNone result (CannotSwitch cache.now group) }
 {
@@ -76,21 +76,29 @@ pub(crate) fn switch_group<M: Media>(
     block: u32,
 ) -> Result<(), MediaError>
     requires agree { Agree cache.old (M.state media.old).contents }
-    requires held { IsHeld cache.old.geometry cache.old.map.entries group }
+    requires held { IsGroupHeld cache.old.geometry cache.old.map.entries group }
     requires block { HasBlockOrRoom cache.old.geometry cache.old.map.entries group }
     requires switch { CanSwitch cache.old group block }
     requires groups { 1 ≤ cache.old.map.spare_groups }
-    requires room { length cache.old.log.buffered < 127 }
-    ensures cache { cache.new ≡ record cache.old { map = cache.new.map; log = cache.new.log; pool = cache.new.pool; logs = released block cache.old.logs } }
+    requires room { length cache.old.log.buffered < page_records cache.old.log.geometry }
+    ensures cache { cache.new ≡ record cache.old {
+      map = cache.new.map;
+      log = cache.new.log;
+      pool = cache.new.pool;
+      logs = released block cache.old.logs;
+    } }
     ensures entries { cache.new.map.entries ≡ moved cache.old.geometry cache.old.map.entries group block }
     ensures pages { cache.new.map.spare_pages ≡ cache.old.map.spare_pages }
     ensures groups { cache.new.map.spare_groups + 1 ≡ cache.old.map.spare_groups }
     ensures agree { OnOk result (Agree cache.new (M.state media.new).contents) }
     ensures nothing_waits { OnOk result (cache.new.log.buffered ≡ []) }
-    ensures lists { OnOk result ((list durable : CacheList) → Lists cache.old (M.state media.old).contents.flash.page list durable → Lists cache.new (M.state media.new).contents.flash.page list list) }
-    ensures one_program { OnOk result (cache.old.log.next < log_pages cache.old.geometry → (M.state media.new).counts ≡ program_counted (M.state media.old).counts) }
+    ensures lists { OnOk result ((list durable : CacheList) → Lists cache.old (M.state media.old).contents.flash.page list durable
+        → Lists cache.new (M.state media.new).contents.flash.page list list) }
+    ensures one_program { OnOk result (cache.old.log.next < log_pages cache.old.geometry
+        → (M.state media.new).counts ≡ program_counted (M.state media.old).counts) }
     // Whatever is answered, and wherever power went off.
-    ensures stands { (list durable : CacheList) → Lists cache.old (M.state media.old).contents.flash.page list durable → StandsForEither cache.old.geometry (M.state media.new).contents.flash.page durable list }
+    ensures stands { (list durable : CacheList) → Lists cache.old (M.state media.old).contents.flash.page list durable
+        → FlashStandsForEither cache.old.geometry (M.state media.new).contents.flash.page durable list }
     ensures memory { IsErrOf result MediaError.OutOfMemory → ⊥ }
     ensures drives { DrivesFlash (M.state media.old) (M.state media.new) (failed result) (lost result) }
 {
@@ -103,19 +111,25 @@ fn switch_block(cache: &mut Parts, group: u64, block: u32)
     requires of_one { AreOfOne cache.old }
     requires is_map { IsMap cache.old.geometry cache.old.map.entries }
     requires roles { RolesAgree cache.old }
-    requires held { IsHeld cache.old.geometry cache.old.map.entries group }
+    requires held { IsGroupHeld cache.old.geometry cache.old.map.entries group }
     requires block { HasBlockOrRoom cache.old.geometry cache.old.map.entries group }
     requires switch { CanSwitch cache.old group block }
     requires groups { 1 ≤ cache.old.map.spare_groups }
-    requires room { length cache.old.log.buffered < 127 }
-    ensures cache { cache.new ≡ record cache.old { map = cache.new.map; log = cache.new.log; pool = cache.new.pool; logs = released block cache.old.logs } }
+    requires room { length cache.old.log.buffered < page_records cache.old.log.geometry }
+    ensures cache { cache.new ≡ record cache.old {
+      map = cache.new.map;
+      log = cache.new.log;
+      pool = cache.new.pool;
+      logs = released block cache.old.logs;
+    } }
     ensures entries { cache.new.map.entries ≡ moved cache.old.geometry cache.old.map.entries group block }
     ensures pages { cache.new.map.spare_pages ≡ cache.old.map.spare_pages }
     ensures groups { cache.new.map.spare_groups + 1 ≡ cache.old.map.spare_groups }
     ensures waits { cache.new.log.buffered ≢ [] }
     ensures next { cache.new.log.next ≡ cache.old.log.next }
     ensures agree { (contents : Contents) → Agree cache.old contents → Agree cache.new contents }
-    ensures lists { (contents : Contents) (list durable : CacheList) → Lists cache.old contents.flash.page list durable → Lists cache.new contents.flash.page list durable }
+    ensures lists { (contents : Contents) (list durable : CacheList) → Lists cache.old contents.flash.page list durable
+        → Lists cache.new contents.flash.page list durable }
 {
     let change = Record::SetGroup {
         group,

@@ -75,7 +75,8 @@ module _ (blocks : List EraseBlock) (b : ℕ) (e new : EraseBlock) (within : b <
   ]
 
 -- one page of a block was changed
-pub changed_page : (blocks : List EraseBlock) (at : Place) (e new : EraseBlock) (value : Page) → at.block < length blocks → e ≡ get_or blocks at.block e → ((p : ℕ) → page_in new p ≡ set (page_in e) at.page value p) → (q : Place) → page_at (put blocks at.block new) q ≡ set_page (page_at blocks) at value q
+pub changed_page : (blocks : List EraseBlock) (at : Place) (e new : EraseBlock) (value : Page) → at.block < length blocks → e ≡ get_or blocks at.block e
+    → ((p : ℕ) → page_in new p ≡ set (page_in e) at.page value p) → (q : Place) → page_at (put blocks at.block new) q ≡ set_page (page_at blocks) at value q
 changed_page blocks at e new value within is changed q =
     changed_block blocks at.block e new within is (λ p before. cond (at.page == p) value before) changed q ∙ by_tests (at.block == q.block) (q.block == at.block) (at.page == q.page) (grind (arith, nat_tests))
   where

@@ -49,9 +49,11 @@ abbrev pub spare_room_at : List EraseBlock → ℕ → ℕ
 spare_room_at blocks block = spare_room_of (slice_get blocks block)
 
 -- in a block that is ready, each page from the next one on is blank
-pub ahead_at : (blocks : List EraseBlock) (at : Place) (next : ℕ) → next_at blocks at.block ≡ Some next → next ≤ at.page → page_at blocks at ≡ page.Blank
+pub ahead_at : (blocks : List EraseBlock) (at : Place) (next : ℕ) → next_at blocks at.block ≡ Some next → next ≤ at.page
+    → page_at blocks at ≡ page.Blank
 ahead_at blocks at next ready ahead = ahead_in (slice_get blocks at.block) next at.page ready ahead
   where
     ahead_in : (block : Option EraseBlock) (next p : ℕ) → next_of_block block ≡ Some next → next ≤ p → page_of_block block p ≡ page.Blank
     ahead_in None next p ready ahead = refl
-    ahead_in (Some block) next p ready ahead = ap (λ found. page_of found (slice_index_or block.blocks.items p zero_block) (slice_index_or block.spares.items p no_spare)) (block.ahead next p ready ahead)
+    ahead_in (Some block) next p ready ahead = ap (λ found. page_of found (slice_index_or block.blocks.items p zero_block)
+        (slice_index_or block.spares.items p no_spare)) (block.ahead next p ready ahead)

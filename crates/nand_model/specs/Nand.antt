@@ -44,7 +44,8 @@ pub record SameNumbers (old new : MemNand) : Type 0 where
   pub erases : erases_of new ≡ erases_of old
 
 -- in a block that is ready, each page from the next one on is blank
-pub blank_ahead : (nand : MemNand) (at : Place) (next : ℕ) → (flash_of nand).next at.block ≡ Some next → next ≤ at.page → (flash_of nand).page at ≡ page.Blank
+pub blank_ahead : (nand : MemNand) (at : Place) (next : ℕ) → (flash_of nand).next at.block ≡ Some next → next ≤ at.page
+    → (flash_of nand).page at ≡ page.Blank
 blank_ahead nand at next = ahead_at nand.blocks.items at next
 
 -- what is ready is an erase block of the flash

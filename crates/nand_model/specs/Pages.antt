@@ -21,4 +21,5 @@ page_of read.Torn block spare = page.Torn
 
 -- page p of a block
 abbrev pub page_in : EraseBlock → ℕ → Page
-page_in block p = page_of (slice_index_or block.found.items p read.Blank) (slice_index_or block.blocks.items p zero_block) (slice_index_or block.spares.items p no_spare)
+page_in block p = page_of (slice_index_or block.found.items p read.Blank) (slice_index_or block.blocks.items p zero_block)
+    (slice_index_or block.spares.items p no_spare)

@@ -46,12 +46,19 @@ unready flash = record { page = flash.page; next = none_ready }
 abbrev pub program_left : Ending → Flash → Place → Block → Spare → Flash
 program_left ending.Done flash at block spare = after_program flash at block spare
 program_left ending.Failed flash at block spare = record { page = set_page flash.page at page.Torn; next = set flash.next at.block None }
-program_left (ending.Cut outcome) flash at block spare = record { page = set_page flash.page at (cut_program outcome block spare); next = none_ready }
+program_left (ending.Cut outcome) flash at block spare = record {
+  page = set_page flash.page at (cut_program outcome block spare);
+  next = none_ready;
+}
 program_left ending.Off flash at block spare = flash
 
 -- the flash after an erase: one that failed leaves its block blank and not ready
 abbrev pub erase_left : Ending → Flash → ℕ → Flash
 erase_left ending.Done flash block = after_erase flash block
 erase_left ending.Failed flash block = record { page = (after_erase flash block).page; next = set flash.next block None }
-erase_left (ending.Cut outcome) flash block = record { page = λ at. if at.block == block then cut_erase outcome at.page (flash.page at) else flash.page at; next = none_ready }
+erase_left (ending.Cut outcome) flash block = record {
+  page = λ at. if at.block == block then cut_erase outcome at.page
+      (flash.page at) else flash.page at;
+  next = none_ready;
+}
 erase_left ending.Off flash block = flash

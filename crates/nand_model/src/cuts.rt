@@ -22,7 +22,8 @@ pub(crate) fn blank_all(found: &mut Vec<PageRead>)
 pub(crate) fn cut_all(found: &mut Vec<PageRead>, outcome: Outcome)
     ensures cut { (p : ℕ) (block : Block) (spare : Spare) → page_of (slice_index_or found.new.items p read.Blank) block spare
         ≡ cut_erase outcome p (page_of (slice_index_or found.old.items p read.Blank) block spare) }
-    ensures whole { (p : ℕ) → slice_index_or found.new.items p read.Blank ≡ read.Whole → slice_index_or found.old.items p read.Blank ≡ read.Whole }
+    ensures whole { (p : ℕ) → slice_index_or found.new.items p read.Blank ≡ read.Whole
+        → slice_index_or found.old.items p read.Blank ≡ read.Whole }
     ensures length { length found.new.items ≡ length found.old.items }
 {
     let pages = found.len();

@@ -63,7 +63,9 @@ module _ (changes : List Record) (i : ℕ) (d : Record) (within : i < length cha
       by_test true t = absurd (unfit (subst (λ (g : Geometry). Fits g (get_or changes i d) now.entries) (sym so.geometry) (fits-true first.geometry (get_or changes i d) now.entries t)))
       by_test false t = next_first first now so ∙ ap (λ b. cond b (after_all first.geometry (drop (i + 1) changes) (after first.geometry (get_or changes i d) now.entries)) None) t
 
-  pub applied_more : (first now next : MapValue) → AppliedSoFar changes i first now → Fits now.geometry (get_or changes i d) now.entries → next.geometry ≡ now.geometry → next.entries ≡ after now.geometry (get_or changes i d) now.entries → next.spare_pages + pages_taken (get_or changes i d) ≡ now.spare_pages → next.spare_groups + groups_taken (get_or changes i d) ≡ now.spare_groups → AppliedSoFar changes (i + 1) first next
+  pub applied_more : (first now next : MapValue) → AppliedSoFar changes i first now → Fits now.geometry (get_or changes i d) now.entries → next.geometry ≡ now.geometry
+      → next.entries ≡ after now.geometry (get_or changes i d) now.entries → next.spare_pages + pages_taken (get_or changes i d) ≡ now.spare_pages
+      → next.spare_groups + groups_taken (get_or changes i d) ≡ now.spare_groups → AppliedSoFar changes (i + 1) first next
   applied_more first now next so fit geometry entries pages groups =
       let r = get_or changes i d in
       let some = so.pages in

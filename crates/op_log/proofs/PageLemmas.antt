@@ -56,7 +56,8 @@ module _ (view log : LogValue) (same : view ≡ log) (old new : Flash) (at : Pla
 page_here : (page : Place → Page) (at : Place) (v : Page) → set_page page at v at ≡ v
 page_here page at v = grind (arith, nat_tests)
 
-pub spare_there : (view log : LogValue) → view ≡ log → (old new : Flash) (at : Place) → at ≡ next_place view → (block : Block) (spare : Spare) → IsSpare spare.0 (spare_fields LogSpare view.era view.next) → new ≡ after_program old at block spare → HasSpare (log_spare log.era log.next) (new.page (next_place log))
+pub spare_there : (view log : LogValue) → view ≡ log → (old new : Flash) (at : Place) → at ≡ next_place view → (block : Block) (spare : Spare)
+    → IsSpare spare.0 (spare_fields LogSpare view.era view.next) → new ≡ after_program old at block spare → HasSpare (log_spare log.era log.next) (new.page (next_place log))
 spare_there view log same old new at here block spare spelled done = subst (λ (l : LogValue). HasSpare (log_spare l.era l.next) (new.page (next_place l))) same (
   block,
   ap (λ (f : Flash). f.page (next_place view)) done

@@ -21,7 +21,9 @@ use Rattle.op_log.specs.declared.error.OpenError.TheVariants as refused
 
 -- what a page makes of the entries, where it is one of this kind and era, at its own place
 abbrev pub page_step : Geometry → PageKind → ℕ → ℕ → Place → Page → Entries → Option (Result Entries Refusal)
-page_step g kind era sequence at page m = option_map (λ h. ok_or (option_and_then (λ changes. after_all g changes m) (said (read_records h) page)) (Damaged at)) (header_at kind era sequence page)
+page_step g kind era sequence at page m = option_map
+    (λ h. ok_or (option_and_then (λ changes. after_all g changes m) (said (read_records h) page)) (Damaged at))
+    (header_at kind era sequence page)
 
 -- the pages of one kind and era, each at its own place, up to the first that is none
 abbrev pub pages_of : PageKind → ℕ → ℕ → List Page → ℕ

@@ -1,5 +1,5 @@
 ghost use Rattle.std.specs.Prelude.{◌≡◌, ◌≢◌, ◌<◌, ◌≤◌, ◌-◌, [], length, IfOk, OnOk, OnErr, IsOk, IsErrOf, IsTrue};
-ghost use Rattle.ft_base.specs.Layout.{log_pages};
+ghost use Rattle.ft_base.specs.Layout.{log_pages, page_records};
 ghost use Rattle.ft_media.specs.State.{failed, lost};
 ghost use Rattle.ft_media.specs.Media.{if_ok};
 ghost use Rattle.ft_media.specs.Passes.{Spends};
@@ -68,7 +68,7 @@ impl OpLog {
 
     /// Buffers a change. It takes no memory.
     pub fn push(&mut self, change: Record)
-        requires room { length self.old.buffered < 127 }
+        requires room { length self.old.buffered < page_records self.old.geometry }
         requires sound { IsTrue (may_stand_in log_page change) }
         ensures { self.new ≡ pushed change self.old }
     {
@@ -78,7 +78,7 @@ impl OpLog {
     /// How many changes are buffered: at most 127.
     pub fn buffered(&self) -> u32
         ensures buffered { result ≡ length self.now.buffered }
-        ensures most { result ≤ 127 }
+        ensures most { result ≤ page_records self.now.geometry }
     {
         self.ring.len()
     }
@@ -125,13 +125,16 @@ impl OpLog {
         requires room { self.old.buffered ≢ [] → self.old.next < log_pages self.old.geometry }
         requires ready { self.old.buffered ≢ [] → IsNextReady self.old (M.state media.old).contents.flash }
         ensures nothing { self.old.buffered ≡ [] → IsOk result × (M.state media.new ≡ M.state media.old) }
-        ensures done { OnOk result (self.old.buffered ≢ [] → AppendedReady self.old (M.state media.old).contents.flash (M.state media.new).contents.flash) }
-        ensures spare { OnOk result (self.old.buffered ≢ [] → HasSpare (log_spare self.old.era self.old.next) ((M.state media.new).contents.flash.page (next_place self.old))) }
+        ensures done { OnOk result (self.old.buffered ≢ []
+            → AppendedReady self.old (M.state media.old).contents.flash (M.state media.new).contents.flash) }
+        ensures spare { OnOk result (self.old.buffered ≢ []
+            → HasSpare (log_spare self.old.era self.old.next) ((M.state media.new).contents.flash.page (next_place self.old))) }
         ensures log { OnOk result (self.new ≡ flushed self.old) }
         ensures refused { OnErr result (self.new ≡ self.old) }
         // Whatever is answered, and wherever power went off, the page is whole or the log ends before it.
         ensures pages { LeavesLog self.old (M.state media.old).contents.flash (M.state media.new).contents.flash }
-        ensures counts { (M.state media.new).counts ≡ if_ok result (flush_counted self.old (M.state media.old).counts) (M.state media.old).counts }
+        ensures counts { (M.state media.new).counts ≡ if_ok result (flush_counted self.old (M.state media.old).counts)
+            (M.state media.old).counts }
         ensures spends { OnOk result (self.old.buffered ≢ [] → Spends 1 (M.state media.old) (M.state media.new)) }
         ensures memory { IsErrOf result MediaError.OutOfMemory → ⊥ }
         ensures drives { DrivesFlash (M.state media.old) (M.state media.new) (failed result) (lost result) }

@@ -1,5 +1,6 @@
 ghost use Rattle.std.specs.Prelude.{◌≡◌, ◌<◌, ◌≤◌, ◌++◌, ◌∷◌, [], length, take, IfOk, IsTrue};
 ghost use Rattle.std.specs.List.{list_all};
+ghost use Rattle.ft_base.specs.Layout.{most_page_records};
 ghost use Rattle.cache_model.specs.declared.format.PageKind.TheVariants.{Log as log_page};
 ghost use Rattle.cache_model.specs.Spelling.{may_stand_in};
 
@@ -20,6 +21,7 @@ pub(crate) struct Ring {
 impl Model for Ring {
     ghost use Rattle.std.specs.Prelude.{◌≡◌, List, IsTrue};
     ghost use Rattle.std.specs.List.{list_all};
+    ghost use Rattle.ft_base.specs.Layout.{most_page_records};
     ghost use Rattle.ft_base.specs.declared.record.Record.{Record};
     ghost use Rattle.cache_model.specs.declared.format.PageKind.TheVariants.{Log as log_page};
     ghost use Rattle.cache_model.specs.Spelling.{may_stand_in};
@@ -28,7 +30,7 @@ impl Model for Ring {
 
     ghost view = { λ r. r.records.items };
 
-    ghost invariant = { λ r. (r.records.capacity ≡ 127) × IsTrue (list_all (may_stand_in log_page) r.records.items) };
+    ghost invariant = { λ r. (r.records.capacity ≡ most_page_records) × IsTrue (list_all (may_stand_in log_page) r.records.items) };
 }
 
 impl Ring {
@@ -42,14 +44,14 @@ impl Ring {
 
     pub(crate) fn len(&self) -> u32
         ensures len { result ≡ length self.now }
-        ensures within { result ≤ 127 }
+        ensures within { result ≤ most_page_records }
     {
         self.records.len() as u32
     }
 
     /// Puts a record to the end.
     pub(crate) fn push(&mut self, change: Record)
-        requires room { length self.old < 127 }
+        requires room { length self.old < most_page_records }
         requires sound { IsTrue (may_stand_in log_page change) }
         ensures { self.new ≡ self.old ++ change ∷ [] }
     {
@@ -62,7 +64,7 @@ impl Ring {
     /// Copies the records to the front of `out`.
     pub(crate) fn copy_into(&self, out: &mut [Record; 127]) -> u32
         ensures count { result ≡ length self.now }
-        ensures within { result ≤ 127 }
+        ensures within { result ≤ most_page_records }
         ensures read { take result out.new ≡ self.now }
         ensures sound { IsTrue (list_all (may_stand_in log_page) self.now) }
     {

@@ -1,7 +1,7 @@
 ghost use Rattle.std.specs.Prelude.{◌≡◌, ◌==◌, ◌<◌, ◌≤◌, ◌+◌, IfOk, IfErr, IfSome, if◌then◌else◌, IsTrue, Some, None, Ok, [], length};
 ghost use Rattle.std.specs.Bool.{OnTrue};
 ghost use Rattle.std.specs.Option.{unwrap_or};
-ghost use Rattle.ft_base.specs.Layout.{log_at, blocks};
+ghost use Rattle.ft_base.specs.Layout.{blocks, log_at, most_page_records};
 ghost use Rattle.ft_media.specs.Reads.{ReadsFlash};
 ghost use Rattle.cache_model.specs.declared.format.PageKind.TheVariants.{Log as log_page};
 ghost use Rattle.cache_model.specs.Loading.{after_all, after_pages, is_page, log_region, when};
@@ -37,8 +37,10 @@ pub fn apply_page<M: Media>(
     requires map { map.old.geometry ≡ geometry.now }
     ensures geometry { map.new.geometry ≡ map.old.geometry }
     ensures kinds { IfErr result IsOfPages }
-    ensures room { IfOk result (λ applied. TakesRoom (records_at kind era sequence ((M.state media.old).contents.flash.page at)) map.old map.new) }
-    ensures answers { Stepped result map.old.entries map.new.entries (page_step geometry.now kind era sequence at ((M.state media.old).contents.flash.page at) map.old.entries) }
+    ensures room { IfOk result (λ applied. TakesRoom (records_at kind era sequence ((M.state media.old).contents.flash.page at))
+        map.old map.new) }
+    ensures answers { Stepped result map.old.entries map.new.entries
+        (page_step geometry.now kind era sequence at ((M.state media.old).contents.flash.page at) map.old.entries) }
     ensures reads { ReadsFlash (M.state media.old) (M.state media.new) (open_failed result) (open_lost result) }
 {
     let mut block = zero_block();
@@ -107,7 +109,8 @@ fn apply_records(page: &Block, header: &Header, map: &mut Map) -> Result<bool, A
     requires header { header_read page.now.0 ≡ Some header.now }
     ensures geometry { map.new.geometry ≡ map.old.geometry }
     ensures room { IfOk result (λ applied. IsTrue applied → TakesRoom (unwrap_or (records_read header.now page.now.0) []) map.old map.new) }
-    ensures value { IfOk result (λ applied. after_records map.old.geometry header.now page.now.0 map.old.entries ≡ (if applied then Some map.new.entries else None)) }
+    ensures value { IfOk result (λ applied. after_records map.old.geometry header.now page.now.0
+        map.old.entries ≡ (if applied then Some map.new.entries else None)) }
 {
     let mut buffer = [Record::Remove { lba: 0 }; 127];
     if !read_records(page, header, &mut buffer) {
@@ -120,18 +123,18 @@ fn apply_records(page: &Block, header: &Header, map: &mut Map) -> Result<bool, A
 
 /// How many records set a page.
 fn count_pages(changes: &[Record]) -> u32
-    requires { length changes.now ≤ 127 }
+    requires { length changes.now ≤ most_page_records }
     ensures needed { result ≡ pages_needed changes.now }
-    ensures few { result ≤ 127 }
+    ensures few { result ≤ most_page_records }
 {
     changes.iter().filter(|change| sets_page(change)).count() as u32
 }
 
 /// How many records set a group.
 fn count_groups(changes: &[Record]) -> u32
-    requires { length changes.now ≤ 127 }
+    requires { length changes.now ≤ most_page_records }
     ensures needed { result ≡ groups_needed changes.now }
-    ensures few { result ≤ 127 }
+    ensures few { result ≤ most_page_records }
 {
     changes.iter().filter(|change| sets_group(change)).count() as u32
 }
@@ -179,10 +182,14 @@ pub fn roll<M: Media>(
     requires shape { FitsOn geometry.now (M.state media.old).contents.shape }
     requires map { map.old.geometry ≡ geometry.now }
     ensures geometry { map.new.geometry ≡ map.old.geometry }
-    ensures applied { IfOk result (λ n. after_pages geometry.now log_page era (log_at geometry.now region) 0 (log_region geometry.now (M.state media.old).contents.flash.page region) map.old.entries ≡ Ok map.new.entries) }
-    ensures count { IfOk result (λ n. n ≡ pages_of log_page era 0 (log_region geometry.now (M.state media.old).contents.flash.page region)) }
+    ensures applied { IfOk result (λ n. after_pages geometry.now log_page era (log_at geometry.now region) 0
+        (log_region geometry.now (M.state media.old).contents.flash.page region) map.old.entries ≡ Ok map.new.entries) }
+    ensures count { IfOk result (λ n. n ≡ pages_of log_page era 0
+        (log_region geometry.now (M.state media.old).contents.flash.page region)) }
     ensures room { IfOk result (λ n. HasNoMoreRoom map.old map.new) }
-    ensures refused { IfErr result (λ e. IsRefusal geometry.now e (after_pages geometry.now log_page era (log_at geometry.now region) 0 (log_region geometry.now (M.state media.old).contents.flash.page region) map.old.entries)) }
+    ensures refused { IfErr result (λ e. IsRefusal geometry.now e
+        (after_pages geometry.now log_page era (log_at geometry.now region) 0
+        (log_region geometry.now (M.state media.old).contents.flash.page region) map.old.entries)) }
     ensures kinds { IfErr result IsOfPages }
     ensures reads { ReadsFlash (M.state media.old) (M.state media.new) (open_failed result) (open_lost result) }
 {

@@ -15,7 +15,8 @@ pub record Found (bytes : List ℕ) (kind : SpareKind) (era address : ℕ) : Typ
 there : (bytes : List ℕ) (kind : SpareKind) (era address : ℕ) → Found bytes kind era address → spare_fields_in bytes ≡ spare_fields kind era address
 there bytes kind era address found = λ i. spare_fields (sym found.kind_is i) (sym found.era_is i) (sym found.address_is i)
 
-by_tests : (bytes spelling : List ℕ) (kind : SpareKind) (era address : ℕ) (same good : Bool) → Found bytes kind era address → spelling ≡ spelled_spare (spare_fields kind era address) → same ≡ bytes_eq spelling bytes → good ≡ spare_in_range (spare_fields kind era address) → read_spare bytes ≡ cond (same && good) (Some (spare_fields kind era address)) None
+by_tests : (bytes spelling : List ℕ) (kind : SpareKind) (era address : ℕ) (same good : Bool) → Found bytes kind era address → spelling ≡ spelled_spare (spare_fields kind era address)
+    → same ≡ bytes_eq spelling bytes → good ≡ spare_in_range (spare_fields kind era address) → read_spare bytes ≡ cond (same && good) (Some (spare_fields kind era address)) None
 unfolding read_spare
 by_tests bytes spelling kind era address same good found spells test range =
     ap (λ f. cond (bytes_eq (spelled_spare f) bytes && spare_in_range f) (Some f) None) (there bytes kind era address found)
@@ -28,12 +29,14 @@ not_same bytes spelling kind era address same found spells test f =
     by_tests bytes spelling kind era address same (spare_in_range (spare_fields kind era address)) found spells test refl
     ∙ ap (λ b. cond (b && spare_in_range (spare_fields kind era address)) (Some (spare_fields kind era address)) None) f
 
-pub not_good : (bytes spelling : List ℕ) (kind : SpareKind) (era address : ℕ) (same good : Bool) → Found bytes kind era address → spelling ≡ spelled_spare (spare_fields kind era address) → same ≡ bytes_eq spelling bytes → same ≡ true → good ≡ spare_in_range (spare_fields kind era address) → good ≡ false → read_spare bytes ≡ None
+pub not_good : (bytes spelling : List ℕ) (kind : SpareKind) (era address : ℕ) (same good : Bool) → Found bytes kind era address → spelling ≡ spelled_spare (spare_fields kind era address)
+    → same ≡ bytes_eq spelling bytes → same ≡ true → good ≡ spare_in_range (spare_fields kind era address) → good ≡ false → read_spare bytes ≡ None
 not_good bytes spelling kind era address same good found spells test t range f =
     by_tests bytes spelling kind era address same good found spells test range
     ∙ ap (λ b. cond (b && good) (Some (spare_fields kind era address)) None) t ∙ ap (λ b. cond b (Some (spare_fields kind era address)) None) f
 
-pub found : (bytes spelling : List ℕ) (kind : SpareKind) (era address : ℕ) (same good : Bool) → Found bytes kind era address → spelling ≡ spelled_spare (spare_fields kind era address) → same ≡ bytes_eq spelling bytes → same ≡ true → good ≡ spare_in_range (spare_fields kind era address) → good ≡ true → read_spare bytes ≡ Some (spare_fields kind era address)
+pub found : (bytes spelling : List ℕ) (kind : SpareKind) (era address : ℕ) (same good : Bool) → Found bytes kind era address → spelling ≡ spelled_spare (spare_fields kind era address)
+    → same ≡ bytes_eq spelling bytes → same ≡ true → good ≡ spare_in_range (spare_fields kind era address) → good ≡ true → read_spare bytes ≡ Some (spare_fields kind era address)
 found bytes spelling kind era address same good is spells test t range u =
     by_tests bytes spelling kind era address same good is spells test range
     ∙ ap (λ b. cond (b && good) (Some (spare_fields kind era address)) None) t ∙ ap (λ b. cond b (Some (spare_fields kind era address)) None) u

@@ -101,7 +101,8 @@ pub fn write_spare(kind: SpareKind, era: u8, address: u64) -> Spare
 /// The kind, era and address of spare bytes: exactly where they are in the grammar.
 pub fn read_spare(spare: &Spare) -> Option<(SpareKind, u8, u64)>
     ensures value { result ≡ option_map parts (spare_read spare.now.0) }
-    ensures grammar { MatchOption result ((fields : SpareFields) → ¬ IsSpare spare.now.0 fields) (λ r. IsSpare spare.now.0 (spare_fields r.0 r.1 r.2)) }
+    ensures grammar { MatchOption result ((fields : SpareFields) → ¬ IsSpare spare.now.0 fields)
+        (λ r. IsSpare spare.now.0 (spare_fields r.0 r.1 r.2)) }
 {
     let kind = kind_of(spare.0[4]);
     let era = spare.0[5];

@@ -1,5 +1,6 @@
 -- Pages by their lines.
-use Rattle.std.proofs.Common.{◌≡◌, ℕ, zero, suc, ◌+◌, ◌-◌, ◌*◌, ◌<◌, ◌≤◌, Bool, true, false, cond, ◌&&◌, List, [], ◌∷◌, ◌++◌, length, get_or, set, take, drop, flat_map, Some, None, Option, IsTrue, ◌↔◌, refl, sym, ◌∙◌, ap, ap₂, subst, arith, append_assoc, ltb-true, leb-true, le-leb, lt-ltb, ◌^◌, length-append}
+use Rattle.std.proofs.Common.{◌≡◌, ℕ, zero, suc, ◌+◌, ◌-◌, ◌*◌, ◌<◌, ◌≤◌, Bool, true, false, cond, ◌&&◌, List, [], ◌∷◌, ◌++◌, length, get_or, set}
+use Rattle.std.proofs.Common.{take, drop, flat_map, Some, None, Option, IsTrue, ◌↔◌, refl, sym, ◌∙◌, ap, ap₂, subst, arith, append_assoc, ltb-true, leb-true, le-leb, lt-ltb, ◌^◌, length-append}
 use Rattle.std.specs.Bool.{OnTrue, OnFalse}
 use Rattle.std.specs.List.{list_all}
 use Rattle.std.proofs.lemmas.Bool.{and_parts, and_from, both_ways}
@@ -52,7 +53,8 @@ pub record RecordsSoFar (old now : List ℕ) (rs : List Record) (i : ℕ) : Type
   pub front : take (32 * i + 32) now ≡ take 32 old ++ flat_map spelled_record rs
   pub widths : list_all has_widths rs ≡ true
 
-pub records_more : (old now now' : List ℕ) (rs : List Record) (i : ℕ) (d : Record) → i < length rs → RecordsSoFar old now (take i rs) i → has_widths (get_or rs i d) ≡ true → take (32 * (1 + i) + 32) now' ≡ take (32 * (1 + i)) now ++ spelled_record (get_or rs i d) → RecordsSoFar old now' (take (i + 1) rs) (i + 1)
+pub records_more : (old now now' : List ℕ) (rs : List Record) (i : ℕ) (d : Record) → i < length rs → RecordsSoFar old now (take i rs) i → has_widths (get_or rs i d) ≡ true
+    → take (32 * (1 + i) + 32) now' ≡ take (32 * (1 + i)) now ++ spelled_record (get_or rs i d) → RecordsSoFar old now' (take (i + 1) rs) (i + 1)
 records_more old now now' rs i d within so_far widths put =
     let r = get_or rs i d in
     let here : 32 * (i + 1) + 32 ≡ 32 * (1 + i) + 32 = omega arith in
@@ -87,7 +89,9 @@ pub record MayHead (h : Header) (count : ℕ) : Type 0 where
 header_from : (h : Header) (count : ℕ) → MayHead h count → (header_in_range h && is_log_or_map h.kind) ≡ true
 header_from h count may = and_from _ _ (and_from _ _ (and_from _ _ (le-leb _ _ may.era) (lt-ltb _ _ may.sequence)) (ap (count_in_range h.kind) may.count_is ∙ count_from h.kind count may.kind may.some may.room)) may.kind
 
-pub page_written : (one two three : List ℕ) (h : Header) (rs : List Record) → take 32 one ≡ spelled_header h → take (32 * length rs + 32) two ≡ take 32 one ++ flat_map spelled_record rs → three ≡ take (32 * (1 + length rs)) two ++ zeros (4096 - 32 * (1 + length rs)) → MayHead h (length rs) → list_all has_widths rs ≡ true → list_all (may_stand_in h.kind) rs ≡ true → IsPage three h rs
+pub page_written : (one two three : List ℕ) (h : Header) (rs : List Record) → take 32 one ≡ spelled_header h → take (32 * length rs + 32) two ≡ take 32 one ++ flat_map spelled_record rs
+    → three ≡ take (32 * (1 + length rs)) two ++ zeros (4096 - 32 * (1 + length rs)) → MayHead h (length rs) → list_all has_widths rs ≡ true → list_all (may_stand_in h.kind) rs ≡ true
+    → IsPage three h rs
 page_written one two three h rs head records tail may widths stand = record {
   spelled =
       tail ∙ ap (λ n. take n two ++ zeros (4096 - 32 * (1 + length rs))) (next (length rs)) ∙ ap (λ s. s ++ zeros (4096 - 32 * (1 + length rs))) (records ∙ ap (λ s. s ++ flat_map spelled_record rs) head)
@@ -185,7 +189,8 @@ pub begins_none : (kind : PageKind) (out : List Record) (bytes : List ℕ) → B
 begins_none kind out bytes = record { spelled = refl; ranges = refl }
 
 -- one record more
-pub begins_more : (kind : PageKind) (page line : List ℕ) (out : List Record) (i : ℕ) (r : Record) (good : Bool) → i < length out → line ≡ take 32 (drop (32 * (1 + i)) page) → Some r ≡ read_record line → good ≡ goes_on kind r → good ≡ true → BeginsWith kind (take i out) (drop 32 page) → BeginsWith kind (take (i + 1) (set out i r)) (drop 32 page)
+pub begins_more : (kind : PageKind) (page line : List ℕ) (out : List Record) (i : ℕ) (r : Record) (good : Bool) → i < length out → line ≡ take 32 (drop (32 * (1 + i)) page) → Some r ≡ read_record line
+    → good ≡ goes_on kind r → good ≡ true → BeginsWith kind (take i out) (drop 32 page) → BeginsWith kind (take (i + 1) (set out i r)) (drop 32 page)
 begins_more kind page line out i r good within at reads test t begins =
     let bytes = drop 32 page in
     let is = line_is line r (sym reads) in

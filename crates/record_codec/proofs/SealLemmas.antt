@@ -63,7 +63,9 @@ seal_heads bytes h seal is =
     and_from (is_seal h.kind) (nat_le h.era 2) p.1 (and_parts (nat_le h.era 2) (nat_lt h.sequence (2 ^ 32)) q.0).0
 
 -- what the tests say together
-pub has_seal_is : (bytes front numbers line line' : List ℕ) (h : Header) (seal : Seal) (same same' heads zero : Bool) → front ≡ spelled_header h → numbers ≡ numbers_line seal → line ≡ take 32 bytes → line' ≡ take 32 (drop 32 bytes) → same ≡ bytes_eq front line → same ≡ true → same' ≡ bytes_eq numbers line' → same' ≡ true → heads ≡ (is_seal h.kind && nat_le h.era 2) → heads ≡ true → h.sequence < 2 ^ 32 → h.count < 2 ^ 32 → seal_in_range seal ≡ true → (IsTrue zero ↔ (drop 64 bytes ≡ zeros 4032)) → IsTrue zero ↔ IsSealOf bytes h seal
+pub has_seal_is : (bytes front numbers line line' : List ℕ) (h : Header) (seal : Seal) (same same' heads zero : Bool) → front ≡ spelled_header h → numbers ≡ numbers_line seal → line ≡ take 32 bytes
+    → line' ≡ take 32 (drop 32 bytes) → same ≡ bytes_eq front line → same ≡ true → same' ≡ bytes_eq numbers line' → same' ≡ true → heads ≡ (is_seal h.kind && nat_le h.era 2) → heads ≡ true
+    → h.sequence < 2 ^ 32 → h.count < 2 ^ 32 → seal_in_range seal ≡ true → (IsTrue zero ↔ (drop 64 bytes ≡ zeros 4032)) → IsTrue zero ↔ IsSealOf bytes h seal
 has_seal_is bytes front numbers line line' h seal same same' heads zero spells spells' at at' test t test' t' head u sequence count widths rest =
     let equal : front ≡ line = (bytes_eq-Decides front line).0 (sym test ∙ t) in
     let equal' : numbers ≡ line' = (bytes_eq-Decides numbers line').0 (sym test' ∙ t') in

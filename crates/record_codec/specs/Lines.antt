@@ -10,10 +10,11 @@ use Rattle.cache_model.specs.Reading.{if_spelled, record_in, number}
 
 -- the line of these numbers, which every record has
 abbrev pub spelled_line : ℕ → ℕ → ℕ → ℕ → ℕ → ℕ → ℕ → List ℕ
-spelled_line kind flag page block first second third = kind ∷ flag ∷ page ∷ 0 ∷ [] ++ to_be_bytes w32 block ++ to_be_bytes w64 first ++ to_be_bytes w64 second ++ to_be_bytes w64 third
+spelled_line kind flag page block first second third = kind ∷ flag ∷ page ∷ 0 ∷ [] ++ to_be_bytes w32 block ++ to_be_bytes w64 first
+    ++ to_be_bytes w64 second ++ to_be_bytes w64 third
 
 -- the numbers of a line have the widths of their bytes
-pub record FitsLine (block first second third : ℕ) : Type 0 where
+pub record FitsWidths (block first second third : ℕ) : Type 0 where
   pub block_fits : block < 2 ^ 32
   pub first_fits : first < 2 ^ 64
   pub second_fits : second < 2 ^ 64
@@ -38,8 +39,15 @@ pub record BeginsWith (kind : PageKind) (records : List Record) (bytes : List �
 
 -- the line behind the header of a seal
 abbrev pub numbers_line : Seal → List ℕ
-numbers_line seal = to_be_bytes w32 seal.p ++ to_be_bytes w32 seal.c ++ to_be_bytes w32 seal.l ++ to_be_bytes w32 seal.j ++ to_be_bytes w64 seal.size ++ zeros 8
+numbers_line seal = to_be_bytes w32 seal.p ++ to_be_bytes w32 seal.c ++ to_be_bytes w32 seal.l ++ to_be_bytes w32 seal.j
+    ++ to_be_bytes w64 seal.size ++ zeros 8
 
 -- the numbers that a line would be
 abbrev pub numbers_in : List ℕ → Seal
-numbers_in line = record { p = number w32 0 line; c = number w32 4 line; l = number w32 8 line; j = number w32 12 line; size = number w64 16 line }
+numbers_in line = record {
+  p = number w32 0 line;
+  c = number w32 4 line;
+  l = number w32 8 line;
+  j = number w32 12 line;
+  size = number w64 16 line;
+}

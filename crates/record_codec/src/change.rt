@@ -1,7 +1,7 @@
 ghost use Rattle.std.specs.Prelude.{◌≡◌, IsTrue, slice_index};
 ghost use Rattle.cache_model.specs.Spelling.{spelled_record, has_widths, is_sound, goes_on, flag as flag_of};
 ghost use Rattle.cache_model.specs.Reading.{record_in};
-ghost use Rattle.record_codec.specs.Lines.{spelled_line, FitsLine, HasShortPage, read_record as record_read};
+ghost use Rattle.record_codec.specs.Lines.{spelled_line, FitsWidths, HasShortPage, read_record as record_read};
 
 use crate::line::{put_u32, put_u64, u32_at, u64_at};
 use cache_model::PageKind;
@@ -21,7 +21,7 @@ const REMOVE_GROUP: u8 = 5;
 /// A line of a kind, a mark, a page, a block and three numbers.
 fn line_of(kind: u8, flag: u8, page: u8, block: u32, numbers: [u64; 3]) -> [u8; 32]
     ensures line { result ≡ spelled_line kind flag page block (slice_index numbers 0) (slice_index numbers 1) (slice_index numbers 2) }
-    ensures widths { FitsLine block (slice_index numbers 0) (slice_index numbers 1) (slice_index numbers 2) }
+    ensures widths { FitsWidths block (slice_index numbers 0) (slice_index numbers 1) (slice_index numbers 2) }
 {
     let mut line = [0; 32];
     line[0] = kind;

@@ -2,6 +2,7 @@ ghost use Rattle.std.specs.Prelude.{◌≡◌, ◌↔◌, ◌+◌, ◌-◌, ◌*
 ghost use Rattle.std.specs.Bool.{OnTrue, OnFalse};
 ghost use Rattle.std.specs.List.{list_all};
 ghost use Rattle.ft_base.specs.declared.record.Record.{Record as RecordValue};
+ghost use Rattle.ft_base.specs.Layout.{most_page_records};
 ghost use Rattle.cache_model.specs.Spelling.{spelled_record, has_widths, is_log_or_map, may_stand_in, IsPage};
 ghost use Rattle.cache_model.specs.Reading.{read_page_header as header_read, read_records as records_read};
 ghost use Rattle.record_codec.specs.Lines.{BeginsWith};
@@ -19,7 +20,7 @@ pub fn write_page(out: &mut Block, header: &Header, changes: &[Record])
     requires era { header.now.era ≤ 2 }
     requires count { header.now.count ≡ length changes.now }
     requires some { 1 ≤ length changes.now }
-    requires room { length changes.now ≤ 127 }
+    requires room { length changes.now ≤ most_page_records }
     requires changes { IsTrue (list_all (may_stand_in header.now.kind) changes.now) }
     ensures { IsPage out.new.0 header.now changes.now }
 {
@@ -31,7 +32,7 @@ pub fn write_page(out: &mut Block, header: &Header, changes: &[Record])
 
 /// Puts each record into a line of its own, from line 1 on.
 fn put_records(out: &mut Block, kind: PageKind, changes: &[Record])
-    requires room { length changes.now ≤ 127 }
+    requires room { length changes.now ≤ most_page_records }
     requires changes { IsTrue (list_all (may_stand_in kind) changes.now) }
     ensures front { take (32 * length changes.now + 32) out.new.0 ≡ take 32 out.old.0 ++ flat_map spelled_record changes.now }
     ensures widths { IsTrue (list_all has_widths changes.now) }
@@ -47,7 +48,8 @@ fn put_records(out: &mut Block, kind: PageKind, changes: &[Record])
 pub fn read_records(page: &Block, header: &Header, out: &mut [Record; 127]) -> bool
     ensures read { OnTrue result (IsPage page.now.0 header.now (take header.now.count out.new)) }
     ensures outside { OnFalse result ((rs : List RecordValue) → ¬ IsPage page.now.0 header.now rs) }
-    ensures value { header_read page.now.0 ≡ Some header.now → records_read header.now page.now.0 ≡ (if result then Some (take header.now.count out.new) else None) }
+    ensures value { header_read page.now.0 ≡ Some header.now
+        → records_read header.now page.now.0 ≡ (if result then Some (take header.now.count out.new) else None) }
 {
     if !has_page_header(page, header) {
         return false;
@@ -61,7 +63,7 @@ pub fn read_records(page: &Block, header: &Header, out: &mut [Record; 127]) -> b
 
 /// Reads so many records, one in each line from line 1 on.
 fn read_lines(page: &Block, kind: PageKind, count: usize, out: &mut [Record; 127]) -> bool
-    requires { count ≤ 127 }
+    requires { count ≤ most_page_records }
     ensures read { OnTrue result (BeginsWith kind (take count out.new) (drop 32 page.now.0)) }
     ensures outside { OnFalse result ((rs : List RecordValue) → length rs ≡ count → ¬ BeginsWith kind rs (drop 32 page.now.0)) }
 {

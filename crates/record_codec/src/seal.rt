@@ -83,7 +83,8 @@ fn has_seal(page: &Block, header: &Header, seal: &Seal) -> bool
 /// The header and the numbers of a seal: exactly where the page is one.
 pub fn read_seal(page: &Block) -> Option<(Header, Seal)>
     ensures value { result ≡ seal_read page.now.0 }
-    ensures grammar { MatchOption result ((h : HeaderValue) (s : SealValue) → ¬ IsSealOf page.now.0 h s) (λ r. IsSealOf page.now.0 r.0 r.1) }
+    ensures grammar { MatchOption result ((h : HeaderValue) (s : SealValue) → ¬ IsSealOf page.now.0 h s)
+        (λ r. IsSealOf page.now.0 r.0 r.1) }
 {
     let header = header_in(&line_at(page, 0));
     let seal = numbers_in(&line_at(page, 1));

@@ -38,7 +38,9 @@ module _ (era : ℕ) (at : ℕ → Place) (page : Place → Page) (n : ℕ) wher
   maps_all i count past so = let none : n - i ≡ 0 = omega arith in sym (so.same ∙ ap (λ k. sealed_from era i count (pages_from page at i k)) none)
 
   module _ (i count : ℕ) (within : i < n) (so : MapsSoFar era at page n i count) where
-    next_page : (seal : Option Seal) (header : Option Header) → seal ≡ seal_at era i count (page (at i)) → header ≡ header_at Map era i (page (at i)) → sealed_from era 0 0 (pages_from page at 0 n) ≡ option_or (option_map (complete era i) seal) (option_and_then (λ h. sealed_from era (i + 1) (count + h.count) (pages_from page at (i + 1) (n - (i + 1)))) header)
+    next_page : (seal : Option Seal) (header : Option Header) → seal ≡ seal_at era i count (page (at i)) → header ≡ header_at Map era i (page (at i))
+        → sealed_from era 0 0 (pages_from page at 0 n) ≡ option_or (option_map (complete era i) seal)
+        (option_and_then (λ h. sealed_from era (i + 1) (count + h.count) (pages_from page at (i + 1) (n - (i + 1)))) header)
     next_page seal header is_seal is_header =
         let some : n - i ≡ suc (n - (i + 1)) = omega arith in
         so.same ∙ ap (λ k. sealed_from era i count (pages_from page at i k)) some
@@ -81,7 +83,8 @@ pub era_none : (g : Geometry) (page : Place → Page) (region : ℕ) (place : Pl
 era_none g page region place p here read none =
     sym (by_era g page region ∙ ap (option_and_then (λ era. sealed_from era 0 0 (checkpoint_region g page region))) (sym (none ∙ ap era_in (read ∙ ap page here))))
 
-pub era_some : (g : Geometry) (page : Place → Page) (region : ℕ) (place : Place) (p : Page) (era : ℕ) (left : Option Complete) → place ≡ checkpoint_at g region 0 → p ≡ page place → Some era ≡ era_in p → left ≡ sealed_from era 0 0 (checkpoint_region g page region) → left ≡ checkpoint_in (checkpoint_region g page region)
+pub era_some : (g : Geometry) (page : Place → Page) (region : ℕ) (place : Place) (p : Page) (era : ℕ) (left : Option Complete) → place ≡ checkpoint_at g region 0 → p ≡ page place → Some era ≡ era_in p
+    → left ≡ sealed_from era 0 0 (checkpoint_region g page region) → left ≡ checkpoint_in (checkpoint_region g page region)
 era_some g page region place p era left here read some is =
     is ∙ sym (by_era g page region ∙ ap (option_and_then (λ e. sealed_from e 0 0 (checkpoint_region g page region))) (sym (some ∙ ap era_in (read ∙ ap page here))))
 
@@ -106,7 +109,8 @@ module _ (changes : List Record) (i : ℕ) (d : Record) (within : i < length cha
       by_test true t = absurd (unfit (subst (λ (g : Geometry). Fits g (get_or changes i d) now.entries) (sym so.geometry) (fits-true first.geometry (get_or changes i d) now.entries t)))
       by_test false t = next_record ∙ ap (λ b. cond b (after_all first.geometry (drop (i + 1) changes) (after first.geometry (get_or changes i d) now.entries)) None) t
 
-  pub applied_more : (ready next : MapValue) → ready.geometry ≡ now.geometry → ready.entries ≡ now.entries → Fits now.geometry (get_or changes i d) now.entries → next.geometry ≡ ready.geometry → next.entries ≡ after ready.geometry (get_or changes i d) ready.entries → AppliedSoFar changes (i + 1) first next
+  pub applied_more : (ready next : MapValue) → ready.geometry ≡ now.geometry → ready.entries ≡ now.entries → Fits now.geometry (get_or changes i d) now.entries → next.geometry ≡ ready.geometry
+      → next.entries ≡ after ready.geometry (get_or changes i d) ready.entries → AppliedSoFar changes (i + 1) first next
   applied_more ready next same_geometry same fit geometry entries =
       let r = get_or changes i d in
       let at_first : ready.geometry ≡ first.geometry = same_geometry ∙ so.geometry in
@@ -124,12 +128,15 @@ module _ (changes : List Record) (i : ℕ) (d : Record) (within : i < length cha
 pub step_absent : (g : Geometry) (kind : PageKind) (era i : ℕ) (at : Place) (p : Page) (m : Entries) → None ≡ header_at kind era i p → page_step g kind era i at p m ≡ None
 step_absent g kind era i at p m none = ap (option_map (λ h. ok_or (option_and_then (λ changes. after_all g changes m) (said (read_records h) p)) (damaged at))) (sym none)
 
-pub step_there : (g : Geometry) (kind : PageKind) (era i : ℕ) (at : Place) (p : Page) (m : Entries) (h : Header) (left : Option Entries) → Some h ≡ header_at kind era i p → option_and_then (λ changes. after_all g changes m) (said (read_records h) p) ≡ left → page_step g kind era i at p m ≡ Some (ok_or left (damaged at))
+pub step_there : (g : Geometry) (kind : PageKind) (era i : ℕ) (at : Place) (p : Page) (m : Entries) (h : Header) (left : Option Entries) → Some h ≡ header_at kind era i p
+    → option_and_then (λ changes. after_all g changes m) (said (read_records h) p) ≡ left → page_step g kind era i at p m ≡ Some (ok_or left (damaged at))
 step_there g kind era i at p m h left head all =
     ap (option_map (λ h. ok_or (option_and_then (λ changes. after_all g changes m) (said (read_records h) p)) (damaged at))) (sym head) ∙ ap (λ o. Some (ok_or o (damaged at))) all
 
 -- what the program says of a page is its step
-pub step_answers : (g : Geometry) (kind : PageKind) (era i : ℕ) (place at : Place) (page : Place → Page) (p : Page) (own : Geometry) (m new : Entries) (h : Header) (b answer : Bool) → at ≡ place → p ≡ page at → own ≡ g → Some h ≡ header_at kind era i p → option_and_then (λ changes. after_all own changes m) (said (read_records h) p) ≡ cond b (Some new) None → b ≡ answer → page_step g kind era i place (page place) m ≡ Some (ok_or (cond answer (Some new) None) (damaged place))
+pub step_answers : (g : Geometry) (kind : PageKind) (era i : ℕ) (place at : Place) (page : Place → Page) (p : Page) (own : Geometry) (m new : Entries) (h : Header) (b answer : Bool) → at ≡ place
+    → p ≡ page at → own ≡ g → Some h ≡ header_at kind era i p → option_and_then (λ changes. after_all own changes m) (said (read_records h) p) ≡ cond b (Some new) None → b ≡ answer
+    → page_step g kind era i place (page place) m ≡ Some (ok_or (cond answer (Some new) None) (damaged place))
 step_answers g kind era i place at page p own m new h b answer here read same head all is =
     let p_is : p ≡ page place = read ∙ ap page here in
     let all' = subst (λ (o : Geometry). option_and_then (λ changes. after_all o changes m) (said (read_records h) p) ≡ cond b (Some new) None) same all in

@@ -54,7 +54,8 @@ pub(crate) fn find_checkpoint<M: Media>(
 ) -> Result<Newest, OpenError>
     requires shape { FitsOn geometry.now (M.state media.old).contents.shape }
     ensures found { IfOk result (λ n. loading.checkpoint_of geometry.now (M.state media.old).contents.flash.page ≡ Ok (found_in n)) }
-    ensures refused { IfErr result (λ e. IsRefusal geometry.now e (loading.checkpoint_of geometry.now (M.state media.old).contents.flash.page)) }
+    ensures refused { IfErr result (λ e. IsRefusal geometry.now e
+        (loading.checkpoint_of geometry.now (M.state media.old).contents.flash.page)) }
     ensures reads { ReadsFlash (M.state media.old) (M.state media.new) (open_failed result) (open_lost result) }
 {
     let found = newest(media, geometry).map_err(of_media)?;

@@ -68,8 +68,10 @@ fn replay<M: Media>(
     requires map { map.old.geometry ≡ geometry.now }
     requires nothing { map.old.entries ≡ no_entries }
     ensures geometry { map.new.geometry ≡ map.old.geometry }
-    ensures replayed { OnOk result (replayed geometry.now (M.state media.old).contents.flash.page (found_in newest.now) ≡ Ok map.new.entries) }
-    ensures refused { IfErr result (λ e. IsRefusal geometry.now e (replayed geometry.now (M.state media.old).contents.flash.page (found_in newest.now))) }
+    ensures replayed { OnOk result (replayed geometry.now (M.state media.old).contents.flash.page
+        (found_in newest.now) ≡ Ok map.new.entries) }
+    ensures refused { IfErr result (λ e. IsRefusal geometry.now e
+        (replayed geometry.now (M.state media.old).contents.flash.page (found_in newest.now))) }
     ensures reads { ReadsFlash (M.state media.old) (M.state media.new) (open_failed result) (open_lost result) }
 {
     apply_maps(media, geometry, newest, map)?;
@@ -89,8 +91,13 @@ fn apply_maps<M: Media>(
     requires pages { newest.now.pages ≤ checkpoint_pages geometry.now }
     requires map { map.old.geometry ≡ geometry.now }
     ensures geometry { map.new.geometry ≡ map.old.geometry }
-    ensures applied { OnOk result (after_pages geometry.now map_page newest.now.era (checkpoint_at geometry.now newest.now.region) 0 (pages_from (M.state media.old).contents.flash.page (checkpoint_at geometry.now newest.now.region) 0 newest.now.pages) map.old.entries ≡ Ok map.new.entries) }
-    ensures refused { IfErr result (λ e. IsRefusal geometry.now e (after_pages geometry.now map_page newest.now.era (checkpoint_at geometry.now newest.now.region) 0 (pages_from (M.state media.old).contents.flash.page (checkpoint_at geometry.now newest.now.region) 0 newest.now.pages) map.old.entries)) }
+    ensures applied { OnOk result (after_pages geometry.now map_page newest.now.era (checkpoint_at geometry.now newest.now.region) 0
+        (pages_from (M.state media.old).contents.flash.page (checkpoint_at geometry.now newest.now.region) 0 newest.now.pages)
+        map.old.entries ≡ Ok map.new.entries) }
+    ensures refused { IfErr result (λ e. IsRefusal geometry.now e
+        (after_pages geometry.now map_page newest.now.era (checkpoint_at geometry.now newest.now.region) 0
+        (pages_from (M.state media.old).contents.flash.page (checkpoint_at geometry.now newest.now.region) 0 newest.now.pages)
+        map.old.entries)) }
     ensures reads { ReadsFlash (M.state media.old) (M.state media.new) (open_failed result) (open_lost result) }
 {
     for i in 0..newest.pages {

@@ -24,8 +24,10 @@ pub(crate) fn look_at_places<M: Media>(
 ) -> Result<(), OpenError>
     requires shape { FitsOn geometry.now (M.state media.old).contents.shape }
     requires map { IsMap geometry.now map.now.entries }
-    ensures whole { OnOk result (all_whole (M.state media.old).contents.flash.page (entries map.now.entries) map.now.entries ≡ Ok map.now.entries) }
-    ensures refused { IfErr result (λ e. IsRefusal geometry.now e (all_whole (M.state media.old).contents.flash.page (entries map.now.entries) map.now.entries)) }
+    ensures whole { OnOk result (all_whole (M.state media.old).contents.flash.page (entries map.now.entries)
+        map.now.entries ≡ Ok map.now.entries) }
+    ensures refused { IfErr result (λ e. IsRefusal geometry.now e
+        (all_whole (M.state media.old).contents.flash.page (entries map.now.entries) map.now.entries)) }
     ensures reads { ReadsFlash (M.state media.old) (M.state media.new) (open_failed result) (open_lost result) }
 {
     let mut addresses = held_addresses(alloc, map)?;
@@ -57,7 +59,8 @@ fn look_at<M: Media>(media: &mut M, geometry: &Geometry, at: Place) -> Result<()
     requires block { at.block < blocks geometry.now }
     requires page { at.page < geometry.now.p }
     ensures whole { OnOk result (is_whole ((M.state media.old).contents.flash.page at) ≡ true) }
-    ensures refused { IfErr result (λ e. IsRefusal geometry.now e (if is_whole ((M.state media.old).contents.flash.page at) then Ok at else Err (damaged at))) }
+    ensures refused { IfErr result (λ e. IsRefusal geometry.now e
+        (if is_whole ((M.state media.old).contents.flash.page at) then Ok at else Err (damaged at))) }
     ensures reads { ReadsFlash (M.state media.old) (M.state media.new) (open_failed result) (open_lost result) }
 {
     let mut block = zero_block();

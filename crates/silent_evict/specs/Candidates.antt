@@ -4,11 +4,11 @@ use Rattle.std.specs.FinMap.{get}
 use Rattle.ft_base.specs.declared.geometry.Geometry.{Geometry}
 use Rattle.cache_model.specs.declared.entry.Entry.{Entry}
 use Rattle.cache_model.specs.Records.{Entries}
-pub use Rattle.mapping.specs.Candidates.{IsHeld, HasDataBlock, IsClean, IsCandidate, pages_held}
+pub use Rattle.mapping.specs.Candidates.{IsGroupHeld, HasDataBlock, IsClean, IsCandidate, pages_held}
 
 -- something of the group is held, and nothing of the group is dirty
 pub record IsWhollyClean (g : Geometry) (m : Entries) (group : ℕ) : Type 0 where
-  pub held : IsHeld g m group
+  pub held : IsGroupHeld g m group
   pub clean : IsClean g m group
 
 -- a candidate whose data block has the fewest held pages

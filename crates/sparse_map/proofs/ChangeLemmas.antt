@@ -12,8 +12,8 @@ use Rattle.sparse_map.specs.declared.group.Group.{Group}
 use Rattle.sparse_map.specs.declared.map.SparseMap.TheInside.{Inside}
 use Rattle.sparse_map.specs.Slots.{slot_at, key_at, items_of}
 use Rattle.sparse_map.specs.Groups.{slots_of, small_groups}
-use Rattle.sparse_map.specs.Packed.{IsPacked, Table, map_of}
-use Rattle.sparse_map.specs.Kept.{IsKept}
+use Rattle.sparse_map.specs.Packed.{IsPacked, PackedTable, map_of}
+use Rattle.sparse_map.specs.Kept.{KeepsTable}
 use Rattle.sparse_map.specs.Seen.{seen_of}
 use Rattle.sparse_map.specs.Probe.{IsFreeFor}
 use Rattle.sparse_map.proofs.TableLemmas.{length-slots_of}
@@ -52,10 +52,10 @@ module _ {V : Type 0} (s : List (Option (ℕ × V))) (b k : ℕ) (v : V) (packed
     pub new_found : (q : ℕ) → find nat_cmp q (items_of (set s b (Some (k, v)))) ≡ cond (eqb q k) (Some v) (find nat_cmp q (items_of s))
     new_found = find-set_new s b k packed.once v place.inside place.free place.absent
 
-module _ {V : Type 0} (bits len spare blanks : ℕ) (us : List (Group V)) (kept : IsKept bits len spare blanks us) where
+module _ {V : Type 0} (bits len spare blanks : ℕ) (us : List (Group V)) (kept : KeepsTable bits len spare blanks us) where
   -- the same number of buckets, other items
   pub kept_changed : (len_2 spare_2 blanks_2 : ℕ) (ws : List (Group V)) → length (slots_of ws) ≡ length (slots_of us) → IsPacked (slots_of ws) → len_2 ≡ length (items_of (slots_of ws))
-      → len_2 + spare_2 ≤ len + spare → min spare_2 (small_groups ws) ≤ blanks_2 → IsKept bits len_2 spare_2 blanks_2 ws
+      → len_2 + spare_2 ≤ len + spare → min spare_2 (small_groups ws) ≤ blanks_2 → KeepsTable bits len_2 spare_2 blanks_2 ws
   kept_changed len_2 spare_2 blanks_2 ws long packed counted less stocked =
       record {
         few = kept.few;
@@ -68,7 +68,7 @@ module _ {V : Type 0} (bits len spare blanks : ℕ) (us : List (Group V)) (kept 
       }
 
   -- a key that is there, or room for one, shows that there are buckets
-  pub ready_has_buckets : (t : Table V) (key : ℕ) → slots_of us ≡ t.slots → spare ≡ t.spare → ((map.contains_key (map_of t) key ≡ true) ⊎ (1 ≤ t.spare)) → 0 < bits
+  pub ready_has_buckets : (t : PackedTable V) (key : ℕ) → slots_of us ≡ t.slots → spare ≡ t.spare → ((map.contains_key (map_of t) key ≡ true) ⊎ (1 ≤ t.spare)) → 0 < bits
   ready_has_buckets t key same room ready = elim ready [
     | inl there ↦ elim (cases_eq bits 0) [
       | inr some ↦ omega arith
@@ -84,45 +84,45 @@ module _ {V : Type 0} (bits len spare blanks : ℕ) (us : List (Group V)) (kept 
 pub written : {X Z : Type 0} (v : Vec X Z) (ws : List X) → length ws ≡ vec_len v → (with_items v ws).items ≡ ws
 written v ws long = with_items_is v ws long
 
-module _ {V : Type 0} (m : Inside V) (t : Table V) (kept : IsKept m.bits m.len m.spare (vec_len m.stock) m.groups.items)
-    (is : ◌≡◌ {A = Table V} (seen_of m.groups.items m.spare (vec_len m.stock) m.grown) t) where
+module _ {V : Type 0} (m : Inside V) (t : PackedTable V) (kept : KeepsTable m.bits m.len m.spare (vec_len m.stock) m.groups.items)
+    (is : ◌≡◌ {A = PackedTable V} (seen_of m.groups.items m.spare (vec_len m.stock) m.grown) t) where
   pub seen_ready : (key : ℕ) → ((map.contains_key (map_of t) key ≡ true) ⊎ (1 ≤ t.spare)) → 0 < m.bits
   seen_ready key ready =
-      ready_has_buckets m.bits m.len m.spare (vec_len m.stock) m.groups.items kept t key (ap (λ (x : Table V). x.slots) is) (ap (λ (x : Table V). x.spare) is) ready
+      ready_has_buckets m.bits m.len m.spare (vec_len m.stock) m.groups.items kept t key (ap (λ (x : PackedTable V). x.slots) is) (ap (λ (x : PackedTable V). x.spare) is) ready
 
   -- a key that is nowhere needs room
   pub absent_needs_room : (key : ℕ) → ((b : ℕ) → key_at (slots_of m.groups.items) b ≢ Some key) → ((map.contains_key (map_of t) key ≡ true) ⊎ (1 ≤ t.spare)) → 1 ≤ m.spare
   absent_needs_room key absent ready = elim ready [
     | inl there ↦
-        let same : slots_of m.groups.items ≡ t.slots = ap (λ (x : Table V). x.slots) is in
+        let same : slots_of m.groups.items ≡ t.slots = ap (λ (x : PackedTable V). x.slots) is in
         let none = get-map_of t key ∙ ap (λ s. find nat_cmp key (items_of s)) (sym same) ∙ not_found (slots_of m.groups.items) key absent in
         absurd (false≢true (sym (ap is_some none) ∙ there))
-    | inr more ↦ let same : m.spare ≡ t.spare = ap (λ (x : Table V). x.spare) is in omega arith
+    | inr more ↦ let same : m.spare ≡ t.spare = ap (λ (x : PackedTable V). x.spare) is in omega arith
   ]
 
   pub get_there : (b key : ℕ) (v : V) → slot_at (slots_of m.groups.items) b ≡ Some (key, v) → map.get (map_of t) key ≡ Some v
   get_there b key v has =
-      let same : slots_of m.groups.items ≡ t.slots = ap (λ (x : Table V). x.slots) is in
+      let same : slots_of m.groups.items ≡ t.slots = ap (λ (x : PackedTable V). x.slots) is in
       get-map_of t key ∙ ap (λ s. find nat_cmp key (items_of s)) (sym same) ∙ found_where (slots_of m.groups.items) b key v kept.packed.once has
 
   pub get_absent : (key : ℕ) → ((b : ℕ) → key_at (slots_of m.groups.items) b ≢ Some key) → map.get (map_of t) key ≡ None
   get_absent key absent =
-      let same : slots_of m.groups.items ≡ t.slots = ap (λ (x : Table V). x.slots) is in
+      let same : slots_of m.groups.items ≡ t.slots = ap (λ (x : PackedTable V). x.slots) is in
       get-map_of t key ∙ ap (λ s. find nat_cmp key (items_of s)) (sym same) ∙ not_found (slots_of m.groups.items) key absent
 
-  pub map_changed : (u : Table V) (ws : List (Group V)) → u.slots ≡ slots_of ws → (key : ℕ) (v : V)
+  pub map_changed : (u : PackedTable V) (ws : List (Group V)) → u.slots ≡ slots_of ws → (key : ℕ) (v : V)
       → ((q : ℕ) → find nat_cmp q (items_of (slots_of ws)) ≡ cond (eqb q key) (Some v) (find nat_cmp q (items_of (slots_of m.groups.items))))
       → map_of u ≡ map.insert (map_of t) key v
   map_changed u ws at key v found =
-      let same : slots_of m.groups.items ≡ t.slots = ap (λ (x : Table V). x.slots) is in
+      let same : slots_of m.groups.items ≡ t.slots = ap (λ (x : PackedTable V). x.slots) is in
       map_of-insert t u key v
       (λ q. ap (λ s. find nat_cmp q (items_of s)) at ∙ found q ∙ ap (λ s. cond (eqb q key) (Some v) (find nat_cmp q (items_of s))) same)
 
-  pub map_without : (u : Table V) (ws : List (Group V)) → u.slots ≡ slots_of ws → (key : ℕ)
+  pub map_without : (u : PackedTable V) (ws : List (Group V)) → u.slots ≡ slots_of ws → (key : ℕ)
       → ((q : ℕ) → find nat_cmp q (items_of (slots_of ws)) ≡ cond (eqb q key) None (find nat_cmp q (items_of (slots_of m.groups.items))))
       → map_of u ≡ map.remove (map_of t) key
   map_without u ws at key found =
-      let same : slots_of m.groups.items ≡ t.slots = ap (λ (x : Table V). x.slots) is in
+      let same : slots_of m.groups.items ≡ t.slots = ap (λ (x : PackedTable V). x.slots) is in
       map_of-remove t u key
       (λ q. ap (λ s. find nat_cmp q (items_of s)) at ∙ found q ∙ ap (λ s. cond (eqb q key) None (find nat_cmp q (items_of s))) same)
 
@@ -130,7 +130,7 @@ module _ {V : Type 0} (m : Inside V) (t : Table V) (kept : IsKept m.bits m.len m
     same_long : length (slots_of ws) ≡ length (slots_of m.groups.items)
     same_long = ap length e ∙ length-set (slots_of m.groups.items) b (Some (key, v))
 
-    pub kept_value : key_at (slots_of m.groups.items) b ≡ Some key → small_groups ws ≡ small_groups m.groups.items → IsKept m.bits m.len m.spare (vec_len m.stock) ws
+    pub kept_value : key_at (slots_of m.groups.items) b ≡ Some key → small_groups ws ≡ small_groups m.groups.items → KeepsTable m.bits m.len m.spare (vec_len m.stock) ws
     kept_value has small =
         kept_changed m.bits m.len m.spare (vec_len m.stock) m.groups.items kept m.len m.spare (vec_len m.stock) ws same_long
         (subst (λ s. IsPacked s) (sym e) (value_packed (slots_of m.groups.items) b key v kept.packed has))
@@ -138,12 +138,12 @@ module _ {V : Type 0} (m : Inside V) (t : Table V) (kept : IsKept m.bits m.len m
         (omega arith)
         (subst (λ n. min m.spare n ≤ vec_len m.stock) (sym small) kept.stocked)
 
-    pub map_value : (u : Table V) → u.slots ≡ slots_of ws → key_at (slots_of m.groups.items) b ≡ Some key → map_of u ≡ map.insert (map_of t) key v
+    pub map_value : (u : PackedTable V) → u.slots ≡ slots_of ws → key_at (slots_of m.groups.items) b ≡ Some key → map_of u ≡ map.insert (map_of t) key v
     map_value u at has =
         map_changed u ws at key v (λ q. ap (λ s. find nat_cmp q (items_of s)) e ∙ value_found (slots_of m.groups.items) b key v kept.packed has q)
 
     pub kept_new_key : (blanks : ℕ) → IsFreeFor (slots_of m.groups.items) key b → 1 ≤ m.spare → vec_len m.stock ≤ blanks + 1
-        → vec_len m.stock + small_groups ws ≤ blanks + small_groups m.groups.items → IsKept m.bits (m.len + 1) (m.spare - 1) blanks ws
+        → vec_len m.stock + small_groups ws ≤ blanks + small_groups m.groups.items → KeepsTable m.bits (m.len + 1) (m.spare - 1) blanks ws
     kept_new_key blanks place more one_less one_widened =
         kept_changed m.bits m.len m.spare (vec_len m.stock) m.groups.items kept (m.len + 1) (m.spare - 1) blanks ws same_long
         (subst (λ s. IsPacked s) (sym e) (new_packed (slots_of m.groups.items) b key v kept.packed place))
@@ -152,12 +152,12 @@ module _ {V : Type 0} (m : Inside V) (t : Table V) (kept : IsKept m.bits m.len m
         (omega arith)
         (omega (arith, kept.stocked, one_less, one_widened))
 
-    pub map_new_key : (u : Table V) → u.slots ≡ slots_of ws → IsFreeFor (slots_of m.groups.items) key b → map_of u ≡ map.insert (map_of t) key v
+    pub map_new_key : (u : PackedTable V) → u.slots ≡ slots_of ws → IsFreeFor (slots_of m.groups.items) key b → map_of u ≡ map.insert (map_of t) key v
     map_new_key u at place =
         map_changed u ws at key v (λ q. ap (λ s. find nat_cmp q (items_of s)) e ∙ new_found (slots_of m.groups.items) b key v kept.packed place q)
 
   pub kept_removed : (ws : List (Group V)) → length ws ≡ vec_len m.groups → IsPacked (slots_of ws) → length (items_of (slots_of ws)) + 1 ≡ length (items_of (slots_of m.groups.items))
-      → small_groups ws ≡ small_groups m.groups.items → IsKept m.bits (m.len - 1) m.spare (vec_len m.stock) ws
+      → small_groups ws ≡ small_groups m.groups.items → KeepsTable m.bits (m.len - 1) m.spare (vec_len m.stock) ws
   kept_removed ws long packed count small =
       kept_changed m.bits m.len m.spare (vec_len m.stock) m.groups.items kept (m.len - 1) m.spare (vec_len m.stock) ws
       (length-slots_of ws ∙ ap (λ n. 32 * n) (long ∙ m.groups.ok.0) ∙ sym (length-slots_of m.groups.items))
@@ -167,7 +167,7 @@ module _ {V : Type 0} (m : Inside V) (t : Table V) (kept : IsKept m.bits m.len m
       (subst (λ n. min m.spare n ≤ vec_len m.stock) (sym small) kept.stocked)
 
 -- without a key that is nowhere a map is as it is
-pub absent_stays : {V : Type 0} (t : Table V) (key : ℕ) → ((b : ℕ) → key_at t.slots b ≢ Some key) → map_of t ≡ map.remove (map_of t) key
+pub absent_stays : {V : Type 0} (t : PackedTable V) (key : ℕ) → ((b : ℕ) → key_at t.slots b ≢ Some key) → map_of t ≡ map.remove (map_of t) key
 absent_stays t key absent =
     map_of-remove t t key (λ q. elim (cases_eq q key) [
       | inl e ↦ ap (λ x. find nat_cmp x (items_of t.slots)) e ∙ not_found t.slots key absent ∙ sym (cond-true (eqb q key) _ _ (eq-eqb q key e))

@@ -8,8 +8,8 @@ use Rattle.sparse_map.specs.declared.group.Group.{Group}
 use Rattle.sparse_map.specs.declared.map.SparseMap.TheInside.{Inside}
 use Rattle.sparse_map.specs.Slots.{rank, slot_at, key_at}
 use Rattle.sparse_map.specs.Groups.{slots_in, slots_of}
-use Rattle.sparse_map.specs.Packed.{Table, map_of}
-use Rattle.sparse_map.specs.Kept.{IsKept}
+use Rattle.sparse_map.specs.Packed.{PackedTable, map_of}
+use Rattle.sparse_map.specs.Kept.{KeepsTable}
 use Rattle.sparse_map.specs.Places.{sizes_of, places_of, loose_of}
 use Rattle.sparse_map.specs.Seen.{seen_of}
 use Rattle.sparse_map.specs.Lending.{with_value, EndsWithValue}
@@ -36,8 +36,8 @@ module _ {V : Type 0} where
   pub group_of_key : (m : Inside V) (b key : ℕ) → key_at (slots_of m.groups.items) b ≡ Some key → b / 32 < vec_len m.groups
   group_of_key m b key has = omega (arith, key_inside (slots_of m.groups.items) b key has, length-slots_of m.groups.items, m.groups.ok.0)
 
-  module _ (m : Inside V) (t : Table V) (kept : IsKept m.bits m.len m.spare (vec_len m.stock) m.groups.items)
-      (view : ◌≡◌ {A = Table V} (seen_of m.groups.items m.spare (vec_len m.stock) m.grown) t)
+  module _ (m : Inside V) (t : PackedTable V) (kept : KeepsTable m.bits m.len m.spare (vec_len m.stock) m.groups.items)
+      (view : ◌≡◌ {A = PackedTable V} (seen_of m.groups.items m.spare (vec_len m.stock) m.grown) t)
       (b key : ℕ) (u : Group V) (has : key_at (slots_of m.groups.items) b ≡ Some key) (is : u ≡ get_or m.groups.items (b / 32) u) where
     inside : b < 32 * length m.groups.items
     inside = omega (arith, key_inside (slots_of m.groups.items) b key has, length-slots_of m.groups.items)
@@ -59,7 +59,7 @@ module _ {V : Type 0} where
         let lt : b % 32 < 32 = omega arith in
         set_bucket m.groups.items b u u inside is (with_value u (b % 32) w) (Some (key, w)) (slots_in-with_value u (b % 32) key lent_slot.0 w lt lent_slot.1)
 
-    pub lent_kept : (w : V) → IsKept m.bits m.len m.spare (vec_len m.stock) (set m.groups.items (b / 32) (with_value u (b % 32) w))
+    pub lent_kept : (w : V) → KeepsTable m.bits m.len m.spare (vec_len m.stock) (set m.groups.items (b / 32) (with_value u (b % 32) w))
     unfolding ends
     lent_kept w =
         kept_value m t kept view (ends w) b key w (ends_slots w) has

@@ -9,28 +9,28 @@ use Rattle.std.proofs.lemmas.Bool.{cases_eq, eq-eqb, ne_eqb, cond-true, cond-fal
 use Rattle.sparse_map.specs.declared.group.Group.{Group}
 use Rattle.sparse_map.specs.Slots.{items_of}
 use Rattle.sparse_map.specs.Groups.{slots_of, small_groups}
-use Rattle.sparse_map.specs.Packed.{IsPacked, Table, map_of, len_of, IsSound}
-use Rattle.sparse_map.specs.Kept.{IsKept}
+use Rattle.sparse_map.specs.Packed.{IsPacked, PackedTable, map_of, len_of, IsSound}
+use Rattle.sparse_map.specs.Kept.{KeepsTable}
 use Rattle.sparse_map.specs.Moved.{IsDistinct}
 use Rattle.sparse_map.proofs.SlotLemmas.{Once, bucket_of_found, key_of_slot}
 use Rattle.std.proofs.lemmas.Nat.{pow_pos}
 
 module _ {V : Type 0} where
-  pub get-map_of : (t : Table V) (q : ℕ) → map.get (map_of t) q ≡ find nat_cmp q (items_of t.slots)
+  pub get-map_of : (t : PackedTable V) (q : ℕ) → map.get (map_of t) q ≡ find nat_cmp q (items_of t.slots)
   unfolding map_of
   get-map_of t q = get-from_entries nat_cmp_total (items_of t.slots) q
 
-  pub map_of-same : (t u : Table V) → ((q : ℕ) → find nat_cmp q (items_of u.slots) ≡ find nat_cmp q (items_of t.slots)) → map_of u ≡ map_of t
+  pub map_of-same : (t u : PackedTable V) → ((q : ℕ) → find nat_cmp q (items_of u.slots) ≡ find nat_cmp q (items_of t.slots)) → map_of u ≡ map_of t
   map_of-same t u same = same_map nat_cmp_total nat_cmp-IsAntisymmetric (map_of u) (map_of t) (λ q. get-map_of u q ∙ same q ∙ sym (get-map_of t q))
 
-  pub map_of-insert : (t u : Table V) (k : ℕ) (v : V) → ((q : ℕ) → find nat_cmp q (items_of u.slots) ≡ cond (eqb q k) (Some v) (find nat_cmp q (items_of t.slots)))
+  pub map_of-insert : (t u : PackedTable V) (k : ℕ) (v : V) → ((q : ℕ) → find nat_cmp q (items_of u.slots) ≡ cond (eqb q k) (Some v) (find nat_cmp q (items_of t.slots)))
       → map_of u ≡ map.insert (map_of t) k v
   map_of-insert t u k v same =
       same_map nat_cmp_total nat_cmp-IsAntisymmetric (map_of u) (map.insert (map_of t) k v)
       (λ q. get-map_of u q ∙ same q
       ∙ sym (get-insert nat_cmp_total (map_of t) k v q ∙ (λ i. cond (unsigned_tied q k i) (Some v) (get-map_of t q i))))
 
-  pub map_of-remove : (t u : Table V) (k : ℕ) → ((q : ℕ) → find nat_cmp q (items_of u.slots) ≡ cond (eqb q k) None (find nat_cmp q (items_of t.slots)))
+  pub map_of-remove : (t u : PackedTable V) (k : ℕ) → ((q : ℕ) → find nat_cmp q (items_of u.slots) ≡ cond (eqb q k) None (find nat_cmp q (items_of t.slots)))
       → map_of u ≡ map.remove (map_of t) k
   map_of-remove t u k same =
       same_map nat_cmp_total nat_cmp-IsAntisymmetric (map_of u) (map.remove (map_of t) k)
@@ -62,12 +62,12 @@ module _ {V : Type 0} where
       ∙ ap (λ n. n + 1) (len-from_entries es d.1)
       ∙ omega arith
 
-  pub len_of-items : (t : Table V) → Once t.slots → len_of t ≡ length (items_of t.slots)
+  pub len_of-items : (t : PackedTable V) → Once t.slots → len_of t ≡ length (items_of t.slots)
   unfolding map_of
   len_of-items t once = len-from_entries (items_of t.slots) (IsDistinct-items_of t.slots once)
 
   -- ---- what the fields keep gives what holds of every map
-  module _ (bits len spare blanks : ℕ) (groups : List (Group V)) (kept : IsKept bits len spare blanks groups) where
+  module _ (bits len spare blanks : ℕ) (groups : List (Group V)) (kept : KeepsTable bits len spare blanks groups) where
     pub kept_buckets : 0 < bits → length (slots_of groups) ≡ 2 ^ bits
     kept_buckets some = kept.buckets ∙ cond-false (eqb bits 0) _ _ (ne_eqb bits 0 (λ e. omega arith))
 
@@ -77,11 +77,11 @@ module _ {V : Type 0} where
     pub kept_some : 0 < length (slots_of groups) → 0 < bits
     kept_some some = elim (cases_eq bits 0) [ inl e ↦ absurd (let none = kept_none e in omega arith) | inr ne ↦ omega arith ]
 
-    pub kept_len : (u : Table V) → u.slots ≡ slots_of groups → len_of u ≡ len
+    pub kept_len : (u : PackedTable V) → u.slots ≡ slots_of groups → len_of u ≡ len
     kept_len u same =
         len_of-items u (subst (λ s. Once s) (sym same) kept.packed.once) ∙ ap (λ s. length (items_of s)) same ∙ sym kept.counted
 
-    pub kept_sound : (u : Table V) → u.slots ≡ slots_of groups → u.spare ≡ spare → IsSound u
+    pub kept_sound : (u : PackedTable V) → u.slots ≡ slots_of groups → u.spare ≡ spare → IsSound u
     kept_sound u same ready =
         let long = ap length same in
         record {
@@ -111,11 +111,11 @@ module _ {V : Type 0} where
   pub buckets-new : (us : List (Group V)) → us ≡ [] → length (slots_of us) ≡ 0
   buckets-new us e = ap length (no_slots us e)
 
-  pub map_of-new : (u : Table V) (us : List (Group V)) → u.slots ≡ slots_of us → us ≡ [] → map_of u ≡ map.empty
+  pub map_of-new : (u : PackedTable V) (us : List (Group V)) → u.slots ≡ slots_of us → us ≡ [] → map_of u ≡ map.empty
   unfolding map_of items_of
   map_of-new u us same e = ap (λ s. map.from_entries {R = nat_cmp} (items_of s)) (same ∙ no_slots us e)
 
-  pub kept_new : (us : List (Group V)) (blanks : ℕ) → us ≡ [] → IsKept 0 0 0 blanks us
+  pub kept_new : (us : List (Group V)) (blanks : ℕ) → us ≡ [] → KeepsTable 0 0 0 blanks us
   unfolding items_of
   kept_new us blanks e =
       let none = no_slots us e in

@@ -11,7 +11,7 @@ use Rattle.sparse_map.specs.declared.group.Group.{Group}
 use Rattle.sparse_map.specs.Slots.{slot_at, key_at, items_of}
 use Rattle.sparse_map.specs.Groups.{slots_in, slots_of}
 use Rattle.sparse_map.specs.Packed.{IsPacked}
-use Rattle.sparse_map.specs.Kept.{IsKept}
+use Rattle.sparse_map.specs.Kept.{KeepsTable}
 use Rattle.sparse_map.specs.Moved.{IsDistinct, after_items}
 use Rattle.sparse_map.proofs.SlotLemmas.{find_here, find_later, items_of-none, items_of-nil, is_some-key_at}
 use Rattle.sparse_map.proofs.TableLemmas.{length-slots_of, small_groups-at_most}
@@ -115,7 +115,7 @@ module _ {V : Type 0} where
       }
 
   pub kept_groups : (bits len spare blanks : ℕ) (us : List (Group V)) → 5 ≤ bits → bits ≤ 31 → length (slots_of us) ≡ 2 ^ bits → IsPacked (slots_of us) → len ≡ length (items_of (slots_of us))
-      → 4 * (len + spare) ≤ 3 * 2 ^ bits → min spare (length us) ≤ blanks → IsKept bits len spare blanks us
+      → 4 * (len + spare) ≤ 3 * 2 ^ bits → min spare (length us) ≤ blanks → KeepsTable bits len spare blanks us
   kept_groups bits len spare blanks us many few size packed counted room stocked =
       record {
         few = few;
@@ -128,8 +128,8 @@ module _ {V : Type 0} where
       }
 
   -- ---- more room
-  pub kept_more_room : (bits len spare blanks : ℕ) (us : List (Group V)) (spare_2 blanks_2 : ℕ) → IsKept bits len spare blanks us → 4 * (len + spare_2) ≤ 3 * length (slots_of us) → min spare_2 (length us) ≤ blanks_2
-      → IsKept bits len spare_2 blanks_2 us
+  pub kept_more_room : (bits len spare blanks : ℕ) (us : List (Group V)) (spare_2 blanks_2 : ℕ) → KeepsTable bits len spare blanks us → 4 * (len + spare_2) ≤ 3 * length (slots_of us) → min spare_2 (length us) ≤ blanks_2
+      → KeepsTable bits len spare_2 blanks_2 us
   kept_more_room bits len spare blanks us spare_2 blanks_2 kept room stocked =
       record {
         few = kept.few;
@@ -142,7 +142,7 @@ module _ {V : Type 0} where
       }
 
   -- other groups with the same buckets
-  pub kept_same_slots : (bits len spare blanks : ℕ) (us ws : List (Group V)) (blanks_2 : ℕ) → IsKept bits len spare blanks us → slots_of ws ≡ slots_of us → min spare (length us) ≤ blanks_2 → IsKept bits len spare blanks_2 ws
+  pub kept_same_slots : (bits len spare blanks : ℕ) (us ws : List (Group V)) (blanks_2 : ℕ) → KeepsTable bits len spare blanks us → slots_of ws ≡ slots_of us → min spare (length us) ≤ blanks_2 → KeepsTable bits len spare blanks_2 ws
   kept_same_slots bits len spare blanks us ws blanks_2 kept same stocked =
       let long : length ws ≡ length us = omega (arith, length-slots_of ws, length-slots_of us, ap length same) in
       record {

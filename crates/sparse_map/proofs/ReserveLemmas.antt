@@ -11,7 +11,7 @@ use Rattle.sparse_map.specs.declared.group.Group.{Group}
 use Rattle.sparse_map.specs.Home.{IsDoubledFor}
 use Rattle.sparse_map.specs.Slots.{items_of}
 use Rattle.sparse_map.specs.Groups.{slots_of}
-use Rattle.sparse_map.specs.Packed.{IsPacked, Table, map_of, len_of, buckets_of, IsSound}
+use Rattle.sparse_map.specs.Packed.{IsPacked, PackedTable, map_of, len_of, buckets_of, IsSound}
 use Rattle.sparse_map.specs.Moved.{IsDistinct, items_in}
 use Rattle.sparse_map.proofs.ItemLemmas.{items_of-slots_of}
 use Rattle.sparse_map.proofs.MapLemmas.{map_of-same, IsDistinct-items_of}
@@ -78,10 +78,10 @@ doubled_grows need narrow wide d =
     omega (arith, d.is)
 
 module _ {V : Type 0} where
-  pub map_of-slots : (t u : Table V) → u.slots ≡ t.slots → map_of u ≡ map_of t
+  pub map_of-slots : (t u : PackedTable V) → u.slots ≡ t.slots → map_of u ≡ map_of t
   map_of-slots t u same = map_of-same t u (λ q. ap (λ s. find nat_cmp q (items_of s)) same)
 
-  pub sound_same : (t u : Table V) → IsSound t → u.slots ≡ t.slots → u.spare ≡ t.spare → IsSound u
+  pub sound_same : (t u : PackedTable V) → IsSound t → u.slots ≡ t.slots → u.spare ≡ t.spare → IsSound u
   sound_same t u sound same ready =
       let long : buckets_of u ≡ buckets_of t = ap length same in
       let len : len_of u ≡ len_of t = ap map.len (map_of-slots t u same) in
@@ -91,7 +91,7 @@ module _ {V : Type 0} where
         buckets = subst (λ m. 0 < m → (b : ℕ) × (5 ≤ b) × (m ≡ 2 ^ b)) (sym long) sound.buckets;
       }
 
-  pub sound_stocked : {T E : Type 0} (r : Result T E) (t u : Table V) (n : ℕ) → IsSound t → 4 * (len_of t + n) ≤ 3 * buckets_of t → u.slots ≡ t.slots
+  pub sound_stocked : {T E : Type 0} (r : Result T E) (t u : PackedTable V) (n : ℕ) → IsSound t → 4 * (len_of t + n) ≤ 3 * buckets_of t → u.slots ≡ t.slots
       → OnOk r (u.spare ≡ max t.spare n) → OnErr r (u.spare ≡ t.spare) → IsSound u
   sound_stocked (Err e) t u n sound room same ok err = sound_same t u sound same err
   sound_stocked (Ok x) t u n sound room same ok err =
@@ -103,37 +103,37 @@ module _ {V : Type 0} where
         buckets = subst (λ m. 0 < m → (b : ℕ) × (5 ≤ b) × (m ≡ 2 ^ b)) (sym long) sound.buckets;
       }
 
-  pub sound_either : {T E : Type 0} (r : Result T E) (t u : Table V) → IsSound t → OnOk r (IsSound u) → OnErr r (u ≡ t) → IsSound u
+  pub sound_either : {T E : Type 0} (r : Result T E) (t u : PackedTable V) → IsSound t → OnOk r (IsSound u) → OnErr r (u ≡ t) → IsSound u
   sound_either (Err e) t u sound ok err = subst (λ x. IsSound x) (sym err) sound
   sound_either (Ok x) t u sound ok err = ok
 
   -- ---- where the buckets doubled, or nothing changed
-  module _ {T E : Type 0} (r : Result T E) (t u : Table V) (err : OnErr r (u ≡ t)) where
+  module _ {T E : Type 0} (r : Result T E) (t u : PackedTable V) (err : OnErr r (u ≡ t)) where
     pub loose_either : OnOk r (u.loose ≡ 0) → u.loose ≤ t.loose
     loose_either ok = by_case r err ok where
       by_case : (r : Result T E) → OnErr r (u ≡ t) → OnOk r (u.loose ≡ 0) → u.loose ≤ t.loose
       by_case (Ok x) same none = omega (arith, none)
-      by_case (Err e) same none = let kept = ap (λ (x : Table V). x.loose) same in omega (arith, kept)
+      by_case (Err e) same none = let kept = ap (λ (x : PackedTable V). x.loose) same in omega (arith, kept)
 
     pub stays_either : (n : ℕ) → buckets_of t ≢ n → OnOk r (buckets_of u ≡ n) → buckets_of u ≡ buckets_of t → u.slots ≡ t.slots
     stays_either n other ok level = by_case r err ok where
       by_case : (r : Result T E) → OnErr r (u ≡ t) → OnOk r (buckets_of u ≡ n) → u.slots ≡ t.slots
       by_case (Ok x) same wide = absurd (other (sym level ∙ wide))
-      by_case (Err e) same wide = ap (λ (x : Table V). x.slots) same
+      by_case (Err e) same wide = ap (λ (x : PackedTable V). x.slots) same
 
     pub as_before : OnErr r ((u.slots ≡ t.slots) × (u.spare ≡ t.spare))
     as_before = by_case r err where
       by_case : (r : Result T E) → OnErr r (u ≡ t) → OnErr r ((u.slots ≡ t.slots) × (u.spare ≡ t.spare))
       by_case (Ok x) same = tt
-      by_case (Err e) same = (ap (λ (x : Table V). x.slots) same, ap (λ (x : Table V). x.spare) same)
+      by_case (Err e) same = (ap (λ (x : PackedTable V). x.slots) same, ap (λ (x : PackedTable V). x.spare) same)
 
     pub no_more : (n : ℕ) → OnErr r ((u.places ≤ t.places) × (u.blanks ≤ max t.blanks n))
     no_more n = by_case r err where
       by_case : (r : Result T E) → OnErr r (u ≡ t) → OnErr r ((u.places ≤ t.places) × (u.blanks ≤ max t.blanks n))
       by_case (Ok x) same = tt
       by_case (Err e) same =
-          let places = ap (λ (x : Table V). x.places) same in
-          let blanks = ap (λ (x : Table V). x.blanks) same in
+          let places = ap (λ (x : PackedTable V). x.places) same in
+          let blanks = ap (λ (x : PackedTable V). x.blanks) same in
           (omega (arith, places), omega (arith, blanks))
 
   -- ---- moving the items of all groups into an empty map

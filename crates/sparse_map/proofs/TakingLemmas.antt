@@ -11,7 +11,7 @@ use Rattle.sparse_map.specs.Slots.{slot_at, key_at, items_of}
 use Rattle.sparse_map.specs.Groups.{slots_of}
 use Rattle.sparse_map.specs.Packed.{IsPacked}
 use Rattle.sparse_map.specs.Probe.{IsFreeFor}
-use Rattle.sparse_map.specs.Plan.{Plan, planned, with_key, with_items, places_for, Fits, lens_of, rooms_of, plan_of}
+use Rattle.sparse_map.specs.Plan.{Plan, planned, with_key, with_items, places_for, RoomsFit, lens_of, rooms_of, plan_of}
 use Rattle.sparse_map.specs.Moved.{after_items, items_in, CanTake, HasTaken}
 use Rattle.sparse_map.proofs.SlotLemmas.{find_here, find_later, slot_of_key, found_of_bucket}
 use Rattle.sparse_map.proofs.TableLemmas.{length-slots_of}
@@ -66,8 +66,8 @@ module _ {V : Type 0} where
           room = omega (arith, h.count, length-append xs ys, t.ready.room);
           distinct = IsDistinct-right xs ys d;
           fresh = group_fresh f g xs ys d h.found t.ready.fresh;
-          fits = subst (λ r. Fits r (with_items n (plan_of new) ys).counts) (sym h.rooms)
-              (subst (λ (p : Plan). Fits (rooms_of now) p.counts) (sym moved) t.ready.fits);
+          fits = subst (λ r. RoomsFit r (with_items n (plan_of new) ys).counts) (sym h.rooms)
+              (subst (λ (p : Plan). RoomsFit (rooms_of now) p.counts) (sym moved) t.ready.fits);
         };
         found = λ q. group_found f g xs ys d h.found q ∙ t.found q;
         count = omega (arith, h.count, length-append xs ys, t.count);
@@ -122,7 +122,7 @@ module _ {V : Type 0} where
           room = omega (arith, nothing, same, few);
           distinct = items_in-IsDistinct us packed;
           fresh = λ q there. ap (find nat_cmp q) none;
-          fits = subst (λ r. Fits r counts) (sym rooms) (fits_places counts);
+          fits = subst (λ r. RoomsFit r counts) (sym rooms) (fits_places counts);
         }
 
     module _ (new : List (Group V)) (taken : HasTaken n ws new (items_in us)) where

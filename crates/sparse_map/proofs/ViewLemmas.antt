@@ -3,8 +3,8 @@ use Rattle.std.proofs.Common.{◌≡◌, ◌+◌, ◌*◌, ◌^◌, ◌<◌, ◌
 use Rattle.std.specs.Vec.{vec_len}
 use Rattle.sparse_map.specs.declared.map.SparseMap.TheInside.{Inside}
 use Rattle.sparse_map.specs.Groups.{slots_of}
-use Rattle.sparse_map.specs.Packed.{Table, len_of, buckets_of, memory_of, IsSound}
-use Rattle.sparse_map.specs.Kept.{IsKept}
+use Rattle.sparse_map.specs.Packed.{PackedTable, len_of, buckets_of, memory_of, IsSound}
+use Rattle.sparse_map.specs.Kept.{KeepsTable}
 use Rattle.sparse_map.specs.Places.{sizes_of, places_of, loose_of}
 use Rattle.sparse_map.specs.Seen.{seen_of}
 use Rattle.sparse_map.proofs.TableLemmas.{length-slots_of}
@@ -12,28 +12,28 @@ use Rattle.sparse_map.proofs.MapLemmas.{kept_len, kept_sound, kept_none, kept_bu
 use Rattle.std.proofs.lemmas.Bool.{cases_eq}
 use Rattle.std.proofs.Math.Nat.{pow-le-pow_right}
 
-module _ {V : Type 0} (m : Inside V) (t : Table V) (kept : IsKept m.bits m.len m.spare (vec_len m.stock) m.groups.items)
-    (is : ◌≡◌ {A = Table V} (seen_of m.groups.items m.spare (vec_len m.stock) m.grown) t) where
+module _ {V : Type 0} (m : Inside V) (t : PackedTable V) (kept : KeepsTable m.bits m.len m.spare (vec_len m.stock) m.groups.items)
+    (is : ◌≡◌ {A = PackedTable V} (seen_of m.groups.items m.spare (vec_len m.stock) m.grown) t) where
   pub seen_sound : IsSound t
-  seen_sound = kept_sound m.bits m.len m.spare (vec_len m.stock) m.groups.items kept t (sym (ap (λ (x : Table V). x.slots) is)) (sym (ap (λ (x : Table V). x.spare) is))
+  seen_sound = kept_sound m.bits m.len m.spare (vec_len m.stock) m.groups.items kept t (sym (ap (λ (x : PackedTable V). x.slots) is)) (sym (ap (λ (x : PackedTable V). x.spare) is))
 
   pub seen_len : m.len ≡ len_of t
-  seen_len = sym (kept_len m.bits m.len m.spare (vec_len m.stock) m.groups.items kept t (sym (ap (λ (x : Table V). x.slots) is)))
+  seen_len = sym (kept_len m.bits m.len m.spare (vec_len m.stock) m.groups.items kept t (sym (ap (λ (x : PackedTable V). x.slots) is)))
 
   pub seen_slots : slots_of m.groups.items ≡ t.slots
-  seen_slots = ap (λ (x : Table V). x.slots) is
+  seen_slots = ap (λ (x : PackedTable V). x.slots) is
 
   pub seen_spare : m.spare ≡ t.spare
-  seen_spare = ap (λ (x : Table V). x.spare) is
+  seen_spare = ap (λ (x : PackedTable V). x.spare) is
 
   pub seen_places : places_of (sizes_of m.groups.items) ≡ t.places
-  seen_places = ap (λ (x : Table V). x.places) is
+  seen_places = ap (λ (x : PackedTable V). x.places) is
 
   pub seen_blanks : vec_len m.stock ≡ t.blanks
-  seen_blanks = ap (λ (x : Table V). x.blanks) is
+  seen_blanks = ap (λ (x : PackedTable V). x.blanks) is
 
   pub seen_loose : loose_of m.grown (sizes_of m.groups.items) ≡ t.loose
-  seen_loose = ap (λ (x : Table V). x.loose) is
+  seen_loose = ap (λ (x : PackedTable V). x.loose) is
 
   pub seen_memory : places_of (sizes_of m.groups.items) + 32 * vec_len m.stock ≡ memory_of t
   seen_memory = ap memory_of is

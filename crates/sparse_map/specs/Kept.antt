@@ -6,7 +6,7 @@ use Rattle.sparse_map.specs.Groups.{slots_of, small_groups}
 use Rattle.sparse_map.specs.Packed.{IsPacked}
 
 -- `bits` is the number of bits of a bucket number, or 0 with no bucket; there are blank lists for the next new keys, or for all short groups
-pub record IsKept {V : Type 0} (bits len spare blanks : ℕ) (groups : List (Group V)) : Type 0 where
+pub record KeepsTable {V : Type 0} (bits len spare blanks : ℕ) (groups : List (Group V)) : Type 0 where
   pub few : bits ≤ 31
   pub many : 0 < bits → 5 ≤ bits
   pub buckets : length (slots_of groups) ≡ (if bits == 0 then 0 else 2 ^ bits)

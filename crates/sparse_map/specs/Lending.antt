@@ -9,7 +9,7 @@ use Rattle.sparse_map.specs.declared.group.Group.{Group}
 use Rattle.sparse_map.specs.contracts.group.Group.{the_row as group_row}
 use Rattle.sparse_map.specs.contracts.map.SparseMap.{the_row as map_row}
 use Rattle.sparse_map.specs.Slots.{rank}
-use Rattle.sparse_map.specs.Packed.{Table, map_of, buckets_of}
+use Rattle.sparse_map.specs.Packed.{PackedTable, map_of, buckets_of}
 
 module _ {V : Type 0} where
   -- the group with the value of the occupied bucket k set to w
@@ -17,10 +17,16 @@ module _ {V : Type 0} where
   with_value u k w =
       let place = rank u.occupied k in
       let item : ℕ × V = ((slice_index_or u.items.items place (0, w)).0, w) in
-      record { occupied = u.occupied; items = with_item u.items place item; fits = u.fits; counted = length-set u.items.items place item ∙ u.counted }
+      record {
+        occupied = u.occupied;
+        items = with_item u.items place item;
+        fits = u.fits;
+        counted = length-set u.items.items place item
+            ∙ u.counted;
+      }
 
   -- the map ends with the value of the key set to w, and with the same buckets, room and memory
-  pub record EndsWithValue (old new : Table V) (key : ℕ) (w : V) : Type 0 where
+  pub record EndsWithValue (old new : PackedTable V) (key : ℕ) (w : V) : Type 0 where
     pub map : map_of new ≡ map.insert (map_of old) key w
     pub buckets : buckets_of new ≡ buckets_of old
     pub spare : new.spare ≡ old.spare
@@ -33,5 +39,5 @@ module _ (V : RattleType) where
   LendsGroupValue u k r = Lends (group_row V) V u r (with_value u.now k)
 
   -- the key has the last value written through r, and at `None` the map stays as it is
-  abbrev pub LendsValue : MutBor (Table V.Denot) → ℕ → Option (MutBor V.Denot) → Fml
+  abbrev pub LendsValue : MutBor (PackedTable V.Denot) → ℕ → Option (MutBor V.Denot) → Fml
   LendsValue m key r = LendsSo (map_row V) V m r (λ n w. OnSome r (EndsWithValue m.now n key w)) (λ n. n ≡ m.now)

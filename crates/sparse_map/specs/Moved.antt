@@ -7,7 +7,7 @@ use Rattle.sparse_map.specs.declared.group.Group.{Group}
 use Rattle.sparse_map.specs.Slots.{items_of}
 use Rattle.sparse_map.specs.Groups.{slots_of}
 use Rattle.sparse_map.specs.Packed.{IsPacked}
-use Rattle.sparse_map.specs.Plan.{plan_of, with_items, rooms_of, Fits}
+use Rattle.sparse_map.specs.Plan.{plan_of, with_items, rooms_of, RoomsFit}
 
 module _ {V : Type 0} where
   -- no key comes twice
@@ -30,7 +30,7 @@ module _ {V : Type 0} where
     pub room : length (items_of (slots_of groups)) + length items < n
     pub distinct : IsDistinct items
     pub fresh : (q : ℕ) → IsSome (find nat_cmp q items) → find nat_cmp q (items_of (slots_of groups)) ≡ None
-    pub fits : Fits (rooms_of groups) (with_items n (plan_of groups) items).counts
+    pub fits : RoomsFit (rooms_of groups) (with_items n (plan_of groups) items).counts
 
   -- they have taken them, each at the first free bucket from its home on, and no list has another number of places
   pub record HasTaken (n : ℕ) (old new : List (Group V)) (items : List (ℕ × V)) : Type 0 where

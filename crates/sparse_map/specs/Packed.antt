@@ -14,7 +14,7 @@ pub record IsPacked {V : Type 0} (slots : List (Option (ℕ × V))) : Type 0 whe
       → IsSome (key_at slots q)
 
 -- the buckets in order, each empty or with a key and its value, and how many new keys there is room for; of the memory the places of the groups' lists, the blank lists of 32 places that are kept ready, and the free places beyond four a list that removals may have left
-pub record Table (V : Type 0) : Type 0 where
+pub record PackedTable (V : Type 0) : Type 0 where
   pub slots : List (Option (ℕ × V))
   pub spare : ℕ
   pub places : ℕ
@@ -22,30 +22,31 @@ pub record Table (V : Type 0) : Type 0 where
   pub loose : ℕ
 
 module _ {V : Type 0} where
-  abbrev pub table_code : Coded V → Coded (Table V)
+  abbrev pub table_code : Coded V → Coded (PackedTable V)
   table_code v =
-      code_by (List (Option (ℕ × V)) × (ℕ × (ℕ × (ℕ × ℕ)))) (coded× (coded_list (coded_option (coded× coded_ℕ v))) (coded× coded_ℕ (coded× coded_ℕ (coded× coded_ℕ coded_ℕ))))
+      code_by (List (Option (ℕ × V)) × (ℕ × (ℕ × (ℕ × ℕ))))
+      (coded× (coded_list (coded_option (coded× coded_ℕ v))) (coded× coded_ℕ (coded× coded_ℕ (coded× coded_ℕ coded_ℕ))))
       (λ t. (t.slots, (t.spare, (t.places, (t.blanks, t.loose)))))
       (λ p. record { slots = p.0; spare = p.1.0; places = p.1.1.0; blanks = p.1.1.1.0; loose = p.1.1.1.1 })
       (λ _. refl)
 
   -- the map from keys to values
-  unfoldable pub map_of : Table V → map.FinMap nat_cmp V
+  unfoldable pub map_of : PackedTable V → map.FinMap nat_cmp V
   map_of t = map.from_entries (items_of t.slots)
 
   -- how many keys the map has
-  abbrev pub len_of : Table V → ℕ
+  abbrev pub len_of : PackedTable V → ℕ
   len_of t = map.len (map_of t)
 
-  abbrev pub buckets_of : Table V → ℕ
+  abbrev pub buckets_of : PackedTable V → ℕ
   buckets_of t = length t.slots
 
   -- the places of all lists, free ones and blank lists included
-  abbrev pub memory_of : Table V → ℕ
+  abbrev pub memory_of : PackedTable V → ℕ
   memory_of t = t.places + 32 * t.blanks
 
   -- what holds of every map: the packed law, at most three quarters of the buckets taken and spoken for, and a power of two of buckets, at least 32, or none
-  pub record IsSound (t : Table V) : Type 0 where
+  pub record IsSound (t : PackedTable V) : Type 0 where
     pub packed : IsPacked t.slots
     pub room : 4 * (len_of t + t.spare) ≤ 3 * buckets_of t
     pub buckets : 0 < buckets_of t → (b : ℕ) × (5 ≤ b) × (buckets_of t ≡ 2 ^ b)

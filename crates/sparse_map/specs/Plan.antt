@@ -16,7 +16,8 @@ planned marks counts = record { marks = marks; counts = counts }
 -- among n buckets the first one from `at` on, going round, that isn't marked; `more` of them at most are looked at
 unfoldable pub first_unmarked : ℕ → ℕ → ℕ → List Bool → ℕ
 first_unmarked n zero at marks = at
-first_unmarked n (suc more) at marks = if slice_index_or marks at false then first_unmarked n more (if at + 1 == n then 0 else at + 1) marks else at
+first_unmarked n (suc more) at marks = if slice_index_or marks at false then first_unmarked n more (if at + 1 == n then 0 else at + 1)
+    marks else at
 
 -- with one key more, at the first bucket from its home on that isn't marked
 unfoldable pub with_key : ℕ → Plan → ℕ → Plan
@@ -37,8 +38,8 @@ abbrev pub places_for : ℕ → ℕ
 places_for count = if count == 0 then 0 else count + 1
 
 -- a list in each group for what is counted there
-abbrev pub Fits : List ℕ → List ℕ → Type 0
-Fits rooms counts = (i : ℕ) → slice_index_or counts i 0 ≤ slice_index_or rooms i 0
+abbrev pub RoomsFit : List ℕ → List ℕ → Type 0
+RoomsFit rooms counts = (i : ℕ) → slice_index_or counts i 0 ≤ slice_index_or rooms i 0
 
 module _ {V : Type 0} where
   -- with the keys of these items, one after another

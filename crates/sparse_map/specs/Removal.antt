@@ -15,11 +15,12 @@ module _ {V : Type 0} where
   shifted_back n (suc more) hole at slots =
       let b = if at + 1 == n then 0 else at + 1 in
       if is_some (slot_at slots b)
-      then (if leads_over n hole b (slot_at slots b) then shifted_back n more b b (slice_set (slice_set slots hole (slot_at slots b)) b None) else shifted_back n more hole b slots)
+      then (if leads_over n hole b (slot_at slots b) then shifted_back n more b b
+      (slice_set (slice_set slots hole (slot_at slots b)) b None) else shifted_back n more hole b slots)
       else slots
 
 -- the item of a key left its bucket, and the items after it shifted back
-pub record IsTaken {V : Type 0} (old new : List (Option (ℕ × V))) (key : ℕ) : Type 0 where
+pub record IsItemTaken {V : Type 0} (old new : List (Option (ℕ × V))) (key : ℕ) : Type 0 where
   pub bucket : ℕ
   pub has : key_at old bucket ≡ Some key
   pub slots : new ≡ shifted_back (length old) (length old - 1) bucket bucket (slice_set old bucket None)

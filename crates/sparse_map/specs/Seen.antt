@@ -4,10 +4,10 @@ use Rattle.sparse_map.specs.declared.group.Group.{Group}
 use Rattle.sparse_map.specs.declared.table.Grown.{Grown}
 use Rattle.sparse_map.specs.Groups.{slots_of}
 use Rattle.sparse_map.specs.Places.{sizes_of, places_of, loose_of}
-use Rattle.sparse_map.specs.Packed.{Table}
+use Rattle.sparse_map.specs.Packed.{PackedTable}
 
 -- the groups, how many new keys there is room for, how many blank lists there are, and which groups may have grown
-abbrev pub seen_of : {V : Type 0} → List (Group V) → ℕ → ℕ → Grown → Table V
+abbrev pub seen_of : {V : Type 0} → List (Group V) → ℕ → ℕ → Grown → PackedTable V
 seen_of groups spare blanks grown =
     record {
       slots = slots_of groups;

@@ -9,7 +9,7 @@ ghost use Rattle.sparse_map.specs.Slots.{slot_at, key_at, items_of, unpacked, gr
 ghost use Rattle.sparse_map.specs.Groups.{slots_of};
 ghost use Rattle.sparse_map.specs.Packed.{map_of, len_of, buckets_of, memory_of, IsSound};
 ghost use Rattle.sparse_map.specs.Probe.{IsPut, IsReplaced};
-ghost use Rattle.sparse_map.specs.Removal.{IsTaken};
+ghost use Rattle.sparse_map.specs.Removal.{IsItemTaken};
 
 use crate::group::{Blank, Group};
 use crate::home::bits_for;
@@ -36,17 +36,17 @@ pub struct SparseMap<V> {
 
 impl<V> Model for SparseMap<V> {
     ghost use Rattle.std.specs.Prelude.{vec_len};
-    ghost use Rattle.sparse_map.specs.Packed.{Table, table_code};
+    ghost use Rattle.sparse_map.specs.Packed.{PackedTable, table_code};
     ghost use Rattle.sparse_map.specs.Seen.{seen_of};
-    ghost use Rattle.sparse_map.specs.Kept.{IsKept};
+    ghost use Rattle.sparse_map.specs.Kept.{KeepsTable};
 
-    ghost Value = { Table V };
+    ghost Value = { PackedTable V };
 
     ghost coded = { table_code V.code };
 
     ghost view = { λ m. seen_of m.groups.items m.spare (vec_len m.stock) m.grown };
 
-    ghost invariant = { λ m. IsKept m.bits m.len m.spare (vec_len m.stock) m.groups.items };
+    ghost invariant = { λ m. KeepsTable m.bits m.len m.spare (vec_len m.stock) m.groups.items };
 }
 
 impl<V: Drop> SparseMap<V> {
@@ -167,7 +167,8 @@ impl<V: Drop> SparseMap<V> {
         ensures map { map_of self.new ≡ map.insert (map_of self.old) key value }
         ensures buckets { buckets_of self.new ≡ buckets_of self.old }
         ensures spare { self.new.spare ≡ (if is_some result then self.old.spare else self.old.spare - 1) }
-        ensures placed { MatchOption result (IsPut self.old.slots self.new.slots key value) (λ _. IsReplaced self.old.slots self.new.slots key value) }
+        ensures placed { MatchOption result (IsPut self.old.slots self.new.slots key value)
+            (λ _. IsReplaced self.old.slots self.new.slots key value) }
         ensures memory { memory_of self.new ≤ memory_of self.old }
         ensures loose { self.new.loose ≤ self.old.loose }
         ensures sound { IsSound self.new }
@@ -201,7 +202,7 @@ impl<V: Drop> SparseMap<V> {
         ensures value { result ≡ map.get (map_of self.old) key }
         ensures map { map_of self.new ≡ map.remove (map_of self.old) key }
         ensures absent { IfNone result (self.new ≡ self.old) }
-        ensures shifts { IfSome result (λ _. IsTaken self.old.slots self.new.slots key) }
+        ensures shifts { IfSome result (λ _. IsItemTaken self.old.slots self.new.slots key) }
         ensures buckets { buckets_of self.new ≡ buckets_of self.old }
         ensures spare { self.new.spare ≡ self.old.spare }
         ensures memory { memory_of self.new ≡ memory_of self.old }
@@ -229,11 +230,13 @@ impl<V: Drop> SparseMap<V> {
         ensures spare { OnOk result (self.new.spare ≡ max self.old.spare n) }
         ensures stays { buckets_of self.new ≡ buckets_of self.old → self.new.slots ≡ self.old.slots }
         ensures memory { OnOk result (self.new.places ≤ len_of self.new + buckets_of self.new / 8 + self.new.loose) }
-        ensures exact { OnOk result (buckets_of self.new ≢ buckets_of self.old → self.new.places ≤ len_of self.new + buckets_of self.new / 32) }
+        ensures exact { OnOk result (buckets_of self.new ≢ buckets_of self.old
+            → self.new.places ≤ len_of self.new + buckets_of self.new / 32) }
         ensures blanks { OnOk result (self.new.blanks ≤ self.new.spare) }
         ensures loose { self.new.loose ≤ self.old.loose }
         ensures err { OnErr result ((self.new.slots ≡ self.old.slots) × (self.new.spare ≡ self.old.spare)) }
-        ensures refused { OnErr result ((self.new.places ≤ self.old.places) × (self.new.blanks ≤ max self.old.blanks (max self.old.spare n))) }
+        ensures refused { OnErr result ((self.new.places ≤ self.old.places)
+            × (self.new.blanks ≤ max self.old.blanks (max self.old.spare n))) }
         ensures sound { IsSound self.new }
     {
         let n = u64::from(n);
@@ -255,7 +258,8 @@ impl<V: Drop> SparseMap<V> {
         ensures blanks { OnOk result (self.new.blanks ≤ self.new.spare) }
         ensures loose { self.new.loose ≤ self.old.loose }
         ensures err { OnErr result (self.new.spare ≡ self.old.spare) }
-        ensures refused { OnErr result ((self.new.places ≤ self.old.places) × (self.new.blanks ≤ max self.old.blanks (max self.old.spare n))) }
+        ensures refused { OnErr result ((self.new.places ≤ self.old.places)
+            × (self.new.blanks ≤ max self.old.blanks (max self.old.spare n))) }
     {
         self.take_back(n);
         self.restock(n)
@@ -292,7 +296,8 @@ impl<V: Drop> SparseMap<V> {
         ensures blanks { OnOk result (self.new.blanks ≤ self.new.spare) }
         ensures loose { self.new.loose ≤ self.old.loose }
         ensures err { OnErr result (self.new.spare ≡ self.old.spare) }
-        ensures refused { OnErr result ((self.new.places ≤ self.old.places) × (self.new.blanks ≤ max self.old.blanks (max self.old.spare n))) }
+        ensures refused { OnErr result ((self.new.places ≤ self.old.places)
+            × (self.new.blanks ≤ max self.old.blanks (max self.old.spare n))) }
     {
         let spare = self.spare.max(n);
         let wanted = spare.min(self.groups());

@@ -44,7 +44,8 @@ pub fn groups_ahead<V: Drop>(
     requires small { length (items_in groups.now) < 2 ^ 32 }
     ensures count { IfOk result (λ us. 32 * vec_len us ≡ 2 ^ bits) }
     ensures free { IfOk result (λ us. (b : ℕ) → slot_at (slots_of us.items) b ≡ None) }
-    ensures rooms { IfOk result (λ us. rooms_of us.items ≡ map places_for (with_items (2 ^ bits) (plan_of us.items) (items_in groups.now)).counts) }
+    ensures rooms { IfOk result (λ us. rooms_of us.items ≡ map places_for
+        (with_items (2 ^ bits) (plan_of us.items) (items_in groups.now)).counts) }
 {
     let counts = count_ahead(alloc, groups, bits)?;
     let groups = groups_for(alloc, counts.as_slice())?;
@@ -58,7 +59,8 @@ fn put_ready<V: Drop>(groups: &mut [Group<V>], bucket: u64, rank: u32, item: (u6
     requires rank { IsRankOf groups.old bucket rank }
     requires room { slice_index_or (lens_of groups.old) (bucket / 32) 0 < slice_index_or (rooms_of groups.old) (bucket / 32) 0 }
     ensures slots { slots_of groups.new ≡ slice_set (slots_of groups.old) bucket (Some item) }
-    ensures lens { lens_of groups.new ≡ slice_set (lens_of groups.old) (bucket / 32) (slice_index_or (lens_of groups.old) (bucket / 32) 0 + 1) }
+    ensures lens { lens_of groups.new ≡ slice_set (lens_of groups.old) (bucket / 32)
+        (slice_index_or (lens_of groups.old) (bucket / 32) 0 + 1) }
     ensures rooms { rooms_of groups.new ≡ rooms_of groups.old }
 {
     groups[(bucket / 32) as usize].insert((bucket % 32) as u32, rank, item);

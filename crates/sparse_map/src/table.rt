@@ -117,8 +117,10 @@ fn make_room<V: Drop>(alloc: Global, group: &mut Group<V>, stock: &mut Vec<Blank
     ensures occupied { group.new.occupied ≡ group.old.occupied }
     ensures room { vec_len group.new.items < vec_capacity group.new.items }
     ensures len { vec_len group.new.items ≡ vec_len group.old.items }
-    ensures widened { ((result ≡ false) × (vec_capacity group.new.items ≡ vec_capacity group.old.items) × (vec_len stock.new ≡ vec_len stock.old))
-        ⊎ ((result ≡ true) × (vec_capacity group.old.items < 32) × (vec_capacity group.new.items ≡ 32) × (vec_len stock.old ≡ vec_len stock.new + 1)) }
+    ensures widened { ((result ≡ false) × (vec_capacity group.new.items ≡ vec_capacity group.old.items)
+        × (vec_len stock.new ≡ vec_len stock.old))
+        ⊎ ((result ≡ true) × (vec_capacity group.old.items < 32) × (vec_capacity group.new.items ≡ 32)
+        × (vec_len stock.old ≡ vec_len stock.new + 1)) }
 {
     if !group.is_full() {
         return false;
@@ -148,7 +150,8 @@ pub fn put<V: Drop>(
     ensures one_widened { vec_len stock.old + small_groups groups.new ≤ vec_len stock.new + small_groups groups.old }
     ensures taken { IsTrue result → vec_len stock.old ≡ vec_len stock.new + 1 }
     ensures places { places_of (sizes_of groups.new) + 32 * vec_len stock.new ≤ places_of (sizes_of groups.old) + 32 * vec_len stock.old }
-    ensures loose { (before after : Grown) → (IsTrue result → MayHaveGrown after (bucket / 32)) → ((i : ℕ) → MayHaveGrown before i → MayHaveGrown after i)
+    ensures loose { (before after : Grown) → (IsTrue result → MayHaveGrown after (bucket / 32))
+        → ((i : ℕ) → MayHaveGrown before i → MayHaveGrown after i)
         → loose_of after (sizes_of groups.new) ≤ loose_of before (sizes_of groups.old) }
 {
     let group = &mut groups[(bucket / 32) as usize];
@@ -281,7 +284,8 @@ pub fn find<V: Drop>(groups: &[Group<V>], bits: u32, key: u64) -> Option<Seat>
     requires buckets { length (slots_of groups.now) ≡ (if bits == 0 then 0 else 2 ^ bits) }
     requires packed { IsPacked (slots_of groups.now) }
     requires room { 0 < bits → length (items_of (slots_of groups.now)) < 2 ^ bits }
-    ensures found { MatchOption result ((b : ℕ) → key_at (slots_of groups.now) b ≢ Some key) (λ seat. key_at (slots_of groups.now) seat.bucket ≡ Some key) }
+    ensures found { MatchOption result ((b : ℕ) → key_at (slots_of groups.now) b ≢ Some key)
+        (λ seat. key_at (slots_of groups.now) seat.bucket ≡ Some key) }
     ensures rank { IfSome result (λ seat. IsRankOf groups.now seat.bucket seat.rank) }
 {
     if bits == 0 {
@@ -311,7 +315,8 @@ fn shift_back<V: Drop>(groups: &mut [Group<V>], bits: u32, bucket: u64, rank: u3
     requires rank { IsRankOf groups.old bucket rank }
     ensures shifted { IsShifted (slots_of groups.old) (slots_of groups.new) bucket result.0 }
     ensures rank { IsRankOf groups.new result.0 result.1 }
-    ensures walk { slice_set (slots_of groups.new) result.0 None ≡ shifted_back (2 ^ bits) (2 ^ bits - 1) bucket bucket (slice_set (slots_of groups.old) bucket None) }
+    ensures walk { slice_set (slots_of groups.new) result.0 None ≡ shifted_back (2 ^ bits) (2 ^ bits - 1) bucket bucket
+        (slice_set (slots_of groups.old) bucket None) }
     ensures sizes { sizes_of groups.new ≡ sizes_of groups.old }
     ensures small { small_groups groups.new ≡ small_groups groups.old }
 {
@@ -348,10 +353,12 @@ pub fn remove_at<V: Drop>(groups: &mut [Group<V>], bits: u32, bucket: u64, rank:
     requires occupied { IsSome (slot_at (slots_of groups.old) bucket) }
     requires rank { IsRankOf groups.old bucket rank }
     ensures item { slot_at (slots_of groups.old) bucket ≡ Some result }
-    ensures found { (key : ℕ) → find nat_cmp key (items_of (slots_of groups.new)) ≡ (if key == result.0 then None else find nat_cmp key (items_of (slots_of groups.old))) }
+    ensures found { (key : ℕ) → find nat_cmp key (items_of (slots_of groups.new)) ≡ (if key == result.0 then None else find nat_cmp key
+        (items_of (slots_of groups.old))) }
     ensures count { length (items_of (slots_of groups.new)) + 1 ≡ length (items_of (slots_of groups.old)) }
     ensures packed { IsPacked (slots_of groups.new) }
-    ensures walk { slots_of groups.new ≡ shifted_back (2 ^ bits) (2 ^ bits - 1) bucket bucket (slice_set (slots_of groups.old) bucket None) }
+    ensures walk { slots_of groups.new ≡ shifted_back (2 ^ bits) (2 ^ bits - 1) bucket bucket
+        (slice_set (slots_of groups.old) bucket None) }
     ensures small { small_groups groups.new ≡ small_groups groups.old }
     ensures places { places_of (sizes_of groups.new) ≡ places_of (sizes_of groups.old) }
     ensures loose { (grown : Grown) → loose_of grown (sizes_of groups.new) ≤ loose_of grown (sizes_of groups.old) + 1 }

@@ -29,23 +29,23 @@ use Rattle.ssc.specs.declared.cache.Ssc.{Ssc}
 use Rattle.ssc.specs.declared.error.SscError.{SscError}
 use Rattle.ssc.specs.Errors.{of_media, ssc_failed, ssc_lost}
 use Rattle.ssc.specs.CacheState.{Holds, entries_of}
-use Rattle.ssc.specs.Commands.{StandsForOne, AsUndone, AsBefore, AsAfter}
-use Rattle.ssc.specs.Steps.{StandsForEither}
+use Rattle.ssc.specs.Commands.{FlashStandsForOne, AsUndone, AsBefore, AsAfter}
+use Rattle.ssc.specs.Steps.{FlashStandsForEither}
 use Rattle.ssc.proofs.HoldsLemmas.{held_none, held_some}
 
 -- ---- images
 
 -- what holds of the pages now holds of each image
-image_of : (g : Geometry) (contents : Contents) (undone before after : CacheList) → StandsForOne g contents.flash.page undone before after → (x : Image) → Now contents x → StandsForOne g x.page undone before after
-image_of g contents undone before after stands x now = subst (λ (p : Place → Page). StandsForOne g p undone before after) (sym now.pages) stands
+image_of : (g : Geometry) (contents : Contents) (undone before after : CacheList) → FlashStandsForOne g contents.flash.page undone before after → (x : Image) → Now contents x → FlashStandsForOne g x.page undone before after
+image_of g contents undone before after stands x now = subst (λ (p : Place → Page). FlashStandsForOne g p undone before after) (sym now.pages) stands
 
 -- of a step that is committed with all that was buffered
-pub images_after : (g : Geometry) (contents : Contents) (undone before after : CacheList) → StandsForEither g contents.flash.page undone after → (x : Image) → Now contents x → StandsForOne g x.page undone before after
+pub images_after : (g : Geometry) (contents : Contents) (undone before after : CacheList) → FlashStandsForEither g contents.flash.page undone after → (x : Image) → Now contents x → FlashStandsForOne g x.page undone before after
 images_after g contents undone before after (inl s) = image_of g contents undone before after (AsUndone s)
 images_after g contents undone before after (inr s) = image_of g contents undone before after (AsAfter s)
 
 -- and of a commit
-pub images_before : (g : Geometry) (contents : Contents) (undone before after : CacheList) → StandsForEither g contents.flash.page undone before → (x : Image) → Now contents x → StandsForOne g x.page undone before after
+pub images_before : (g : Geometry) (contents : Contents) (undone before after : CacheList) → FlashStandsForEither g contents.flash.page undone before → (x : Image) → Now contents x → FlashStandsForOne g x.page undone before after
 images_before g contents undone before after (inl s) = image_of g contents undone before after (AsUndone s)
 images_before g contents undone before after (inr s) = image_of g contents undone before after (AsBefore s)
 

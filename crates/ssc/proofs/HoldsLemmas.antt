@@ -112,7 +112,8 @@ pub record IsSettled (c : Ssc) (contents : Contents) : Type 0 where
 pub memory_logged : (old new : Parts) → new ≡ record old { log = new.log } → HasMemory old → HasMemory new
 memory_logged old new is memory = subst HasMemory (sym is) (record { pages = memory.pages; groups = memory.groups })
 
-holds_from : (c : Ssc) (contents : Contents) (s durable : CacheList) (buffered : List Record) → IsSettled c contents → c.parts.log.buffered ≡ buffered → undo (waiting buffered) s ≡ durable → Lists c.parts contents.flash.page s durable → list_all may_wait buffered ≡ true → MayWait (waiting buffered) s → Holds c contents s
+holds_from : (c : Ssc) (contents : Contents) (s durable : CacheList) (buffered : List Record) → IsSettled c contents → c.parts.log.buffered ≡ buffered → undo (waiting buffered) s ≡ durable
+    → Lists c.parts contents.flash.page s durable → list_all may_wait buffered ≡ true → MayWait (waiting buffered) s → Holds c contents s
 holds_from c contents s durable buffered settled is undone lists kinds waits = record {
   agree = settled.agree;
   lists = subst (λ (d : CacheList). Lists c.parts contents.flash.page s d) (sym undone ∙ ap (λ (l : List Record). undo (waiting l) s) (sym is)) lists;
@@ -132,7 +133,8 @@ module _ (s s' : CacheList) (own : Record)
     (clean : IsCleanIn s' (waiting_as own))
     (undone : (q : List Buffered) → ((o : Option Held) → undone_at q (address_of (waiting_as own)) o ≡ o) → undo (q ++ waiting_as own ∷ []) s' ≡ undo q s) where
   -- behind all that was buffered
-  holds_behind : (old new : Ssc) (contents contents' : Contents) → Holds old contents s → IsSettled new contents' → length new.parts.log.buffered < 127 → new.parts.log.buffered ≡ old.parts.log.buffered ++ own ∷ [] → Lists new.parts contents'.flash.page s' (undo (pending old) s) → Holds new contents' s'
+  holds_behind : (old new : Ssc) (contents contents' : Contents) → Holds old contents s → IsSettled new contents' → length new.parts.log.buffered < 127
+      → new.parts.log.buffered ≡ old.parts.log.buffered ++ own ∷ [] → Lists new.parts contents'.flash.page s' (undo (pending old) s) → Holds new contents' s'
   holds_behind old new contents contents' holds settled few is lists =
       let q = pending old in
       let pushed = waiting_push old.parts.log.buffered own in
@@ -170,7 +172,9 @@ module _ (s : CacheList) (lba : ℕ) (at : Place) (block : Block) (absent : get 
   here_inserted : get (written_clean lba block s) lba ≡ Some (held block false)
   here_inserted = get_insert s lba (held block false) lba ∙ ap (λ x. cond x (Some (held block false)) (get s lba)) (same_number lba)
 
-  pub inserted_behind : (old new : Ssc) (contents contents' : Contents) → Holds old contents s → IsSettled new contents' → length new.parts.log.buffered < 127 → new.parts.log.buffered ≡ old.parts.log.buffered ++ SetPage lba at false ∷ [] → Lists new.parts contents'.flash.page (written_clean lba block s) (undo (pending old) s) → Holds new contents' (written_clean lba block s)
+  pub inserted_behind : (old new : Ssc) (contents contents' : Contents) → Holds old contents s → IsSettled new contents' → length new.parts.log.buffered < 127
+      → new.parts.log.buffered ≡ old.parts.log.buffered ++ SetPage lba at false ∷ [] → Lists new.parts contents'.flash.page (written_clean lba block s) (undo (pending old) s)
+      → Holds new contents' (written_clean lba block s)
   inserted_behind = holds_behind s (written_clean lba block s) (SetPage lba at false) refl none_clean other_inserted (block, here_inserted) (λ q away. undo_inserted q s lba block absent)
 
   pub inserted_alone : (new : Ssc) (contents' : Contents) → IsSettled new contents' → new.parts.log.buffered ≡ SetPage lba at false ∷ [] → Lists new.parts contents'.flash.page (written_clean lba block s) s → Holds new contents' (written_clean lba block s)
@@ -191,7 +195,8 @@ module _ (s : CacheList) (lba : ℕ) (block : Block) (dirty : get s lba ≡ Some
   here_cleaned : get (made_clean lba s) lba ≡ Some (held block false)
   here_cleaned = get_marked false lba s (get s lba) lba refl ∙ ap (λ x. cond x (option_map (marked_as false) (get s lba)) (get s lba)) (same_number lba) ∙ ap (option_map (marked_as false)) dirty
 
-  pub holds_cleaned : (old new : Ssc) (contents contents' : Contents) → Holds old contents s → IsSettled new contents' → length new.parts.log.buffered < 127 → ListsAfter old.parts.log.buffered (Clean lba) new.parts contents'.flash.page (undo (pending old) s) s (made_clean lba s) → Holds new contents' (made_clean lba s)
+  pub holds_cleaned : (old new : Ssc) (contents contents' : Contents) → Holds old contents s → IsSettled new contents' → length new.parts.log.buffered < 127
+      → ListsAfter old.parts.log.buffered (Clean lba) new.parts contents'.flash.page (undo (pending old) s) s (made_clean lba s) → Holds new contents' (made_clean lba s)
   holds_cleaned = holds_after s (made_clean lba s) (Clean lba) refl dirty_not_clean other_cleaned (block, here_cleaned) (λ q away. undo_cleaned q s lba block dirty away)
 
 -- ---- a cache whose map alone has more buckets

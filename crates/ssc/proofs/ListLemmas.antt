@@ -10,7 +10,7 @@ use Rattle.cache_model.specs.declared.entry.Entry.{Entry}
 use Rattle.cache_model.specs.Records.{Entries}
 use Rattle.cache_model.specs.Loading.{load, is_whole}
 use Rattle.cache_model.specs.Cache.{CacheList, Held}
-use Rattle.cache_model.specs.Stands.{StandsFor, held_at}
+use Rattle.cache_model.specs.Stands.{FlashStandsFor, held_at}
 use Rattle.cache_model.proofs.MapLemmas.{all_entries, eq_key, get_insert}
 use Rattle.cache_model.proofs.StandLemmas.{entry_whole}
 use Rattle.merge_engine.specs.Agreement.{IsListOn}
@@ -44,5 +44,5 @@ module _ (page : Place → Page) where
   list_some m whole = (list_of (entries m), λ a. get-list_of (entries m) (all_entries m (λ a e. is_whole (page e.place) ≡ true) whole) a ∙ ap (option_and_then (held_at page)) (sym (get-entries m a)))
 
   -- flash that is loaded stands for a list
-  pub stands_some : (g : Geometry) (m : Entries) → load g page ≡ Ok m → (s : CacheList) × StandsFor g page s
+  pub stands_some : (g : Geometry) (m : Entries) → load g page ≡ Ok m → (s : CacheList) × FlashStandsFor g page s
   stands_some g m loads = let list = list_some m (entry_whole g page m loads) in (list.0, record { loaded = m; loads = loads; held = list.1 })

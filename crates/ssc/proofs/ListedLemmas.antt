@@ -1,5 +1,6 @@
 -- The dirty addresses of a range, told from the entries.
-use Rattle.std.proofs.Common.{◌≡◌, ℕ, zero, suc, ◌+◌, ◌*◌, ◌-◌, ◌<◌, ◌≤◌, ◌&&◌, nat_le, nat_lt, ◌==◌, Bool, true, false, cond, T, List, [], ◌∷◌, ◌++◌, length, get_or, take, drop, map, filter, count_by, Option, Some, None, refl, sym, ◌∙◌, ap, subst, arith, nat_cmp, inl, inr, lt-ltb, eqb-true, ne_eqb, eq-eqb, append_assoc, length-append}
+use Rattle.std.proofs.Common.{◌≡◌, ℕ, zero, suc, ◌+◌, ◌*◌, ◌-◌, ◌<◌, ◌≤◌, ◌&&◌, nat_le, nat_lt, ◌==◌, Bool, true, false, cond, T, List, [], ◌∷◌, ◌++◌, length}
+use Rattle.std.proofs.Common.{get_or, take, drop, map, filter, count_by, Option, Some, None, refl, sym, ◌∙◌, ap, subst, arith, nat_cmp, inl, inr, lt-ltb, eqb-true, ne_eqb, eq-eqb, append_assoc, length-append}
 use Rattle.std.specs.Option.{option_map, unwrap_or}
 use Rattle.std.specs.List.{AllByRecursion}
 use Rattle.std.specs.List.Sorted.{IsPermutation, IsNonDecreasingBy}
@@ -357,7 +358,9 @@ pub by_marks : {X : Type 0} (dirty : X → Bool) (from end : ℕ) (es : List (�
 by_marks dirty from end [] = refl
 by_marks dirty from end (e ∷ es) = by (dirty e.1 && nat_le from e.0 && nat_lt e.0 end) (by_marks dirty from end es)
   where
-    by : (b : Bool) → map (λ x. x.0) (filter (λ x. dirty x.1 && nat_le from x.0 && nat_lt x.0 end) es) ≡ marked_between from end (marks dirty es) → map (λ x. x.0) (cond b (e ∷ filter (λ x. dirty x.1 && nat_le from x.0 && nat_lt x.0 end) es) (filter (λ x. dirty x.1 && nat_le from x.0 && nat_lt x.0 end) es)) ≡ map (λ x. x.0) (cond b ((e.0, dirty e.1) ∷ filter (λ x. x.1 && nat_le from x.0 && nat_lt x.0 end) (marks dirty es)) (filter (λ x. x.1 && nat_le from x.0 && nat_lt x.0 end) (marks dirty es)))
+    by : (b : Bool) → map (λ x. x.0) (filter (λ x. dirty x.1 && nat_le from x.0 && nat_lt x.0 end) es) ≡ marked_between from end (marks dirty es)
+        → map (λ x. x.0) (cond b (e ∷ filter (λ x. dirty x.1 && nat_le from x.0 && nat_lt x.0 end) es) (filter (λ x. dirty x.1 && nat_le from x.0 && nat_lt x.0 end) es)) ≡ map (λ x. x.0)
+        (cond b ((e.0, dirty e.1) ∷ filter (λ x. x.1 && nat_le from x.0 && nat_lt x.0 end) (marks dirty es)) (filter (λ x. x.1 && nat_le from x.0 && nat_lt x.0 end) (marks dirty es)))
     by true rest = ap (λ l. e.0 ∷ l) rest
     by false rest = rest
 

@@ -16,7 +16,7 @@ use Rattle.ft_media.specs.Drives.{DrivesFlash}
 use Rattle.cache_model.specs.Records.{Entries, no_entries}
 use Rattle.cache_model.specs.Loading.{Complete, checkpoint_in, checkpoint_region, chosen, load}
 use Rattle.cache_model.specs.Cache.{CacheList}
-use Rattle.cache_model.specs.Stands.{StandsFor, held_at}
+use Rattle.cache_model.specs.Stands.{FlashStandsFor, held_at}
 use Rattle.cache_model.proofs.RegionLemmas.{checkpoint_era}
 use Rattle.cache_model.proofs.LoadLemmas.{newest_below, newest_is}
 use Rattle.cache_model.proofs.StandLemmas.{entry_whole}
@@ -28,7 +28,7 @@ use Rattle.recovery.specs.Loaded.{IsLoaded}
 use Rattle.merge_engine.specs.declared.parts.Parts.{Parts}
 use Rattle.merge_engine.specs.Agreement.{IsListOn, IsSound, Lists}
 use Rattle.merge_engine.proofs.BesideLemmas.{loaded_durable}
-use Rattle.ssc.specs.Steps.{IsLoadedAs, StandsForEither}
+use Rattle.ssc.specs.Steps.{IsLoadedAs, FlashStandsForEither}
 
 -- ---- calls that read, as calls that drive
 
@@ -95,17 +95,17 @@ module _ (g : Geometry) (old mid : Contents) (loaded : Loaded) (parts : Parts) (
     open_block = λ some. absurd (omega (arith, some, as_is.closed));
   })
 
-  pub lists_loaded : (s : CacheList) → StandsFor g old.flash.page s → Lists parts mid.flash.page s s
+  pub lists_loaded : (s : CacheList) → FlashStandsFor g old.flash.page s → Lists parts mid.flash.page s s
   lists_loaded s stands = subst (λ (k : Contents). Lists parts k.flash.page s s) (sym read) (record {
     held = subst (λ (n : Entries). IsListOn old.flash.page n s) (loaded_durable g old.flash.page s stands loaded.map.entries is.loads ∙ sym entries_is) stands.held;
-    stands = subst (λ (h : Geometry). StandsFor h old.flash.page s) (sym as_is.geometry) stands;
+    stands = subst (λ (h : Geometry). FlashStandsFor h old.flash.page s) (sym as_is.geometry) stands;
   })
 
   -- whatever the checkpoint answers, the flash stands for what it stood for
-  pub images_loaded : (new : Contents) → ((list durable : CacheList) → Lists parts mid.flash.page list durable → StandsForEither parts.geometry new.flash.page durable list) → (s : CacheList) → StandsFor g old.flash.page s → (x : Image) → Now new x → StandsFor g x.page s
-  images_loaded new either s stands x now = subst (λ (p : Place → Page). StandsFor g p s) (sym now.pages) (subst (λ (h : Geometry). StandsFor h new.flash.page s) as_is.geometry (by (either s s (lists_loaded s stands))))
+  pub images_loaded : (new : Contents) → ((list durable : CacheList) → Lists parts mid.flash.page list durable → FlashStandsForEither parts.geometry new.flash.page durable list) → (s : CacheList) → FlashStandsFor g old.flash.page s → (x : Image) → Now new x → FlashStandsFor g x.page s
+  images_loaded new either s stands x now = subst (λ (p : Place → Page). FlashStandsFor g p s) (sym now.pages) (subst (λ (h : Geometry). FlashStandsFor h new.flash.page s) as_is.geometry (by (either s s (lists_loaded s stands))))
     where
-      by : StandsForEither parts.geometry new.flash.page s s → StandsFor parts.geometry new.flash.page s
+      by : FlashStandsForEither parts.geometry new.flash.page s s → FlashStandsFor parts.geometry new.flash.page s
       by (inl same) = same
       by (inr same) = same
 
@@ -123,5 +123,5 @@ full_room parts g same next = let pages : log_pages parts.geometry ≡ log_pages
 
 -- ---- an empty map
 
-pub stands_empty : (g : Geometry) (page : Place → Page) → load g page ≡ Ok no_entries → StandsFor g page empty
+pub stands_empty : (g : Geometry) (page : Place → Page) → load g page ≡ Ok no_entries → FlashStandsFor g page empty
 stands_empty g page loads = record { loaded = no_entries; loads = loads; held = λ a. get-empty nat_cmp a ∙ sym (ap (option_and_then (held_at page)) (get-empty nat_cmp a)) }

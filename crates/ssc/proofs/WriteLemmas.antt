@@ -27,8 +27,8 @@ use Rattle.ssc.specs.declared.error.SscError.{SscError}
 use Rattle.ssc.specs.declared.error.SscError.TheVariants as error
 use Rattle.ssc.specs.Errors.{of_media}
 use Rattle.ssc.specs.CacheState.{Holds, entries_of, geometry_of, log_room, open_room, pending, waiting}
-use Rattle.ssc.specs.Commands.{FullExactly, HoldsWritten, ImagesOf, ImagesOfWrite, IsHeldIn, PendsWith, StandsForOne, StandsForWrite, AsUndone, AsLeft, AsWritten}
-use Rattle.ssc.specs.Steps.{IsPushed, LeftOf, ListsAfter, PutsBlock, StandsForStep}
+use Rattle.ssc.specs.Commands.{FullExactly, HoldsWritten, ImagesOf, ImagesOfWrite, IsHeldIn, PendsWith, FlashStandsForOne, FlashStandsForWrite, AsUndone, AsLeft, AsWritten}
+use Rattle.ssc.specs.Steps.{IsPushed, LeftOf, ListsAfter, PutsBlock, FlashStandsForStep}
 use Rattle.ssc.proofs.DirtyLemmas.{with_same}
 use Rattle.ssc.proofs.HoldsLemmas.{IsSettled, holds_committed, inserted_behind, inserted_alone, held_none, held_some, length_waiting, pends_after, waiting_push}
 use Rattle.ssc.proofs.WrittenLemmas.{push_some, stays_absent}
@@ -55,25 +55,25 @@ module _ (c : Ssc) (contents : Contents) (s : CacheList) (lba : ℕ) (holds : Ho
 
 -- ---- images
 
-image_written : (g : Geometry) (page : Place → Page) (undone before : CacheList) (a : ℕ) (step : CacheList → CacheList) → StandsForStep g page undone before step → StandsForWrite g page undone before a step
+image_written : (g : Geometry) (page : Place → Page) (undone before : CacheList) (a : ℕ) (step : CacheList → CacheList) → FlashStandsForStep g page undone before step → FlashStandsForWrite g page undone before a step
 image_written g page undone before a step (inl s) = AsUndone s
 image_written g page undone before a step (inr (v, gives, inl s)) = AsLeft v (gave_vanish g before v a gives) s
 image_written g page undone before a step (inr (v, gives, inr s)) = AsWritten v (gave_vanish g before v a gives) s
 
 -- what holds of the pages now holds of each image
-pub images_written : (old r : Ssc) (contents : Contents) (s : CacheList) (a : ℕ) (step : CacheList → CacheList) → geometry_of r ≡ geometry_of old → pending r ≡ pending old → StandsForStep (geometry_of r) contents.flash.page (undo (pending r) s) s step → ImagesOfWrite old contents s a step
+pub images_written : (old r : Ssc) (contents : Contents) (s : CacheList) (a : ℕ) (step : CacheList → CacheList) → geometry_of r ≡ geometry_of old → pending r ≡ pending old → FlashStandsForStep (geometry_of r) contents.flash.page (undo (pending r) s) s step → ImagesOfWrite old contents s a step
 images_written old r contents s a step same waits stands x now =
-    subst (λ (p : Place → Page). StandsForWrite (geometry_of old) p (undo (pending old) s) s a step) (sym now.pages)
+    subst (λ (p : Place → Page). FlashStandsForWrite (geometry_of old) p (undo (pending old) s) s a step) (sym now.pages)
     (image_written (geometry_of old) contents.flash.page (undo (pending old) s) s a step
-    (subst (λ (g : Geometry). StandsForStep g contents.flash.page (undo (pending old) s) s step) same
-    (subst (λ q. StandsForStep (geometry_of r) contents.flash.page (undo q s) s step) waits stands)))
+    (subst (λ (g : Geometry). FlashStandsForStep g contents.flash.page (undo (pending old) s) s step) same
+    (subst (λ q. FlashStandsForStep (geometry_of r) contents.flash.page (undo q s) s step) waits stands)))
 
 -- where nothing could give way
-pub images_kept : (old r : Ssc) (contents : Contents) (s after : CacheList) → geometry_of r ≡ geometry_of old → pending r ≡ pending old → StandsForOne (geometry_of r) contents.flash.page (undo (pending r) s) s after → ImagesOf old contents s after
+pub images_kept : (old r : Ssc) (contents : Contents) (s after : CacheList) → geometry_of r ≡ geometry_of old → pending r ≡ pending old → FlashStandsForOne (geometry_of r) contents.flash.page (undo (pending r) s) s after → ImagesOf old contents s after
 images_kept old r contents s after same waits stands x now =
-    subst (λ (p : Place → Page). StandsForOne (geometry_of old) p (undo (pending old) s) s after) (sym now.pages)
-    (subst (λ (g : Geometry). StandsForOne g contents.flash.page (undo (pending old) s) s after) same
-    (subst (λ q. StandsForOne (geometry_of r) contents.flash.page (undo q s) s after) waits stands))
+    subst (λ (p : Place → Page). FlashStandsForOne (geometry_of old) p (undo (pending old) s) s after) (sym now.pages)
+    (subst (λ (g : Geometry). FlashStandsForOne g contents.flash.page (undo (pending old) s) s after) same
+    (subst (λ q. FlashStandsForOne (geometry_of r) contents.flash.page (undo q s) s after) waits stands))
 
 -- ---- what the cache holds
 
@@ -128,7 +128,8 @@ module _ (r new : Ssc) (contents contents' : Contents) (s : CacheList) (lba : �
   left_held none (at, inl after) = (s, same_of, holds_committed new contents' (written_clean lba block s) settled none (none_after r.parts.log.buffered (SetPage lba at false) (undo (pending r) s) s (written_clean lba block s) none after))
   left_held none (at, inr (v, left, after)) = (v, left, holds_committed new contents' (written_clean lba block v) settled none (none_after [] (SetPage lba at false) v v (written_clean lba block v) none after))
 
-  pub left_clean : ((e : Entry) → get (entries_of r) lba ≡ Some e → new.parts.log.buffered ≡ []) → (get (entries_of r) lba ≡ None → get s lba ≡ None) → PutsBlock r.parts lba (held block false) new.parts contents'.flash.page (undo (pending r) s) s → HoldsLeft r.parts new contents' s (written_clean lba block)
+  pub left_clean : ((e : Entry) → get (entries_of r) lba ≡ Some e → new.parts.log.buffered ≡ []) → (get (entries_of r) lba ≡ None → get s lba ≡ None)
+      → PutsBlock r.parts lba (held block false) new.parts contents'.flash.page (undo (pending r) s) s → HoldsLeft r.parts new contents' s (written_clean lba block)
   left_clean over absent puts = by (get (entries_of r) lba) refl
     where
       by : (o : Option Entry) → get (entries_of r) lba ≡ o → HoldsLeft r.parts new contents' s (written_clean lba block)

@@ -18,17 +18,17 @@ use Rattle.cache_model.specs.declared.entry.Entry.{Entry}
 use Rattle.cache_model.specs.Records.{Entries}
 use Rattle.cache_model.specs.Entries.{each_once}
 use Rattle.cache_model.specs.Cache.{CacheList, Held}
-use Rattle.cache_model.specs.Stands.{StandsFor, held_at}
+use Rattle.cache_model.specs.Stands.{FlashStandsFor, held_at}
 use Rattle.cache_model.proofs.CountLemmas.{member, each_once-le}
 use Rattle.checkpoint.specs.Current.{AreWhole}
 use Rattle.op_log.specs.Log.{LogValue, pushed}
 use Rattle.merge_engine.specs.declared.parts.Parts.{Parts}
 use Rattle.merge_engine.specs.Agreement.{Agree, IsListOn, Lists}
-use Rattle.merge_engine.specs.Room.{GivesRoom, StandsForGiven}
+use Rattle.merge_engine.specs.Room.{GivesRoom, FlashStandsForGiven}
 use Rattle.merge_engine.specs.Steps.{GoesOn, HasLogRoom, HasRoomFor}
 use Rattle.mapping.specs.MapValue.{MapValue}
-use Rattle.ssc.specs.Commands.{StandsForOne, AsUndone, AsBefore, AsAfter}
-use Rattle.ssc.specs.Steps.{IsPushed, LeftOf, ListsAfter, ListsWritten, PutsBlock, StandsForEither, StandsForStep}
+use Rattle.ssc.specs.Commands.{FlashStandsForOne, AsUndone, AsBefore, AsAfter}
+use Rattle.ssc.specs.Steps.{IsPushed, LeftOf, ListsAfter, ListsWritten, PutsBlock, FlashStandsForEither, FlashStandsForStep}
 use Rattle.ssc.proofs.DirtyLemmas.{dirty_numbers, held_of, member_from, member_once, member_to, whole_held}
 use Rattle.ssc.proofs.ListLemmas.{list_some, stands_some}
 
@@ -106,7 +106,7 @@ lists_some parts contents agree =
     let list = list_some page parts.map.entries agree.sound.whole.whole in
     let current = agree.sound.current in
     let durable = stands_some page parts.log.geometry current.durable current.loads in
-    (list.0, durable.0, record { held = list.1; stands = subst (λ (g : Geometry). StandsFor g page durable.0) agree.sound.of_one.log durable.1 })
+    (list.0, durable.0, record { held = list.1; stands = subst (λ (g : Geometry). FlashStandsFor g page durable.0) agree.sound.of_one.log durable.1 })
 
 module _ (old mid : Parts) (contents contents' : Contents) (agree : Agree old contents) (agree' : Agree mid contents') (is : mid.geometry ≡ old.geometry) where
   abbrev GoesOnAll : Type 0
@@ -164,14 +164,16 @@ left_pushed old mid change log is left =
     omega arith
 
 -- one program for the block, and one for what was buffered
-pub counted_twice : (old mid : Parts) (lba : ℕ) (dirty : Bool) → mid.geometry ≡ old.geometry → (a b c : Counts) → IsPushed old lba dirty mid × (b ≡ program_counted a) → (mid.log.buffered ≡ [] → ⊥) → old.log.next < log_pages old.geometry → ((mid.log.buffered ≡ [] → ⊥) → mid.log.next < log_pages mid.geometry → c ≡ program_counted b) → c ≡ program_counted (program_counted a)
+pub counted_twice : (old mid : Parts) (lba : ℕ) (dirty : Bool) → mid.geometry ≡ old.geometry → (a b c : Counts) → IsPushed old lba dirty mid × (b ≡ program_counted a) → (mid.log.buffered ≡ [] → ⊥)
+    → old.log.next < log_pages old.geometry → ((mid.log.buffered ≡ [] → ⊥) → mid.log.next < log_pages mid.geometry → c ≡ program_counted b) → c ≡ program_counted (program_counted a)
 counted_twice old mid lba dirty is a b c pushed waits left one =
     let next : old.log.next ≡ mid.log.next = ap (λ (l : LogValue). l.next) (sym pushed.0.1) in
     let low = subst (λ n. n < log_pages mid.geometry) next (subst (λ (g : Geometry). old.log.next < log_pages g) (sym is) left) in
     one waits low ∙ ap program_counted pushed.1
 
 -- fewer than 127 changes wait
-pub still_pushed : (old mid new : Parts) (lba : ℕ) (dirty : Bool) (a b c : State) {P : Type 0} → length old.log.buffered + 2 ≤ 127 → IsPushed old lba dirty mid × (b.counts ≡ program_counted a.counts) → (length mid.log.buffered < 127 → P × (new ≡ mid) × (c ≡ b)) → IsPushed old lba dirty new × (c.counts ≡ program_counted a.counts)
+pub still_pushed : (old mid new : Parts) (lba : ℕ) (dirty : Bool) (a b c : State) {P : Type 0} → length old.log.buffered + 2 ≤ 127 → IsPushed old lba dirty mid × (b.counts ≡ program_counted a.counts)
+    → (length mid.log.buffered < 127 → P × (new ≡ mid) × (c ≡ b)) → IsPushed old lba dirty new × (c.counts ≡ program_counted a.counts)
 still_pushed old mid new lba dirty a b c few pushed same =
     let at = pushed.0.0 in
     let count : length mid.log.buffered ≡ length old.log.buffered + 1 = ap (λ (l : LogValue). length l.buffered) pushed.0.1 ∙ length-append old.log.buffered (SetPage lba at dirty ∷ []) in
@@ -182,60 +184,60 @@ still_pushed old mid new lba dirty a b c few pushed same =
 
 module _ (g : Geometry) (page : Place → Page) (list durable : CacheList) (step : CacheList → CacheList) where
   -- before the step
-  pub given_step : StandsForGiven g page durable list → StandsForStep g page durable list step
+  pub given_step : FlashStandsForGiven g page durable list → FlashStandsForStep g page durable list step
   given_step (inl s) = inl s
   given_step (inr v) = inr (v.0, v.1, inl v.2)
 
-  step_durable : StandsForEither g page durable (step list) → StandsForStep g page durable list step
+  step_durable : FlashStandsForEither g page durable (step list) → FlashStandsForStep g page durable list step
   step_durable (inl s) = inl s
   step_durable (inr s) = inr (list, inl refl, inr s)
 
 -- what a later step may leave of a block that was put, whatever it answers
 module _ (old mid : Parts) (page page' : Place → Page) (lba : ℕ) (block : Held) (is : mid.geometry ≡ old.geometry) (list durable : CacheList)
-    (later : (l d : CacheList) → Lists mid page l d → StandsForEither mid.geometry page' d l) where
+    (later : (l d : CacheList) → Lists mid page l d → FlashStandsForEither mid.geometry page' d l) where
   abbrev step : CacheList → CacheList
   step s = insert s lba block
 
-  either : (l d : CacheList) → Lists mid page l d → StandsForEither old.geometry page' d l
-  either l d lists = subst (λ (g : Geometry). StandsForEither g page' d l) is (later l d lists)
+  either : (l d : CacheList) → Lists mid page l d → FlashStandsForEither old.geometry page' d l
+  either l d lists = subst (λ (g : Geometry). FlashStandsForEither g page' d l) is (later l d lists)
 
-  twice : (s : CacheList) → StandsForEither old.geometry page' s s → StandsFor old.geometry page' s
+  twice : (s : CacheList) → FlashStandsForEither old.geometry page' s s → FlashStandsFor old.geometry page' s
   twice s (inl one) = one
   twice s (inr one) = one
 
-  on_left : (buffered : List Record) (own : Record) (v : CacheList) → GivesRoom old.geometry list v → ListsAfter buffered own mid page v v (step v) → StandsForStep old.geometry page' durable list step
+  on_left : (buffered : List Record) (own : Record) (v : CacheList) → GivesRoom old.geometry list v → ListsAfter buffered own mid page v v (step v) → FlashStandsForStep old.geometry page' durable list step
   on_left buffered own v gives (inl k) = inr (v, gives, either (step v) v k.1)
   on_left buffered own v gives (inr (inl k)) = inr (v, gives, either (step v) v k.1)
   on_left buffered own v gives (inr (inr k)) = inr (v, gives, inr (twice (step v) (either (step v) (step v) k.1)))
 
-  pub step_then : PutsBlock old lba block mid page durable list → StandsForStep old.geometry page' durable list step
+  pub step_then : PutsBlock old lba block mid page durable list → FlashStandsForStep old.geometry page' durable list step
   step_then (at, inl (inl k)) = step_durable old.geometry page' list durable step (either (step list) durable k.1)
   step_then (at, inl (inr (inl k))) = inr (list, inl refl, either (step list) list k.1)
   step_then (at, inl (inr (inr k))) = inr (list, inl refl, inr (twice (step list) (either (step list) (step list) k.1)))
   step_then (at, inr (v, left, after)) = on_left [] (SetPage lba at block.dirty) v left.gives after
 
   -- where a log block could be had without a merge, nothing gave way before
-  undone_or_after : StandsForEither old.geometry page' durable (step list) → StandsForOne old.geometry page' durable list (step list)
+  undone_or_after : FlashStandsForEither old.geometry page' durable (step list) → FlashStandsForOne old.geometry page' durable list (step list)
   undone_or_after (inl s) = AsUndone s
   undone_or_after (inr s) = AsAfter s
 
-  before_or_after : StandsForEither old.geometry page' list (step list) → StandsForOne old.geometry page' durable list (step list)
+  before_or_after : FlashStandsForEither old.geometry page' list (step list) → FlashStandsForOne old.geometry page' durable list (step list)
   before_or_after (inl s) = AsBefore s
   before_or_after (inr s) = AsAfter s
 
-  kept_left : (buffered : List Record) (own : Record) → ListsAfter buffered own mid page list list (step list) → StandsForOne old.geometry page' durable list (step list)
+  kept_left : (buffered : List Record) (own : Record) → ListsAfter buffered own mid page list list (step list) → FlashStandsForOne old.geometry page' durable list (step list)
   kept_left buffered own (inl k) = before_or_after (either (step list) list k.1)
   kept_left buffered own (inr (inl k)) = before_or_after (either (step list) list k.1)
   kept_left buffered own (inr (inr k)) = AsAfter (twice (step list) (either (step list) (step list) k.1))
 
-  pub kept_then : HasLogRoom old → PutsBlock old lba block mid page durable list → StandsForOne old.geometry page' durable list (step list)
+  pub kept_then : HasLogRoom old → PutsBlock old lba block mid page durable list → FlashStandsForOne old.geometry page' durable list (step list)
   kept_then room (at, inl (inl k)) = undone_or_after (either (step list) durable k.1)
   kept_then room (at, inl (inr (inl k))) = before_or_after (either (step list) list k.1)
   kept_then room (at, inl (inr (inr k))) = AsAfter (twice (step list) (either (step list) (step list) k.1))
   kept_then room (at, inr (v, left, after)) = kept_left [] (SetPage lba at block.dirty) (subst (λ (w : CacheList). ListsAfter [] (SetPage lba at block.dirty) mid page w w (step w)) (left.inside room) after)
 
 -- before the step
-pub kept_before : (g : Geometry) (page : Place → Page) (durable list after : CacheList) → StandsForEither g page durable list → StandsForOne g page durable list after
+pub kept_before : (g : Geometry) (page : Place → Page) (durable list after : CacheList) → FlashStandsForEither g page durable list → FlashStandsForOne g page durable list after
 kept_before g page durable list after (inl s) = AsUndone s
 kept_before g page durable list after (inr s) = AsBefore s
 

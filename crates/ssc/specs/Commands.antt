@@ -7,31 +7,34 @@ use Rattle.ft_base.specs.declared.block.Page.{Page}
 use Rattle.ft_base.specs.declared.geometry.Geometry.{Geometry}
 use Rattle.ft_base.specs.Contents.{Contents, Image, Now}
 use Rattle.cache_model.specs.Cache.{Buffered, CacheList, Held, IsFull, Vanish, dirty_groups, with_group, undo}
-use Rattle.cache_model.specs.Stands.{StandsFor}
+use Rattle.cache_model.specs.Stands.{FlashStandsFor}
 use Rattle.ssc.specs.declared.cache.Ssc.{Ssc}
 use Rattle.ssc.specs.declared.error.SscError.{SscError}
 use Rattle.ssc.specs.declared.error.SscError.TheVariants.{Full, FlashFault, PowerLost, OutOfMemory}
 use Rattle.ssc.specs.CacheState.{Holds, geometry_of, pending}
 
 -- what a crash may leave of a command: the list of before without what was buffered, that list whole, or the list after the step
-pub data StandsForOne (g : Geometry) (page : Place → Page) (undone before after : CacheList) : Type 0 where
-  AsUndone : StandsFor g page undone → StandsForOne g page undone before after
-  AsBefore : StandsFor g page before → StandsForOne g page undone before after
-  AsAfter : StandsFor g page after → StandsForOne g page undone before after
+pub data FlashStandsForOne (g : Geometry) (page : Place → Page) (undone before after : CacheList) : Type 0 where
+  AsUndone : FlashStandsFor g page undone → FlashStandsForOne g page undone before after
+  AsBefore : FlashStandsFor g page before → FlashStandsForOne g page undone before after
+  AsAfter : FlashStandsFor g page after → FlashStandsForOne g page undone before after
 
 -- whatever is answered, and wherever power went off, every image stands for one of these
 abbrev pub ImagesOf : Ssc → Contents → CacheList → CacheList → Type 0
-ImagesOf c contents before after = (x : Image) → Now contents x → StandsForOne (geometry_of c) x.page (undo (pending c) before) before after
+ImagesOf c contents before after = (x : Image) → Now contents x
+    → FlashStandsForOne (geometry_of c) x.page (undo (pending c) before) before after
 
 -- what a crash may leave of a write at an address: the list of before without what was buffered; or the list from which clean groups may have given way, before the step or after it
-pub data StandsForWrite (g : Geometry) (page : Place → Page) (undone before : CacheList) (a : ℕ) (step : CacheList → CacheList) : Type 0 where
-  AsUndone : StandsFor g page undone → StandsForWrite g page undone before a step
-  AsLeft : (v : CacheList) → Vanish g before a v → StandsFor g page v → StandsForWrite g page undone before a step
-  AsWritten : (v : CacheList) → Vanish g before a v → StandsFor g page (step v) → StandsForWrite g page undone before a step
+pub data FlashStandsForWrite (g : Geometry) (page : Place → Page) (undone before : CacheList) (a : ℕ)
+    (step : CacheList → CacheList) : Type 0 where
+  AsUndone : FlashStandsFor g page undone → FlashStandsForWrite g page undone before a step
+  AsLeft : (v : CacheList) → Vanish g before a v → FlashStandsFor g page v → FlashStandsForWrite g page undone before a step
+  AsWritten : (v : CacheList) → Vanish g before a v → FlashStandsFor g page (step v) → FlashStandsForWrite g page undone before a step
 
 -- whatever a write answers, and wherever power went off, every image stands for one of these
 abbrev pub ImagesOfWrite : Ssc → Contents → CacheList → ℕ → (CacheList → CacheList) → Type 0
-ImagesOfWrite c contents before a step = (x : Image) → Now contents x → StandsForWrite (geometry_of c) x.page (undo (pending c) before) before a step
+ImagesOfWrite c contents before a step = (x : Image) → Now contents x
+    → FlashStandsForWrite (geometry_of c) x.page (undo (pending c) before) before a step
 
 -- the cache holds the list after the step, from which clean groups may have given way before
 pub record HoldsWritten (c : Ssc) (contents : Contents) (before : CacheList) (a : ℕ) (step : CacheList → CacheList) : Type 0 where

@@ -17,8 +17,10 @@ listed from end es = map (λ x. x.0) (filter (is_listed from end) es)
 
 -- the address of the entry of this number, where it is listed; none where no entry of the number is
 abbrev pub IsListedAt : Geometry → Entries → ℕ → ℕ → ℕ → Option ℕ → Type 0
-IsListedAt g m from end number None = (a : ℕ) (e : Entry) → get m a ≡ Some e → number_of g e.place ≡ number → is_listed from end (a, e) ≡ false
-IsListedAt g m from end number (Some a) = (e : Entry) × (get m a ≡ Some e) × (number_of g e.place ≡ number) × (is_listed from end (a, e) ≡ true)
+IsListedAt g m from end number None = (a : ℕ) (e : Entry) → get m a ≡ Some e → number_of g e.place ≡ number
+    → is_listed from end (a, e) ≡ false
+IsListedAt g m from end number (Some a) = (e : Entry) × (get m a ≡ Some e) × (number_of g e.place ≡ number)
+    × (is_listed from end (a, e) ≡ true)
 
 -- one address, or none
 abbrev pub shown : Option ℕ → List ℕ

@@ -7,7 +7,7 @@ use Rattle.ft_base.specs.declared.geometry.Geometry.{Geometry}
 use Rattle.ft_base.specs.declared.record.Record.{Record}
 use Rattle.ft_base.specs.declared.record.Record.TheVariants.{SetPage}
 use Rattle.cache_model.specs.Cache.{CacheList, Held}
-use Rattle.cache_model.specs.Stands.{StandsFor}
+use Rattle.cache_model.specs.Stands.{FlashStandsFor}
 use Rattle.op_log.specs.Log.{pushed}
 use Rattle.log_blocks.specs.Logs as list
 use Rattle.recovery.specs.declared.loading.Loaded.{Loaded}
@@ -15,7 +15,7 @@ use Rattle.merge_engine.specs.declared.parts.Parts.{Parts}
 use Rattle.merge_engine.specs.Agreement.{AreOfOne, Lists, RolesAgree}
 use Rattle.merge_engine.specs.Room.{GivesRoom}
 use Rattle.merge_engine.specs.Steps.{HasLogRoom}
-pub use Rattle.merge_engine.specs.Merges.{StandsForEither}
+pub use Rattle.merge_engine.specs.Merges.{FlashStandsForEither}
 
 -- a step that made one list of another is buffered behind all that was; or alone, where the list of before was committed first; or it is committed with all
 abbrev pub ListsAfter : List Record → Record → Parts → (Place → Page) → CacheList → CacheList → CacheList → Type 0
@@ -37,15 +37,17 @@ ListsWritten old own new page durable list step =
 
 -- a block was put at an address, in some page
 abbrev pub PutsBlock : Parts → ℕ → Held → Parts → (Place → Page) → CacheList → CacheList → Type 0
-PutsBlock old lba block new page durable list = (at : Place) × ListsWritten old (SetPage lba at block.dirty) new page durable list (λ s. insert s lba block)
+PutsBlock old lba block new page durable list = (at : Place)
+    × ListsWritten old (SetPage lba at block.dirty) new page durable list (λ s. insert s lba block)
 
 -- the change is buffered behind all that was
 abbrev pub IsPushed : Parts → ℕ → Bool → Parts → Type 0
 IsPushed old lba dirty new = (at : Place) × (new.log ≡ pushed (SetPage lba at dirty) old.log)
 
 -- what a crash may leave of a step: the list without what was buffered; or what is left of the list, before the step or after it
-abbrev pub StandsForStep : Geometry → (Place → Page) → CacheList → CacheList → (CacheList → CacheList) → Type 0
-StandsForStep g page durable list step = StandsFor g page durable ⊎ ((v : CacheList) × GivesRoom g list v × StandsForEither g page v (step v))
+abbrev pub FlashStandsForStep : Geometry → (Place → Page) → CacheList → CacheList → (CacheList → CacheList) → Type 0
+FlashStandsForStep g page durable list step = FlashStandsFor g page durable
+    ⊎ ((v : CacheList) × GivesRoom g list v × FlashStandsForEither g page v (step v))
 
 -- the parts over what was loaded: their log is that of the checkpoint that counts, with nothing of it read or buffered, and no log block is open
 pub record IsLoadedAs (g : Geometry) (loaded : Loaded) (parts : Parts) : Type 0 where

@@ -32,15 +32,18 @@ impl Ssc {
 
     /// How many groups have a dirty block: at most C.
     pub fn dirty_groups(&self) -> u32
-        ensures { (contents : Contents) (s : CacheList) → Holds self.now contents s → result ≡ length (dirty_groups (geometry_of self.now) s) }
+        ensures { (contents : Contents) (s : CacheList) → Holds self.now contents s
+            → result ≡ length (dirty_groups (geometry_of self.now) s) }
     {
         self.parts.map.dirty_groups()
     }
 
     /// The dirty pages of a group: the bit of value 2^i for its address i.
     pub fn dirty_bits(&self, group: u64) -> u64
-        ensures bits { (contents : Contents) (s : CacheList) → Holds self.now contents s → result ≡ chosen_of Dirty (geometry_of self.now) (entries_of self.now) group }
-        ensures list { (contents : Contents) (s : CacheList) → Holds self.now contents s → result ≡ dirty_pages (geometry_of self.now) s group }
+        ensures bits { (contents : Contents) (s : CacheList) → Holds self.now contents s
+            → result ≡ chosen_of Dirty (geometry_of self.now) (entries_of self.now) group }
+        ensures list { (contents : Contents) (s : CacheList) → Holds self.now contents s
+            → result ≡ dirty_pages (geometry_of self.now) s group }
     {
         self.parts.map.dirty_bits(group)
     }

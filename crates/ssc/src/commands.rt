@@ -2,6 +2,7 @@ ghost use Rattle.std.specs.Prelude.{◌≡◌, ◌≢◌, ◌≤◌, ◌<◌, �
 ghost use Rattle.std.specs.FinMap.{get, insert};
 ghost use Rattle.ft_base.specs.Contents.{Contents};
 ghost use Rattle.ft_base.specs.Count.{Rose};
+ghost use Rattle.ft_base.specs.Layout.{page_records};
 ghost use Rattle.ft_media.specs.State.{failed, lost};
 ghost use Rattle.ft_media.specs.Drives.{DrivesFlash};
 ghost use Rattle.ft_media.specs.Reads.{ReadsFlash};
@@ -13,8 +14,8 @@ ghost use Rattle.merge_engine.specs.Agreement.{Agree, Lists};
 ghost use Rattle.merge_engine.specs.Steps.{HasLogRoom};
 ghost use Rattle.ssc.specs.Errors.{ssc_failed, ssc_lost, stops};
 ghost use Rattle.ssc.specs.CacheState.{HasMemory, Holds, IsAsBefore, IsUp, entries_of, geometry_of, log_room, open_room, pending};
-ghost use Rattle.ssc.specs.Steps.{IsPushed, PutsBlock, StandsForStep};
-ghost use Rattle.ssc.specs.Commands.{ImagesOf, ImagesOfWrite, FullExactly, HoldsWritten, PendsWith, IsHeldIn, ReadOf, StandsForOne, UnlessFound};
+ghost use Rattle.ssc.specs.Steps.{IsPushed, PutsBlock, FlashStandsForStep};
+ghost use Rattle.ssc.specs.Commands.{ImagesOf, ImagesOfWrite, FullExactly, HoldsWritten, PendsWith, IsHeldIn, ReadOf, FlashStandsForOne, UnlessFound};
 
 use crate::error::of_media;
 use crate::putting::{mark_clean, take_out, write_buffered, write_committed};
@@ -37,22 +38,29 @@ impl Ssc {
         requires lba { lba < (geometry_of self.old).size }
         ensures geometry { geometry_of self.new ≡ geometry_of self.old }
         ensures full { (s : CacheList) → Holds self.old (M.state media.old).contents s → FullExactly (geometry_of self.old) s lba result }
-        ensures full_keeps { (n l : ℕ) → IsErrOf result (SscError.Full n l) → (self.new ≡ self.old) × (M.state media.new ≡ M.state media.old) }
-        ensures memory { IsErrOf result SscError.OutOfMemory → (self.old.ready ≡ false) × IsAsBefore self.old self.new × (M.state media.new ≡ M.state media.old) }
-        ensures memory_holds { IsErrOf result SscError.OutOfMemory → (contents : Contents) (s : CacheList) → Holds self.old contents s → Holds self.new contents s }
+        ensures full_keeps { (n l : ℕ) → IsErrOf result (SscError.Full n l) → (self.new ≡ self.old)
+            × (M.state media.new ≡ M.state media.old) }
+        ensures memory { IsErrOf result SscError.OutOfMemory → (self.old.ready ≡ false) × IsAsBefore self.old self.new
+            × (M.state media.new ≡ M.state media.old) }
+        ensures memory_holds { IsErrOf result SscError.OutOfMemory → (contents : Contents) (s : CacheList) → Holds self.old contents s
+            → Holds self.new contents s }
         ensures stopped { self.new.stopped ≡ stops result }
-        ensures done { OnOk result ((s : CacheList) → Holds self.old (M.state media.old).contents s → HoldsWritten self.new (M.state media.new).contents s lba (written_dirty lba block.now)) }
+        ensures done { OnOk result ((s : CacheList) → Holds self.old (M.state media.old).contents s
+            → HoldsWritten self.new (M.state media.new).contents s lba (written_dirty lba block.now)) }
         ensures nothing_waits { OnOk result (pending self.new ≡ []) }
         // Whatever is answered, and wherever power went off.
-        ensures images { (s : CacheList) → Holds self.old (M.state media.old).contents s → ImagesOfWrite self.old (M.state media.new).contents s lba (written_dirty lba block.now) }
+        ensures images { (s : CacheList) → Holds self.old (M.state media.old).contents s
+            → ImagesOfWrite self.old (M.state media.new).contents s lba (written_dirty lba block.now) }
         // Where the open log block has a page left nothing gives way.
-        ensures inside { OnOk result (1 ≤ open_room self.old → (s : CacheList) → Holds self.old (M.state media.old).contents s → Holds self.new (M.state media.new).contents (written_dirty lba block.now s)) }
+        ensures inside { OnOk result (1 ≤ open_room self.old → (s : CacheList) → Holds self.old (M.state media.old).contents s
+            → Holds self.new (M.state media.new).contents (written_dirty lba block.now s)) }
         // Nor does it where a log block can be had without a merge, whatever is answered.
         ensures kept { OnOk result (HasLogRoom self.old.parts → (s : CacheList) → Holds self.old (M.state media.old).contents s
             → Holds self.new (M.state media.new).contents (written_dirty lba block.now s)) }
         ensures kept_images { HasLogRoom self.old.parts → (s : CacheList) → Holds self.old (M.state media.old).contents s
             → ImagesOf self.old (M.state media.new).contents s (written_dirty lba block.now s) }
-        ensures two_programs { OnOk result (1 ≤ open_room self.old → 1 ≤ log_room self.old → (M.state media.new).counts ≡ program_counted (program_counted (M.state media.old).counts)) }
+        ensures two_programs { OnOk result (1 ≤ open_room self.old → 1 ≤ log_room self.old
+            → (M.state media.new).counts ≡ program_counted (program_counted (M.state media.old).counts)) }
         ensures programs { OnOk result (Rose (M.state media.old).counts.programs (M.state media.new).counts.programs) }
         ensures spends { OnOk result (Spends 2 (M.state media.old) (M.state media.new)) }
         ensures drives { DrivesFlash (M.state media.old) (M.state media.new) (ssc_failed result) (ssc_lost result) }
@@ -84,23 +92,32 @@ impl Ssc {
         requires lba { lba < (geometry_of self.old).size }
         ensures geometry { geometry_of self.new ≡ geometry_of self.old }
         ensures full { (n l : ℕ) → IsErrOf result (SscError.Full n l) → ⊥ }
-        ensures memory { IsErrOf result SscError.OutOfMemory → (self.old.ready ≡ false) × IsAsBefore self.old self.new × (M.state media.new ≡ M.state media.old) }
-        ensures memory_holds { IsErrOf result SscError.OutOfMemory → (contents : Contents) (s : CacheList) → Holds self.old contents s → Holds self.new contents s }
+        ensures memory { IsErrOf result SscError.OutOfMemory → (self.old.ready ≡ false) × IsAsBefore self.old self.new
+            × (M.state media.new ≡ M.state media.old) }
+        ensures memory_holds { IsErrOf result SscError.OutOfMemory → (contents : Contents) (s : CacheList) → Holds self.old contents s
+            → Holds self.new contents s }
         ensures stopped { self.new.stopped ≡ stops result }
-        ensures done { OnOk result ((s : CacheList) → Holds self.old (M.state media.old).contents s → HoldsWritten self.new (M.state media.new).contents s lba (written_clean lba block.now)) }
-        ensures over_held { OnOk result ((s : CacheList) → Holds self.old (M.state media.old).contents s → IsHeldIn s lba → pending self.new ≡ []) }
-        ensures at_absent { OnOk result ((s : CacheList) → Holds self.old (M.state media.old).contents s → get s lba ≡ None → PendsWith (pending self.old) (pending self.new) (Inserted lba)) }
+        ensures done { OnOk result ((s : CacheList) → Holds self.old (M.state media.old).contents s
+            → HoldsWritten self.new (M.state media.new).contents s lba (written_clean lba block.now)) }
+        ensures over_held { OnOk result ((s : CacheList) → Holds self.old (M.state media.old).contents s → IsHeldIn s lba
+            → pending self.new ≡ []) }
+        ensures at_absent { OnOk result ((s : CacheList) → Holds self.old (M.state media.old).contents s → get s lba ≡ None
+            → PendsWith (pending self.old) (pending self.new) (Inserted lba)) }
         // Whatever is answered, and wherever power went off.
-        ensures images { (s : CacheList) → Holds self.old (M.state media.old).contents s → ImagesOfWrite self.old (M.state media.new).contents s lba (written_clean lba block.now) }
+        ensures images { (s : CacheList) → Holds self.old (M.state media.old).contents s
+            → ImagesOfWrite self.old (M.state media.new).contents s lba (written_clean lba block.now) }
         // Where the open log block has a page left nothing gives way.
-        ensures inside { OnOk result (1 ≤ open_room self.old → (s : CacheList) → Holds self.old (M.state media.old).contents s → Holds self.new (M.state media.new).contents (written_clean lba block.now s)) }
+        ensures inside { OnOk result (1 ≤ open_room self.old → (s : CacheList) → Holds self.old (M.state media.old).contents s
+            → Holds self.new (M.state media.new).contents (written_clean lba block.now s)) }
         // Nor does it where a log block can be had without a merge, whatever is answered.
         ensures kept { OnOk result (HasLogRoom self.old.parts → (s : CacheList) → Holds self.old (M.state media.old).contents s
             → Holds self.new (M.state media.new).contents (written_clean lba block.now s)) }
         ensures kept_images { HasLogRoom self.old.parts → (s : CacheList) → Holds self.old (M.state media.old).contents s
             → ImagesOf self.old (M.state media.new).contents s (written_clean lba block.now s) }
-        ensures one_program { OnOk result ((s : CacheList) → Holds self.old (M.state media.old).contents s → get s lba ≡ None → 1 ≤ open_room self.old → length (pending self.old) + 2 ≤ 127
-            → ((M.state media.new).counts ≡ program_counted (M.state media.old).counts) × (pending self.new ≡ pending self.old ++ Inserted lba ∷ [])) }
+        ensures one_program { OnOk result ((s : CacheList) → Holds self.old (M.state media.old).contents s → get s lba ≡ None
+            → 1 ≤ open_room self.old → length (pending self.old) + 2 ≤ page_records (geometry_of self.old)
+            → ((M.state media.new).counts ≡ program_counted (M.state media.old).counts)
+            × (pending self.new ≡ pending self.old ++ Inserted lba ∷ [])) }
         ensures programs { OnOk result (Rose (M.state media.old).counts.programs (M.state media.new).counts.programs) }
         ensures spends { OnOk result (Spends 1 (M.state media.old) (M.state media.new)) }
         ensures drives { DrivesFlash (M.state media.old) (M.state media.new) (ssc_failed result) (ssc_lost result) }
@@ -126,20 +143,25 @@ impl Ssc {
         requires agree { Agree self.old.parts (M.state media.old).contents }
         requires lba { lba < (geometry_of self.old).size }
         requires memory { HasMemory self.old.parts }
-        requires few { length self.old.parts.log.buffered < 127 }
+        requires few { length self.old.parts.log.buffered < page_records self.old.parts.log.geometry }
         ensures cache { self.new ≡ record self.old { parts = self.new.parts } }
         ensures geometry { geometry_of self.new ≡ geometry_of self.old }
         ensures agree { OnOk result (Agree self.new.parts (M.state media.new).contents) }
-        ensures few { OnOk result (length self.new.parts.log.buffered < 127) }
+        ensures few { OnOk result (length self.new.parts.log.buffered < page_records self.new.parts.log.geometry) }
         ensures lists { OnOk result ((list durable : CacheList) → Lists self.old.parts (M.state media.old).contents.flash.page list durable
             → PutsBlock self.old.parts lba (held block.now false) self.new.parts (M.state media.new).contents.flash.page durable list) }
         ensures over_held { OnOk result ((e : Entry) → get (entries_of self.old) lba ≡ Some e → self.new.parts.log.buffered ≡ []) }
         ensures stands { (list durable : CacheList) → Lists self.old.parts (M.state media.old).contents.flash.page list durable
-            → StandsForStep (geometry_of self.old) (M.state media.new).contents.flash.page durable list (λ s. insert s lba (held block.now false)) }
-        ensures kept { HasLogRoom self.old.parts → (list durable : CacheList) → Lists self.old.parts (M.state media.old).contents.flash.page list durable
-            → StandsForOne (geometry_of self.old) (M.state media.new).contents.flash.page durable list (insert list lba (held block.now false)) }
-        ensures one_program { OnOk result (get (entries_of self.old) lba ≡ None → 1 ≤ open_room self.old → length self.old.parts.log.buffered + 2 ≤ 127
-            → IsPushed self.old.parts lba false self.new.parts × ((M.state media.new).counts ≡ program_counted (M.state media.old).counts)) }
+            → FlashStandsForStep (geometry_of self.old) (M.state media.new).contents.flash.page durable list
+            (λ s. insert s lba (held block.now false)) }
+        ensures kept { HasLogRoom self.old.parts → (list durable : CacheList)
+            → Lists self.old.parts (M.state media.old).contents.flash.page list durable
+            → FlashStandsForOne (geometry_of self.old) (M.state media.new).contents.flash.page durable list
+            (insert list lba (held block.now false)) }
+        ensures one_program { OnOk result (get (entries_of self.old) lba ≡ None → 1 ≤ open_room self.old
+            → length self.old.parts.log.buffered + 2 ≤ page_records self.old.parts.log.geometry
+            → IsPushed self.old.parts lba false self.new.parts
+            × ((M.state media.new).counts ≡ program_counted (M.state media.old).counts)) }
         ensures programs { OnOk result (Rose (M.state media.old).counts.programs (M.state media.new).counts.programs) }
         ensures spends { OnOk result (Spends 1 (M.state media.old) (M.state media.new)) }
         ensures memory { IsErrOf result MediaError.OutOfMemory → ⊥ }
@@ -162,7 +184,8 @@ impl Ssc {
         requires up { IsUp self.old (M.state media.old).contents }
         requires lba { lba < (geometry_of self.old).size }
         ensures same { self.new ≡ self.old }
-        ensures found { IfOk result (λ found. (s : CacheList) → Holds self.old (M.state media.old).contents s → ReadOf (get s lba) found block.new) }
+        ensures found { IfOk result (λ found. (s : CacheList) → Holds self.old (M.state media.old).contents s
+            → ReadOf (get s lba) found block.new) }
         ensures buffer { UnlessFound result (block.new ≡ block.old) }
         ensures full { (n l : ℕ) → IsErrOf result (SscError.Full n l) → ⊥ }
         ensures memory { IsErrOf result SscError.OutOfMemory → ⊥ }
@@ -188,11 +211,16 @@ impl Ssc {
         ensures full { (n l : ℕ) → IsErrOf result (SscError.Full n l) → ⊥ }
         ensures memory { IsErrOf result SscError.OutOfMemory → ⊥ }
         ensures stopped { self.new.stopped ≡ stops result }
-        ensures done { OnOk result ((s : CacheList) → Holds self.old (M.state media.old).contents s → Holds self.new (M.state media.new).contents (evicted lba s)) }
-        ensures held { OnOk result ((s : CacheList) → Holds self.old (M.state media.old).contents s → IsHeldIn s lba → pending self.new ≡ []) }
-        ensures absent { OnOk result ((s : CacheList) → Holds self.old (M.state media.old).contents s → get s lba ≡ None → (self.new ≡ self.old) × (M.state media.new ≡ M.state media.old)) }
-        ensures images { (s : CacheList) → Holds self.old (M.state media.old).contents s → ImagesOf self.old (M.state media.new).contents s (evicted lba s) }
-        ensures one_program { OnOk result ((s : CacheList) → Holds self.old (M.state media.old).contents s → IsHeldIn s lba → 1 ≤ log_room self.old → (M.state media.new).counts ≡ program_counted (M.state media.old).counts) }
+        ensures done { OnOk result ((s : CacheList) → Holds self.old (M.state media.old).contents s
+            → Holds self.new (M.state media.new).contents (evicted lba s)) }
+        ensures held { OnOk result ((s : CacheList) → Holds self.old (M.state media.old).contents s → IsHeldIn s lba
+            → pending self.new ≡ []) }
+        ensures absent { OnOk result ((s : CacheList) → Holds self.old (M.state media.old).contents s → get s lba ≡ None
+            → (self.new ≡ self.old) × (M.state media.new ≡ M.state media.old)) }
+        ensures images { (s : CacheList) → Holds self.old (M.state media.old).contents s
+            → ImagesOf self.old (M.state media.new).contents s (evicted lba s) }
+        ensures one_program { OnOk result ((s : CacheList) → Holds self.old (M.state media.old).contents s → IsHeldIn s lba
+            → 1 ≤ log_room self.old → (M.state media.new).counts ≡ program_counted (M.state media.old).counts) }
         ensures ready { self.new.ready ≡ self.old.ready }
         ensures drives { DrivesFlash (M.state media.old) (M.state media.new) (ssc_failed result) (ssc_lost result) }
     {
@@ -213,11 +241,16 @@ impl Ssc {
         ensures full { (n l : ℕ) → IsErrOf result (SscError.Full n l) → ⊥ }
         ensures memory { IsErrOf result SscError.OutOfMemory → ⊥ }
         ensures stopped { self.new.stopped ≡ stops result }
-        ensures done { OnOk result ((s : CacheList) → Holds self.old (M.state media.old).contents s → Holds self.new (M.state media.new).contents (made_clean lba s)) }
-        ensures of_dirty { OnOk result ((s : CacheList) (b : Block) → Holds self.old (M.state media.old).contents s → get s lba ≡ Some (held b true) → PendsWith (pending self.old) (pending self.new) (Cleaned lba)) }
-        ensures of_other { OnOk result ((s : CacheList) → Holds self.old (M.state media.old).contents s → ((b : Block) → get s lba ≡ Some (held b true) → ⊥) → (self.new ≡ self.old) × (M.state media.new ≡ M.state media.old)) }
-        ensures no_write { OnOk result (length (pending self.old) + 2 ≤ 127 → M.state media.new ≡ M.state media.old) }
-        ensures images { (s : CacheList) → Holds self.old (M.state media.old).contents s → ImagesOf self.old (M.state media.new).contents s (made_clean lba s) }
+        ensures done { OnOk result ((s : CacheList) → Holds self.old (M.state media.old).contents s
+            → Holds self.new (M.state media.new).contents (made_clean lba s)) }
+        ensures of_dirty { OnOk result ((s : CacheList) (b : Block) → Holds self.old (M.state media.old).contents s
+            → get s lba ≡ Some (held b true) → PendsWith (pending self.old) (pending self.new) (Cleaned lba)) }
+        ensures of_other { OnOk result ((s : CacheList) → Holds self.old (M.state media.old).contents s
+            → ((b : Block) → get s lba ≡ Some (held b true) → ⊥) → (self.new ≡ self.old) × (M.state media.new ≡ M.state media.old)) }
+        ensures no_write { OnOk result (length (pending self.old) + 2 ≤ page_records (geometry_of self.old)
+            → M.state media.new ≡ M.state media.old) }
+        ensures images { (s : CacheList) → Holds self.old (M.state media.old).contents s
+            → ImagesOf self.old (M.state media.new).contents s (made_clean lba s) }
         ensures ready { self.new.ready ≡ self.old.ready }
         ensures drives { DrivesFlash (M.state media.old) (M.state media.new) (ssc_failed result) (ssc_lost result) }
     {
@@ -234,7 +267,8 @@ impl Ssc {
     /// as before.
     pub fn exists(&self, from: u64, count: u64, out: &mut Vec<u64>) -> Result<(), AllocError>
         requires { from + count ≤ (geometry_of self.now).size }
-        ensures done { OnOk result ((contents : Contents) (s : CacheList) → Holds self.now contents s → out.new.items ≡ out.old.items ++ dirty_between from count s) }
+        ensures done { OnOk result ((contents : Contents) (s : CacheList) → Holds self.now contents s → out.new.items ≡ out.old.items
+            ++ dirty_between from count s) }
         ensures refused { OnErr result (out.new.items ≡ out.old.items) }
     {
         let before = out.len();
@@ -255,10 +289,13 @@ impl Ssc {
         ensures memory { IsErrOf result SscError.OutOfMemory → ⊥ }
         ensures stopped { self.new.stopped ≡ stops result }
         ensures nothing { pending self.old ≡ [] → IsOk result × (self.new ≡ self.old) × (M.state media.new ≡ M.state media.old) }
-        ensures done { OnOk result ((s : CacheList) → Holds self.old (M.state media.old).contents s → Holds self.new (M.state media.new).contents s) }
+        ensures done { OnOk result ((s : CacheList) → Holds self.old (M.state media.old).contents s
+            → Holds self.new (M.state media.new).contents s) }
         ensures nothing_waits { OnOk result (pending self.new ≡ []) }
-        ensures images { (s : CacheList) → Holds self.old (M.state media.old).contents s → ImagesOf self.old (M.state media.new).contents s s }
-        ensures one_program { OnOk result (pending self.old ≢ [] → 1 ≤ log_room self.old → (M.state media.new).counts ≡ program_counted (M.state media.old).counts) }
+        ensures images { (s : CacheList) → Holds self.old (M.state media.old).contents s
+            → ImagesOf self.old (M.state media.new).contents s s }
+        ensures one_program { OnOk result (pending self.old ≢ [] → 1 ≤ log_room self.old
+            → (M.state media.new).counts ≡ program_counted (M.state media.old).counts) }
         ensures ready { self.new.ready ≡ self.old.ready }
         ensures drives { DrivesFlash (M.state media.old) (M.state media.new) (ssc_failed result) (ssc_lost result) }
     {
@@ -275,10 +312,12 @@ impl Ssc {
         ensures full { (n l : ℕ) → IsErrOf result (SscError.Full n l) → ⊥ }
         ensures memory { IsErrOf result SscError.OutOfMemory → ⊥ }
         ensures stopped { self.new.stopped ≡ stops result }
-        ensures done { OnOk result ((s : CacheList) → Holds self.old (M.state media.old).contents s → Holds self.new (M.state media.new).contents s) }
+        ensures done { OnOk result ((s : CacheList) → Holds self.old (M.state media.old).contents s
+            → Holds self.new (M.state media.new).contents s) }
         ensures nothing_waits { OnOk result (pending self.new ≡ []) }
         ensures log { OnOk result (self.new.parts.log.next ≡ 0) }
-        ensures images { (s : CacheList) → Holds self.old (M.state media.old).contents s → ImagesOf self.old (M.state media.new).contents s s }
+        ensures images { (s : CacheList) → Holds self.old (M.state media.old).contents s
+            → ImagesOf self.old (M.state media.new).contents s s }
         ensures ready { self.new.ready ≡ self.old.ready }
         ensures drives { DrivesFlash (M.state media.old) (M.state media.new) (ssc_failed result) (ssc_lost result) }
     {

@@ -1,7 +1,7 @@
 ghost use Rattle.std.specs.Prelude.{OnOk, IsErrOf, ℕ};
 ghost use Rattle.std.specs.FinMap.{empty};
 ghost use Rattle.ft_media.specs.Drives.{DrivesFlash};
-ghost use Rattle.cache_model.specs.Stands.{StandsFor};
+ghost use Rattle.cache_model.specs.Stands.{FlashStandsFor};
 ghost use Rattle.op_log.specs.Log.{FitsOn};
 ghost use Rattle.ssc.specs.Errors.{ssc_failed, ssc_lost};
 
@@ -16,7 +16,7 @@ impl Ssc {
     /// erased, and an empty checkpoint is sealed. Cut, the flash may stand for nothing.
     pub fn format<M: Media>(media: &mut M, geometry: &Geometry) -> Result<(), SscError>
         requires shape { FitsOn geometry.now (M.state media.old).contents.shape }
-        ensures done { OnOk result (StandsFor geometry.now (M.state media.new).contents.flash.page empty) }
+        ensures done { OnOk result (FlashStandsFor geometry.now (M.state media.new).contents.flash.page empty) }
         ensures full { (n l : ℕ) → IsErrOf result (SscError.Full n l) → ⊥ }
         ensures memory { IsErrOf result SscError.OutOfMemory → ⊥ }
         ensures drives { DrivesFlash (M.state media.old) (M.state media.new) (ssc_failed result) (ssc_lost result) }

@@ -6,7 +6,7 @@ ghost use Rattle.ft_media.specs.Drives.{DrivesFlash};
 ghost use Rattle.cache_model.specs.Cache.{CacheList};
 ghost use Rattle.cache_model.specs.Entries.{IsMap};
 ghost use Rattle.cache_model.specs.Loading.{load};
-ghost use Rattle.cache_model.specs.Stands.{StandsFor};
+ghost use Rattle.cache_model.specs.Stands.{FlashStandsFor};
 ghost use Rattle.op_log.specs.Log.{FitsOn};
 ghost use Rattle.op_log.specs.Refusals.{open_failed, open_lost, IsRefusal};
 ghost use Rattle.ssc.specs.CacheState.{Holds, IsUp, entries_of, geometry_of, log_room, open_room, pending};
@@ -30,7 +30,8 @@ impl Ssc {
     ) -> Result<Ssc, OpenError>
         requires shape { FitsOn geometry.now (M.state media.old).contents.shape }
         ensures geometry { IfOk result (λ c. geometry_of c ≡ geometry.now) }
-        ensures holds { IfOk result (λ c. (s : CacheList) → StandsFor geometry.now (M.state media.old).contents.flash.page s → Holds c (M.state media.new).contents s) }
+        ensures holds { IfOk result (λ c. (s : CacheList) → FlashStandsFor geometry.now (M.state media.old).contents.flash.page s
+            → Holds c (M.state media.new).contents s) }
         ensures loads { IfOk result (λ c. load geometry.now (M.state media.old).contents.flash.page ≡ Ok (entries_of c)) }
         ensures nothing_waits { IfOk result (λ c. pending c ≡ []) }
         ensures log { IfOk result (λ c. c.parts.log.next ≡ 0) }
@@ -42,8 +43,10 @@ impl Ssc {
         ensures is_up { IfOk result (λ c. IsUp c (M.state media.new).contents) }
         ensures refused { IfErr result (λ e. IsRefusal geometry.now e (load geometry.now (M.state media.old).contents.flash.page)) }
         // Whatever is answered, and wherever power went off, nothing is lost and nothing comes back.
-        ensures images { (s : CacheList) → StandsFor geometry.now (M.state media.old).contents.flash.page s → (x : Image) → Now (M.state media.new).contents x → StandsFor geometry.now x.page s }
-        ensures same { load geometry.now (M.state media.new).contents.flash.page ≡ load geometry.now (M.state media.old).contents.flash.page }
+        ensures images { (s : CacheList) → FlashStandsFor geometry.now (M.state media.old).contents.flash.page s → (x : Image)
+            → Now (M.state media.new).contents x → FlashStandsFor geometry.now x.page s }
+        ensures same { load geometry.now (M.state media.new).contents.flash.page ≡ load geometry.now
+            (M.state media.old).contents.flash.page }
         ensures programs { OnOk result (Rose (M.state media.old).counts.programs (M.state media.new).counts.programs) }
         ensures drives { DrivesFlash (M.state media.old) (M.state media.new) (open_failed result) (open_lost result) }
     {

@@ -2,7 +2,7 @@ ghost use Rattle.std.specs.Prelude.{◌≡◌, ◌≢◌, ◌↔◌, ◌⊎◌, 
 ghost use Rattle.std.specs.FinMap.{get, insert};
 ghost use Rattle.ft_base.specs.declared.record.Record.TheVariants.{Clean};
 ghost use Rattle.ft_base.specs.Count.{Rose};
-ghost use Rattle.ft_base.specs.Layout.{log_pages};
+ghost use Rattle.ft_base.specs.Layout.{log_pages, page_records};
 ghost use Rattle.ft_media.specs.State.{failed, lost};
 ghost use Rattle.ft_media.specs.Drives.{DrivesFlash};
 ghost use Rattle.ft_media.specs.Media.{program_counted};
@@ -10,12 +10,12 @@ ghost use Rattle.ft_media.specs.Passes.{Spends};
 ghost use Rattle.cache_model.specs.Cache.{CacheList, evicted, held, made_clean};
 ghost use Rattle.cache_model.specs.declared.entry.Entry.{Entry};
 ghost use Rattle.merge_engine.specs.Agreement.{Agree, Lists};
-ghost use Rattle.merge_engine.specs.Room.{StandsForGiven};
+ghost use Rattle.merge_engine.specs.Room.{FlashStandsForGiven};
 ghost use Rattle.merge_engine.specs.Steps.{HasLogRoom, HasRoomFor, dirty_groups_with};
-ghost use Rattle.ssc.specs.Commands.{StandsForOne};
+ghost use Rattle.ssc.specs.Commands.{FlashStandsForOne};
 ghost use Rattle.ssc.specs.Errors as errors;
 ghost use Rattle.ssc.specs.CacheState.{HasMemory, entries_of, geometry_of};
-ghost use Rattle.ssc.specs.Steps.{IsPushed, LeftOf, ListsAfter, PutsBlock, StandsForEither, StandsForStep};
+ghost use Rattle.ssc.specs.Steps.{IsPushed, LeftOf, ListsAfter, PutsBlock, FlashStandsForEither, FlashStandsForStep};
 
 use crate::error::of_media;
 use crate::{Ssc, SscError};
@@ -76,20 +76,24 @@ pub(crate) fn write_committed<M: Media>(
     requires agree { Agree parts.old (M.state media.old).contents }
     requires lba { lba < parts.old.geometry.size }
     requires memory { HasMemory parts.old }
-    requires few { length parts.old.log.buffered < 127 }
+    requires few { length parts.old.log.buffered < page_records parts.old.log.geometry }
     requires dirty { dirty ≡ true → HasRoomFor parts.old.geometry parts.old.map.entries lba }
     ensures geometry { parts.new.geometry ≡ parts.old.geometry }
     ensures agree { OnOk result (Agree parts.new (M.state media.new).contents) }
     ensures nothing_waits { OnOk result (parts.new.log.buffered ≡ []) }
     ensures lists { OnOk result ((list durable : CacheList) → Lists parts.old (M.state media.old).contents.flash.page list durable
-        → (v : CacheList) × LeftOf parts.old list v × Lists parts.new (M.state media.new).contents.flash.page (insert v lba (held block.now dirty)) (insert v lba (held block.now dirty))) }
+        → (v : CacheList) × LeftOf parts.old list v × Lists parts.new (M.state media.new).contents.flash.page
+        (insert v lba (held block.now dirty)) (insert v lba (held block.now dirty))) }
     // Whatever is answered, and wherever power went off.
     ensures stands { (list durable : CacheList) → Lists parts.old (M.state media.old).contents.flash.page list durable
-        → StandsForStep parts.old.geometry (M.state media.new).contents.flash.page durable list (λ s. insert s lba (held block.now dirty)) }
+        → FlashStandsForStep parts.old.geometry (M.state media.new).contents.flash.page durable list
+        (λ s. insert s lba (held block.now dirty)) }
     // Where a log block can be had without a merge nothing gives way, whatever is answered.
     ensures kept { HasLogRoom parts.old → (list durable : CacheList) → Lists parts.old (M.state media.old).contents.flash.page list durable
-        → StandsForOne parts.old.geometry (M.state media.new).contents.flash.page durable list (insert list lba (held block.now dirty)) }
-    ensures two_programs { OnOk result (1 ≤ parts.old.logs.room → parts.old.log.next < log_pages parts.old.geometry → (M.state media.new).counts ≡ program_counted (program_counted (M.state media.old).counts)) }
+        → FlashStandsForOne parts.old.geometry (M.state media.new).contents.flash.page durable list
+        (insert list lba (held block.now dirty)) }
+    ensures two_programs { OnOk result (1 ≤ parts.old.logs.room → parts.old.log.next < log_pages parts.old.geometry
+        → (M.state media.new).counts ≡ program_counted (program_counted (M.state media.old).counts)) }
     ensures programs { OnOk result (Rose (M.state media.old).counts.programs (M.state media.new).counts.programs) }
     ensures spends { OnOk result (Spends 2 (M.state media.old) (M.state media.new)) }
     ensures memory { IsErrOf result MediaError.OutOfMemory → ⊥ }
@@ -109,19 +113,22 @@ pub(crate) fn write_buffered<M: Media>(
     requires agree { Agree parts.old (M.state media.old).contents }
     requires lba { lba < parts.old.geometry.size }
     requires memory { HasMemory parts.old }
-    requires few { length parts.old.log.buffered < 127 }
+    requires few { length parts.old.log.buffered < page_records parts.old.log.geometry }
     ensures geometry { parts.new.geometry ≡ parts.old.geometry }
     ensures agree { OnOk result (Agree parts.new (M.state media.new).contents) }
-    ensures few { OnOk result (length parts.new.log.buffered < 127) }
+    ensures few { OnOk result (length parts.new.log.buffered < page_records parts.new.log.geometry) }
     ensures lists { OnOk result ((list durable : CacheList) → Lists parts.old (M.state media.old).contents.flash.page list durable
         → PutsBlock parts.old lba (held block.now false) parts.new (M.state media.new).contents.flash.page durable list) }
     // Whatever is answered, and wherever power went off.
     ensures stands { (list durable : CacheList) → Lists parts.old (M.state media.old).contents.flash.page list durable
-        → StandsForStep parts.old.geometry (M.state media.new).contents.flash.page durable list (λ s. insert s lba (held block.now false)) }
+        → FlashStandsForStep parts.old.geometry (M.state media.new).contents.flash.page durable list
+        (λ s. insert s lba (held block.now false)) }
     // Where a log block can be had without a merge nothing gives way, whatever is answered.
     ensures kept { HasLogRoom parts.old → (list durable : CacheList) → Lists parts.old (M.state media.old).contents.flash.page list durable
-        → StandsForOne parts.old.geometry (M.state media.new).contents.flash.page durable list (insert list lba (held block.now false)) }
-    ensures one_program { OnOk result (1 ≤ parts.old.logs.room → length parts.old.log.buffered + 2 ≤ 127 → IsPushed parts.old lba false parts.new × ((M.state media.new).counts ≡ program_counted (M.state media.old).counts)) }
+        → FlashStandsForOne parts.old.geometry (M.state media.new).contents.flash.page durable list
+        (insert list lba (held block.now false)) }
+    ensures one_program { OnOk result (1 ≤ parts.old.logs.room → length parts.old.log.buffered + 2 ≤ page_records parts.old.log.geometry
+        → IsPushed parts.old lba false parts.new × ((M.state media.new).counts ≡ program_counted (M.state media.old).counts)) }
     ensures programs { OnOk result (Rose (M.state media.old).counts.programs (M.state media.new).counts.programs) }
     ensures spends { OnOk result (Spends 1 (M.state media.old) (M.state media.new)) }
     ensures memory { IsErrOf result MediaError.OutOfMemory → ⊥ }
@@ -142,18 +149,21 @@ fn write_page<M: Media>(
     requires agree { Agree parts.old (M.state media.old).contents }
     requires lba { lba < parts.old.geometry.size }
     requires memory { HasMemory parts.old }
-    requires few { length parts.old.log.buffered < 127 }
+    requires few { length parts.old.log.buffered < page_records parts.old.log.geometry }
     requires dirty { dirty ≡ true → HasRoomFor parts.old.geometry parts.old.map.entries lba }
     ensures geometry { parts.new.geometry ≡ parts.old.geometry }
     ensures agree { OnOk result (Agree parts.new (M.state media.new).contents) }
     ensures waits { OnOk result (parts.new.log.buffered ≢ []) }
     ensures lists { OnOk result ((list durable : CacheList) → Lists parts.old (M.state media.old).contents.flash.page list durable
         → PutsBlock parts.old lba (held block.now dirty) parts.new (M.state media.new).contents.flash.page durable list) }
-    ensures stands { (list durable : CacheList) → Lists parts.old (M.state media.old).contents.flash.page list durable → StandsForGiven parts.old.geometry (M.state media.new).contents.flash.page durable list }
-    ensures list_stands { HasLogRoom parts.old → (list durable : CacheList) → Lists parts.old (M.state media.old).contents.flash.page list durable
-        → StandsForEither parts.old.geometry (M.state media.new).contents.flash.page durable list }
+    ensures stands { (list durable : CacheList) → Lists parts.old (M.state media.old).contents.flash.page list durable
+        → FlashStandsForGiven parts.old.geometry (M.state media.new).contents.flash.page durable list }
+    ensures list_stands { HasLogRoom parts.old → (list durable : CacheList)
+        → Lists parts.old (M.state media.old).contents.flash.page list durable
+        → FlashStandsForEither parts.old.geometry (M.state media.new).contents.flash.page durable list }
     // Where the open log block has a page left: one program, and all that was buffered is.
-    ensures one_program { OnOk result (1 ≤ parts.old.logs.room → IsPushed parts.old lba dirty parts.new × ((M.state media.new).counts ≡ program_counted (M.state media.old).counts)) }
+    ensures one_program { OnOk result (1 ≤ parts.old.logs.room → IsPushed parts.old lba dirty parts.new
+        × ((M.state media.new).counts ≡ program_counted (M.state media.old).counts)) }
     ensures programs { OnOk result (Rose (M.state media.old).counts.programs (M.state media.new).counts.programs) }
     ensures spends { OnOk result (Spends 1 (M.state media.old) (M.state media.new)) }
     ensures memory { IsErrOf result MediaError.OutOfMemory → ⊥ }
@@ -172,15 +182,18 @@ pub(crate) fn take_out<M: Media>(
 ) -> Result<(), MediaError>
     requires agree { Agree parts.old (M.state media.old).contents }
     requires lba { lba < parts.old.geometry.size }
-    requires few { length parts.old.log.buffered < 127 }
+    requires few { length parts.old.log.buffered < page_records parts.old.log.geometry }
     ensures geometry { parts.new.geometry ≡ parts.old.geometry }
     ensures reserved { HasMemory parts.old → HasMemory parts.new }
     ensures agree { OnOk result (Agree parts.new (M.state media.new).contents) }
     ensures nothing_waits { OnOk result (parts.new.log.buffered ≡ []) }
-    ensures lists { OnOk result ((list durable : CacheList) → Lists parts.old (M.state media.old).contents.flash.page list durable → Lists parts.new (M.state media.new).contents.flash.page (evicted lba list) (evicted lba list)) }
+    ensures lists { OnOk result ((list durable : CacheList) → Lists parts.old (M.state media.old).contents.flash.page list durable
+        → Lists parts.new (M.state media.new).contents.flash.page (evicted lba list) (evicted lba list)) }
     // Whatever is answered, and wherever power went off.
-    ensures stands { (list durable : CacheList) → Lists parts.old (M.state media.old).contents.flash.page list durable → StandsForEither parts.old.geometry (M.state media.new).contents.flash.page durable (evicted lba list) }
-    ensures one_program { OnOk result (parts.old.log.next < log_pages parts.old.geometry → (M.state media.new).counts ≡ program_counted (M.state media.old).counts) }
+    ensures stands { (list durable : CacheList) → Lists parts.old (M.state media.old).contents.flash.page list durable
+        → FlashStandsForEither parts.old.geometry (M.state media.new).contents.flash.page durable (evicted lba list) }
+    ensures one_program { OnOk result (parts.old.log.next < log_pages parts.old.geometry
+        → (M.state media.new).counts ≡ program_counted (M.state media.old).counts) }
     ensures memory { IsErrOf result MediaError.OutOfMemory → ⊥ }
     ensures drives { DrivesFlash (M.state media.old) (M.state media.new) (failed result) (lost result) }
 {
@@ -196,15 +209,18 @@ pub(crate) fn mark_clean<M: Media>(
 ) -> Result<(), MediaError>
     requires agree { Agree parts.old (M.state media.old).contents }
     requires lba { lba < parts.old.geometry.size }
-    requires few { length parts.old.log.buffered < 127 }
+    requires few { length parts.old.log.buffered < page_records parts.old.log.geometry }
     ensures geometry { parts.new.geometry ≡ parts.old.geometry }
     ensures reserved { HasMemory parts.old → HasMemory parts.new }
     ensures agree { OnOk result (Agree parts.new (M.state media.new).contents) }
-    ensures room { OnOk result (length parts.new.log.buffered < 127) }
-    ensures lists { OnOk result ((list durable : CacheList) → Lists parts.old (M.state media.old).contents.flash.page list durable → ListsAfter parts.old.log.buffered (Clean lba) parts.new (M.state media.new).contents.flash.page durable list (made_clean lba list)) }
+    ensures room { OnOk result (length parts.new.log.buffered < page_records parts.new.log.geometry) }
+    ensures lists { OnOk result ((list durable : CacheList) → Lists parts.old (M.state media.old).contents.flash.page list durable
+        → ListsAfter parts.old.log.buffered (Clean lba) parts.new (M.state media.new).contents.flash.page durable list
+        (made_clean lba list)) }
     // Whatever is answered, and wherever power went off.
-    ensures stands { (list durable : CacheList) → Lists parts.old (M.state media.old).contents.flash.page list durable → StandsForEither parts.old.geometry (M.state media.new).contents.flash.page durable (made_clean lba list) }
-    ensures no_write { length parts.old.log.buffered + 2 ≤ 127 → M.state media.new ≡ M.state media.old }
+    ensures stands { (list durable : CacheList) → Lists parts.old (M.state media.old).contents.flash.page list durable
+        → FlashStandsForEither parts.old.geometry (M.state media.new).contents.flash.page durable (made_clean lba list) }
+    ensures no_write { length parts.old.log.buffered + 2 ≤ page_records parts.old.log.geometry → M.state media.new ≡ M.state media.old }
     ensures memory { IsErrOf result MediaError.OutOfMemory → ⊥ }
     ensures drives { DrivesFlash (M.state media.old) (M.state media.new) (failed result) (lost result) }
 {
@@ -216,13 +232,15 @@ pub(crate) fn mark_clean<M: Media>(
 fn commit_if_full<M: Media>(parts: &mut Parts, media: &mut M) -> Result<(), MediaError>
     requires agree { Agree parts.old (M.state media.old).contents }
     ensures cache { parts.new ≡ record parts.old { log = parts.new.log } }
-    ensures few { OnOk result (length parts.new.log.buffered < 127) }
+    ensures few { OnOk result (length parts.new.log.buffered < page_records parts.new.log.geometry) }
     ensures agree { OnOk result (Agree parts.new (M.state media.new).contents) }
     ensures lists { OnOk result ((list durable : CacheList) → Lists parts.old (M.state media.old).contents.flash.page list durable
         → ((parts.new.log ≡ parts.old.log) × Lists parts.new (M.state media.new).contents.flash.page list durable)
         ⊎ ((parts.new.log.buffered ≡ []) × Lists parts.new (M.state media.new).contents.flash.page list list)) }
-    ensures stands { (list durable : CacheList) → Lists parts.old (M.state media.old).contents.flash.page list durable → StandsForEither parts.old.geometry (M.state media.new).contents.flash.page durable list }
-    ensures no_write { length parts.old.log.buffered < 127 → IsOk result × (parts.new ≡ parts.old) × (M.state media.new ≡ M.state media.old) }
+    ensures stands { (list durable : CacheList) → Lists parts.old (M.state media.old).contents.flash.page list durable
+        → FlashStandsForEither parts.old.geometry (M.state media.new).contents.flash.page durable list }
+    ensures no_write { length parts.old.log.buffered < page_records parts.old.log.geometry → IsOk result × (parts.new ≡ parts.old)
+        × (M.state media.new ≡ M.state media.old) }
     ensures memory { IsErrOf result MediaError.OutOfMemory → ⊥ }
     ensures drives { DrivesFlash (M.state media.old) (M.state media.new) (failed result) (lost result) }
 {

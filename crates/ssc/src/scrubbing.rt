@@ -50,7 +50,8 @@ impl Ssc {
     ) -> Result<Scrub, SscError>
         requires up { IsUp self.now (M.state media.old).contents }
         requires before { IsScrubBelow (geometry_of self.now) (M.state media.old).contents.flash.page (entries_of self.now) i before }
-        ensures found { IfOk result (IsScrubBelow (geometry_of self.now) (M.state media.old).contents.flash.page (entries_of self.now) (i + 1)) }
+        ensures found { IfOk result (IsScrubBelow (geometry_of self.now) (M.state media.old).contents.flash.page (entries_of self.now)
+            (i + 1)) }
         ensures full { (n l : ℕ) → IsErrOf result (SscError.Full n l) → ⊥ }
         ensures memory { IsErrOf result SscError.OutOfMemory → ⊥ }
         ensures reads { ReadsFlash (M.state media.old) (M.state media.new) (ssc_failed result) (ssc_lost result) }

@@ -31,7 +31,8 @@ all_left size hot number count g =
     length-lines_made size hot number (count - 0) g ∙ all
 
 -- the line that was made of the words that were drawn is the next
-pub next_given : (size hot given count : ℕ) (g rest : Lcg) (words : Words) (made : Line) → given < count → words ≡ (drawn g).0 → rest ≡ (drawn g).1 → made ≡ line_made size hot (given + 1) words → lines_made size hot (given + 1) (count - given) g ≡ made ∷ lines_made size hot (given + 1 + 1) (count - (given + 1)) rest
+pub next_given : (size hot given count : ℕ) (g rest : Lcg) (words : Words) (made : Line) → given < count → words ≡ (drawn g).0 → rest ≡ (drawn g).1 → made ≡ line_made size hot (given + 1) words
+    → lines_made size hot (given + 1) (count - given) g ≡ made ∷ lines_made size hot (given + 1 + 1) (count - (given + 1)) rest
 next_given size hot given count g rest words made some words_are rest_is line_is =
     next_left size hot given count g some
     ∙ ap (λ (w : Words). line_made size hot (given + 1) w ∷ lines_made size hot (given + 1 + 1) (count - (given + 1)) (drawn g).1) (sym words_are)

@@ -41,7 +41,8 @@ line_of_kind kind first count number = if nat_lt kind 50 then line.Write first c
 
 -- the line of this number that the words make
 abbrev pub line_made : ℕ → ℕ → ℕ → Words → Line
-line_made size hot number words = line_of_kind (words.kind % 100) (first_in size hot words) (count_in size (first_in size hot words) words) number
+line_made size hot number words = line_of_kind (words.kind % 100) (first_in size hot words) (count_in size (first_in size hot words) words)
+    number
 
 -- so many lines, the first of this number
 unfoldable pub lines_made : ℕ → ℕ → ℕ → ℕ → Lcg → List Line

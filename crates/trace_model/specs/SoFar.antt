@@ -12,7 +12,7 @@ use Rattle.trace_model.specs.declared.answer.Answer.TheVariants as answer
 use Rattle.trace_model.specs.declared.ran.Ran.{Ran}
 use Rattle.trace_model.specs.Readings.{Reading, accepted}
 use Rattle.trace_model.specs.Run.{answers_of, disk_without, disk_written, end_answers, lines_of, with_line, writes_after}
-use Rattle.trace_model.specs.Fits.{Fits, FitsEnd, FitsNext, armed_after, block_count, kept_since_flush, may_write}
+use Rattle.trace_model.specs.Fits.{FitsRun, FitsEnd, FitsNext, armed_after, block_count, kept_since_flush, may_write}
 
 -- ---- refusals
 
@@ -49,7 +49,7 @@ refusal run cause = answer.Refused (length (lines_of run) + 1) cause ∷ []
 pub record WasRun (o : Told) (all : List Reading) (run : List Ran) (left : List Reading) : Type 0 where
   pub lines : all ≡ map accepted (lines_of run) ++ left
   pub accepted : NoneRefused run
-  pub fits : Fits o.ack run
+  pub fits : FitsRun o.ack run
 
 -- a line with what became of it
 abbrev pub as_ran : Line → ℕ → ℕ → ℕ → Ran

@@ -56,7 +56,8 @@ fn walk_lines(alloc: Global, plan: &Plan, run: &[Ran]) -> Result<Walk, AllocErro
 fn walk_line(alloc: Global, plan: &Plan, line: &Line, before: Walk) -> Result<Walk, AllocError>
     requires { IsAddressed line.now }
     ensures table { IfOk result (λ w. table_of w.table.items ≡ backs.table_line (told_of plan.now) line.now (table_of before.table.items)) }
-    ensures backs { IfOk result (λ w. w.backs ≡ min (before.backs + backs.backs_line (told_of plan.now) line.now (table_of before.table.items)) (2 ^ 64 - 1)) }
+    ensures backs { IfOk result (λ w. w.backs ≡ min (before.backs + backs.backs_line (told_of plan.now) line.now
+        (table_of before.table.items)) (2 ^ 64 - 1)) }
 {
     match *line {
         Line::Write { lba, count, .. } => walk_blocks(alloc, plan, lba, count, before),
@@ -73,8 +74,10 @@ fn walk_blocks(
     before: Walk,
 ) -> Result<Walk, AllocError>
     requires { lba + count < 2 ^ 64 }
-    ensures table { IfOk result (λ w. table_of w.table.items ≡ backs.table_blocks (told_of plan.now) lba count (table_of before.table.items)) }
-    ensures backs { IfOk result (λ w. w.backs ≡ min (before.backs + backs.backs_blocks (told_of plan.now) lba count (table_of before.table.items)) (2 ^ 64 - 1)) }
+    ensures table { IfOk result (λ w. table_of w.table.items ≡ backs.table_blocks (told_of plan.now) lba count
+        (table_of before.table.items)) }
+    ensures backs { IfOk result (λ w. w.backs ≡ min (before.backs + backs.backs_blocks (told_of plan.now) lba count
+        (table_of before.table.items)) (2 ^ 64 - 1)) }
 {
     let mut walk = before;
     for i in 0..count {
@@ -85,8 +88,10 @@ fn walk_blocks(
 
 /// One block is written: where its group is new and there are as many as may be, the oldest goes first.
 fn write(alloc: Global, plan: &Plan, lba: u64, before: Walk) -> Result<Walk, AllocError>
-    ensures table { IfOk result (λ w. table_of w.table.items ≡ dirty.table_written plan.now.mode (told_of plan.now) lba (table_of before.table.items)) }
-    ensures backs { IfOk result (λ w. w.backs ≡ min (before.backs + dirty.backs_written plan.now.mode (told_of plan.now) lba (table_of before.table.items)) (2 ^ 64 - 1)) }
+    ensures table { IfOk result (λ w. table_of w.table.items ≡ dirty.table_written plan.now.mode (told_of plan.now) lba
+        (table_of before.table.items)) }
+    ensures backs { IfOk result (λ w. w.backs ≡ min (before.backs + dirty.backs_written plan.now.mode (told_of plan.now) lba
+        (table_of before.table.items)) (2 ^ 64 - 1)) }
 {
     match plan.mode {
         Mode::Back => write_back(alloc, plan, lba, before),
@@ -98,8 +103,10 @@ fn write(alloc: Global, plan: &Plan, lba: u64, before: Walk) -> Result<Walk, All
 }
 
 fn write_back(alloc: Global, plan: &Plan, lba: u64, before: Walk) -> Result<Walk, AllocError>
-    ensures table { IfOk result (λ w. table_of w.table.items ≡ dirty.table_written Mode.Back (told_of plan.now) lba (table_of before.table.items)) }
-    ensures backs { IfOk result (λ w. w.backs ≡ min (before.backs + dirty.backs_written Mode.Back (told_of plan.now) lba (table_of before.table.items)) (2 ^ 64 - 1)) }
+    ensures table { IfOk result (λ w. table_of w.table.items ≡ dirty.table_written Mode.Back (told_of plan.now) lba
+        (table_of before.table.items)) }
+    ensures backs { IfOk result (λ w. w.backs ≡ min (before.backs + dirty.backs_written Mode.Back (told_of plan.now) lba
+        (table_of before.table.items)) (2 ^ 64 - 1)) }
 {
     let p = plan.geometry.p() as u64;
     let new = !has_group(before.table.as_slice(), lba / p);
@@ -124,7 +131,8 @@ fn put(alloc: Global, p: u64, lba: u64, before: Walk) -> Result<Walk, AllocError
 
 fn idle(alloc: Global, plan: &Plan, before: Walk) -> Result<Walk, AllocError>
     ensures table { IfOk result (λ w. table_of w.table.items ≡ dirty.table_idled (told_of plan.now) (table_of before.table.items)) }
-    ensures backs { IfOk result (λ w. w.backs ≡ min (before.backs + dirty.backs_idled (told_of plan.now) (table_of before.table.items)) (2 ^ 64 - 1)) }
+    ensures backs { IfOk result (λ w. w.backs ≡ min (before.backs + dirty.backs_idled (told_of plan.now) (table_of before.table.items))
+        (2 ^ 64 - 1)) }
 {
     if goes_back(plan, before.table.len()) {
         return drop_oldest(alloc, before);

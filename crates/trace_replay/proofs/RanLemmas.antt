@@ -16,14 +16,14 @@ use Rattle.trace_model.specs.declared.line.Line.TheVariants as line
 use Rattle.trace_model.specs.declared.line.LineError.TheVariants.{TooManyStops}
 use Rattle.trace_model.specs.declared.ran.Ran.{Ran}
 use Rattle.trace_model.specs.Backs.{IsUncut}
-use Rattle.trace_model.specs.Fits.{FitsLine, FitsNext, FitsWrite, IsWithin, armed_after, arming, block_count, may_still, may_write}
+use Rattle.trace_model.specs.Fits.{FitsLine, FitsNext, FitsWrite, IsAtMost, armed_after, arming, block_count, may_still, may_write}
 use Rattle.trace_model.specs.Run.{after_line, cut_count, cuts_in, disk_after, disk_without, lines_of, read_count, reads_in, touching, write_count, writes_in}
 use Rattle.trace_model.specs.SoFar.{as_ran, is_stop, refusal_of, refusal_when}
 use Rattle.trace_model.proofs.RunLemmas.{disk_after-line, disk_without-none}
 use Rattle.trace_replay.specs.declared.tally.Tally.{Tally}
 use Rattle.trace_replay.specs.Ends.{BeginsRest, CanBecome, RunsLine}
 use Rattle.trace_replay.specs.Events.{ScriptState}
-use Rattle.trace_replay.specs.Ran.{GoesOn, IsTallied, IsTallyOf, RanSoFar, RestWithin}
+use Rattle.trace_replay.specs.Ran.{RunKeepsFrame, IsTallied, IsTallyOf, RanSoFar, RestWithin}
 use Rattle.trace_replay.specs.Said.{RoseAtLeast}
 use Rattle.trace_replay.specs.Spends.{IsQuiet, Spent, steps_of}
 use Rattle.trace_replay.proofs.SpendsLemmas.{run_more, spent_fresh}
@@ -136,7 +136,8 @@ reads_few (ran ∷ run) =
 
 -- ---- the lines that were run
 
-pub so_far_none : (o : Told) (stands : Image → PlainDisk → Type 0) (s : State) (counted : Tally) (v : VolumeState) → v.told ≡ o → IsQuiet v s → v.table ≡ [] → ((a : ℕ) → v.held a ≡ false) → o.dirty ≤ o.geometry.c → StandFor stands s.contents empty → IsTallyOf [] counted → RanSoFar o stands s s counted v []
+pub so_far_none : (o : Told) (stands : Image → PlainDisk → Type 0) (s : State) (counted : Tally) (v : VolumeState) → v.told ≡ o → IsQuiet v s → v.table ≡ [] → ((a : ℕ) → v.held a ≡ false)
+    → o.dirty ≤ o.geometry.c → StandFor stands s.contents empty → IsTallyOf [] counted → RanSoFar o stands s s counted v []
 so_far_none o stands s counted v told quiet table none dirty stood tally = record {
   accepted = tt;
   fits = tt;
@@ -172,7 +173,7 @@ module _ (o : Told) (stands : Image → PlainDisk → Type 0) (first a : State) 
   pub accepts : (l : Line) → (is_stop l ≡ true → length a.power.stops < 16) → refusal_of run l ≡ None
   accepts l few = admitted (length (armed_after run)) l (λ stop. subst (λ (q : List Stop). length q < 16) so_far.stops (few stop))
 
-  within_may : (l : Line) (may : Option ℕ) → RestWithin may a.power.stops a.power.rest → (a.power.stops ≢ [] → block_count l ≤ a.power.rest) → IsWithin (block_count l) may
+  within_may : (l : Line) (may : Option ℕ) → RestWithin may a.power.stops a.power.rest → (a.power.stops ≢ [] → block_count l ≤ a.power.rest) → IsAtMost (block_count l) may
   within_may l None known spends = tt
   within_may l (Some n) known spends = at_most (block_count l) a.power.rest n (spends known.0) known.1
     where
@@ -189,7 +190,9 @@ module _ (o : Told) (stands : Image → PlainDisk → Type 0) (first a : State) 
   }
 
   -- one more line was run
-  pub so_far_more : (more : Image → PlainDisk → Type 0) (l : Line) (cuts kept : ℕ) (b : State) (new : Tally) (w : VolumeState) → o.ack ≡ ack.Write → refusal_of run l ≡ None → IsTallied l counted new → b.power.on ≡ true → b.contents.shape ≡ a.contents.shape → (IsQuiet v a → IsUncut l → Spent (steps_of l) v w a b) → RunsLine l cuts a b → FitsLine ack.Write l cuts kept 0 (disk_after run) → StandFor more b.contents (after_line l kept (disk_after run)) → RanSoFar o more first b new w (as_ran l cuts kept 0 ∷ run)
+  pub so_far_more : (more : Image → PlainDisk → Type 0) (l : Line) (cuts kept : ℕ) (b : State) (new : Tally) (w : VolumeState) → o.ack ≡ ack.Write → refusal_of run l ≡ None → IsTallied l counted new
+      → b.power.on ≡ true → b.contents.shape ≡ a.contents.shape → (IsQuiet v a → IsUncut l → Spent (steps_of l) v w a b) → RunsLine l cuts a b → FitsLine ack.Write l cuts kept 0 (disk_after run)
+      → StandFor more b.contents (after_line l kept (disk_after run)) → RanSoFar o more first b new w (as_ran l cuts kept 0 ∷ run)
   so_far_more more l cuts kept b new w acked none one on shape spent runs fits stood = record {
     accepted = (none, so_far.accepted);
     fits = (can_next l cuts kept acked (record { few = runs.few; spends = λ none some. let rest = runs.rest none some in omega arith; fits = fits }), so_far.fits);
@@ -221,7 +224,7 @@ lines_more run one before after before_is after_is = after_is ∙ one_line (line
 -- ---- how a run goes on
 
 module _ {P : Type 0} (tells : P → ScriptState) where
-  pub on_then : (x y z : P) (a b c : State) → GoesOn tells x y a b → GoesOn tells y z b c → GoesOn tells x z a c
+  pub on_then : (x y z : P) (a b c : State) → RunKeepsFrame tells x y a b → RunKeepsFrame tells y z b c → RunKeepsFrame tells x z a c
   on_then x y z a b c first next =
       let f1 = first.flash in let f2 = next.flash in
       let d1 = first.disk in let d2 = next.disk in
@@ -242,7 +245,7 @@ module _ {P : Type 0} (tells : P → ScriptState) where
       }
 
   -- a call of the script alone
-  pub on_script : (x y : P) (a : State) → a.power.on ≡ true → (tells x).source_faults ≤ (tells y).source_faults → (tells x).sink_faults ≤ (tells y).sink_faults → (tells y).lent ≡ (tells x).lent → (tells y).size ≡ (tells x).size → (tells y).turns ≤ (tells x).turns → GoesOn tells x y a a
+  pub on_script : (x y : P) (a : State) → a.power.on ≡ true → (tells x).source_faults ≤ (tells y).source_faults → (tells x).sink_faults ≤ (tells y).sink_faults → (tells y).lent ≡ (tells x).lent → (tells y).size ≡ (tells x).size → (tells y).turns ≤ (tells x).turns → RunKeepsFrame tells x y a a
   on_script x y a on source sink lent size turns = record { on = on; shape = refl; lent = refl; flash = omega arith; disk = omega arith; source = source; sink = sink; script_lent = lent; size = size; turns = turns }
 
 -- ---- what may become of the next line

@@ -17,7 +17,7 @@ use Rattle.trace_replay.specs.declared.reader.Reader.{Reader}
 use Rattle.trace_replay.specs.declared.reader.Unread.{Unread}
 use Rattle.trace_replay.specs.declared.reader.Unread.TheVariants as unread
 use Rattle.trace_replay.specs.Events.{refused_for}
-use Rattle.trace_replay.specs.Reader.{AreLines, CameTo, Gives, ReadAll, ReadSo, RefusesNext, first_given, known_so, left_in}
+use Rattle.trace_replay.specs.Reader.{AreLines, CameTo, GivesLine, ReadAll, ReadSo, RefusesNext, first_given, known_so, left_in}
 use Rattle.trace_replay.proofs.InputLemmas.{consumes_then}
 use Rattle.trace_replay.proofs.PendingLemmas.{none_front}
 
@@ -348,7 +348,8 @@ pub same_cause : {T : Type 0} (x y : LineError) → IsErrOf {T = T} (Err (unread
 same_cause x y is = cc
 
 -- a line that is given after more was read
-pub given_after : (r : Result (Option Line) Unread) (armed : ℕ) (a b : SourceState) (x y z : Reader) → IfOk r (λ o. IfSome o (λ l. (q : SourceState) → Gives l armed q y q z)) → ((s : SourceState) (lines : List Line) → CameTo s lines a x → CameTo s lines b y) → y.bytes ≡ x.bytes → IfOk r (λ o. IfSome o (λ l. Gives l armed a x b z))
+pub given_after : (r : Result (Option Line) Unread) (armed : ℕ) (a b : SourceState) (x y z : Reader) → IfOk r (λ o. IfSome o (λ l. (q : SourceState) → GivesLine l armed q y q z))
+    → ((s : SourceState) (lines : List Line) → CameTo s lines a x → CameTo s lines b y) → y.bytes ≡ x.bytes → IfOk r (λ o. IfSome o (λ l. GivesLine l armed a x b z))
 given_after (Ok (Some l)) armed a b x y z gives came same =
     let given = gives b in
     record {

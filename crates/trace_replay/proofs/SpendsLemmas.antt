@@ -20,7 +20,7 @@ use Rattle.ft_volume.proofs.OpenedLemmas.{opened_up}
 use Rattle.trace_model.specs.declared.line.Line.{Line}
 use Rattle.trace_model.specs.declared.ran.Ran.{Ran}
 use Rattle.trace_model.specs.Backs.{AreUncut, IsUncut}
-use Rattle.trace_replay.specs.Spends.{IsQuiet, Spends, SpendsAtMost, SpendsLine, Spent, SpentSoFar, StayIn, Step, backs_steps, fresh, held_after, misses_in, puts_of, steps_after, steps_of, table_steps, touches_each, touches_of}
+use Rattle.trace_replay.specs.Spends.{IsQuiet, SpendsSteps, SpendsAtMost, SpendsLine, Spent, SpentSoFar, StayIn, Step, backs_steps, fresh, held_after, misses_in, puts_of, steps_after, steps_of, table_steps, touches_each, touches_of}
 use Rattle.trace_replay.specs.Spends.Step.{Touches, Puts, Rests}
 
 -- ---- lists of steps, one after the other
@@ -347,7 +347,9 @@ module _ (T : Type 0) (loads : Told → (Place → Page) → Entries → Type 0)
       cc
 
   -- it was refused, and nothing was done then
-  pub call_most : {B : Type 0} (error : VolumeError) (c : State) → IsQuiet v a → (m : Entries) × loads v.told a.contents.flash.page m → ((m : Entries) → loads v.told a.contents.flash.page m → Costs {T = T} call (opened_of v m) w a b (Err error)) → Goes {T = T} v w a b (Err error) → (error ≢ volume.PowerLost → (c ≡ b) × B) → SpendsAtMost (step_of call) v a c
+  pub call_most : {B : Type 0} (error : VolumeError) (c : State) → IsQuiet v a → (m : Entries) × loads v.told a.contents.flash.page m
+      → ((m : Entries) → loads v.told a.contents.flash.page m → Costs {T = T} call (opened_of v m) w a b (Err error)) → Goes {T = T} v w a b (Err error) → (error ≢ volume.PowerLost → (c ≡ b) × B)
+      → SpendsAtMost (step_of call) v a c
   call_most error c quiet can clause goes same =
       let still = same (λ is. call_never_lost error is quiet goes) in
       subst (λ (s : State). SpendsAtMost (step_of call) v a s) (sym still.0) (costs_most (Err error) (costs_up (Err error) quiet.up can clause) goes)
@@ -360,11 +362,11 @@ never_cut n v a few some quiet = let none = ap (λ (stops : List Stop). length s
 
 module _ {T : Type 0} {E : Type 0} (steps : List Step) (v w : VolumeState) (a b : State) where
   -- it answered
-  pub spends_ok : (value : T) → (IsQuiet v a → Spent steps v w a b) → Spends {T = T} {E = E} steps v w a b (Ok value)
+  pub spends_ok : (value : T) → (IsQuiet v a → Spent steps v w a b) → SpendsSteps {T = T} {E = E} steps v w a b (Ok value)
   spends_ok value spent = record { done = spent; ended = tt }
 
   -- what holds of the error that `?` gives back
-  pub spends_ends : (r : Result T E) (from : E) → IsErrAnd r (λ e. e ≡ from) → (IsQuiet v a → SpendsAtMost steps v a b) → Spends steps v w a b r
+  pub spends_ends : (r : Result T E) (from : E) → IsErrAnd r (λ e. e ≡ from) → (IsQuiet v a → SpendsAtMost steps v a b) → SpendsSteps steps v w a b r
   spends_ends (Ok value) from is most = absurd is
   spends_ends (Err e) from is most = record { done = tt; ended = most }
 

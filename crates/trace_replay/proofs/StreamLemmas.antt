@@ -111,7 +111,8 @@ module _ (r : Reader) (a : SourceState) (x : SinkState) (s : SourceState) (b : S
   broke_refused q z y n cause read is part = came_broke y (refusal_after e cause) (subst (λ (given : Answer). SaidPart x y [] (Some given)) (refused_so q z n cause read is) part)
 
 -- the next line is refused
-pub next_refused : {P : Type 0} (knows : SourceState → P → List Reading → Bool → Type 0) (now : P) (size : ℕ) (s a : SourceState) (e : List Event) (armed : ℕ) (cause : LineError) → ((all : List Reading) (whole : Bool) → Reads size s a all whole → knows s now all whole) → RefusesNext size s a (lines_given e) armed cause → NextRefused knows s now e armed cause
+pub next_refused : {P : Type 0} (knows : SourceState → P → List Reading → Bool → Type 0) (now : P) (size : ℕ) (s a : SourceState) (e : List Event) (armed : ℕ) (cause : LineError)
+    → ((all : List Reading) (whole : Bool) → Reads size s a all whole → knows s now all whole) → RefusesNext size s a (lines_given e) armed cause → NextRefused knows s now e armed cause
 next_refused knows now size s a e armed cause known refuses = record {
   all = refuses.all;
   whole = refuses.whole;

@@ -94,7 +94,8 @@ refused_next run armed (Ok l) left cause same is = subst (λ n. refused_for n (O
 
 -- ---- an end
 
-run_part : (o : Told) (reads : List Reading → Bool → Type 0) (says : List Ran → List Answer → Type 0) (short : List Ran → List Answer → Option Answer → Type 0) (stands : Image → PlainDisk → Type 0) (first now : State) (e : Ended) → (e ≡ ended.Trace → ⊥) → (e ≡ ended.Source → ⊥) → EndsPart o reads says short stands first now e → EndsRun o reads says short stands first now e
+run_part : (o : Told) (reads : List Reading → Bool → Type 0) (says : List Ran → List Answer → Type 0) (short : List Ran → List Answer → Option Answer → Type 0) (stands : Image → PlainDisk → Type 0)
+    (first now : State) (e : Ended) → (e ≡ ended.Trace → ⊥) → (e ≡ ended.Source → ⊥) → EndsPart o reads says short stands first now e → EndsRun o reads says short stands first now e
 run_part o reads says short stands first now e not_trace not_source ends = record { refused = λ is. absurd (not_trace is); unread = λ is. absurd (not_source is); part = λ _ _. ends }
 
 module _ (o : Told) (stands : Image → PlainDisk → Type 0) (first a : State) (counted : Tally) (v : VolumeState) (run : List Ran) (so_far : RanSoFar o stands first a counted v run) where
@@ -135,7 +136,9 @@ module _ (o : Told) (stands : Image → PlainDisk → Type 0) (first a : State) 
           (answers_of (as_ran l can.0 can.1 0) (disk_without 0 run), record { cuts = can.0; kept = can.1; lost = 0; fits = can_next o stands first a counted v run so_far l can.0 can.1 acked can.2; told = refl })
 
   -- before any answer of the next line was taken
-  ends_before : (reads : List Reading → Bool → Type 0) (says : List Ran → List Answer → Type 0) (short : List Ran → List Answer → Option Answer → Type 0) (e : Ended) (all : List Reading) (whole : Bool) (left : List Reading) (due : List Answer) → reads all whole → all ≡ map accepted (lines_of run) ++ left → MayTell o whole run left due → Takes e (says run) (short run) [] due → EndsPart o reads says short stands first a e
+  ends_before : (reads : List Reading → Bool → Type 0) (says : List Ran → List Answer → Type 0) (short : List Ran → List Answer → Option Answer → Type 0) (e : Ended) (all : List Reading)
+      (whole : Bool) (left : List Reading) (due : List Answer) → reads all whole → all ≡ map accepted (lines_of run) ++ left → MayTell o whole run left due → Takes e (says run) (short run) [] due
+      → EndsPart o reads says short stands first a e
   ends_before reads says short e all whole left due trace front may taken = record {
     all = all;
     whole = whole;
@@ -189,7 +192,9 @@ module _ (o : Told) (stands : Image → PlainDisk → Type 0) (first a : State) 
       left_next = next_left run l given.all given.left given.front
 
       -- it ended within it
-      pub ends_within : (more : Image → PlainDisk → Type 0) (c : State) (e : Ended) → o.ack ≡ ack.Write → refusal_of run l ≡ None → c.power.on ≡ true → c.contents.shape ≡ a.contents.shape → (IsQuiet v a → SpendsAtMost (steps_of l) v a c) → EndsWithin tells came broke knows e x y a c l (disk_after run) → StandForPart more c.contents l (disk_after run) → EndsRun o (knows s y) (CameBy came s b y) (BreaksBy broke s b y) more first c e
+      pub ends_within : (more : Image → PlainDisk → Type 0) (c : State) (e : Ended) → o.ack ≡ ack.Write → refusal_of run l ≡ None → c.power.on ≡ true → c.contents.shape ≡ a.contents.shape
+          → (IsQuiet v a → SpendsAtMost (steps_of l) v a c) → EndsWithin tells came broke knows e x y a c l (disk_after run) → StandForPart more c.contents l (disk_after run)
+          → EndsRun o (knows s y) (CameBy came s b y) (BreaksBy broke s b y) more first c e
       ends_within more c e acked none on shape most within part = run_part o _ _ _ more first c e within.blamed.not_trace within.blamed.not_source (record {
         all = given.all;
         whole = given.whole;
@@ -257,10 +262,12 @@ module _ (o : Told) (stands : Image → PlainDisk → Type 0) (first a : State) 
     }
 
     -- the sink failed while a refusal was said
-    pub ends_sink : (armed : ℕ) (cause : LineError) → armed ≡ length a.power.stops → NextRefused knows s y (events_of run) armed cause → broke s b (events_of run) (Took (refusal_after (events_of run) cause)) y → EndsPart o (knows s y) (CameBy came s b y) (BreaksBy broke s b y) stands first a ended.Sink
+    pub ends_sink : (armed : ℕ) (cause : LineError) → armed ≡ length a.power.stops → NextRefused knows s y (events_of run) armed cause
+        → broke s b (events_of run) (Took (refusal_after (events_of run) cause)) y → EndsPart o (knows s y) (CameBy came s b y) (BreaksBy broke s b y) stands first a ended.Sink
     ends_sink armed cause armed_is next broken =
         let why = refused_next run armed next.next next.left cause (armed_is ∙ ap (λ (q : List Stop). length q) so_far.stops) next.why in
-        ends_before (knows s y) (CameBy came s b y) (BreaksBy broke s b y) ended.Sink next.all next.whole (next.next ∷ next.left) (refusal run cause) next.known (left_here (events_of run) next.all (next.next ∷ next.left) refl next.front) (may_refuse o run next.whole (next.next ∷ next.left) cause why) (
+        ends_before (knows s y) (CameBy came s b y) (BreaksBy broke s b y) ended.Sink next.all next.whole (next.next ∷ next.left) (refusal run cause) next.known
+        (left_here (events_of run) next.all (next.next ∷ next.left) refl next.front) (may_refuse o run next.whole (next.next ∷ next.left) cause why) (
           [],
           refl,
           subst (λ (r : List Event). broke s b r (Took (answer.Refused (length (lines_of run) + 1) cause)) y) (sym (append-nil (events_of run)))
@@ -275,7 +282,8 @@ module _ (o : Told) (stands : Image → PlainDisk → Type 0) (first a : State) 
 
     -- ---- the end line
 
-    module _ (come : came s b (events_of run) x) (known : KnowsLines knows s x (events_of run) true) (knew : (all : List Reading) (whole : Bool) → knows s x all whole → knows s y all whole) (more : Image → PlainDisk → Type 0) (c : State) (stood : StandFor more c.contents (disk_after run)) (on : c.power.on ≡ true) (shape : c.contents.shape ≡ a.contents.shape) where
+    module _ (come : came s b (events_of run) x) (known : KnowsLines knows s x (events_of run) true) (knew : (all : List Reading) (whole : Bool) → knows s x all whole → knows s y all whole)
+        (more : Image → PlainDisk → Type 0) (c : State) (stood : StandFor more c.contents (disk_after run)) (on : c.power.on ≡ true) (shape : c.contents.shape ≡ a.contents.shape) where
       through : (answers : List Answer) → SaysThrough came x y answers → CameBy came s b y run answers
       through answers says = says s b (events_of run) come (told_bytes-run run)
 
@@ -287,7 +295,9 @@ module _ (o : Told) (stands : Image → PlainDisk → Type 0) (first a : State) 
       rig_end most = record { on = on; shape = shape ∙ so_far.shape; reads = end_reads_few o run first c most; writes = end_writes_none o run first c most so_far.dirty }
 
       -- it was said
-      pub ends_whole : (w : VolumeState) (cuts : ℕ) → (IsQuiet v a → Spent (touches_each counted.touched.keys) v w a c) → Cuts cuts 0 a c → SaysThrough came x y (stopped cuts ++ answer.End counted.writes counted.reads (length counted.touched.keys) (digest_of counted.touched.keys (disk_after run)) ∷ []) → RunsWhole o (knows s y) (CameBy came s b y) more first c
+      pub ends_whole : (w : VolumeState) (cuts : ℕ) → (IsQuiet v a → Spent (touches_each counted.touched.keys) v w a c) → Cuts cuts 0 a c
+          → SaysThrough came x y (stopped cuts ++ answer.End counted.writes counted.reads (length counted.touched.keys) (digest_of counted.touched.keys (disk_after run)) ∷ [])
+          → RunsWhole o (knows s y) (CameBy came s b y) more first c
       ends_whole w cuts again cut said =
           let spent = run_then o first a v run so_far.spent (touches_each (touched_after run)) w c (λ quiet. subst (λ (keys : List ℕ). Spent (touches_each keys) v w a c) so_far.tally.touched (again quiet)) in
           record {
@@ -310,7 +320,9 @@ module _ (o : Told) (stands : Image → PlainDisk → Type 0) (first a : State) 
           }
 
       -- the run ended within it
-      pub ends_end : (e : Ended) → (IsQuiet v a → SpendsAtMost (touches_each counted.touched.keys) v a c) → EndsEnd tells came broke knows e x y a c (answer.End counted.writes counted.reads (length counted.touched.keys) (digest_of counted.touched.keys (disk_after run))) → EndsPart o (knows s y) (CameBy came s b y) (BreaksBy broke s b y) more first c e
+      pub ends_end : (e : Ended) → (IsQuiet v a → SpendsAtMost (touches_each counted.touched.keys) v a c)
+          → EndsEnd tells came broke knows e x y a c (answer.End counted.writes counted.reads (length counted.touched.keys) (digest_of counted.touched.keys (disk_after run)))
+          → EndsPart o (knows s y) (CameBy came s b y) (BreaksBy broke s b y) more first c e
       ends_end e again ends = record {
         all = map accepted (lines_given (events_of run));
         whole = true;

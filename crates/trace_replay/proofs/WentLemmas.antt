@@ -55,7 +55,7 @@ module _ {P : Type 0} (tells : P → ScriptState) (came : SourceState → SinkSt
   EndsOnce e x y a b = went.EndsOnce tells came broke knows e x y a b
 
   abbrev Goes : P → P → State → State → Type 0
-  Goes x y a b = went.Goes tells came broke knows x y a b
+  Goes x y a b = went.KeepsFrame tells came broke knows x y a b
 
   abbrev GoesCut : ℕ → ℕ → P → P → State → State → Type 0
   GoesCut n s x y a b = went.GoesCut tells came broke knows n s x y a b

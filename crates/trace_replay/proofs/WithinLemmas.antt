@@ -82,7 +82,7 @@ module _ {P : Type 0} (tells : P → ScriptState) (came : SourceState → SinkSt
   EndsCut e x y a b = went.EndsCut tells came broke knows e x y a b
 
   abbrev Goes : P → P → State → State → Type 0
-  Goes x y a b = went.Goes tells came broke knows x y a b
+  Goes x y a b = went.KeepsFrame tells came broke knows x y a b
 
   abbrev EndsSaying : Ended → P → P → List Answer → Type 0
   EndsSaying e x y due = saying.EndsSaying tells came broke knows e x y due
@@ -194,7 +194,8 @@ module _ {P : Type 0} (tells : P → ScriptState) (came : SourceState → SinkSt
     within_write ends = by_stops a.power.stops refl ends.cuts ends.few ends.blamed ends.part ends.stops
 
   -- while the line's own answers were told
-  pub within_said : (e : Ended) (x y z : P) (a b : State) (l : Line) (cuts kept : ℕ) (d : PlainDisk) → CanBecome l cuts kept a.power d → Goes x y a b → Said x y (stopped cuts) → RoseAtLeast cuts a.faults.cuts b.faults.cuts → b.power.stops ≡ drop cuts a.power.stops → EndsSaying e y z (own_answers l cuts kept d) → EndsWithin e x z a b l d
+  pub within_said : (e : Ended) (x y z : P) (a b : State) (l : Line) (cuts kept : ℕ) (d : PlainDisk) → CanBecome l cuts kept a.power d → Goes x y a b → Said x y (stopped cuts)
+      → RoseAtLeast cuts a.faults.cuts b.faults.cuts → b.power.stops ≡ drop cuts a.power.stops → EndsSaying e y z (own_answers l cuts kept d) → EndsWithin e x z a b l d
   within_said e x y z a b l cuts kept d can goes said risen stops ends =
       let part = ends.part in
       let sum : stops_in (own_answers l cuts kept d) ≡ stops_in part.front + stops_in part.rest = ap stops_in part.both ∙ stops_then part.front part.rest in

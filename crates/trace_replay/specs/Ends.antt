@@ -52,7 +52,8 @@ pub record IsKept (lba count tag kept : ℕ) (disk : PlainDisk) : Type 0 where
 
 -- whatever a crash leaves now stands for the plain disk with the first of these block writes, however many
 abbrev pub StandForFront : (Image → PlainDisk → Type 0) → Contents → ℕ → ℕ → ℕ → PlainDisk → Type 0
-StandForFront stands contents lba tag count disk = (x : Image) → Now contents x → (n : ℕ) × (n ≤ count) × stands x (after_blocks lba tag n disk)
+StandForFront stands contents lba tag count disk = (x : Image) → Now contents x → (n : ℕ) × (n ≤ count)
+    × stands x (after_blocks lba tag n disk)
 
 -- and with the first block writes of this line
 abbrev pub StandForPart : (Image → PlainDisk → Type 0) → Contents → Line → PlainDisk → Type 0
@@ -68,14 +69,18 @@ pub record CanBecome (line : Line) (cuts kept : ℕ) (power : Power) (disk : Pla
 
 -- from a script that told no block yet: these answers were taken
 abbrev pub SaysThrough : {P : Type 0} → (SourceState → SinkState → List Event → P → Type 0) → P → P → List Answer → Type 0
-SaysThrough came x y answers = (s : SourceState) → (b : SinkState) → (e : List Event) → came s b e x → told_bytes e ≡ [] → (more : List Event) × (answers_in more ≡ answers) × came s b (e ++ more) y
+SaysThrough came x y answers = (s : SourceState) → (b : SinkState) → (e : List Event) → came s b e x → told_bytes e ≡ []
+    → (more : List Event) × (answers_in more ≡ answers) × came s b (e ++ more) y
 
 -- and a part of the next one
-abbrev pub BreaksThrough : {P : Type 0} → (SourceState → SinkState → List Event → P → Type 0) → (SourceState → SinkState → List Event → Event → P → Type 0) → P → P → List Answer → Option Answer → Type 0
+abbrev pub BreaksThrough : {P : Type 0} → (SourceState → SinkState → List Event → P → Type 0)
+    → (SourceState → SinkState → List Event → Event → P → Type 0) → P → P → List Answer → Option Answer → Type 0
 BreaksThrough came broke x y answers None = ⊥
-BreaksThrough came broke x y answers (Some next) = (s : SourceState) → (b : SinkState) → (e : List Event) → came s b e x → told_bytes e ≡ [] → (more : List Event) × (answers_in more ≡ answers) × broke s b (e ++ more) (Took next) y
+BreaksThrough came broke x y answers (Some next) = (s : SourceState) → (b : SinkState) → (e : List Event) → came s b e x → told_bytes e ≡ []
+    → (more : List Event) × (answers_in more ≡ answers) × broke s b (e ++ more) (Took next) y
 
-module _ {P : Type 0} (tells : P → ScriptState) (came : SourceState → SinkState → List Event → P → Type 0) (broke : SourceState → SinkState → List Event → Event → P → Type 0) (knows : SourceState → P → List Reading → Bool → Type 0) where
+module _ {P : Type 0} (tells : P → ScriptState) (came : SourceState → SinkState → List Event → P → Type 0)
+    (broke : SourceState → SinkState → List Event → Event → P → Type 0) (knows : SourceState → P → List Reading → Bool → Type 0) where
   -- within a line, before the last of its answers was taken
   pub record EndsWithin (e : Ended) (x y : P) (old new : State) (line : Line) (disk : PlainDisk) : Type 0 where
     pub blamed : Blamed tells came broke knows e x y old new

@@ -64,7 +64,8 @@ abbrev pub Came : {P : Type 0} → (SourceState → SinkState → List Event →
 Came came old new events = (s : SourceState) → (b : SinkState) → (e : List Event) → came s b e old → came s b (e ++ events) new
 
 -- a script says what a run says: the events of its lines, and then others of which the answers are these
-abbrev pub CameBy : {P : Type 0} → (SourceState → SinkState → List Event → P → Type 0) → SourceState → SinkState → P → List Ran → List Answer → Type 0
+abbrev pub CameBy : {P : Type 0} → (SourceState → SinkState → List Event → P → Type 0) → SourceState → SinkState → P → List Ran
+    → List Answer → Type 0
 CameBy came s b now run answers = (more : List Event) × (answers_in more ≡ answers) × came s b (events_of run ++ more) now
 
 -- these answers were taken, and nothing else was
@@ -72,17 +73,22 @@ abbrev pub Says : {P : Type 0} → (SourceState → SinkState → List Event →
 Says came old new answers = Came came old new (taking answers)
 
 -- and of the next one a part
-abbrev pub Breaks : {P : Type 0} → (SourceState → SinkState → List Event → P → Type 0) → (SourceState → SinkState → List Event → Event → P → Type 0) → P → P → List Answer → Option Answer → Type 0
+abbrev pub Breaks : {P : Type 0} → (SourceState → SinkState → List Event → P → Type 0)
+    → (SourceState → SinkState → List Event → Event → P → Type 0) → P → P → List Answer → Option Answer → Type 0
 Breaks came broke old new answers None = ⊥
-Breaks came broke old new answers (Some next) = (s : SourceState) → (b : SinkState) → (e : List Event) → came s b e old → broke s b (e ++ taking answers) (Took next) new
+Breaks came broke old new answers (Some next) = (s : SourceState) → (b : SinkState) → (e : List Event) → came s b e old
+    → broke s b (e ++ taking answers) (Took next) new
 
 -- and a part of one more answer
-abbrev pub BreaksBy : {P : Type 0} → (SourceState → SinkState → List Event → Event → P → Type 0) → SourceState → SinkState → P → List Ran → List Answer → Option Answer → Type 0
+abbrev pub BreaksBy : {P : Type 0} → (SourceState → SinkState → List Event → Event → P → Type 0) → SourceState → SinkState → P → List Ran
+    → List Answer → Option Answer → Type 0
 BreaksBy broke s b now run answers None = ⊥
-BreaksBy broke s b now run answers (Some next) = (more : List Event) × (answers_in more ≡ answers) × broke s b (events_of run ++ more) (Took next) now
+BreaksBy broke s b now run answers (Some next) = (more : List Event) × (answers_in more ≡ answers)
+    × broke s b (events_of run ++ more) (Took next) now
 
 -- of the lines of a source at least those that were given are known
-pub record KnowsGiven {P : Type 0} (knows : SourceState → P → List Reading → Bool → Type 0) (s : SourceState) (now : P) (e : List Event) : Type 0 where
+pub record KnowsGiven {P : Type 0} (knows : SourceState → P → List Reading → Bool → Type 0) (s : SourceState) (now : P)
+    (e : List Event) : Type 0 where
   pub all : List Reading
   pub whole : Bool
   pub left : List Reading
@@ -99,7 +105,8 @@ refused_for armed (Err cause) = Some cause
 refused_for armed (Ok line) = refusal_when armed line
 
 -- the line after those that were given is refused for this cause
-pub record NextRefused {P : Type 0} (knows : SourceState → P → List Reading → Bool → Type 0) (s : SourceState) (now : P) (e : List Event) (armed : ℕ) (cause : LineError) : Type 0 where
+pub record NextRefused {P : Type 0} (knows : SourceState → P → List Reading → Bool → Type 0) (s : SourceState) (now : P) (e : List Event)
+    (armed : ℕ) (cause : LineError) : Type 0 where
   pub all : List Reading
   pub whole : Bool
   pub next : Reading

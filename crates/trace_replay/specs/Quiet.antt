@@ -32,5 +32,6 @@ lines_heard (Took other ∷ events) = lines_heard events
 lines_heard (Touched lba block ∷ events) = lines_heard events
 
 -- so what is known of those that were given is known of all
-pub given_heard : (all left : List Reading) (events : List Event) → all ≡ map accepted (lines_given (heard events)) ++ left → all ≡ map accepted (lines_given events) ++ left
+pub given_heard : (all left : List Reading) (events : List Event) → all ≡ map accepted (lines_given (heard events)) ++ left
+    → all ≡ map accepted (lines_given events) ++ left
 given_heard all left events is = is ∙ ap (λ (lines : List Line). map accepted lines ++ left) (lines_heard events)

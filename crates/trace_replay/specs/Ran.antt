@@ -11,7 +11,7 @@ use Rattle.ft_volume.specs.Volume.{StandFor, VolumeState}
 use Rattle.trace_model.specs.declared.answer.Answer.{Answer}
 use Rattle.trace_model.specs.declared.line.Line.{Line}
 use Rattle.trace_model.specs.declared.ran.Ran.{Ran}
-use Rattle.trace_model.specs.Fits.{Fits, armed_after, may_write}
+use Rattle.trace_model.specs.Fits.{FitsRun, armed_after, may_write}
 use Rattle.trace_model.specs.Readings.{Reading}
 use Rattle.trace_model.specs.Run.{cuts_in, disk_after, lines_of, read_count, reads_in, touched_after, touching, write_count, writes_in}
 use Rattle.trace_model.specs.SoFar.{NoneRefused}
@@ -43,9 +43,10 @@ RestWithin None stops rest = ⊤
 RestWithin (Some most) stops rest = (stops ≢ []) × (rest ≤ most)
 
 -- these lines were run so far and none was refused: whatever a crash leaves now stands for their plain disk, the stops are those that did not cut, each cut was counted, without a cut what was ready is ready, and this volume spent what they cost
-pub record RanSoFar (o : Told) (stands : Image → PlainDisk → Type 0) (first now : State) (counted : Tally) (v : VolumeState) (run : List Ran) : Type 0 where
+pub record RanSoFar (o : Told) (stands : Image → PlainDisk → Type 0) (first now : State) (counted : Tally) (v : VolumeState)
+    (run : List Ran) : Type 0 where
   pub accepted : NoneRefused run
-  pub fits : Fits o.ack run
+  pub fits : FitsRun o.ack run
   pub on : now.power.on ≡ true
   pub shape : now.contents.shape ≡ first.contents.shape
   pub disk : StandFor stands now.contents (disk_after run)
@@ -61,7 +62,9 @@ pub record RanSoFar (o : Told) (stands : Image → PlainDisk → Type 0) (first 
 -- ---- an end before the end line
 
 -- a run ended so: at a refusal, at the source, or within a line
-pub record EndsRun (o : Told) (reads : List Reading → Bool → Type 0) (says : List Ran → List Answer → Type 0) (short : List Ran → List Answer → Option Answer → Type 0) (stands : Image → PlainDisk → Type 0) (first now : State) (e : Ended) : Type 0 where
+pub record EndsRun (o : Told) (reads : List Reading → Bool → Type 0) (says : List Ran → List Answer → Type 0)
+    (short : List Ran → List Answer → Option Answer → Type 0) (stands : Image → PlainDisk → Type 0) (first now : State)
+    (e : Ended) : Type 0 where
   pub refused : e ≡ ended.Trace → EndsRefused o reads says stands first now
   pub unread : e ≡ ended.Source → EndsUnread o reads says stands first now
   pub part : e ≢ ended.Trace → e ≢ ended.Source → EndsPart o reads says short stands first now e
@@ -75,7 +78,7 @@ module _ {P : Type 0} (tells : P → ScriptState) where
     pub disk : e ≡ ended.Disk → Rose old.faults.disk new.faults.disk
 
   -- whatever a part of a run answers: power is on, what lies beneath stays, and no count of faults falls
-  pub record GoesOn (x y : P) (old new : State) : Type 0 where
+  pub record RunKeepsFrame (x y : P) (old new : State) : Type 0 where
     pub on : new.power.on ≡ true
     pub shape : new.contents.shape ≡ old.contents.shape
     pub lent : new.lent ≡ old.lent

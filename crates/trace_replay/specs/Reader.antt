@@ -16,7 +16,8 @@ use Rattle.trace_replay.specs.Pending.{ahead, held, past_next, rest_of}
 
 -- bytes that are these lines, each ended by a line feed, so that they come first whatever follows
 pub record AreLines (size : ℕ) (bytes : List ℕ) (lines : List Line) : Type 0 where
-  pub says : (whole : Bool) → (rest : List ℕ) → map (line_of size) (lines_in whole (bytes ++ rest)) ≡ map accepted lines ++ map (line_of size) (lines_in whole rest)
+  pub says : (whole : Bool) → (rest : List ℕ) → map (line_of size) (lines_in whole (bytes ++ rest)) ≡ map accepted lines
+      ++ map (line_of size) (lines_in whole rest)
   pub feed : (rest : List ℕ) → since_feed 0 (bytes ++ rest) ≡ since_feed 0 rest
 
 -- a trace that was read to its end: its lines are these and those in the rest
@@ -50,7 +51,7 @@ pub record RefusesNext (size : ℕ) (s now : SourceState) (lines : List Line) (a
   pub why : refused_for armed next ≡ Some cause
 
 -- one line more was given
-pub record Gives (line : Line) (armed : ℕ) (a : SourceState) (x : Reader) (b : SourceState) (y : Reader) : Type 0 where
+pub record GivesLine (line : Line) (armed : ℕ) (a : SourceState) (x : Reader) (b : SourceState) (y : Reader) : Type 0 where
   pub runnable : IsRunnable y.size line
   pub few : is_stop line ≡ true → armed < 16
   pub bytes : x.bytes + 1 ≤ y.bytes
@@ -62,8 +63,10 @@ Stands seen.Line r = (r.ended ≡ false) × (ahead r.pending ≡ 10 ∷ past_nex
 Stands seen.Last r = (r.ended ≡ true) × (ahead r.pending ≡ []) × (0 < length (held r.pending))
 Stands seen.End r = (r.ended ≡ true) × (rest_of r.pending ≡ [])
 Stands seen.Long r = 200 < length (held r.pending)
-Stands seen.AtLimit r = (r.ended ≡ false) × (ahead r.pending ≡ []) × (length (held r.pending) ≤ 200) × (r.bytes + length (held r.pending) ≡ 4294967296)
-Stands seen.Failed r = (r.ended ≡ false) × (ahead r.pending ≡ []) × (length (held r.pending) ≤ 200) × (r.bytes + length (held r.pending) < 4294967296)
+Stands seen.AtLimit r = (r.ended ≡ false) × (ahead r.pending ≡ []) × (length (held r.pending) ≤ 200)
+    × (r.bytes + length (held r.pending) ≡ 4294967296)
+Stands seen.Failed r = (r.ended ≡ false) × (ahead r.pending ≡ []) × (length (held r.pending) ≤ 200)
+    × (r.bytes + length (held r.pending) < 4294967296)
 
 -- ---- what is known of the lines then
 
@@ -73,13 +76,17 @@ left_in size true bytes rest = map (line_of size) (lines_in true rest)
 left_in size false bytes rest = map (line_of size) (lines_in false rest) ++ unended (bytes ++ rest)
 
 -- those that were given come first
-pub first_given : (size : ℕ) (ended : Bool) (rest : List ℕ) (count number : ℕ) (s now : SourceState) (lines : List Line) (so : ReadSo size ended rest count number s now lines) → readings_in size ended (so.bytes ++ rest) ≡ map accepted lines ++ left_in size ended so.bytes rest
+pub first_given : (size : ℕ) (ended : Bool) (rest : List ℕ) (count number : ℕ) (s now : SourceState) (lines : List Line)
+    (so : ReadSo size ended rest count number s now lines) → readings_in size ended (so.bytes ++ rest) ≡ map accepted lines
+    ++ left_in size ended so.bytes rest
 first_given size true rest count number s now lines so = (so.whole refl).says
 first_given size false rest count number s now lines so =
-    ap (λ (ms : List Reading). ms ++ unended (so.bytes ++ rest)) ((so.within refl).says false rest) ∙ append_assoc (map accepted lines) (map (line_of size) (lines_in false rest)) (unended (so.bytes ++ rest))
+    ap (λ (ms : List Reading). ms ++ unended (so.bytes ++ rest)) ((so.within refl).says false rest)
+    ∙ append_assoc (map accepted lines) (map (line_of size) (lines_in false rest)) (unended (so.bytes ++ rest))
 
 -- the bytes that were read tell it
-pub known_so : (size : ℕ) (ended : Bool) (rest : List ℕ) (count number : ℕ) (s now : SourceState) (lines : List Line) (so : ReadSo size ended rest count number s now lines) → Reads size s now (readings_in size ended (so.bytes ++ rest)) ended
+pub known_so : (size : ℕ) (ended : Bool) (rest : List ℕ) (count number : ℕ) (s now : SourceState) (lines : List Line)
+    (so : ReadSo size ended rest count number s now lines) → Reads size s now (readings_in size ended (so.bytes ++ rest)) ended
 known_so size ended rest count number s now lines so = record {
   bytes = so.bytes ++ rest;
   taken = so.taken;

@@ -36,7 +36,8 @@ Said old new answers = Appends old.taken new.taken (text answers)
 -- these answers were said, and of the next one a front of its text, not all; where none is next, nothing can be said
 abbrev pub SaidPart : SinkState → SinkState → List Answer → Option Answer → Type 0
 SaidPart old new answers None = ⊥
-SaidPart old new answers (Some next) = (n : ℕ) × (n < length (text_of next)) × Appends old.taken new.taken (text answers ++ take n (text_of next))
+SaidPart old new answers (Some next) = (n : ℕ) × (n < length (text_of next))
+    × Appends old.taken new.taken (text answers ++ take n (text_of next))
 
 -- what a plain disk answers to these lines was said, and these answers after it
 abbrev pub Tells : SinkState → SinkState → List Ran → List Answer → Type 0
@@ -54,7 +55,8 @@ Takes ended.Sink says short front (next ∷ after) = short front (Some next)
 Takes other says short front rest = says front
 
 -- of the answers that are due these were taken, and the rest was not
-pub record TookPart (e : Ended) (says : List Answer → Type 0) (short : List Answer → Option Answer → Type 0) (due : List Answer) : Type 0 where
+pub record TookPart (e : Ended) (says : List Answer → Type 0) (short : List Answer → Option Answer → Type 0)
+    (due : List Answer) : Type 0 where
   pub front : List Answer
   pub rest : List Answer
   pub both : due ≡ front ++ rest

@@ -26,7 +26,8 @@ abbrev pub SaysTouched : {P : Type 0} → (SourceState → SinkState → List Ev
 SaysTouched came x y cuts addresses disk = (s : SourceState) → (b : SinkState) → (e : List Event) → came s b e x
     → (more : List Event) × (answers_in more ≡ stopped cuts) × (told_bytes more ≡ touched_bytes disk addresses) × came s b (e ++ more) y
 
-module _ {P : Type 0} (tells : P → ScriptState) (came : SourceState → SinkState → List Event → P → Type 0) (broke : SourceState → SinkState → List Event → Event → P → Type 0) (knows : SourceState → P → List Reading → Bool → Type 0) where
+module _ {P : Type 0} (tells : P → ScriptState) (came : SourceState → SinkState → List Event → P → Type 0)
+    (broke : SourceState → SinkState → List Event → Event → P → Type 0) (knows : SourceState → P → List Reading → Bool → Type 0) where
   -- no count of its faults falls, what lies beneath stays, and what was known is known
   pub record GoesScript (x y : P) : Type 0 where
     pub source : (tells x).source_faults ≤ (tells y).source_faults

@@ -90,7 +90,8 @@ pub record IsQuiet (v : VolumeState) (now : State) : Type 0 where
 pub record SpendsAtMost (steps : List Step) (v : VolumeState) (before after : State) : Type 0 where
   pub later : before.counts.disk_writes ≤ after.counts.disk_writes
   pub writes : after.counts.disk_writes ≤ before.counts.disk_writes + backs_steps v.told steps v.table
-  pub reads : (groups : List ℕ) → StayIn v.told v.held steps groups → after.counts.disk_reads ≤ before.counts.disk_reads + misses_in v.held steps
+  pub reads : (groups : List ℕ) → StayIn v.told v.held steps groups
+      → after.counts.disk_reads ≤ before.counts.disk_reads + misses_in v.held steps
 
 -- these steps were made and nothing else: the volume is quiet again, its table is theirs, the cache has no other address than theirs, and all of them where they are in few groups, and exactly so many blocks were written to the disk
 pub record Spent (steps : List Step) (v w : VolumeState) (before after : State) : Type 0 where
@@ -103,7 +104,7 @@ pub record Spent (steps : List Step) (v w : VolumeState) (before after : State) 
   pub most : SpendsAtMost steps v before after
 
 -- where all was quiet before: these steps were made, or some of them and the run ended
-pub record Spends {T E : Type 0} (steps : List Step) (v w : VolumeState) (before after : State) (result : Result T E) : Type 0 where
+pub record SpendsSteps {T E : Type 0} (steps : List Step) (v w : VolumeState) (before after : State) (result : Result T E) : Type 0 where
   pub done : OnOk result (IsQuiet v before → Spent steps v w before after)
   pub ended : OnErr result (IsQuiet v before → SpendsAtMost steps v before after)
 

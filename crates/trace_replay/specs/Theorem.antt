@@ -35,10 +35,12 @@ pub record Leaves (o : Told) (stands : Image → PlainDisk → Type 0) (first no
 
 -- whatever a crash leaves stands for the plain disk after these lines, with some first block writes of the next one
 abbrev pub StandForNext : Told → (Image → PlainDisk → Type 0) → Contents → List Ran → List Reading → Type 0
-StandForNext o stands contents run left = (x : Image) → Now contents x → (lost : ℕ) × (n : ℕ) × MayRemain o run left lost n × stands x (disk_within run left lost n)
+StandForNext o stands contents run left = (x : Image) → Now contents x → (lost : ℕ) × (n : ℕ) × MayRemain o run left lost n
+    × stands x (disk_within run left lost n)
 
 -- what is left after these lines where the next one was not begun: whatever a crash leaves stands for their plain disk, no stop is gone that did not cut one of them, and where none was told power was not cut
-pub record LeavesLines (o : Told) (stands : Image → PlainDisk → Type 0) (first now : State) (run : List Ran) (left : List Reading) : Type 0 where
+pub record LeavesLines (o : Told) (stands : Image → PlainDisk → Type 0) (first now : State) (run : List Ran)
+    (left : List Reading) : Type 0 where
   pub rig : LeavesRig o first now run run
   pub media : StandForNext o stands now.contents run left
   pub stops : now.power.stops ≡ armed_after run
@@ -46,7 +48,8 @@ pub record LeavesLines (o : Told) (stands : Image → PlainDisk → Type 0) (fir
   pub ready : cuts_in run ≡ 0 → KeepsReady first now
 
 -- what a run is told by: what is known of its lines (of all of them or not), what was said of these lines and after them, and that with a part of an answer
-module _ (o : Told) (reads : List Reading → Bool → Type 0) (says : List Ran → List Answer → Type 0) (stands : Image → PlainDisk → Type 0) (first now : State) where
+module _ (o : Told) (reads : List Reading → Bool → Type 0) (says : List Ran → List Answer → Type 0) (stands : Image → PlainDisk → Type 0)
+    (first now : State) where
   -- every line of the trace was run: a plain disk's answers were said, and the end line after its cuts
   pub record RunsWhole : Type 0 where
     pub all : List Reading
@@ -82,7 +85,9 @@ module _ (o : Told) (reads : List Reading → Bool → Type 0) (says : List Ran 
     pub leaves : LeavesLines o stands first now run []
 
 -- it ended so after the answers of these lines and before the last one of the next line; the media are the plain disk after the former, with first block writes of the latter
-pub record EndsPart (o : Told) (reads : List Reading → Bool → Type 0) (says : List Ran → List Answer → Type 0) (short : List Ran → List Answer → Option Answer → Type 0) (stands : Image → PlainDisk → Type 0) (first now : State) (e : Ended) : Type 0 where
+pub record EndsPart (o : Told) (reads : List Reading → Bool → Type 0) (says : List Ran → List Answer → Type 0)
+    (short : List Ran → List Answer → Option Answer → Type 0) (stands : Image → PlainDisk → Type 0) (first now : State)
+    (e : Ended) : Type 0 where
   pub all : List Reading
   pub whole : Bool
   pub run : List Ran

@@ -19,7 +19,8 @@ count_of true = 1
 count_of false = 0
 
 -- over a script's state, its events, and those with a part of an answer
-module _ {P : Type 0} (tells : P → ScriptState) (came : SourceState → SinkState → List Event → P → Type 0) (broke : SourceState → SinkState → List Event → Event → P → Type 0) (knows : SourceState → P → List Reading → Bool → Type 0) where
+module _ {P : Type 0} (tells : P → ScriptState) (came : SourceState → SinkState → List Event → P → Type 0)
+    (broke : SourceState → SinkState → List Event → Event → P → Type 0) (knows : SourceState → P → List Reading → Bool → Type 0) where
   -- each end has its cause, and no refusal and no fault of the source is one
   pub record Blamed (e : Ended) (x y : P) (old new : State) : Type 0 where
     pub sink : e ≡ ended.Sink → Rose (tells x).sink_faults (tells y).sink_faults
@@ -41,7 +42,7 @@ module _ {P : Type 0} (tells : P → ScriptState) (came : SourceState → SinkSt
   EndsOnce e x y old new = (ends : EndsCut e x y old new) × (ends.cuts ≤ 1)
 
   -- power is on, what lies beneath stays, no count of faults falls, and what was known is known
-  pub record Goes (x y : P) (old new : State) : Type 0 where
+  pub record KeepsFrame (x y : P) (old new : State) : Type 0 where
     pub on : new.power.on ≡ true
     pub shape : new.contents.shape ≡ old.contents.shape
     pub lent : new.lent ≡ old.lent
@@ -57,13 +58,13 @@ module _ {P : Type 0} (tells : P → ScriptState) (came : SourceState → SinkSt
 
   -- so many stops cut the calls so far, which was told, and so many device writes at least were made
   pub record GoesCut (cuts spent : ℕ) (x y : P) (old new : State) : Type 0 where
-    pub goes : Goes x y old new
+    pub goes : KeepsFrame x y old new
     pub said : Says came x y (stopped cuts)
     pub cut : Cuts cuts spent old new
 
   -- a call went on over cuts, of which its answer tells how many, or it ended the run
   pub record Went {T : Type 0} (cuts : T → ℕ) (spent : ℕ) (x y : P) (old new : State) (result : Result T Ended) : Type 0 where
-    pub goes : Goes x y old new
+    pub goes : KeepsFrame x y old new
     pub done : IfOk result (λ v. GoesCut (cuts v) spent x y old new)
     pub ended : IfErr result (λ e. EndsCut e x y old new)
 

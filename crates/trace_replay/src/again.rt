@@ -9,7 +9,7 @@ ghost use Rattle.ft_volume.specs.Volume.{StandFor, StandForEither, StandForOne};
 ghost use Rattle.trace_model.specs.Run.{stopped};
 ghost use Rattle.trace_replay.specs.Said.{ended_of};
 ghost use Rattle.trace_replay.specs.Saying.{SaysSo};
-ghost use Rattle.trace_replay.specs.Spends.{Spends};
+ghost use Rattle.trace_replay.specs.Spends.{SpendsSteps};
 ghost use Rattle.trace_replay.specs.Spends.Step.{Puts, Rests, Touches};
 ghost use Rattle.trace_replay.specs.Went.{EndsOnce, Keeps, Went, count_of};
 
@@ -57,10 +57,12 @@ pub(crate) fn read_once<P: Script, R: Rig, V: Volume<R>>(
     requires within { lba < (V.state volume.old).told.geometry.size }
     ensures owns { V.owns volume.new (R.state rig.new).contents }
     ensures told { (V.state volume.new).told ≡ (V.state volume.old).told }
-    ensures found { IfOk result (λ cut. cut ≡ false → (d : PlainDisk) → StandFor (V.stands (V.state volume.old).told) (R.state rig.old).contents d → block.new ≡ d lba) }
-    ensures kept { Keeps (V.stands (V.state volume.old).told) (V.stands (V.state volume.new).told) (R.state rig.old).contents (R.state rig.new).contents }
+    ensures found { IfOk result (λ cut. cut ≡ false → (d : PlainDisk)
+        → StandFor (V.stands (V.state volume.old).told) (R.state rig.old).contents d → block.new ≡ d lba) }
+    ensures kept { Keeps (V.stands (V.state volume.old).told) (V.stands (V.state volume.new).told) (R.state rig.old).contents
+        (R.state rig.new).contents }
     ensures went { Went P.state P.came P.broke P.knows count_of 0 script.old script.new (R.state rig.old) (R.state rig.new) result }
-    ensures spends { Spends (Touches lba ∷ []) (V.state volume.old) (V.state volume.new) (R.state rig.old) (R.state rig.new) result }
+    ensures spends { SpendsSteps (Touches lba ∷ []) (V.state volume.old) (V.state volume.new) (R.state rig.old) (R.state rig.new) result }
 {
     match volume.read(rig, lba, block) {
         Ok(()) => Ok(false),
@@ -85,11 +87,16 @@ pub(crate) fn write_once<P: Script, R: Rig, V: Volume<R>>(
     requires within { lba < (V.state volume.old).told.geometry.size }
     ensures owns { V.owns volume.new (R.state rig.new).contents }
     ensures told { (V.state volume.new).told ≡ (V.state volume.old).told }
-    ensures done { IfOk result (λ cut. cut ≡ false → (d : PlainDisk) → StandFor (V.stands (V.state volume.old).told) (R.state rig.old).contents d → StandFor (V.stands (V.state volume.new).told) (R.state rig.new).contents (set d lba block.now)) }
-    ensures one { IfOk result (λ cut. cut ≡ true → (d : PlainDisk) → StandFor (V.stands (V.state volume.old).told) (R.state rig.old).contents d → StandForOne (V.stands (V.state volume.new).told) (R.state rig.new).contents d (set d lba block.now)) }
-    ensures images { (d : PlainDisk) → StandFor (V.stands (V.state volume.old).told) (R.state rig.old).contents d → StandForEither (V.stands (V.state volume.new).told) (R.state rig.new).contents d (set d lba block.now) }
+    ensures done { IfOk result (λ cut. cut ≡ false → (d : PlainDisk)
+        → StandFor (V.stands (V.state volume.old).told) (R.state rig.old).contents d
+        → StandFor (V.stands (V.state volume.new).told) (R.state rig.new).contents (set d lba block.now)) }
+    ensures one { IfOk result (λ cut. cut ≡ true → (d : PlainDisk)
+        → StandFor (V.stands (V.state volume.old).told) (R.state rig.old).contents d
+        → StandForOne (V.stands (V.state volume.new).told) (R.state rig.new).contents d (set d lba block.now)) }
+    ensures images { (d : PlainDisk) → StandFor (V.stands (V.state volume.old).told) (R.state rig.old).contents d
+        → StandForEither (V.stands (V.state volume.new).told) (R.state rig.new).contents d (set d lba block.now) }
     ensures went { Went P.state P.came P.broke P.knows count_of 1 script.old script.new (R.state rig.old) (R.state rig.new) result }
-    ensures spends { Spends (Puts lba ∷ []) (V.state volume.old) (V.state volume.new) (R.state rig.old) (R.state rig.new) result }
+    ensures spends { SpendsSteps (Puts lba ∷ []) (V.state volume.old) (V.state volume.new) (R.state rig.old) (R.state rig.new) result }
 {
     match volume.write(rig, lba, block) {
         Ok(()) => Ok(false),
@@ -111,9 +118,10 @@ pub(crate) fn flush_once<P: Script, R: Rig, V: Volume<R>>(
     requires ack { (V.state volume.old).told.ack ≡ ack.Write }
     ensures owns { V.owns volume.new (R.state rig.new).contents }
     ensures told { (V.state volume.new).told ≡ (V.state volume.old).told }
-    ensures kept { Keeps (V.stands (V.state volume.old).told) (V.stands (V.state volume.new).told) (R.state rig.old).contents (R.state rig.new).contents }
+    ensures kept { Keeps (V.stands (V.state volume.old).told) (V.stands (V.state volume.new).told) (R.state rig.old).contents
+        (R.state rig.new).contents }
     ensures went { Went P.state P.came P.broke P.knows count_of 0 script.old script.new (R.state rig.old) (R.state rig.new) result }
-    ensures spends { Spends [] (V.state volume.old) (V.state volume.new) (R.state rig.old) (R.state rig.new) result }
+    ensures spends { SpendsSteps [] (V.state volume.old) (V.state volume.new) (R.state rig.old) (R.state rig.new) result }
 {
     match volume.flush(rig) {
         Ok(()) => Ok(false),
@@ -136,11 +144,13 @@ pub(crate) fn idle_once<P: Script, R: Rig, V: Volume<R>>(
     requires ack { (V.state volume.old).told.ack ≡ ack.Write }
     ensures owns { V.owns volume.new (R.state rig.new).contents }
     ensures told { (V.state volume.new).told ≡ (V.state volume.old).told }
-    ensures kept { Keeps (V.stands (V.state volume.old).told) (V.stands (V.state volume.new).told) (R.state rig.old).contents (R.state rig.new).contents }
+    ensures kept { Keeps (V.stands (V.state volume.old).told) (V.stands (V.state volume.new).told) (R.state rig.old).contents
+        (R.state rig.new).contents }
     ensures once { IfOk result (λ cuts. cuts ≤ 1) }
-    ensures ended { IfErr result (λ e. EndsOnce P.state P.came P.broke P.knows e script.old script.new (R.state rig.old) (R.state rig.new)) }
+    ensures ended { IfErr result (λ e. EndsOnce P.state P.came P.broke P.knows e script.old script.new (R.state rig.old)
+        (R.state rig.new)) }
     ensures went { Went P.state P.came P.broke P.knows (λ cuts. cuts) 0 script.old script.new (R.state rig.old) (R.state rig.new) result }
-    ensures spends { Spends (Rests ∷ []) (V.state volume.old) (V.state volume.new) (R.state rig.old) (R.state rig.new) result }
+    ensures spends { SpendsSteps (Rests ∷ []) (V.state volume.old) (V.state volume.new) (R.state rig.old) (R.state rig.new) result }
 {
     match volume.idle(rig) {
         Ok(_idled) => Ok(0),
@@ -165,10 +175,12 @@ pub(crate) fn read_through<P: Script, R: Rig, V: Volume<R>>(
     requires within { lba < (V.state volume.old).told.geometry.size }
     ensures owns { V.owns volume.new (R.state rig.new).contents }
     ensures told { (V.state volume.new).told ≡ (V.state volume.old).told }
-    ensures found { OnOk result ((d : PlainDisk) → StandFor (V.stands (V.state volume.old).told) (R.state rig.old).contents d → block.new ≡ d lba) }
-    ensures kept { Keeps (V.stands (V.state volume.old).told) (V.stands (V.state volume.new).told) (R.state rig.old).contents (R.state rig.new).contents }
+    ensures found { OnOk result ((d : PlainDisk) → StandFor (V.stands (V.state volume.old).told) (R.state rig.old).contents d
+        → block.new ≡ d lba) }
+    ensures kept { Keeps (V.stands (V.state volume.old).told) (V.stands (V.state volume.new).told) (R.state rig.old).contents
+        (R.state rig.new).contents }
     ensures went { Went P.state P.came P.broke P.knows (λ cuts. cuts) 0 script.old script.new (R.state rig.old) (R.state rig.new) result }
-    ensures spends { Spends (Touches lba ∷ []) (V.state volume.old) (V.state volume.new) (R.state rig.old) (R.state rig.new) result }
+    ensures spends { SpendsSteps (Touches lba ∷ []) (V.state volume.old) (V.state volume.new) (R.state rig.old) (R.state rig.new) result }
 {
     let mut cuts = 0;
     let _armed = rig.armed();
@@ -192,9 +204,10 @@ pub(crate) fn flush_through<P: Script, R: Rig, V: Volume<R>>(
     requires ack { (V.state volume.old).told.ack ≡ ack.Write }
     ensures owns { V.owns volume.new (R.state rig.new).contents }
     ensures told { (V.state volume.new).told ≡ (V.state volume.old).told }
-    ensures kept { Keeps (V.stands (V.state volume.old).told) (V.stands (V.state volume.new).told) (R.state rig.old).contents (R.state rig.new).contents }
+    ensures kept { Keeps (V.stands (V.state volume.old).told) (V.stands (V.state volume.new).told) (R.state rig.old).contents
+        (R.state rig.new).contents }
     ensures went { Went P.state P.came P.broke P.knows (λ cuts. cuts) 0 script.old script.new (R.state rig.old) (R.state rig.new) result }
-    ensures spends { Spends [] (V.state volume.old) (V.state volume.new) (R.state rig.old) (R.state rig.new) result }
+    ensures spends { SpendsSteps [] (V.state volume.old) (V.state volume.new) (R.state rig.old) (R.state rig.new) result }
 {
     let mut cuts = 0;
     let _armed = rig.armed();

@@ -11,7 +11,7 @@ ghost use Rattle.trace_model.specs.SoFar.{as_ran, is_stop};
 ghost use Rattle.trace_replay.specs.Ends.{EndsWithin, RunsLine, StandForPart};
 ghost use Rattle.trace_replay.specs.Events.{Says};
 ghost use Rattle.trace_replay.specs.Spends.{SpendsLine};
-ghost use Rattle.trace_replay.specs.Went.{Goes, Keeps};
+ghost use Rattle.trace_replay.specs.Went.{KeepsFrame, Keeps};
 
 use crate::again::{flush_through, idle_once};
 use crate::reading::run_read;
@@ -35,11 +35,14 @@ pub(crate) fn run_flush<P: Script, R: Rig, V: Volume<R>>(
     requires ack { (V.state volume.old).told.ack ≡ ack.Write }
     ensures owns { V.owns volume.new (R.state rig.new).contents }
     ensures told { (V.state volume.new).told ≡ (V.state volume.old).told }
-    ensures kept { Keeps (V.stands (V.state volume.old).told) (V.stands (V.state volume.new).told) (R.state rig.old).contents (R.state rig.new).contents }
-    ensures said { IfOk result (λ b. (d : PlainDisk) → Says P.came script.old script.new (answers_of (as_ran line_kind.Flush b.cuts b.kept 0) d)) }
+    ensures kept { Keeps (V.stands (V.state volume.old).told) (V.stands (V.state volume.new).told) (R.state rig.old).contents
+        (R.state rig.new).contents }
+    ensures said { IfOk result (λ b. (d : PlainDisk)
+        → Says P.came script.old script.new (answers_of (as_ran line_kind.Flush b.cuts b.kept 0) d)) }
     ensures runs { IfOk result (λ b. RunsLine line_kind.Flush b.cuts (R.state rig.old) (R.state rig.new)) }
-    ensures ends { IfErr result (λ e. (d : PlainDisk) → EndsWithin P.state P.came P.broke P.knows e script.old script.new (R.state rig.old) (R.state rig.new) line_kind.Flush d) }
-    ensures goes { Goes P.state P.came P.broke P.knows script.old script.new (R.state rig.old) (R.state rig.new) }
+    ensures ends { IfErr result (λ e. (d : PlainDisk)
+        → EndsWithin P.state P.came P.broke P.knows e script.old script.new (R.state rig.old) (R.state rig.new) line_kind.Flush d) }
+    ensures goes { KeepsFrame P.state P.came P.broke P.knows script.old script.new (R.state rig.old) (R.state rig.new) }
     ensures spends { SpendsLine line_kind.Flush (V.state volume.old) (V.state volume.new) (R.state rig.old) (R.state rig.new) result }
 {
     let cuts = flush_through(script, rig, volume)?;
@@ -59,11 +62,14 @@ pub(crate) fn run_idle<P: Script, R: Rig, V: Volume<R>>(
     ensures owns { V.owns volume.new (R.state rig.new).contents }
     ensures told { (V.state volume.new).told ≡ (V.state volume.old).told }
     ensures once { IfOk result (λ b. b.cuts ≤ 1) }
-    ensures kept { Keeps (V.stands (V.state volume.old).told) (V.stands (V.state volume.new).told) (R.state rig.old).contents (R.state rig.new).contents }
-    ensures said { IfOk result (λ b. (d : PlainDisk) → Says P.came script.old script.new (answers_of (as_ran line_kind.Idle b.cuts b.kept 0) d)) }
+    ensures kept { Keeps (V.stands (V.state volume.old).told) (V.stands (V.state volume.new).told) (R.state rig.old).contents
+        (R.state rig.new).contents }
+    ensures said { IfOk result (λ b. (d : PlainDisk)
+        → Says P.came script.old script.new (answers_of (as_ran line_kind.Idle b.cuts b.kept 0) d)) }
     ensures runs { IfOk result (λ b. RunsLine line_kind.Idle b.cuts (R.state rig.old) (R.state rig.new)) }
-    ensures ends { IfErr result (λ e. (d : PlainDisk) → EndsWithin P.state P.came P.broke P.knows e script.old script.new (R.state rig.old) (R.state rig.new) line_kind.Idle d) }
-    ensures goes { Goes P.state P.came P.broke P.knows script.old script.new (R.state rig.old) (R.state rig.new) }
+    ensures ends { IfErr result (λ e. (d : PlainDisk)
+        → EndsWithin P.state P.came P.broke P.knows e script.old script.new (R.state rig.old) (R.state rig.new) line_kind.Idle d) }
+    ensures goes { KeepsFrame P.state P.came P.broke P.knows script.old script.new (R.state rig.old) (R.state rig.new) }
     ensures spends { SpendsLine line_kind.Idle (V.state volume.old) (V.state volume.new) (R.state rig.old) (R.state rig.new) result }
 {
     let cuts = idle_once(script, rig, volume)?;
@@ -82,12 +88,16 @@ pub(crate) fn run_cut<P: Script, R: Rig, V: Volume<R>>(
     ensures none { IfOk result (λ b. b.cuts ≡ 0) }
     ensures owns { V.owns volume.new (R.state rig.new).contents }
     ensures told { (V.state volume.new).told ≡ (V.state volume.old).told }
-    ensures kept { Keeps (V.stands (V.state volume.old).told) (V.stands (V.state volume.new).told) (R.state rig.old).contents (R.state rig.new).contents }
-    ensures said { IfOk result (λ b. (d : PlainDisk) → Says P.came script.old script.new (answers_of (as_ran (line_kind.Cut outcome) b.cuts b.kept 0) d)) }
+    ensures kept { Keeps (V.stands (V.state volume.old).told) (V.stands (V.state volume.new).told) (R.state rig.old).contents
+        (R.state rig.new).contents }
+    ensures said { IfOk result (λ b. (d : PlainDisk)
+        → Says P.came script.old script.new (answers_of (as_ran (line_kind.Cut outcome) b.cuts b.kept 0) d)) }
     ensures runs { IfOk result (λ b. RunsLine (line_kind.Cut outcome) b.cuts (R.state rig.old) (R.state rig.new)) }
-    ensures ends { IfErr result (λ e. (d : PlainDisk) → EndsWithin P.state P.came P.broke P.knows e script.old script.new (R.state rig.old) (R.state rig.new) (line_kind.Cut outcome) d) }
-    ensures goes { Goes P.state P.came P.broke P.knows script.old script.new (R.state rig.old) (R.state rig.new) }
-    ensures spends { SpendsLine (line_kind.Cut outcome) (V.state volume.old) (V.state volume.new) (R.state rig.old) (R.state rig.new) result }
+    ensures ends { IfErr result (λ e. (d : PlainDisk)
+        → EndsWithin P.state P.came P.broke P.knows e script.old script.new (R.state rig.old) (R.state rig.new) (line_kind.Cut outcome) d) }
+    ensures goes { KeepsFrame P.state P.came P.broke P.knows script.old script.new (R.state rig.old) (R.state rig.new) }
+    ensures spends { SpendsLine (line_kind.Cut outcome) (V.state volume.old) (V.state volume.new) (R.state rig.old) (R.state rig.new)
+        result }
 {
     volume.cut(rig, outcome);
     say(script, &Answer::Cut)?;
@@ -109,14 +119,18 @@ pub(crate) fn run_line<P: Script, R: Rig, V: Volume<R>>(
     requires stops { is_stop line.now ≡ true → length (R.state rig.old).power.stops < 16 }
     ensures owns { V.owns volume.new (R.state rig.new).contents }
     ensures told { (V.state volume.new).told ≡ (V.state volume.old).told }
-    ensures fits { IfOk result (λ b. (d : PlainDisk) → StandFor (V.stands (V.state volume.old).told) (R.state rig.old).contents d → FitsLine ack.Write line.now b.cuts b.kept 0 d) }
-    ensures disk { IfOk result (λ b. (d : PlainDisk) → StandFor (V.stands (V.state volume.old).told) (R.state rig.old).contents d → StandFor (V.stands (V.state volume.new).told) (R.state rig.new).contents (after_line line.now b.kept d)) }
-    ensures images { (d : PlainDisk) → StandFor (V.stands (V.state volume.old).told) (R.state rig.old).contents d → StandForPart (V.stands (V.state volume.new).told) (R.state rig.new).contents line.now d }
-    ensures said { IfOk result (λ b. (d : PlainDisk) → StandFor (V.stands (V.state volume.old).told) (R.state rig.old).contents d → Says P.came script.old script.new (answers_of (as_ran line.now b.cuts b.kept 0) d)) }
+    ensures fits { IfOk result (λ b. (d : PlainDisk) → StandFor (V.stands (V.state volume.old).told) (R.state rig.old).contents d
+        → FitsLine ack.Write line.now b.cuts b.kept 0 d) }
+    ensures disk { IfOk result (λ b. (d : PlainDisk) → StandFor (V.stands (V.state volume.old).told) (R.state rig.old).contents d
+        → StandFor (V.stands (V.state volume.new).told) (R.state rig.new).contents (after_line line.now b.kept d)) }
+    ensures images { (d : PlainDisk) → StandFor (V.stands (V.state volume.old).told) (R.state rig.old).contents d
+        → StandForPart (V.stands (V.state volume.new).told) (R.state rig.new).contents line.now d }
+    ensures said { IfOk result (λ b. (d : PlainDisk) → StandFor (V.stands (V.state volume.old).told) (R.state rig.old).contents d
+        → Says P.came script.old script.new (answers_of (as_ran line.now b.cuts b.kept 0) d)) }
     ensures runs { IfOk result (λ b. RunsLine line.now b.cuts (R.state rig.old) (R.state rig.new)) }
     ensures ends { IfErr result (λ e. (d : PlainDisk) → StandFor (V.stands (V.state volume.old).told) (R.state rig.old).contents d
         → EndsWithin P.state P.came P.broke P.knows e script.old script.new (R.state rig.old) (R.state rig.new) line.now d) }
-    ensures goes { Goes P.state P.came P.broke P.knows script.old script.new (R.state rig.old) (R.state rig.new) }
+    ensures goes { KeepsFrame P.state P.came P.broke P.knows script.old script.new (R.state rig.old) (R.state rig.new) }
     ensures spends { SpendsLine line.now (V.state volume.old) (V.state volume.new) (R.state rig.old) (R.state rig.new) result }
 {
     match *line {

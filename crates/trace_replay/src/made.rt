@@ -70,7 +70,14 @@ impl<'a, O: Sink> Script for MadeScript<'a, O> {
     ghost use Rattle.trace_replay.specs.Events.Event.{Gave, Took};
     ghost use Rattle.trace_replay.specs.Made.{BrokeMade, CameMade, KnowsMade};
 
-    ghost state = { λ v. record { size = volume_size v.made; turns = length (lines_left v.made); spare = true; source_faults = 0; sink_faults = (O.state v.sink.now).faults; lent = v.sink.ghost_name ∷ (O.state v.sink.now).lent } };
+    ghost state = { λ v. record {
+      size = volume_size v.made;
+      turns = length (lines_left v.made);
+      spare = true;
+      source_faults = 0;
+      sink_faults = (O.state v.sink.now).faults;
+      lent = v.sink.ghost_name ∷ (O.state v.sink.now).lent;
+    } };
 
     ghost came = { λ s b e v. CameMade (lines_left v.made) (O.state v.sink.now) s b e × Holds256 v.hasher (told_bytes e) };
 
@@ -92,7 +99,8 @@ impl<'a, O: Sink> Script for MadeScript<'a, O> {
             → (cause : LineError) × NextRefused ⟦<MadeScript<'a, O> as Script>⟧.knows s self.new e armed cause
             × ⟦<MadeScript<'a, O> as Script>⟧.came s b (e ++ taking (refusal_after e cause ∷ [])) self.new }
         ensures source { IsErrOf result Ended.Source
-            → Rose (⟦<MadeScript<'a, O> as Script>⟧.state self.old).source_faults (⟦<MadeScript<'a, O> as Script>⟧.state self.new).source_faults
+            → Rose (⟦<MadeScript<'a, O> as Script>⟧.state self.old).source_faults
+            (⟦<MadeScript<'a, O> as Script>⟧.state self.new).source_faults
             × Came ⟦<MadeScript<'a, O> as Script>⟧.came self.old self.new []
             × ((s : SourceState) → (b : SinkState) → (e : List Event)
             → ⟦<MadeScript<'a, O> as Script>⟧.came s b e self.old
@@ -179,11 +187,13 @@ pub fn replay_made<O: Sink, R: Rig, V: Volume<R>>(
     requires empty { StandFor (V.stands (V.state volume.old).told) (R.state rig.old).contents empty }
     ensures owns { V.owns volume.new (R.state rig.new).contents }
     ensures told { (V.state volume.new).told ≡ (V.state volume.old).told }
-    ensures whole { OnOk result (RunsWhole (V.state volume.old).told (Gives (lines_left made)) (TellsEnd (O.state sink.old) (O.state sink.new))
+    ensures whole { OnOk result (RunsWhole (V.state volume.old).told (Gives (lines_left made))
+        (TellsEnd (O.state sink.old) (O.state sink.new))
         (V.stands (V.state volume.new).told) (R.state rig.old) (R.state rig.new)) }
     ensures not_trace { IsErrOf result Ended.Trace → ⊥ }
     ensures not_source { IsErrOf result Ended.Source → ⊥ }
-    ensures part { IfErr result (EndsPart (V.state volume.old).told (Gives (lines_left made)) (TellsEnd (O.state sink.old) (O.state sink.new)) (TellsEndPart (O.state sink.old) (O.state sink.new))
+    ensures part { IfErr result (EndsPart (V.state volume.old).told (Gives (lines_left made))
+        (TellsEnd (O.state sink.old) (O.state sink.new)) (TellsEndPart (O.state sink.old) (O.state sink.new))
         (V.stands (V.state volume.new).told) (R.state rig.old) (R.state rig.new)) }
     ensures sink { IsErrOf result Ended.Sink → Rose (O.state sink.old).faults (O.state sink.new).faults }
     ensures flash { IsErrOf result Ended.Flash → Rose (R.state rig.old).faults.flash (R.state rig.new).faults.flash }

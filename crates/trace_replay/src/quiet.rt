@@ -77,7 +77,8 @@ impl<'a, I: Source, O: Sink> Script for QuietScript<'a, I, O> {
       spare = true;
       source_faults = (I.state v.source.now).faults;
       sink_faults = (O.state v.sink.now).faults;
-      lent = v.source.ghost_name ∷ v.sink.ghost_name ∷ length (I.state v.source.now).lent ∷ (I.state v.source.now).lent ++ (O.state v.sink.now).lent;
+      lent = v.source.ghost_name ∷ v.sink.ghost_name ∷ length (I.state v.source.now).lent ∷ (I.state v.source.now).lent
+          ++ (O.state v.sink.now).lent;
     } };
 
     ghost came = { λ s b e v. CameStream v.reader (I.state v.source.now) (O.state v.sink.now) s b (heard e) };
@@ -119,7 +120,15 @@ impl<'a, I: Source, O: Sink> Script for QuietScript<'a, I, O> {
         Ok(())
     }
 
-    ghost known = { λ v s b e came. record { all = _; whole = v.reader.ended; left = left_in v.reader.size v.reader.ended came.read.bytes (rest_of v.reader.pending); known = known_so _ _ _ _ _ _ _ _ came.read; front = given_heard _ _ e (first_given _ _ _ _ _ _ _ _ came.read) } };
+    ghost known = { λ v s b e came. record {
+      all = _;
+      whole = v.reader.ended;
+      left = left_in v.reader.size v.reader.ended came.read.bytes
+          (rest_of v.reader.pending);
+      known = known_so _ _ _ _ _ _ _ _ came.read;
+      front = given_heard _ _ e
+          (first_given _ _ _ _ _ _ _ _ came.read);
+    } };
 
     ghost few_turns = { λ v. few_bytes v.reader.bytes };
 }
@@ -147,14 +156,22 @@ pub fn replay_quiet<I: Source, O: Sink, R: Rig, V: Volume<R>>(
     requires empty { StandFor (V.stands (V.state volume.old).told) (R.state rig.old).contents empty }
     ensures owns { V.owns volume.new (R.state rig.new).contents }
     ensures told { (V.state volume.new).told ≡ (V.state volume.old).told }
-    ensures whole { OnOk result (RunsWhole (V.state volume.old).told (Reads (V.state volume.old).told.geometry.size (I.state source.old) (I.state source.new)) (TellsRefusal (O.state sink.old) (O.state sink.new))
+    ensures whole { OnOk result (RunsWhole (V.state volume.old).told
+        (Reads (V.state volume.old).told.geometry.size (I.state source.old) (I.state source.new))
+        (TellsRefusal (O.state sink.old) (O.state sink.new))
         (V.stands (V.state volume.new).told) (R.state rig.old) (R.state rig.new)) }
     ensures silent { OnOk result (known.Keeps (O.state sink.old).taken (O.state sink.new).taken) }
-    ensures refused { IsErrOf result Ended.Trace → EndsRefused (V.state volume.old).told (Reads (V.state volume.old).told.geometry.size (I.state source.old) (I.state source.new)) (TellsRefusal (O.state sink.old) (O.state sink.new))
+    ensures refused { IsErrOf result Ended.Trace → EndsRefused (V.state volume.old).told
+        (Reads (V.state volume.old).told.geometry.size (I.state source.old) (I.state source.new))
+        (TellsRefusal (O.state sink.old) (O.state sink.new))
         (V.stands (V.state volume.new).told) (R.state rig.old) (R.state rig.new) }
-    ensures unread { IsErrOf result Ended.Source → EndsUnread (V.state volume.old).told (Reads (V.state volume.old).told.geometry.size (I.state source.old) (I.state source.new)) (TellsRefusal (O.state sink.old) (O.state sink.new))
+    ensures unread { IsErrOf result Ended.Source → EndsUnread (V.state volume.old).told
+        (Reads (V.state volume.old).told.geometry.size (I.state source.old) (I.state source.new))
+        (TellsRefusal (O.state sink.old) (O.state sink.new))
         (V.stands (V.state volume.new).told) (R.state rig.old) (R.state rig.new) }
-    ensures part { IfErr result (λ e. e ≢ Ended.Trace → e ≢ Ended.Source → EndsPart (V.state volume.old).told (Reads (V.state volume.old).told.geometry.size (I.state source.old) (I.state source.new)) (TellsRefusal (O.state sink.old) (O.state sink.new)) (TellsRefusalPart (O.state sink.old) (O.state sink.new))
+    ensures part { IfErr result (λ e. e ≢ Ended.Trace → e ≢ Ended.Source
+        → EndsPart (V.state volume.old).told (Reads (V.state volume.old).told.geometry.size (I.state source.old) (I.state source.new))
+        (TellsRefusal (O.state sink.old) (O.state sink.new)) (TellsRefusalPart (O.state sink.old) (O.state sink.new))
         (V.stands (V.state volume.new).told) (R.state rig.old) (R.state rig.new) e) }
     ensures source { IsErrOf result Ended.Source → Rose (I.state source.old).faults (I.state source.new).faults }
     ensures sink { IsErrOf result Ended.Sink → Rose (O.state sink.old).faults (O.state sink.new).faults }

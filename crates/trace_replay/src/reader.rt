@@ -83,7 +83,7 @@ pub(crate) struct Reader {
 }
 
 impl Reader {
-    ghost use Rattle.trace_replay.specs.Reader.{CameTo, Gives, RefusesNext, Stands};
+    ghost use Rattle.trace_replay.specs.Reader.{CameTo, GivesLine, RefusesNext, Stands};
     ghost use Rattle.trace_replay.specs.Pending.{held, past_next};
 
     /// Nothing was read.
@@ -113,13 +113,14 @@ impl Reader {
         source: &mut I,
         armed: u32,
     ) -> Result<Option<Line>, Unread>
-        ensures line { IfOk result (λ o. IfSome o (λ l. Gives l armed (I.state source.old) self.old (I.state source.new) self.new)) }
+        ensures line { IfOk result (λ o. IfSome o (λ l. GivesLine l armed (I.state source.old) self.old (I.state source.new) self.new)) }
         ensures end { IfOk result (λ o. o ≡ None → (s : SourceState) → (lines : List Line) → CameTo s lines (I.state source.old) self.old
             → CameTo s lines (I.state source.new) self.new × Reads self.new.size s (I.state source.new) (map accepted lines) true) }
         ensures failed { IsErrOf result Unread.Failed → Rose (I.state source.old).faults (I.state source.new).faults
             × ((s : SourceState) → (lines : List Line) → CameTo s lines (I.state source.old) self.old
             → CameTo s lines (I.state source.new) self.new × Reads self.new.size s (I.state source.new) (map accepted lines) false) }
-        ensures refused { (cause : LineError) → IsErrOf result (Unread.Refused cause) → (s : SourceState) → (lines : List Line) → CameTo s lines (I.state source.old) self.old
+        ensures refused { (cause : LineError) → IsErrOf result (Unread.Refused cause) → (s : SourceState) → (lines : List Line)
+            → CameTo s lines (I.state source.old) self.old
             → CameTo s lines (I.state source.new) self.new × RefusesNext self.new.size s (I.state source.new) lines armed cause }
         ensures bytes { self.old.bytes ≤ self.new.bytes }
         ensures size { self.new.size ≡ self.old.size }
@@ -139,7 +140,8 @@ impl Reader {
     /// Reads the source up to the end of the next line, and says what stands next.
     fn seek<I: Source>(&mut self, source: &mut I) -> Seen
         ensures stands { Stands result self.new }
-        ensures came { (s : SourceState) → (lines : List Line) → CameTo s lines (I.state source.old) self.old → CameTo s lines (I.state source.new) self.new }
+        ensures came { (s : SourceState) → (lines : List Line) → CameTo s lines (I.state source.old) self.old
+            → CameTo s lines (I.state source.new) self.new }
         ensures failed { result ≡ Seen.Failed → Rose (I.state source.old).faults (I.state source.new).faults }
         ensures bytes { self.new.bytes ≡ self.old.bytes }
         ensures size { self.new.size ≡ self.old.size }
@@ -174,7 +176,8 @@ impl Reader {
         ensures stands { IfSome result (λ seen. Stands seen self.new) }
         ensures within { IfNone result (self.new.ended ≡ false) }
         ensures more { IfNone result (length (rest_of self.old.pending) < length (rest_of self.new.pending)) }
-        ensures came { (s : SourceState) → (lines : List Line) → CameTo s lines (I.state source.old) self.old → CameTo s lines (I.state source.new) self.new }
+        ensures came { (s : SourceState) → (lines : List Line) → CameTo s lines (I.state source.old) self.old
+            → CameTo s lines (I.state source.new) self.new }
         ensures failed { IfSome result (λ seen. seen ≡ Seen.Failed → Rose (I.state source.old).faults (I.state source.new).faults) }
         ensures bytes { self.new.bytes ≡ self.old.bytes }
         ensures size { self.new.size ≡ self.old.size }
@@ -196,7 +199,8 @@ impl Reader {
         ensures stands { IfSome result (λ seen. Stands seen self.new) }
         ensures within { IfNone result (self.new.ended ≡ false) }
         ensures more { IfNone result (length (rest_of self.old.pending) < length (rest_of self.new.pending)) }
-        ensures came { (s : SourceState) → (lines : List Line) → CameTo s lines (I.state source.old) self.old → CameTo s lines (I.state source.new) self.new }
+        ensures came { (s : SourceState) → (lines : List Line) → CameTo s lines (I.state source.old) self.old
+            → CameTo s lines (I.state source.new) self.new }
         ensures failed { IfSome result (λ seen. seen ≡ Seen.Failed → Rose (I.state source.old).faults (I.state source.new).faults) }
         ensures bytes { self.new.bytes ≡ self.old.bytes }
         ensures size { self.new.size ≡ self.old.size }
@@ -220,9 +224,10 @@ impl Reader {
     /// Gives the line that was gathered and that a line feed ends.
     fn give_line(&mut self, armed: u32) -> Result<Option<Line>, Unread>
         requires stands { Stands Seen.Line self.old }
-        ensures line { IfOk result (λ o. IfSome o (λ l. (a : SourceState) → Gives l armed a self.old a self.new)) }
+        ensures line { IfOk result (λ o. IfSome o (λ l. (a : SourceState) → GivesLine l armed a self.old a self.new)) }
         ensures some { IfOk result (λ o. o ≢ None) }
-        ensures refused { (cause : LineError) → IsErrOf result (Unread.Refused cause) → (a s : SourceState) → (lines : List Line) → CameTo s lines a self.old
+        ensures refused { (cause : LineError) → IsErrOf result (Unread.Refused cause) → (a s : SourceState) → (lines : List Line)
+            → CameTo s lines a self.old
             → CameTo s lines a self.new × RefusesNext self.new.size s a lines armed cause }
         ensures read { IsErrOf result Unread.Failed → ⊥ }
         ensures bytes { self.old.bytes ≤ self.new.bytes }
@@ -242,9 +247,10 @@ impl Reader {
     /// Gives the line that was gathered and that the end of the source ends.
     fn give_last(&mut self, armed: u32) -> Result<Option<Line>, Unread>
         requires stands { Stands Seen.Last self.old }
-        ensures line { IfOk result (λ o. IfSome o (λ l. (a : SourceState) → Gives l armed a self.old a self.new)) }
+        ensures line { IfOk result (λ o. IfSome o (λ l. (a : SourceState) → GivesLine l armed a self.old a self.new)) }
         ensures some { IfOk result (λ o. o ≢ None) }
-        ensures refused { (cause : LineError) → IsErrOf result (Unread.Refused cause) → (a s : SourceState) → (lines : List Line) → CameTo s lines a self.old
+        ensures refused { (cause : LineError) → IsErrOf result (Unread.Refused cause) → (a s : SourceState) → (lines : List Line)
+            → CameTo s lines a self.old
             → CameTo s lines a self.new × RefusesNext self.new.size s a lines armed cause }
         ensures read { IsErrOf result Unread.Failed → ⊥ }
         ensures bytes { self.old.bytes ≤ self.new.bytes }

@@ -8,8 +8,8 @@ ghost use Rattle.trace_model.specs.Run.{answers_of, read_backs};
 ghost use Rattle.trace_model.specs.SoFar.{as_ran};
 ghost use Rattle.trace_replay.specs.Ends.{EndsWithin, RunsLine};
 ghost use Rattle.trace_replay.specs.Events.{Says};
-ghost use Rattle.trace_replay.specs.Spends.{Spends, SpendsLine, touches_of};
-ghost use Rattle.trace_replay.specs.Went.{Goes, Keeps, Went};
+ghost use Rattle.trace_replay.specs.Spends.{SpendsSteps, SpendsLine, touches_of};
+ghost use Rattle.trace_replay.specs.Went.{KeepsFrame, Keeps, Went};
 
 use crate::again::read_through;
 use crate::saying::say_all;
@@ -35,10 +35,13 @@ pub(crate) fn read_blocks<P: Script, R: Rig, V: Volume<R>>(
     requires within { lba + count ≤ (V.state volume.old).told.geometry.size }
     ensures owns { V.owns volume.new (R.state rig.new).contents }
     ensures told { (V.state volume.new).told ≡ (V.state volume.old).told }
-    ensures found { OnOk result ((d : PlainDisk) → StandFor (V.stands (V.state volume.old).told) (R.state rig.old).contents d → scratch.new.answers.items ≡ read_backs lba count d) }
-    ensures kept { Keeps (V.stands (V.state volume.old).told) (V.stands (V.state volume.new).told) (R.state rig.old).contents (R.state rig.new).contents }
+    ensures found { OnOk result ((d : PlainDisk) → StandFor (V.stands (V.state volume.old).told) (R.state rig.old).contents d
+        → scratch.new.answers.items ≡ read_backs lba count d) }
+    ensures kept { Keeps (V.stands (V.state volume.old).told) (V.stands (V.state volume.new).told) (R.state rig.old).contents
+        (R.state rig.new).contents }
     ensures went { Went P.state P.came P.broke P.knows (λ cuts. cuts) 0 script.old script.new (R.state rig.old) (R.state rig.new) result }
-    ensures spends { Spends (touches_of lba count) (V.state volume.old) (V.state volume.new) (R.state rig.old) (R.state rig.new) result }
+    ensures spends { SpendsSteps (touches_of lba count) (V.state volume.old) (V.state volume.new) (R.state rig.old) (R.state rig.new)
+        result }
 {
     let mut cuts = 0;
     let _armed = rig.armed();
@@ -74,13 +77,17 @@ pub(crate) fn run_read<P: Script, R: Rig, V: Volume<R>>(
     requires within { lba + count ≤ (V.state volume.old).told.geometry.size }
     ensures owns { V.owns volume.new (R.state rig.new).contents }
     ensures told { (V.state volume.new).told ≡ (V.state volume.old).told }
-    ensures kept { Keeps (V.stands (V.state volume.old).told) (V.stands (V.state volume.new).told) (R.state rig.old).contents (R.state rig.new).contents }
-    ensures said { IfOk result (λ b. (d : PlainDisk) → StandFor (V.stands (V.state volume.old).told) (R.state rig.old).contents d → Says P.came script.old script.new (answers_of (as_ran (line_kind.Read lba count) b.cuts b.kept 0) d)) }
+    ensures kept { Keeps (V.stands (V.state volume.old).told) (V.stands (V.state volume.new).told) (R.state rig.old).contents
+        (R.state rig.new).contents }
+    ensures said { IfOk result (λ b. (d : PlainDisk) → StandFor (V.stands (V.state volume.old).told) (R.state rig.old).contents d
+        → Says P.came script.old script.new (answers_of (as_ran (line_kind.Read lba count) b.cuts b.kept 0) d)) }
     ensures runs { IfOk result (λ b. RunsLine (line_kind.Read lba count) b.cuts (R.state rig.old) (R.state rig.new)) }
     ensures ends { IfErr result (λ e. (d : PlainDisk) → StandFor (V.stands (V.state volume.old).told) (R.state rig.old).contents d
-        → EndsWithin P.state P.came P.broke P.knows e script.old script.new (R.state rig.old) (R.state rig.new) (line_kind.Read lba count) d) }
-    ensures goes { Goes P.state P.came P.broke P.knows script.old script.new (R.state rig.old) (R.state rig.new) }
-    ensures spends { SpendsLine (line_kind.Read lba count) (V.state volume.old) (V.state volume.new) (R.state rig.old) (R.state rig.new) result }
+        → EndsWithin P.state P.came P.broke P.knows e script.old script.new (R.state rig.old) (R.state rig.new) (line_kind.Read lba count)
+        d) }
+    ensures goes { KeepsFrame P.state P.came P.broke P.knows script.old script.new (R.state rig.old) (R.state rig.new) }
+    ensures spends { SpendsLine (line_kind.Read lba count) (V.state volume.old) (V.state volume.new) (R.state rig.old) (R.state rig.new)
+        result }
 {
     let cuts = read_blocks(script, rig, volume, lba, count, scratch)?;
     say_all(script, scratch.answers.as_slice())?;

@@ -40,13 +40,21 @@ pub fn replay<I: Source, O: Sink, R: Rig, V: Volume<R>>(
     requires empty { StandFor (V.stands (V.state volume.old).told) (R.state rig.old).contents empty }
     ensures owns { V.owns volume.new (R.state rig.new).contents }
     ensures told { (V.state volume.new).told ≡ (V.state volume.old).told }
-    ensures whole { OnOk result (RunsWhole (V.state volume.old).told (Reads (V.state volume.old).told.geometry.size (I.state source.old) (I.state source.new)) (Tells (O.state sink.old) (O.state sink.new))
+    ensures whole { OnOk result (RunsWhole (V.state volume.old).told
+        (Reads (V.state volume.old).told.geometry.size (I.state source.old) (I.state source.new))
+        (Tells (O.state sink.old) (O.state sink.new))
         (V.stands (V.state volume.new).told) (R.state rig.old) (R.state rig.new)) }
-    ensures refused { IsErrOf result Ended.Trace → EndsRefused (V.state volume.old).told (Reads (V.state volume.old).told.geometry.size (I.state source.old) (I.state source.new)) (Tells (O.state sink.old) (O.state sink.new))
+    ensures refused { IsErrOf result Ended.Trace → EndsRefused (V.state volume.old).told
+        (Reads (V.state volume.old).told.geometry.size (I.state source.old) (I.state source.new))
+        (Tells (O.state sink.old) (O.state sink.new))
         (V.stands (V.state volume.new).told) (R.state rig.old) (R.state rig.new) }
-    ensures unread { IsErrOf result Ended.Source → EndsUnread (V.state volume.old).told (Reads (V.state volume.old).told.geometry.size (I.state source.old) (I.state source.new)) (Tells (O.state sink.old) (O.state sink.new))
+    ensures unread { IsErrOf result Ended.Source → EndsUnread (V.state volume.old).told
+        (Reads (V.state volume.old).told.geometry.size (I.state source.old) (I.state source.new))
+        (Tells (O.state sink.old) (O.state sink.new))
         (V.stands (V.state volume.new).told) (R.state rig.old) (R.state rig.new) }
-    ensures part { IfErr result (λ e. e ≢ Ended.Trace → e ≢ Ended.Source → EndsPart (V.state volume.old).told (Reads (V.state volume.old).told.geometry.size (I.state source.old) (I.state source.new)) (Tells (O.state sink.old) (O.state sink.new)) (TellsPart (O.state sink.old) (O.state sink.new))
+    ensures part { IfErr result (λ e. e ≢ Ended.Trace → e ≢ Ended.Source
+        → EndsPart (V.state volume.old).told (Reads (V.state volume.old).told.geometry.size (I.state source.old) (I.state source.new))
+        (Tells (O.state sink.old) (O.state sink.new)) (TellsPart (O.state sink.old) (O.state sink.new))
         (V.stands (V.state volume.new).told) (R.state rig.old) (R.state rig.new) e) }
     ensures source { IsErrOf result Ended.Source → Rose (I.state source.old).faults (I.state source.new).faults }
     ensures sink { IsErrOf result Ended.Sink → Rose (O.state sink.old).faults (O.state sink.new).faults }

@@ -12,7 +12,7 @@ ghost use Rattle.trace_model.specs.SoFar.{is_stop};
 ghost use Rattle.trace_replay.specs.Ends.{CutLeaves};
 ghost use Rattle.trace_replay.specs.Events.{BreaksBy, CameBy, KnowsLines, events_of};
 ghost use Rattle.trace_replay.specs.Events.Event.{Gave};
-ghost use Rattle.trace_replay.specs.Ran.{BlamesRun, EndsRun, GoesOn, IsTallyOf, RanSoFar};
+ghost use Rattle.trace_replay.specs.Ran.{BlamesRun, EndsRun, RunKeepsFrame, IsTallyOf, RanSoFar};
 ghost use Rattle.trace_replay.specs.Theorem.{EndsPart, EndsRefused, EndsUnread, RunsWhole};
 
 use crate::lines::run_line;
@@ -47,12 +47,15 @@ pub fn replay_script<P: Script, R: Rig, V: Volume<R>>(
     ensures told { (V.state volume.new).told ≡ (V.state volume.old).told }
     ensures whole { OnOk result ((s : SourceState) → (b : SinkState) → P.came s b [] script.old → RunsWhole (V.state volume.old).told
         (P.knows s script.new) (CameBy P.came s b script.new) (V.stands (V.state volume.new).told) (R.state rig.old) (R.state rig.new)) }
-    ensures refused { IsErrOf result Ended.Trace → (s : SourceState) → (b : SinkState) → P.came s b [] script.old → EndsRefused (V.state volume.old).told
+    ensures refused { IsErrOf result Ended.Trace → (s : SourceState) → (b : SinkState) → P.came s b [] script.old
+        → EndsRefused (V.state volume.old).told
         (P.knows s script.new) (CameBy P.came s b script.new) (V.stands (V.state volume.new).told) (R.state rig.old) (R.state rig.new) }
-    ensures unread { IsErrOf result Ended.Source → (s : SourceState) → (b : SinkState) → P.came s b [] script.old → EndsUnread (V.state volume.old).told
+    ensures unread { IsErrOf result Ended.Source → (s : SourceState) → (b : SinkState) → P.came s b [] script.old
+        → EndsUnread (V.state volume.old).told
         (P.knows s script.new) (CameBy P.came s b script.new) (V.stands (V.state volume.new).told) (R.state rig.old) (R.state rig.new) }
     ensures part { IfErr result (λ e. e ≢ Ended.Trace → e ≢ Ended.Source → (s : SourceState) → (b : SinkState) → P.came s b [] script.old
-        → EndsPart (V.state volume.old).told (P.knows s script.new) (CameBy P.came s b script.new) (BreaksBy P.broke s b script.new) (V.stands (V.state volume.new).told) (R.state rig.old) (R.state rig.new) e) }
+        → EndsPart (V.state volume.old).told (P.knows s script.new) (CameBy P.came s b script.new) (BreaksBy P.broke s b script.new)
+        (V.stands (V.state volume.new).told) (R.state rig.old) (R.state rig.new) e) }
     ensures source { IsErrOf result Ended.Source → Rose (P.state script.old).source_faults (P.state script.new).source_faults }
     ensures sink { IsErrOf result Ended.Sink → Rose (P.state script.old).sink_faults (P.state script.new).sink_faults }
     ensures flash { IsErrOf result Ended.Flash → Rose (R.state rig.old).faults.flash (R.state rig.new).faults.flash }
@@ -92,14 +95,17 @@ fn run_lines<P: Script, R: Rig, V: Volume<R>>(
     ensures owns { V.owns volume.new (R.state rig.new).contents }
     ensures told { (V.state volume.new).told ≡ (V.state volume.old).told }
     ensures whole { OnOk result ((run : List Ran)
-        × RanSoFar (V.state volume.old).told (V.stands (V.state volume.new).told) (R.state rig.old) (R.state rig.new) tally.new (V.state volume.new) run
-        × ((s : SourceState) → (b : SinkState) → P.came s b [] script.old → P.came s b (events_of run) script.new × KnowsLines P.knows s script.new (events_of run) true)) }
+        × RanSoFar (V.state volume.old).told (V.stands (V.state volume.new).told) (R.state rig.old) (R.state rig.new) tally.new
+        (V.state volume.new) run
+        × ((s : SourceState) → (b : SinkState) → P.came s b [] script.old → P.came s b (events_of run) script.new
+        × KnowsLines P.knows s script.new (events_of run) true)) }
     ensures within { OnOk result (All (λ a. a < (V.state volume.new).told.geometry.size) tally.new.touched.keys) }
     ensures ends { IfErr result (λ e. (s : SourceState) → (b : SinkState) → P.came s b [] script.old
-        → EndsRun (V.state volume.old).told (P.knows s script.new) (CameBy P.came s b script.new) (BreaksBy P.broke s b script.new) (V.stands (V.state volume.new).told) (R.state rig.old) (R.state rig.new) e) }
+        → EndsRun (V.state volume.old).told (P.knows s script.new) (CameBy P.came s b script.new) (BreaksBy P.broke s b script.new)
+        (V.stands (V.state volume.new).told) (R.state rig.old) (R.state rig.new) e) }
     ensures source { IsErrOf result Ended.Source → Rose (P.state script.old).source_faults (P.state script.new).source_faults }
     ensures blames { IfErr result (λ e. BlamesRun P.state e script.old script.new (R.state rig.old) (R.state rig.new)) }
-    ensures goes { GoesOn P.state script.old script.new (R.state rig.old) (R.state rig.new) }
+    ensures goes { RunKeepsFrame P.state script.old script.new (R.state rig.old) (R.state rig.new) }
 {
     let mut scratch = Scratch::new(alloc);
     'lines: while let Some(line) = script.next(rig.armed())? {
@@ -124,23 +130,27 @@ fn run_given<P: Script, R: Rig, V: Volume<R>>(
     requires stops { is_stop line.now ≡ true → length (R.state rig.old).power.stops < 16 }
     requires lines { tally.old.lines + 1 < 2 ^ 64 }
     requires so_far { (first : State) × (run : List Ran)
-        × RanSoFar (V.state volume.old).told (V.stands (V.state volume.old).told) first (R.state rig.old) tally.old (V.state volume.old) run }
+        × RanSoFar (V.state volume.old).told (V.stands (V.state volume.old).told) first (R.state rig.old) tally.old (V.state volume.old)
+        run }
     requires within { All (λ a. a < (V.state volume.old).told.geometry.size) tally.old.touched.keys }
     ensures owns { V.owns volume.new (R.state rig.new).contents }
     ensures told { (V.state volume.new).told ≡ (V.state volume.old).told }
     ensures ran { OnOk result ((first : State) → (run : List Ran)
         → RanSoFar (V.state volume.old).told (V.stands (V.state volume.old).told) first (R.state rig.old) tally.old (V.state volume.old) run
-        → (one : Ran) × RanSoFar (V.state volume.old).told (V.stands (V.state volume.new).told) first (R.state rig.new) tally.new (V.state volume.new) (one ∷ run)
-        × ((s : SourceState) → (b : SinkState) → P.came s b (events_of run ++ Gave line.now ∷ []) script.old → P.came s b (events_of (one ∷ run)) script.new)) }
+        → (one : Ran) × RanSoFar (V.state volume.old).told (V.stands (V.state volume.new).told) first (R.state rig.new) tally.new
+        (V.state volume.new) (one ∷ run)
+        × ((s : SourceState) → (b : SinkState) → P.came s b (events_of run ++ Gave line.now ∷ []) script.old
+        → P.came s b (events_of (one ∷ run)) script.new)) }
     ensures within { OnOk result (All (λ a. a < (V.state volume.old).told.geometry.size) tally.new.touched.keys) }
     ensures left { OnOk result (CutLeaves line.now (R.state rig.old).contents (R.state rig.new).contents) }
     ensures ends { IfErr result (λ e. (first : State) → (run : List Ran)
         → RanSoFar (V.state volume.old).told (V.stands (V.state volume.old).told) first (R.state rig.old) tally.old (V.state volume.old) run
         → (s : SourceState) → (b : SinkState) → P.came s b (events_of run ++ Gave line.now ∷ []) script.old
-        → EndsRun (V.state volume.old).told (P.knows s script.new) (CameBy P.came s b script.new) (BreaksBy P.broke s b script.new) (V.stands (V.state volume.new).told) first (R.state rig.new) e) }
+        → EndsRun (V.state volume.old).told (P.knows s script.new) (CameBy P.came s b script.new) (BreaksBy P.broke s b script.new)
+        (V.stands (V.state volume.new).told) first (R.state rig.new) e) }
     ensures not_source { IsErrOf result Ended.Source → ⊥ }
     ensures blames { IfErr result (λ e. BlamesRun P.state e script.old script.new (R.state rig.old) (R.state rig.new)) }
-    ensures goes { GoesOn P.state script.old script.new (R.state rig.old) (R.state rig.new) }
+    ensures goes { RunKeepsFrame P.state script.old script.new (R.state rig.old) (R.state rig.new) }
 {
     let Ok(()) = count(tally, line, volume.size()) else {
         return Err(Ended::Memory);

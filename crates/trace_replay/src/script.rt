@@ -36,19 +36,23 @@ pub trait Script {
     /// The next line, where so many stops are armed; none at the end. A line that is refused is said, and
     /// ends the run. A spare script takes memory for nothing else than to say that.
     fn next(&mut self, armed: u32) -> Result<Option<Line>, Ended>
-        ensures line { IfOk result (λ o. IfSome o (λ l. IsRunnable (state self.old).size l × ((state self.new).turns + 1 ≤ (state self.old).turns)
+        ensures line { IfOk result (λ o. IfSome o (λ l. IsRunnable (state self.old).size l
+            × ((state self.new).turns + 1 ≤ (state self.old).turns)
             × (is_stop l ≡ true → armed < 16) × Came came self.old self.new (Gave l ∷ []))) }
         ensures end { IfOk result (λ o. o ≡ None → Came came self.old self.new []
             × ((s : SourceState) → (b : SinkState) → (e : List Event) → came s b e self.old → KnowsLines knows s self.new e true)) }
         ensures refused { IsErrOf result Ended.Trace → (s : SourceState) → (b : SinkState) → (e : List Event) → came s b e self.old
-            → (cause : LineError) × NextRefused knows s self.new e armed cause × came s b (e ++ taking (refusal_after e cause ∷ [])) self.new }
-        ensures source { IsErrOf result Ended.Source → Rose (state self.old).source_faults (state self.new).source_faults × Came came self.old self.new []
+            → (cause : LineError) × NextRefused knows s self.new e armed cause
+            × came s b (e ++ taking (refusal_after e cause ∷ [])) self.new }
+        ensures source { IsErrOf result Ended.Source → Rose (state self.old).source_faults (state self.new).source_faults
+            × Came came self.old self.new []
             × ((s : SourceState) → (b : SinkState) → (e : List Event) → came s b e self.old → KnowsLines knows s self.new e false) }
         ensures sink { IsErrOf result Ended.Sink → Rose (state self.old).sink_faults (state self.new).sink_faults
             × ((s : SourceState) → (b : SinkState) → (e : List Event) → came s b e self.old
             → (cause : LineError) × NextRefused knows s self.new e armed cause × broke s b e (Took (refusal_after e cause)) self.new) }
         ensures memory { IsErrOf result Ended.Memory → Came came self.old self.new []
-            × ((state self.old).spare ≡ true → (s : SourceState) → (b : SinkState) → (e : List Event) → came s b e self.old → (cause : LineError) × NextRefused knows s self.new e armed cause) }
+            × ((state self.old).spare ≡ true → (s : SourceState) → (b : SinkState) → (e : List Event) → came s b e self.old
+            → (cause : LineError) × NextRefused knows s self.new e armed cause) }
         ensures only { (IsErrOf result Ended.Flash → ⊥) × (IsErrOf result Ended.Disk → ⊥) }
         ensures later { (state self.old).sink_faults ≤ (state self.new).sink_faults }
         ensures source_later { (state self.old).source_faults ≤ (state self.new).source_faults }

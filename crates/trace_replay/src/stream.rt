@@ -67,7 +67,8 @@ impl<'a, I: Source, O: Sink> Script for StreamScript<'a, I, O> {
       spare = true;
       source_faults = (I.state v.source.now).faults;
       sink_faults = (O.state v.sink.now).faults;
-      lent = v.source.ghost_name ∷ v.sink.ghost_name ∷ length (I.state v.source.now).lent ∷ (I.state v.source.now).lent ++ (O.state v.sink.now).lent;
+      lent = v.source.ghost_name ∷ v.sink.ghost_name ∷ length (I.state v.source.now).lent ∷ (I.state v.source.now).lent
+          ++ (O.state v.sink.now).lent;
     } };
 
     ghost came = { λ s b e v. CameStream v.reader (I.state v.source.now) (O.state v.sink.now) s b e × Holds256 v.hasher (told_bytes e) };
@@ -122,7 +123,14 @@ impl<'a, I: Source, O: Sink> Script for StreamScript<'a, I, O> {
         say(self.alloc, &mut *self.sink, &end)
     }
 
-    ghost known = { λ v s b e came. record { all = _; whole = v.reader.ended; left = left_in v.reader.size v.reader.ended came.0.read.bytes (rest_of v.reader.pending); known = known_so _ _ _ _ _ _ _ _ came.0.read; front = first_given _ _ _ _ _ _ _ _ came.0.read } };
+    ghost known = { λ v s b e came. record {
+      all = _;
+      whole = v.reader.ended;
+      left = left_in v.reader.size v.reader.ended came.0.read.bytes
+          (rest_of v.reader.pending);
+      known = known_so _ _ _ _ _ _ _ _ came.0.read;
+      front = first_given _ _ _ _ _ _ _ _ came.0.read;
+    } };
 
     ghost few_turns = { λ v. few_bytes v.reader.bytes };
 }

@@ -9,8 +9,8 @@ ghost use Rattle.trace_model.specs.Run.{digest_of, stopped};
 ghost use Rattle.trace_replay.specs.Ends.{EndsEnd, SaysThrough};
 ghost use Rattle.trace_replay.specs.Said.{Cuts};
 ghost use Rattle.trace_replay.specs.Saying.{SaysTouched};
-ghost use Rattle.trace_replay.specs.Spends.{Spends, touches_each};
-ghost use Rattle.trace_replay.specs.Went.{Goes, Keeps};
+ghost use Rattle.trace_replay.specs.Spends.{SpendsSteps, touches_each};
+ghost use Rattle.trace_replay.specs.Went.{KeepsFrame, Keeps};
 
 use crate::again::read_through;
 use crate::tally::Tally;
@@ -34,13 +34,16 @@ pub(crate) fn tell_touched<P: Script, R: Rig, V: Volume<R>>(
     requires within { All (λ a. a < (V.state volume.old).told.geometry.size) touched.now.keys }
     ensures owns { V.owns volume.new (R.state rig.new).contents }
     ensures told { (V.state volume.new).told ≡ (V.state volume.old).told }
-    ensures kept { Keeps (V.stands (V.state volume.old).told) (V.stands (V.state volume.new).told) (R.state rig.old).contents (R.state rig.new).contents }
+    ensures kept { Keeps (V.stands (V.state volume.old).told) (V.stands (V.state volume.new).told) (R.state rig.old).contents
+        (R.state rig.new).contents }
     ensures cuts { IfOk result (λ cuts. Cuts cuts 0 (R.state rig.old) (R.state rig.new)) }
-    ensures said { IfOk result (λ cuts. (d : PlainDisk) → StandFor (V.stands (V.state volume.old).told) (R.state rig.old).contents d → SaysTouched P.came script.old script.new cuts touched.now.keys d) }
+    ensures said { IfOk result (λ cuts. (d : PlainDisk) → StandFor (V.stands (V.state volume.old).told) (R.state rig.old).contents d
+        → SaysTouched P.came script.old script.new cuts touched.now.keys d) }
     ensures ends { IfErr result (λ e. (d : PlainDisk) → StandFor (V.stands (V.state volume.old).told) (R.state rig.old).contents d
         → (end : Answer) → EndsEnd P.state P.came P.broke P.knows e script.old script.new (R.state rig.old) (R.state rig.new) end) }
-    ensures goes { Goes P.state P.came P.broke P.knows script.old script.new (R.state rig.old) (R.state rig.new) }
-    ensures spends { Spends (touches_each touched.now.keys) (V.state volume.old) (V.state volume.new) (R.state rig.old) (R.state rig.new) result }
+    ensures goes { KeepsFrame P.state P.came P.broke P.knows script.old script.new (R.state rig.old) (R.state rig.new) }
+    ensures spends { SpendsSteps (touches_each touched.now.keys) (V.state volume.old) (V.state volume.new) (R.state rig.old)
+        (R.state rig.new) result }
 {
     let mut cuts = 0;
     let _armed = rig.armed();
@@ -66,14 +69,19 @@ pub(crate) fn say_end<P: Script, R: Rig, V: Volume<R>>(
     requires within { All (λ a. a < (V.state volume.old).told.geometry.size) tally.now.touched.keys }
     ensures owns { V.owns volume.new (R.state rig.new).contents }
     ensures told { (V.state volume.new).told ≡ (V.state volume.old).told }
-    ensures kept { Keeps (V.stands (V.state volume.old).told) (V.stands (V.state volume.new).told) (R.state rig.old).contents (R.state rig.new).contents }
+    ensures kept { Keeps (V.stands (V.state volume.old).told) (V.stands (V.state volume.new).told) (R.state rig.old).contents
+        (R.state rig.new).contents }
     ensures cuts { IfOk result (λ cuts. Cuts cuts 0 (R.state rig.old) (R.state rig.new)) }
-    ensures said { IfOk result (λ cuts. (d : PlainDisk) → StandFor (V.stands (V.state volume.old).told) (R.state rig.old).contents d → SaysThrough P.came script.old script.new
-        (stopped cuts ++ answer.End tally.now.writes tally.now.reads (length tally.now.touched.keys) (digest_of tally.now.touched.keys d) ∷ [])) }
-    ensures ends { IfErr result (λ e. (d : PlainDisk) → StandFor (V.stands (V.state volume.old).told) (R.state rig.old).contents d → EndsEnd P.state P.came P.broke P.knows e script.old script.new (R.state rig.old) (R.state rig.new)
+    ensures said { IfOk result (λ cuts. (d : PlainDisk) → StandFor (V.stands (V.state volume.old).told) (R.state rig.old).contents d
+        → SaysThrough P.came script.old script.new
+        (stopped cuts ++ answer.End tally.now.writes tally.now.reads (length tally.now.touched.keys) (digest_of tally.now.touched.keys d)
+        ∷ [])) }
+    ensures ends { IfErr result (λ e. (d : PlainDisk) → StandFor (V.stands (V.state volume.old).told) (R.state rig.old).contents d
+        → EndsEnd P.state P.came P.broke P.knows e script.old script.new (R.state rig.old) (R.state rig.new)
         (answer.End tally.now.writes tally.now.reads (length tally.now.touched.keys) (digest_of tally.now.touched.keys d))) }
-    ensures goes { Goes P.state P.came P.broke P.knows script.old script.new (R.state rig.old) (R.state rig.new) }
-    ensures spends { Spends (touches_each tally.now.touched.keys) (V.state volume.old) (V.state volume.new) (R.state rig.old) (R.state rig.new) result }
+    ensures goes { KeepsFrame P.state P.came P.broke P.knows script.old script.new (R.state rig.old) (R.state rig.new) }
+    ensures spends { SpendsSteps (touches_each tally.now.touched.keys) (V.state volume.old) (V.state volume.new) (R.state rig.old)
+        (R.state rig.new) result }
 {
     let mut block = zero_block();
     let cuts = tell_touched(script, rig, volume, &tally.touched, &mut block)?;

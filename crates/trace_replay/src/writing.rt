@@ -10,8 +10,8 @@ ghost use Rattle.trace_model.specs.SoFar.{as_ran};
 ghost use Rattle.trace_replay.specs.Ends.{EndsWithin, IsKept, RunsLine, StandForFront, StandForPart};
 ghost use Rattle.trace_replay.specs.Events.{Says};
 ghost use Rattle.trace_replay.specs.Saying.{count_unless};
-ghost use Rattle.trace_replay.specs.Spends.{Spends, SpendsLine, puts_of};
-ghost use Rattle.trace_replay.specs.Went.{Goes, Keeps, Went, count_of};
+ghost use Rattle.trace_replay.specs.Spends.{SpendsSteps, SpendsLine, puts_of};
+ghost use Rattle.trace_replay.specs.Went.{KeepsFrame, Keeps, Went, count_of};
 
 use crate::again::{read_once, write_once};
 use crate::saying::say;
@@ -44,12 +44,19 @@ pub(crate) fn write_blocks<P: Script, R: Rig, V: Volume<R>>(
     requires within { request.lba + request.count ≤ (V.state volume.old).told.geometry.size }
     ensures owns { V.owns volume.new (R.state rig.new).contents }
     ensures told { (V.state volume.new).told ≡ (V.state volume.old).told }
-    ensures whole { IfOk result (λ cut. cut ≡ false → (d : PlainDisk) → StandFor (V.stands (V.state volume.old).told) (R.state rig.old).contents d → StandFor (V.stands (V.state volume.new).told) (R.state rig.new).contents (after_blocks request.lba request.tag request.count d)) }
-    ensures front { IfOk result (λ cut. cut ≡ true → (d : PlainDisk) → StandFor (V.stands (V.state volume.old).told) (R.state rig.old).contents d
-        → (n : ℕ) × (n ≤ request.count) × StandFor (V.stands (V.state volume.new).told) (R.state rig.new).contents (after_blocks request.lba request.tag n d)) }
-    ensures images { (d : PlainDisk) → StandFor (V.stands (V.state volume.old).told) (R.state rig.old).contents d → StandForFront (V.stands (V.state volume.new).told) (R.state rig.new).contents request.lba request.tag request.count d }
-    ensures went { Went P.state P.came P.broke P.knows count_of request.count script.old script.new (R.state rig.old) (R.state rig.new) result }
-    ensures spends { Spends (puts_of request.lba request.count) (V.state volume.old) (V.state volume.new) (R.state rig.old) (R.state rig.new) result }
+    ensures whole { IfOk result (λ cut. cut ≡ false → (d : PlainDisk)
+        → StandFor (V.stands (V.state volume.old).told) (R.state rig.old).contents d
+        → StandFor (V.stands (V.state volume.new).told) (R.state rig.new).contents (after_blocks request.lba request.tag request.count d)) }
+    ensures front { IfOk result (λ cut. cut ≡ true → (d : PlainDisk)
+        → StandFor (V.stands (V.state volume.old).told) (R.state rig.old).contents d
+        → (n : ℕ) × (n ≤ request.count) × StandFor (V.stands (V.state volume.new).told) (R.state rig.new).contents
+        (after_blocks request.lba request.tag n d)) }
+    ensures images { (d : PlainDisk) → StandFor (V.stands (V.state volume.old).told) (R.state rig.old).contents d
+        → StandForFront (V.stands (V.state volume.new).told) (R.state rig.new).contents request.lba request.tag request.count d }
+    ensures went { Went P.state P.came P.broke P.knows count_of request.count script.old script.new (R.state rig.old) (R.state rig.new)
+        result }
+    ensures spends { SpendsSteps (puts_of request.lba request.count) (V.state volume.old) (V.state volume.new) (R.state rig.old)
+        (R.state rig.new) result }
 {
     let _size = volume.size();
     for i in 0..request.count {
@@ -77,8 +84,11 @@ pub(crate) fn kept_once<P: Script, R: Rig, V: Volume<R>>(
     requires within { request.lba + request.count ≤ (V.state volume.old).told.geometry.size }
     ensures owns { V.owns volume.new (R.state rig.new).contents }
     ensures told { (V.state volume.new).told ≡ (V.state volume.old).told }
-    ensures found { IfOk result (λ o. IfSome o (λ kept. (d : PlainDisk) → StandFor (V.stands (V.state volume.old).told) (R.state rig.old).contents d → IsKept request.lba request.count request.tag kept d)) }
-    ensures kept { Keeps (V.stands (V.state volume.old).told) (V.stands (V.state volume.new).told) (R.state rig.old).contents (R.state rig.new).contents }
+    ensures found { IfOk result (λ o. IfSome o (λ kept. (d : PlainDisk)
+        → StandFor (V.stands (V.state volume.old).told) (R.state rig.old).contents d
+        → IsKept request.lba request.count request.tag kept d)) }
+    ensures kept { Keeps (V.stands (V.state volume.old).told) (V.stands (V.state volume.new).told) (R.state rig.old).contents
+        (R.state rig.new).contents }
     ensures went { Went P.state P.came P.broke P.knows count_unless 0 script.old script.new (R.state rig.old) (R.state rig.new) result }
 {
     let _size = volume.size();
@@ -110,8 +120,10 @@ pub(crate) fn kept_blocks<P: Script, R: Rig, V: Volume<R>>(
     requires within { request.lba + request.count ≤ (V.state volume.old).told.geometry.size }
     ensures owns { V.owns volume.new (R.state rig.new).contents }
     ensures told { (V.state volume.new).told ≡ (V.state volume.old).told }
-    ensures found { IfOk result (λ b. (d : PlainDisk) → StandFor (V.stands (V.state volume.old).told) (R.state rig.old).contents d → IsKept request.lba request.count request.tag b.kept d) }
-    ensures kept { Keeps (V.stands (V.state volume.old).told) (V.stands (V.state volume.new).told) (R.state rig.old).contents (R.state rig.new).contents }
+    ensures found { IfOk result (λ b. (d : PlainDisk) → StandFor (V.stands (V.state volume.old).told) (R.state rig.old).contents d
+        → IsKept request.lba request.count request.tag b.kept d) }
+    ensures kept { Keeps (V.stands (V.state volume.old).told) (V.stands (V.state volume.new).told) (R.state rig.old).contents
+        (R.state rig.new).contents }
     ensures went { Went P.state P.came P.broke P.knows (λ b. b.cuts) 0 script.old script.new (R.state rig.old) (R.state rig.new) result }
 {
     let mut cuts = 0;
@@ -139,15 +151,25 @@ pub(crate) fn run_write<P: Script, R: Rig, V: Volume<R>>(
     requires within { request.lba + request.count ≤ (V.state volume.old).told.geometry.size }
     ensures owns { V.owns volume.new (R.state rig.new).contents }
     ensures told { (V.state volume.new).told ≡ (V.state volume.old).told }
-    ensures fits { IfOk result (λ b. (d : PlainDisk) → StandFor (V.stands (V.state volume.old).told) (R.state rig.old).contents d → FitsLine ack.Write (line_kind.Write request.lba request.count request.tag) b.cuts b.kept 0 d) }
-    ensures disk { IfOk result (λ b. (d : PlainDisk) → StandFor (V.stands (V.state volume.old).told) (R.state rig.old).contents d → StandFor (V.stands (V.state volume.new).told) (R.state rig.new).contents (after_line (line_kind.Write request.lba request.count request.tag) b.kept d)) }
-    ensures images { (d : PlainDisk) → StandFor (V.stands (V.state volume.old).told) (R.state rig.old).contents d → StandForPart (V.stands (V.state volume.new).told) (R.state rig.new).contents (line_kind.Write request.lba request.count request.tag) d }
-    ensures said { IfOk result (λ b. (d : PlainDisk) → StandFor (V.stands (V.state volume.old).told) (R.state rig.old).contents d → Says P.came script.old script.new (answers_of (as_ran (line_kind.Write request.lba request.count request.tag) b.cuts b.kept 0) d)) }
-    ensures runs { IfOk result (λ b. RunsLine (line_kind.Write request.lba request.count request.tag) b.cuts (R.state rig.old) (R.state rig.new)) }
+    ensures fits { IfOk result (λ b. (d : PlainDisk) → StandFor (V.stands (V.state volume.old).told) (R.state rig.old).contents d
+        → FitsLine ack.Write (line_kind.Write request.lba request.count request.tag) b.cuts b.kept 0 d) }
+    ensures disk { IfOk result (λ b. (d : PlainDisk) → StandFor (V.stands (V.state volume.old).told) (R.state rig.old).contents d
+        → StandFor (V.stands (V.state volume.new).told) (R.state rig.new).contents
+        (after_line (line_kind.Write request.lba request.count request.tag) b.kept d)) }
+    ensures images { (d : PlainDisk) → StandFor (V.stands (V.state volume.old).told) (R.state rig.old).contents d
+        → StandForPart (V.stands (V.state volume.new).told) (R.state rig.new).contents
+        (line_kind.Write request.lba request.count request.tag) d }
+    ensures said { IfOk result (λ b. (d : PlainDisk) → StandFor (V.stands (V.state volume.old).told) (R.state rig.old).contents d
+        → Says P.came script.old script.new (answers_of
+        (as_ran (line_kind.Write request.lba request.count request.tag) b.cuts b.kept 0) d)) }
+    ensures runs { IfOk result (λ b. RunsLine (line_kind.Write request.lba request.count request.tag) b.cuts (R.state rig.old)
+        (R.state rig.new)) }
     ensures ends { IfErr result (λ e. (d : PlainDisk) → StandFor (V.stands (V.state volume.old).told) (R.state rig.old).contents d
-        → EndsWithin P.state P.came P.broke P.knows e script.old script.new (R.state rig.old) (R.state rig.new) (line_kind.Write request.lba request.count request.tag) d) }
-    ensures goes { Goes P.state P.came P.broke P.knows script.old script.new (R.state rig.old) (R.state rig.new) }
-    ensures spends { SpendsLine (line_kind.Write request.lba request.count request.tag) (V.state volume.old) (V.state volume.new) (R.state rig.old) (R.state rig.new) result }
+        → EndsWithin P.state P.came P.broke P.knows e script.old script.new (R.state rig.old) (R.state rig.new)
+        (line_kind.Write request.lba request.count request.tag) d) }
+    ensures goes { KeepsFrame P.state P.came P.broke P.knows script.old script.new (R.state rig.old) (R.state rig.new) }
+    ensures spends { SpendsLine (line_kind.Write request.lba request.count request.tag) (V.state volume.old) (V.state volume.new)
+        (R.state rig.old) (R.state rig.new) result }
 {
     let count = request.count;
     let cut = write_blocks(script, rig, volume, request, &mut scratch.block)?;

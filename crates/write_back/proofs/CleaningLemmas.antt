@@ -20,14 +20,14 @@ use Rattle.ft_media.specs.Drives.{DrivesFlash}
 use Rattle.ft_volume.specs.Opening.{Suits}
 use Rattle.ft_volume.specs.declared.volume.VolumeError.{VolumeError}
 use Rattle.cache_model.specs.Cache.{Agrees, CacheList, Held, dirty_between, held_or, made_clean, marked_as, undo}
-use Rattle.cache_model.specs.Stands.{StandsFor}
+use Rattle.cache_model.specs.Stands.{FlashStandsFor}
 use Rattle.cache_model.proofs.UndoLemmas.{get_marked}
 use Rattle.op_log.specs.Log.{FitsOn}
 use Rattle.ssc.specs.declared.cache.Ssc.{Ssc}
 use Rattle.ssc.specs.declared.error.SscError.{SscError}
 use Rattle.ssc.specs.declared.error.SscError.TheVariants.{Full, OutOfMemory}
 use Rattle.ssc.specs.CacheState.{Holds, geometry_of, pending}
-use Rattle.ssc.specs.Commands.{ImagesOf, StandsForOne, AsUndone, AsBefore, AsAfter}
+use Rattle.ssc.specs.Commands.{ImagesOf, FlashStandsForOne, AsUndone, AsBefore, AsAfter}
 use Rattle.ssc.specs.Errors.{ssc_failed, ssc_lost, stops}
 use Rattle.cached_disk.specs.declared.disk.CachedDisk.{CachedDisk}
 use Rattle.cached_disk.specs.Errors.{IsOfCache}
@@ -110,23 +110,23 @@ module _ (v : CachedDisk) (k : Ssc) (s t : State) (list : CacheList) (lba : ℕ)
   -- a list that a crash may leave of it
   record IsLeftBy (page : Place → Page) : Type 0 where
     pub list_of : CacheList
-    pub stands : StandsFor v.options.geometry page list_of
+    pub stands : FlashStandsFor v.options.geometry page list_of
     pub agrees : Agrees list_of s.contents.disk
     pub over : (d : PlainDisk) → IsOver v.options.geometry list s.contents.disk d → IsOver v.options.geometry list_of s.contents.disk d
 
-  own_stands : (page : Place → Page) (l : CacheList) → StandsFor (geometry_of v.cache) page l → StandsFor v.options.geometry page l
-  own_stands page l stands = subst (λ (g : Geometry). StandsFor g page l) own stands
+  own_stands : (page : Place → Page) (l : CacheList) → FlashStandsFor (geometry_of v.cache) page l → FlashStandsFor v.options.geometry page l
+  own_stands page l stands = subst (λ (g : Geometry). FlashStandsFor g page l) own stands
 
   cleaned_over : (d : PlainDisk) → IsOver v.options.geometry list s.contents.disk d → IsOver v.options.geometry after_clean s.contents.disk d
   cleaned_over d over = over_same v.options.geometry s.contents.disk list after_clean d (cleaned_same lba list s.contents.disk) over
 
-  left_by : (page : Place → Page) → StandsForOne (geometry_of v.cache) page (undo (pending v.cache) list) list after_clean → IsLeftBy page
+  left_by : (page : Place → Page) → FlashStandsForOne (geometry_of v.cache) page (undo (pending v.cache) list) list after_clean → IsLeftBy page
   left_by page (AsUndone x) = record { list_of = undo (pending v.cache) list; stands = own_stands page (undo (pending v.cache) list) x; agrees = undo_agrees s.contents.disk list is.agrees (pending v.cache); over = undone_over v s.contents list own is }
   left_by page (AsBefore x) = record { list_of = list; stands = own_stands page list x; agrees = is.agrees; over = λ d over. over }
   left_by page (AsAfter x) = record { list_of = after_clean; stands = own_stands page after_clean x; agrees = cleaned_agrees; over = cleaned_over }
 
   -- refused
-  module _ (down : is_down (record v { cache = k }) ≡ true) (one : StandsForOne (geometry_of v.cache) t.contents.flash.page (undo (pending v.cache) list) list after_clean) where
+  module _ (down : is_down (record v { cache = k }) ≡ true) (one : FlashStandsForOne (geometry_of v.cache) t.contents.flash.page (undo (pending v.cache) list) list after_clean) where
     beneath : IsBeneath (told_of v) t.contents (left_by t.contents.flash.page one).list_of
     beneath = let x = left_by t.contents.flash.page one in step_beneath v k s.contents t.contents stays list x.list_of x.agrees (any_suits x.list_of) x.stands
 
@@ -334,7 +334,8 @@ module _ (v : CachedDisk) (contents : Contents) (left : IsLeft v contents) (up :
     | inr ge ↦ inr (omega (arith, ge, is, inside), omega (arith, ge, inside))
   ]
 
-  pub listed_group : (items : List ℕ) (count : ℕ) → count ≡ min v.options.geometry.p (v.options.geometry.size - group * v.options.geometry.p) → ((x : Contents) (s : CacheList) → Holds v.cache x s → items ≡ dirty_between (group * v.options.geometry.p) count s) → items ≡ in_group v.options.geometry.p group (dirty_of v)
+  pub listed_group : (items : List ℕ) (count : ℕ) → count ≡ min v.options.geometry.p (v.options.geometry.size - group * v.options.geometry.p)
+      → ((x : Contents) (s : CacheList) → Holds v.cache x s → items ≡ dirty_between (group * v.options.geometry.p) count s) → items ≡ in_group v.options.geometry.p group (dirty_of v)
   listed_group items count is listed =
       let g = v.options.geometry in
       let holds = (left.up up).holds in

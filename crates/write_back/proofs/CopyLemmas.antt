@@ -21,7 +21,7 @@ use Rattle.ft_volume.specs.Volume.{StandFor}
 use Rattle.ft_volume.specs.declared.volume.VolumeError.{VolumeError}
 use Rattle.ft_volume.specs.declared.volume.VolumeError.TheVariants as volume
 use Rattle.cache_model.specs.Cache.{Agrees, CacheList, Held, held_or, undo}
-use Rattle.cache_model.specs.Stands.{StandsFor}
+use Rattle.cache_model.specs.Stands.{FlashStandsFor}
 use Rattle.op_log.specs.Log.{FitsOn}
 use Rattle.ssc.specs.declared.cache.Ssc.{Ssc}
 use Rattle.ssc.specs.declared.error.SscError.{SscError}
@@ -133,7 +133,7 @@ module _ (v : CachedDisk) (old new : Contents) (s : CacheList) (own : geometry_o
   beneath_now =
       let was = held_beneath v old s own is in
       record {
-        flash = subst (λ (f : Place → Page). StandsFor v.options.geometry f without_buffered) (sym shows.page) was.flash;
+        flash = subst (λ (f : Place → Page). FlashStandsFor v.options.geometry f without_buffered) (sym shows.page) was.flash;
         agrees = undo_agrees new.disk s agrees_now (pending v.cache);
         suits = was.suits;
       }

@@ -247,7 +247,8 @@ module _ (s t : State) where
   }
   refuses_disk media.OutOfMemory other calls counts = absurd (other refl)
 
-  refuses_flash : (T : Type 0) (e : SscError) (r : VolumeError) → IsOfCache e r → (e ≡ OutOfMemory → ⊥) → FlashCause s.faults t.faults (ssc_failed {T = T} (Err e)) (ssc_lost {T = T} (Err e)) → Passes s t (ssc_lost {T = T} (Err e)) → t.counts.disk_writes ≡ s.counts.disk_writes → t.counts.disk_reads ≡ s.counts.disk_reads → Refuses s t r
+  refuses_flash : (T : Type 0) (e : SscError) (r : VolumeError) → IsOfCache e r → (e ≡ OutOfMemory → ⊥) → FlashCause s.faults t.faults (ssc_failed {T = T} (Err e)) (ssc_lost {T = T} (Err e))
+      → Passes s t (ssc_lost {T = T} (Err e)) → t.counts.disk_writes ≡ s.counts.disk_writes → t.counts.disk_reads ≡ s.counts.disk_reads → Refuses s t r
   refuses_flash T (Full n limit) r is other cause passes writes reads = absurd is
   refuses_flash T FlashFault r is other cause passes writes reads = subst (λ (q : VolumeError). Refuses s t q) (sym is) (record {
     memory = λ f. absurd (cc);

@@ -9,7 +9,7 @@ use Rattle.ft_volume.specs.declared.options.Options.{Options}
 use Rattle.ft_volume.specs.Opening.{MayOpen, nothing_held}
 use Rattle.ft_volume.specs.Volume.{told_for}
 use Rattle.cache_model.specs.Cache.{Agrees, Buffered, CacheList, Held, held, undo, written_clean}
-use Rattle.cache_model.specs.Stands.{StandsFor}
+use Rattle.cache_model.specs.Stands.{FlashStandsFor}
 use Rattle.cache_model.proofs.MapLemmas.{get_insert}
 use Rattle.ssc.specs.declared.cache.Ssc.{Ssc}
 use Rattle.ssc.specs.CacheState.{Holds, geometry_of, pending}
@@ -20,14 +20,14 @@ use Rattle.cached_disk.proofs.DiskLemmas.{one_value, same_list}
 
 -- it holds this block alone, clean
 abbrev pub HoldsAlone : Geometry → Contents → ℕ → Block → Type 0
-HoldsAlone g contents lba block = (s : CacheList) → StandsFor g contents.flash.page s → (a : ℕ) (h : Held) → get s a ≡ Some h → (a ≡ lba) × (h ≡ held block false)
+HoldsAlone g contents lba block = (s : CacheList) → FlashStandsFor g contents.flash.page s → (a : ℕ) (h : Held) → get s a ≡ Some h → (a ≡ lba) × (h ≡ held block false)
 
 pub written_alone : (g : Geometry) (k c : Ssc) (mid contents : Contents) (lba : ℕ) (block : Block) (written : HoldsWritten k mid empty lba (written_clean lba block)) → geometry_of c ≡ g → Holds c contents (written_clean lba block written.left) → pending c ≡ [] → HoldsAlone g contents lba block
 written_alone g k c mid contents lba block written own holds nothing s stands a h at =
     by_choice (a == lba) refl (sym (get_insert written.left lba (held block false) a) ∙ ap (λ (t : CacheList). get t a) (sym same) ∙ at)
   where
-    now : StandsFor g contents.flash.page (written_clean lba block written.left)
-    now = subst (λ (x : Geometry). StandsFor x contents.flash.page (written_clean lba block written.left)) own (subst (λ (q : List Buffered). StandsFor (geometry_of c) contents.flash.page (undo q (written_clean lba block written.left))) nothing holds.lists.stands)
+    now : FlashStandsFor g contents.flash.page (written_clean lba block written.left)
+    now = subst (λ (x : Geometry). FlashStandsFor x contents.flash.page (written_clean lba block written.left)) own (subst (λ (q : List Buffered). FlashStandsFor (geometry_of c) contents.flash.page (undo q (written_clean lba block written.left))) nothing holds.lists.stands)
 
     same : s ≡ written_clean lba block written.left
     same = same_list g contents.flash.page s (written_clean lba block written.left) stands now
@@ -52,7 +52,7 @@ alone_may_open o contents lba block alone disk s stands = (
 -- a volume may be opened over what another left
 pub left_may_open : (v : CachedDisk) (contents : Contents) (o : Options) → kept.IsLeft v contents → v.options.geometry ≡ o.geometry → MayOpen (told_for Back o) contents
 left_may_open v contents o left own s stands =
-    let same = same_list v.options.geometry contents.flash.page left.list s left.beneath.flash (subst (λ (g : Geometry). StandsFor g contents.flash.page s) (sym own) stands) in
+    let same = same_list v.options.geometry contents.flash.page left.list s left.beneath.flash (subst (λ (g : Geometry). FlashStandsFor g contents.flash.page s) (sym own) stands) in
     (subst (λ (t : CacheList). Agrees t contents.disk) same left.beneath.agrees, tt)
 
 pub if_ok_then : {T E : Type 0} {P Q : T → Type 0} (r : Result T E) → ((t : T) → P t → Q t) → IfOk r P → IfOk r Q

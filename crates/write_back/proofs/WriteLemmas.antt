@@ -30,7 +30,7 @@ use Rattle.ft_volume.specs.Volume as volume
 use Rattle.cache_model.specs.Records.{Entries}
 use Rattle.cache_model.specs.Entries.{IsMap, each_once}
 use Rattle.cache_model.specs.Cache.{Agrees, Buffered, CacheList, Held, IsFull, Vanish, held, undo, written_dirty}
-use Rattle.cache_model.specs.Stands.{StandsFor}
+use Rattle.cache_model.specs.Stands.{FlashStandsFor}
 use Rattle.cache_model.proofs.CountLemmas.{same_number}
 use Rattle.merge_engine.proofs.TakeLemmas.{agree_map}
 use Rattle.op_log.specs.Log.{FitsOn}
@@ -39,7 +39,7 @@ use Rattle.ssc.specs.declared.cache.Ssc.{Ssc}
 use Rattle.ssc.specs.CacheState.{Holds, entries_of, geometry_of, pending}
 use Rattle.ssc.specs.declared.error.SscError.{SscError}
 use Rattle.ssc.specs.declared.error.SscError.TheVariants.{Full, OutOfMemory}
-use Rattle.ssc.specs.Commands.{FullExactly, HoldsWritten, ImagesOfWrite, StandsForWrite, AsUndone, AsLeft, AsWritten}
+use Rattle.ssc.specs.Commands.{FullExactly, HoldsWritten, ImagesOfWrite, FlashStandsForWrite, AsUndone, AsLeft, AsWritten}
 use Rattle.ssc.specs.Errors.{stops}
 use Rattle.cached_disk.specs.declared.disk.CachedDisk.{CachedDisk}
 use Rattle.cached_disk.specs.Kept.{IsBeneath, IsDirtyIn, IsHeld, MayUndo, dirty_of, is_down, told_of, waiting_in}
@@ -51,7 +51,7 @@ use Rattle.cached_disk.proofs.HeldLemmas.{Stays, both, down_left, drove, held_be
 use Rattle.cached_disk.proofs.StepLemmas.{over_same, vanish_agrees, vanish_dirty, vanish_same, vanish_was, written_agrees, written_dirty-keeps, written_here, written_over, written_was}
 use Rattle.write_back.specs.declared.volume.WriteBack.{WriteBack}
 use Rattle.write_back.specs.Left.{IsExact, IsLeft, IsTable, WritesDisk, out_of_group, state_of}
-use Rattle.write_back.specs.Writing.{HasRoom, backs_made, room_made}
+use Rattle.write_back.specs.Writing.{HasTableRoom, backs_made, room_made}
 use Rattle.write_back.proofs.TableLemmas.{exact_touched, exact_without, few_exact, few_lbas, full_waiting, length_waiting, not_full_exact, put_waiting, touched_apart, without_apart}
 
 -- what comes with Ok, where it is no error, and else
@@ -145,7 +145,7 @@ module _ (v : WriteBack) (contents : Contents) (left : IsLeft v contents) (up : 
       omega (arith, all, as_many, few)
 
   -- it isn't full for a group that has room in the table
-  pub has_room : (lba : ℕ) → HasRoom v.dirty (lba / v.disk.options.geometry.p) → (e : SscError) → FullExactly (geometry_of v.disk.cache) held_list lba {T = Unit {0}} (Err e) → (n limit : ℕ) → e ≡ Full n limit → ⊥
+  pub has_room : (lba : ℕ) → HasTableRoom v.dirty (lba / v.disk.options.geometry.p) → (e : SscError) → FullExactly (geometry_of v.disk.cache) held_list lba {T = Unit {0}} (Err e) → (n limit : ℕ) → e ≡ Full n limit → ⊥
   has_room lba room e exactly n limit is =
       not_full_exact v.disk.options.geometry held_list v.dirty.order lba left.table.apart exact_listed
       (elim room [ inl there ↦ inl there | inr less ↦ inr (subst (λ (k : ℕ). length v.dirty.order < k) left.table.limit less) ])
@@ -153,14 +153,14 @@ module _ (v : WriteBack) (contents : Contents) (left : IsLeft v contents) (up : 
       (subst (λ (g : Geometry). IsFull g held_list lba) left.disk.own ((subst (λ (x : SscError). FullExactly (geometry_of v.disk.cache) held_list lba {T = Unit {0}} (Err x)) is exactly).0))
 
   -- a refusal of the cache takes it down, where the memory was there
-  pub refused_down : (lba : ℕ) → HasRoom v.dirty (lba / v.disk.options.geometry.p) → v.disk.cache.ready ≡ true → (c : Ssc) (e : SscError) → FullExactly (geometry_of v.disk.cache) held_list lba {T = Unit {0}} (Err e)
+  pub refused_down : (lba : ℕ) → HasTableRoom v.dirty (lba / v.disk.options.geometry.p) → v.disk.cache.ready ≡ true → (c : Ssc) (e : SscError) → FullExactly (geometry_of v.disk.cache) held_list lba {T = Unit {0}} (Err e)
       → (e ≡ OutOfMemory → v.disk.cache.ready ≡ false) → c.stopped ≡ stops {T = Unit {0}} (Err e) → is_down (record v.disk { cache = c }) ≡ true
   refused_down lba room ready c e exactly memory stopped = stopped_down v.disk c (stopped ∙ gives_up e (has_room lba room e exactly) (λ is. both v.disk.cache.ready ready (memory is)))
 
 -- ---- the oldest group was written back
 
 -- then there is room in the table
-pub room_left : (v w : WriteBack) (before after : Contents) (n : ℕ) → IsLeft v before → is_down v.disk ≡ false → IsLeft w after → (state_of w).told ≡ (state_of v).told → (state_of w).table ≡ without_last (state_of v).table → HasRoom w.dirty n
+pub room_left : (v w : WriteBack) (before after : Contents) (n : ℕ) → IsLeft v before → is_down v.disk ≡ false → IsLeft w after → (state_of w).told ≡ (state_of v).told → (state_of w).table ≡ without_last (state_of v).table → HasTableRoom w.dirty n
 room_left v w before after n left up now told table =
     let g : Geometry = v.disk.options.geometry in
     let few : length (state_of v).table ≤ g.c = subst (λ (k : ℕ). k ≤ g.c) (sym (length_waiting g.p v.dirty.order (dirty_of v.disk))) (few_order v before left up) in
@@ -192,13 +192,13 @@ may_back : (mode : Mode) → mode ≡ Back → (q : List Buffered) → MayUndo m
 may_back mode back q = subst (λ (m : Mode). MayUndo m q) (sym back) tt
 
 module _ (v : CachedDisk) (old : Contents) (s : CacheList) (own : geometry_of v.cache ≡ v.options.geometry) (is : IsHeld v old s) where
-  own_held : (page : Place → Page) (t : CacheList) → StandsFor (geometry_of v.cache) page t → StandsFor v.options.geometry page t
-  own_held page t stands = subst (λ (g : Geometry). StandsFor g page t) own stands
+  own_held : (page : Place → Page) (t : CacheList) → FlashStandsFor (geometry_of v.cache) page t → FlashStandsFor v.options.geometry page t
+  own_held page t stands = subst (λ (g : Geometry). FlashStandsFor g page t) own stands
 
   -- what a crash leaves: the flash stands for a list that shows what the one that is held shows
   pub record ShowsHeld (page : Place → Page) : Type 0 where
     pub list : CacheList
-    pub stands : StandsFor v.options.geometry page list
+    pub stands : FlashStandsFor v.options.geometry page list
     pub agrees : Agrees list old.disk
     pub over : (d : PlainDisk) → IsOver v.options.geometry s old.disk d → IsOver v.options.geometry list old.disk d
 
@@ -221,7 +221,7 @@ module _ (v : CachedDisk) (old : Contents) (s : CacheList) (own : geometry_of v.
       gave_agrees : Agrees w old.disk
       gave_agrees = vanish_agrees v.options.geometry s w lba own_vanish old.disk is.agrees
 
-      shows_left : (page : Place → Page) → StandsFor (geometry_of v.cache) page w → ShowsHeld page
+      shows_left : (page : Place → Page) → FlashStandsFor (geometry_of v.cache) page w → ShowsHeld page
       shows_left page stands = record { list = w; stands = own_held page w stands; agrees = gave_agrees; over = gave_over }
 
       abbrev after : CacheList
@@ -240,7 +240,7 @@ module _ (v : CachedDisk) (old : Contents) (s : CacheList) (own : geometry_of v.
       }
 
     -- wherever it was cut
-    write_shows : (page : Place → Page) → StandsForWrite (geometry_of v.cache) page (undo (pending v.cache) s) s lba (written_dirty lba block) → ShowsHeld page ⊎ ((t : CacheList) × StandsFor v.options.geometry page t × HasBlock t)
+    write_shows : (page : Place → Page) → FlashStandsForWrite (geometry_of v.cache) page (undo (pending v.cache) s) s lba (written_dirty lba block) → ShowsHeld page ⊎ ((t : CacheList) × FlashStandsFor v.options.geometry page t × HasBlock t)
     write_shows page (AsUndone x) = inl (record { list = undone v old s own is; stands = own_held page (undo (pending v.cache) s) x; agrees = (held_beneath v old s own is).agrees; over = undone_over v old s own is })
     write_shows page (AsLeft w vanish x) = inl (shows_left w vanish page x)
     write_shows page (AsWritten w vanish x) = inr (after w vanish, own_held page (after w vanish) x, has_block w vanish)
@@ -274,20 +274,20 @@ module _ (v : CachedDisk) (old new : Contents) (s : CacheList) (own : geometry_o
         ∙ lbas_with s (written_dirty lba block h.left) lba own_list.here own_list.keeps own_list.only
         ∙ ap (λ (l : List ℕ). with_lba lba l) (sym (holds_lbas v.cache old s is.holds))
 
-    write_holds : volume.Holds (told_of v) (Writes lba block) (λ a. is_some (get (entries_of v.cache) a)) (λ a. is_some (get (entries_of c) a))
+    write_holds : volume.HoldsAfter (told_of v) (Writes lba block) (λ a. is_some (get (entries_of v.cache) a)) (λ a. is_some (get (entries_of c) a))
     write_holds =
         let was : (λ (a : ℕ). is_some (get s a)) ≡ (λ (a : ℕ). is_some (get (entries_of v.cache) a)) = fun_ext (λ a. sym (holds_held v.cache old s is.holds a)) in
         let now : (λ (a : ℕ). is_some (get (written_dirty lba block h.left) a)) ≡ (λ (a : ℕ). is_some (get (entries_of c) a)) = fun_ext (λ a. sym (holds_held c new (written_dirty lba block h.left) h.holds a)) in
-        subst (λ (f : ℕ → Bool). volume.Holds (told_of v) (Writes lba block) f (λ a. is_some (get (entries_of c) a))) was
-        (subst (λ (f : ℕ → Bool). volume.Holds (told_of v) (Writes lba block) (λ a. is_some (get s a)) f) now
+        subst (λ (f : ℕ → Bool). volume.HoldsAfter (told_of v) (Writes lba block) f (λ a. is_some (get (entries_of c) a))) was
+        (subst (λ (f : ℕ → Bool). volume.HoldsAfter (told_of v) (Writes lba block) (λ a. is_some (get s a)) f) now
         (written_held (told_of v) (Writes lba block) s h.left lba (held block true) (own_vanish v old s own is lba block h.left vanish_now) refl (λ a is. is)))
 
   -- it was refused or cut
-  module _ (stands : StandsForWrite (geometry_of v.cache) new.flash.page (undo (pending v.cache) s) s lba (written_dirty lba block)) where
-    shows : ShowsHeld v old s own is new.flash.page ⊎ ((t : CacheList) × StandsFor v.options.geometry new.flash.page t × HasBlock v old s own is lba block t)
+  module _ (stands : FlashStandsForWrite (geometry_of v.cache) new.flash.page (undo (pending v.cache) s) s lba (written_dirty lba block)) where
+    shows : ShowsHeld v old s own is new.flash.page ⊎ ((t : CacheList) × FlashStandsFor v.options.geometry new.flash.page t × HasBlock v old s own is lba block t)
     shows = write_shows v old s own is lba block new.flash.page stands
 
-    beneath_now : (t : CacheList) → Agrees t old.disk → StandsFor v.options.geometry new.flash.page t → IsBeneath (told_of v) new t
+    beneath_now : (t : CacheList) → Agrees t old.disk → FlashStandsFor v.options.geometry new.flash.page t → IsBeneath (told_of v) new t
     beneath_now t agrees stands = step_beneath v c old new stays s t agrees (suits_back v.mode back t) stands
 
     cut_left : is_down with_cache ≡ true → kept.IsLeft with_cache new
@@ -354,12 +354,12 @@ module _ (v : WriteBack) (lba : ℕ) (c : Ssc) (table : Groups) (noted : table �
           ∙ sym (put_waiting v.disk.options.geometry.p v.dirty.order (lbas_in left.disk.held) lba left.table.apart (exact_listed v before.contents left up) (lbas_ascending left.disk.held))
           ∙ ap (λ (l : List ℕ). put_first (lba / v.disk.options.geometry.p) lba (waiting_in v.disk.options.geometry.p v.dirty.order l)) (sym (listed v before.contents left up))
 
-      pub put_holds : volume.Holds (told_of v.disk) (Writes lba block) (state_of v).held (state_of written).held
+      pub put_holds : volume.HoldsAfter (told_of v.disk) (Writes lba block) (state_of v).held (state_of written).held
       put_holds = write_holds v.disk before.contents after.contents left.disk.held left.disk.own is left.mode lba block c geometry shape stays h
 
     -- refused or cut, so it is down
     module _ (images : ImagesOfWrite v.disk.cache after.contents left.disk.held lba (written_dirty lba block)) (down : is_down written.disk ≡ true) where
-      stands : StandsForWrite (geometry_of v.disk.cache) after.contents.flash.page (undo (pending v.disk.cache) left.disk.held) left.disk.held lba (written_dirty lba block)
+      stands : FlashStandsForWrite (geometry_of v.disk.cache) after.contents.flash.page (undo (pending v.disk.cache) left.disk.held) left.disk.held lba (written_dirty lba block)
       stands = images (with_newest after.contents) (newest_image after.contents)
 
       pub refused_left : IsLeft written after.contents
@@ -415,7 +415,8 @@ cause_then a b c value result first then = record {
 }
 
 -- of what was found nothing counts but what is owed
-pub was_from : {T : Type 0} (stands : Told → Image → PlainDisk → Type 0) (call : Call) (old mid new : VolumeState) (after : Contents) (result : Result T VolumeError) (base : PlainDisk) → mid.owed ≡ old.owed → WasDone stands call mid new after result base → WasDone stands call old new after result base
+pub was_from : {T : Type 0} (stands : Told → Image → PlainDisk → Type 0) (call : Call) (old mid new : VolumeState) (after : Contents) (result : Result T VolumeError) (base : PlainDisk)
+    → mid.owed ≡ old.owed → WasDone stands call mid new after result base → WasDone stands call old new after result base
 was_from stands call old mid new after result base owed is = subst (λ (ws : List BlockWrite). WasDone stands call (record old { owed = ws }) new after result base) owed (record { images = is.images; lost = is.lost; done = is.done; found = is.found; up = is.up; memory = is.memory })
 
 module _ {T : Type 0} (old was mid new : VolumeState) (before between after : State) (same : was.told ≡ old.told) (first : Goes {T = Unit {0}} was mid before between (Ok tt)) (result : Result T VolumeError) where
@@ -454,11 +455,11 @@ module _ (lba : ℕ) (block : Block) (old mid new : VolumeState) (before between
   backs_back = ap (λ (m : Mode). backs_written m old.told lba old.table) (sym back)
 
   pub costs_then : (result : Result (Unit {0}) VolumeError) → mid.table ≡ room_made old.told.geometry.c (lba / old.told.geometry.p) old.table → ((a : ℕ) → mid.held a ≡ old.held a) → WritesDisk (backs_made old.told.geometry.c (lba / old.told.geometry.p) old.table) before between (Ok tt)
-      → OnOk result (new.table ≡ put_first (lba / mid.told.geometry.p) lba mid.table) → OnOk result (volume.Holds mid.told (Writes lba block) mid.held new.held) → after.counts.disk_reads ≡ between.counts.disk_reads → after.counts.disk_writes ≡ between.counts.disk_writes
+      → OnOk result (new.table ≡ put_first (lba / mid.told.geometry.p) lba mid.table) → OnOk result (volume.HoldsAfter mid.told (Writes lba block) mid.held new.held) → after.counts.disk_reads ≡ between.counts.disk_reads → after.counts.disk_writes ≡ between.counts.disk_writes
       → Costs (Writes lba block) old new before after result
   costs_then result room held backs put holds reads writes = record {
     table = ok_then result (λ is. is ∙ ap (λ n. put_first n lba mid.table) own_group ∙ ap (λ (t : Table). put_first (lba / old.told.geometry.p) lba t) room ∙ table_back) put;
-    held = ok_then result (λ is. subst (λ (t : Told). volume.Holds t (Writes lba block) old.held new.held) told (subst (λ (f : ℕ → Bool). volume.Holds mid.told (Writes lba block) f new.held) (fun_ext held) is)) holds;
+    held = ok_then result (λ is. subst (λ (t : Told). volume.HoldsAfter t (Writes lba block) old.held new.held) told (subst (λ (f : ℕ → Bool). volume.HoldsAfter mid.told (Writes lba block) f new.held) (fun_ext held) is)) holds;
     disk_writes = every_ok result (subst (λ (n : ℕ). RoseBy n before.counts.disk_writes after.counts.disk_writes) backs_back (subst (λ (n : ℕ). RoseBy (backs_made old.told.geometry.c (lba / old.told.geometry.p) old.table) before.counts.disk_writes n) (sym writes) backs.exact));
     most_writes = subst (λ (n : ℕ). after.counts.disk_writes ≤ before.counts.disk_writes + n) backs_back (subst (λ (n : ℕ). n ≤ before.counts.disk_writes + backs_made old.told.geometry.c (lba / old.told.geometry.p) old.table) (sym writes) backs.most);
     most_reads = let x = backs.reads in omega (arith, reads, x);

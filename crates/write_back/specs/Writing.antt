@@ -4,8 +4,8 @@ use Rattle.ft_base.specs.Table.{Table, is_full, last_size, without_last}
 use Rattle.dirty_table.specs.Groups.{Groups, has}
 
 -- the group is in the table, or there is room for it
-abbrev pub HasRoom : Groups → ℕ → Type 0
-HasRoom table group = (has group table.order ≡ true) ⊎ (length table.order < table.limit)
+abbrev pub HasTableRoom : Groups → ℕ → Type 0
+HasTableRoom table group = (has group table.order ≡ true) ⊎ (length table.order < table.limit)
 
 -- the table of so many groups at most, once this group has room in it
 abbrev pub room_made : ℕ → ℕ → Table → Table

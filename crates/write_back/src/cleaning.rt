@@ -30,15 +30,18 @@ pub(crate) fn write_group_back<M: Media>(
     requires back { disk.old.mode ≡ Back }
     requires group { group * disk.old.options.geometry.p < disk.old.options.geometry.size }
     ensures left { IsLeft disk.new (M.state media.new).contents }
-    ensures stands { (d : PlainDisk) → StandFor (ImageIs (told_of disk.old)) (M.state media.old).contents d → StandFor (ImageIs (told_of disk.old)) (M.state media.new).contents d }
+    ensures stands { (d : PlainDisk) → StandFor (ImageIs (told_of disk.old)) (M.state media.old).contents d
+        → StandFor (ImageIs (told_of disk.old)) (M.state media.new).contents d }
     ensures made { (disk.new.options ≡ disk.old.options) × (disk.new.mode ≡ disk.old.mode) }
     ensures ready { disk.new.cache.ready ≡ disk.old.cache.ready }
     ensures cleaned { OnOk result (dirty_of disk.new ≡ out_of_group disk.old.options.geometry.p group (dirty_of disk.old)) }
     ensures dirty { OnErr result (kept.is_down disk.new ≡ false → dirty_of disk.new ≡ dirty_of disk.old) }
-    ensures held { kept.is_down disk.new ≡ false → (a : ℕ) → is_some (get (entries_of disk.new.cache) a) ≡ is_some (get (entries_of disk.old.cache) a) }
+    ensures held { kept.is_down disk.new ≡ false → (a : ℕ)
+        → is_some (get (entries_of disk.new.cache) a) ≡ is_some (get (entries_of disk.old.cache) a) }
     ensures goes { (was is : List ℕ) → Goes (state_in was disk.old) (state_in is disk.new) (M.state media.old) (M.state media.new) result }
     ensures faulted { FaultDowns result (kept.is_down disk.new) }
-    ensures writes { WritesDisk (length (in_group disk.old.options.geometry.p group (dirty_of disk.old))) (M.state media.old) (M.state media.new) result }
+    ensures writes { WritesDisk (length (in_group disk.old.options.geometry.p group (dirty_of disk.old))) (M.state media.old)
+        (M.state media.new) result }
     ensures within { IsErrOf result VolumeError.OutOfVolume → ⊥ }
 {
     let Ok(lbas) = dirty_in_group(disk, group) else {
@@ -100,7 +103,8 @@ fn copy_block<M: Media>(
     ensures proceeds { Proceeds 1 disk.old disk.new (M.state media.old) (M.state media.new) result }
     ensures same { disk.new ≡ record disk.old { down = disk.new.down } }
     ensures copied { OnOk result (IsOnDisk disk.new (M.state media.new).contents lba) }
-    ensures others { OnOk result ((a : ℕ) → IsOnDisk disk.old (M.state media.old).contents a → IsOnDisk disk.new (M.state media.new).contents a) }
+    ensures others { OnOk result ((a : ℕ) → IsOnDisk disk.old (M.state media.old).contents a
+        → IsOnDisk disk.new (M.state media.new).contents a) }
 {
     if let Err(error) = disk.cache.read(media, lba, block) {
         disk.down = true;
@@ -126,7 +130,8 @@ fn flush_copies<M: Media>(disk: &mut CachedDisk, media: &mut M) -> Result<(), Vo
     ensures proceeds { Proceeds 0 disk.old disk.new (M.state media.old) (M.state media.new) result }
     ensures same { disk.new ≡ record disk.old { down = disk.new.down } }
     ensures flushed { OnOk result (IsFlushed (M.state media.new).contents) }
-    ensures copied { OnOk result ((a : ℕ) → IsOnDisk disk.old (M.state media.old).contents a → IsOnDisk disk.new (M.state media.new).contents a) }
+    ensures copied { OnOk result ((a : ℕ) → IsOnDisk disk.old (M.state media.old).contents a
+        → IsOnDisk disk.new (M.state media.new).contents a) }
     ensures refused { OnErr result (kept.is_down disk.new ≡ true) }
 {
     match media.flush_disk() {
@@ -151,7 +156,8 @@ fn clean_blocks<M: Media>(
     requires flushed { IsFlushed (M.state media.old).contents }
     requires copied { (a : ℕ) → is_among lbas.now a ≡ true → IsOnDisk disk.old (M.state media.old).contents a }
     ensures proceeds { Proceeds 0 disk.old disk.new (M.state media.old) (M.state media.new) result }
-    ensures cleaned { OnOk result ((a : ℕ) → is_among (dirty_of disk.new) a ≡ (is_among (dirty_of disk.old) a && not (is_among lbas.now a))) }
+    ensures cleaned { OnOk result ((a : ℕ) → is_among (dirty_of disk.new)
+        a ≡ (is_among (dirty_of disk.old) a && not (is_among lbas.now a))) }
     ensures refused { OnErr result (kept.is_down disk.new ≡ true) }
 {
     for &lba in lbas {
@@ -171,7 +177,8 @@ fn clean_block<M: Media>(disk: &mut CachedDisk, media: &mut M, lba: u64) -> Resu
     ensures proceeds { Proceeds 0 disk.old disk.new (M.state media.old) (M.state media.new) result }
     ensures cleaned { OnOk result ((a : ℕ) → is_among (dirty_of disk.new) a ≡ (is_among (dirty_of disk.old) a && not (lba == a))) }
     ensures flushed { OnOk result (IsFlushed (M.state media.new).contents) }
-    ensures copied { OnOk result ((a : ℕ) → IsOnDisk disk.old (M.state media.old).contents a → IsOnDisk disk.new (M.state media.new).contents a) }
+    ensures copied { OnOk result ((a : ℕ) → IsOnDisk disk.old (M.state media.old).contents a
+        → IsOnDisk disk.new (M.state media.new).contents a) }
     ensures refused { OnErr result (kept.is_down disk.new ≡ true) }
 {
     match disk.cache.clean(media, lba) {

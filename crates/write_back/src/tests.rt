@@ -3,7 +3,7 @@ ghost use Rattle.std.specs.FinMap.{get};
 ghost use Rattle.ft_base.specs.declared.told.Mode.TheVariants.{Back};
 ghost use Rattle.ft_volume.specs.Volume.{told_for};
 ghost use Rattle.cache_model.specs.Cache.{CacheList, Held, held};
-ghost use Rattle.cache_model.specs.Stands.{StandsFor};
+ghost use Rattle.cache_model.specs.Stands.{FlashStandsFor};
 ghost use Rattle.mem_rig.specs.Rig.{state_of};
 ghost use Rattle.op_log.specs.Log.{FitsOn};
 ghost use Rattle.write_back.specs.Left.{IsLeft};
@@ -116,7 +116,7 @@ fn hold_clean(
     requires lba { lba < geometry.now.size }
     ensures shape { (state_of rig.new).contents.shape ≡ (state_of rig.old).contents.shape }
     ensures disk { OnOk result ((state_of rig.new).contents.disk ≡ (state_of rig.old).contents.disk) }
-    ensures alone { OnOk result ((s : CacheList) → StandsFor geometry.now (state_of rig.new).contents.flash.page s
+    ensures alone { OnOk result ((s : CacheList) → FlashStandsFor geometry.now (state_of rig.new).contents.flash.page s
         → (a : ℕ) (h : Held) → get s a ≡ Some h → (a ≡ lba) × (h ≡ held block.now false)) }
 {
     Ssc::format(rig, geometry)?;

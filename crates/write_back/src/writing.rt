@@ -2,10 +2,10 @@ ghost use Rattle.std.specs.Prelude.{◌≡◌, ◌<◌, ◌/◌, ℕ, length, tr
 ghost use Rattle.ft_base.specs.PlainDisk.{PlainDisk};
 ghost use Rattle.ft_base.specs.Table.{last_size, put_first, without_last};
 ghost use Rattle.ft_volume.specs.Opening.{ImageIs};
-ghost use Rattle.ft_volume.specs.Volume.{Costs, FaultDowns, Goes, Holds, Programs, StandFor, WasDone, Writes};
+ghost use Rattle.ft_volume.specs.Volume.{Costs, FaultDowns, Goes, HoldsAfter, Programs, StandFor, WasDone, Writes};
 ghost use Rattle.cached_disk.specs.Kept as kept;
 ghost use Rattle.write_back.specs.Left.{IsLeft, WritesDisk, state_of};
-ghost use Rattle.write_back.specs.Writing.{HasRoom, backs_made, room_made};
+ghost use Rattle.write_back.specs.Writing.{HasTableRoom, backs_made, room_made};
 
 use crate::WriteBack;
 use crate::cleaning::write_group_back;
@@ -31,7 +31,8 @@ impl WriteBack {
             → WasDone ImageIs (Writes lba block.now) (state_of self.old) (state_of self.new) (M.state media.new).contents result base }
         ensures goes { Goes (state_of self.old) (state_of self.new) (M.state media.old) (M.state media.new) result }
         ensures faulted { FaultDowns result (kept.is_down self.new.disk) }
-        ensures costs { Costs (Writes lba block.now) (state_of self.old) (state_of self.new) (M.state media.old) (M.state media.new) result }
+        ensures costs { Costs (Writes lba block.now) (state_of self.old) (state_of self.new) (M.state media.old) (M.state media.new)
+            result }
         ensures programs { OnOk result (Programs (M.state media.old) (M.state media.new)) }
         ensures within { IsErrOf result VolumeError.OutOfVolume → ⊥ }
     {
@@ -50,14 +51,17 @@ impl WriteBack {
         requires left { IsLeft self.old (M.state media.old).contents }
         requires up { kept.is_down self.old.disk ≡ false }
         ensures left { IsLeft self.new (M.state media.new).contents }
-        ensures stands { (d : PlainDisk) → StandFor (ImageIs (state_of self.old).told) (M.state media.old).contents d → StandFor (ImageIs (state_of self.old).told) (M.state media.new).contents d }
-        ensures room { OnOk result (HasRoom self.new.dirty group) }
-        ensures table { OnOk result ((state_of self.new).table ≡ room_made self.old.disk.options.geometry.c group (state_of self.old).table) }
+        ensures stands { (d : PlainDisk) → StandFor (ImageIs (state_of self.old).told) (M.state media.old).contents d
+            → StandFor (ImageIs (state_of self.old).told) (M.state media.new).contents d }
+        ensures room { OnOk result (HasTableRoom self.new.dirty group) }
+        ensures table { OnOk result ((state_of self.new).table ≡ room_made self.old.disk.options.geometry.c group
+            (state_of self.old).table) }
         ensures held { kept.is_down self.new.disk ≡ false → (a : ℕ) → (state_of self.new).held a ≡ (state_of self.old).held a }
         ensures ready { self.new.disk.cache.ready ≡ self.old.disk.cache.ready }
         ensures goes { Goes (state_of self.old) (state_of self.new) (M.state media.old) (M.state media.new) result }
         ensures faulted { FaultDowns result (kept.is_down self.new.disk) }
-        ensures writes { WritesDisk (backs_made self.old.disk.options.geometry.c group (state_of self.old).table) (M.state media.old) (M.state media.new) result }
+        ensures writes { WritesDisk (backs_made self.old.disk.options.geometry.c group (state_of self.old).table) (M.state media.old)
+            (M.state media.new) result }
         ensures within { IsErrOf result VolumeError.OutOfVolume → ⊥ }
     {
         if self.dirty.has(group) {
@@ -75,7 +79,8 @@ impl WriteBack {
         requires up { kept.is_down self.old.disk ≡ false }
         requires some { 0 < length self.old.dirty.order }
         ensures left { IsLeft self.new (M.state media.new).contents }
-        ensures stands { (d : PlainDisk) → StandFor (ImageIs (state_of self.old).told) (M.state media.old).contents d → StandFor (ImageIs (state_of self.old).told) (M.state media.new).contents d }
+        ensures stands { (d : PlainDisk) → StandFor (ImageIs (state_of self.old).told) (M.state media.old).contents d
+            → StandFor (ImageIs (state_of self.old).told) (M.state media.new).contents d }
         ensures table { OnOk result ((state_of self.new).table ≡ without_last (state_of self.old).table) }
         ensures held { kept.is_down self.new.disk ≡ false → (a : ℕ) → (state_of self.new).held a ≡ (state_of self.old).held a }
         ensures ready { self.new.disk.cache.ready ≡ self.old.disk.cache.ready }
@@ -107,13 +112,15 @@ impl WriteBack {
         requires left { IsLeft self.old (M.state media.old).contents }
         requires up { kept.is_down self.old.disk ≡ false }
         requires lba { lba < self.old.disk.options.geometry.size }
-        requires room { HasRoom self.old.dirty (lba / self.old.disk.options.geometry.p) }
+        requires room { HasTableRoom self.old.dirty (lba / self.old.disk.options.geometry.p) }
         requires ready { self.old.disk.cache.ready ≡ true }
         ensures left { IsLeft self.new (M.state media.new).contents }
         ensures was { (base : PlainDisk) → StandFor (ImageIs (state_of self.old).told) (M.state media.old).contents base
             → WasDone ImageIs (Writes lba block.now) (state_of self.old) (state_of self.new) (M.state media.new).contents result base }
-        ensures table { OnOk result ((state_of self.new).table ≡ put_first (lba / self.old.disk.options.geometry.p) lba (state_of self.old).table) }
-        ensures held { OnOk result (Holds (state_of self.old).told (Writes lba block.now) (state_of self.old).held (state_of self.new).held) }
+        ensures table { OnOk result ((state_of self.new).table ≡ put_first (lba / self.old.disk.options.geometry.p) lba
+            (state_of self.old).table) }
+        ensures held { OnOk result (HoldsAfter (state_of self.old).told (Writes lba block.now) (state_of self.old).held
+            (state_of self.new).held) }
         ensures goes { Goes (state_of self.old) (state_of self.new) (M.state media.old) (M.state media.new) result }
         ensures faulted { FaultDowns result (kept.is_down self.new.disk) }
         ensures disk_reads { (M.state media.new).counts.disk_reads ≡ (M.state media.old).counts.disk_reads }

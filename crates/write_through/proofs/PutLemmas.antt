@@ -16,7 +16,7 @@ use Rattle.ft_volume.specs.Volume.{StandFor, StandForEither, StandForOne, Volume
 use Rattle.ft_volume.specs.declared.volume.VolumeError.TheVariants.{DiskFault, PowerLost}
 use Rattle.ft_volume.proofs.DoneLemmas.{done_of_one}
 use Rattle.cache_model.specs.Cache.{Agrees, Buffered, CacheList, Cleaned, Held, Inserted, held_or, undo}
-use Rattle.cache_model.specs.Stands.{StandsFor}
+use Rattle.cache_model.specs.Stands.{FlashStandsFor}
 use Rattle.cache_model.proofs.UndoLemmas.{back_at, get_undo, undone_at}
 use Rattle.op_log.specs.Log.{FitsOn}
 use Rattle.merge_engine.specs.declared.parts.Parts.{Parts}
@@ -106,7 +106,7 @@ module _ (lba : ℕ) (block : Block) (old new : Contents) (values : IsOldOr old 
   module _ (told : Told) (beneath : IsBeneath told old s) (page : new.flash.page ≡ old.flash.page) where
     beneath_now : IsBeneath told new s
     beneath_now = record {
-      flash = subst (λ (f : Place → Page). StandsFor told.geometry f s) (sym page) beneath.flash;
+      flash = subst (λ (f : Place → Page). FlashStandsFor told.geometry f s) (sym page) beneath.flash;
       agrees = agrees_now beneath.agrees;
       suits = beneath.suits;
     }
@@ -114,7 +114,7 @@ module _ (lba : ℕ) (block : Block) (old new : Contents) (values : IsOldOr old 
     image_is : (x : Image) (d : PlainDisk) → Now new x → ((a : ℕ) → a < told.geometry.size → held_or (get s a) (x.block a) ≡ d a) → ImageIs told x d
     image_is x d now volume = record {
       list = s;
-      flash = subst (λ (f : Place → Page). StandsFor told.geometry f s) (sym now.pages) beneath_now.flash;
+      flash = subst (λ (f : Place → Page). FlashStandsFor told.geometry f s) (sym now.pages) beneath_now.flash;
       agrees = λ a h b at clean value. elim value [ inl same ↦ same ∙ beneath_now.agrees a h (x.block a) at clean (now.blocks a) | inr none ↦ absurd none ];
       suits = beneath.suits;
       volume = volume;

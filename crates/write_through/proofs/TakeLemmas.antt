@@ -11,11 +11,11 @@ use Rattle.ft_base.specs.declared.told.Mode.TheVariants.{Through}
 use Rattle.ft_base.specs.Contents.{Contents, Values}
 use Rattle.ft_volume.specs.Opening.{Suits}
 use Rattle.cache_model.specs.Cache.{Agrees, CacheList, Held, evicted, held_or, undo}
-use Rattle.cache_model.specs.Stands.{StandsFor}
+use Rattle.cache_model.specs.Stands.{FlashStandsFor}
 use Rattle.cache_model.proofs.MapLemmas.{get_remove}
 use Rattle.ssc.specs.declared.cache.Ssc.{Ssc}
 use Rattle.ssc.specs.CacheState.{Holds, entries_of, geometry_of, pending}
-use Rattle.ssc.specs.Commands.{IsHeldIn, StandsForOne, AsUndone, AsBefore, AsAfter}
+use Rattle.ssc.specs.Commands.{IsHeldIn, FlashStandsForOne, AsUndone, AsBefore, AsAfter}
 use Rattle.cached_disk.specs.declared.disk.CachedDisk.{CachedDisk}
 use Rattle.cached_disk.specs.Kept.{IsDirtyIn, IsHeld, MayUndo}
 use Rattle.cached_disk.proofs.AddressLemmas.{holds_held}
@@ -84,10 +84,10 @@ module _ (v : CachedDisk) (contents : Contents) (s : CacheList) (own : geometry_
     evicted_keeps a dirty = absurd (none_dirty a dirty)
 
     -- wherever it was cut
-    pub evict_shows : (page : Place → Page) → StandsForOne (geometry_of v.cache) page (undo (pending v.cache) s) s (evicted lba s) → IsShown v contents s page
+    pub evict_shows : (page : Place → Page) → FlashStandsForOne (geometry_of v.cache) page (undo (pending v.cache) s) s (evicted lba s) → IsShown v contents s page
     evict_shows page (AsUndone x) = commit_shows v contents s own is page (AsUndone x)
     evict_shows page (AsBefore x) = commit_shows v contents s own is page (AsBefore x)
-    evict_shows page (AsAfter x) = record { list = evicted lba s; stands = subst (λ (g : Geometry). StandsFor g page (evicted lba s)) own x; shows = evicted_shows }
+    evict_shows page (AsAfter x) = record { list = evicted lba s; stands = subst (λ (g : Geometry). FlashStandsFor g page (evicted lba s)) own x; shows = evicted_shows }
 
     -- nothing is buffered then, or what was before
     pub evicted_may : (c : Ssc) → (IsHeldIn s lba → pending c ≡ []) → (get s lba ≡ None → c ≡ v.cache) → MayUndo v.mode (pending c)

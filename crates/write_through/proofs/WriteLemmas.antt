@@ -14,7 +14,7 @@ use Rattle.ft_media.specs.Passes.{Passes}
 use Rattle.ft_media.specs.State.{Faults, State}
 use Rattle.ft_media.proofs.PassesLemmas.{passes_then}
 use Rattle.ft_volume.specs.Opening.{ImageIs}
-use Rattle.ft_volume.specs.Volume.{Call, Costs, FaultDowns, Goes, HasCause, Holds, Programs, Reads, StandFor, VolumeState, WasDone, Writes, volume_lost}
+use Rattle.ft_volume.specs.Volume.{Call, Costs, FaultDowns, Goes, HasCause, HoldsAfter, Programs, Reads, StandFor, VolumeState, WasDone, Writes, volume_lost}
 use Rattle.ft_volume.specs.declared.volume.VolumeError.{VolumeError}
 use Rattle.ft_volume.specs.declared.volume.VolumeError.TheVariants as volume
 use Rattle.cached_disk.proofs.CallLemmas.{answered_write, refused_write}
@@ -75,7 +75,7 @@ written_was lba block old new after d (Ok tt) none none_new stand memory refused
 written_was lba block old new after d (Err e) none none_new stand memory refused = refused_write lba block old new after d none none_new stand e (λ is. memory (ap Err is)) refused
 
 -- what is held, where the address was taken out before
-pub held_then : (told : Told) (lba : ℕ) (block : Block) (old mid new : ℕ → Bool) → ((a : ℕ) → mid a ≡ cond (a == lba) false (old a)) → Holds told (Writes lba block) mid new → Holds told (Writes lba block) old new
+pub held_then : (told : Told) (lba : ℕ) (block : Block) (old mid new : ℕ → Bool) → ((a : ℕ) → mid a ≡ cond (a == lba) false (old a)) → HoldsAfter told (Writes lba block) mid new → HoldsAfter told (Writes lba block) old new
 held_then told lba block old mid new taken holds = record {
   own = holds.own;
   only = λ a there. elim (holds.only a there) [ inl was ↦ inl (was_held a was) | inr own ↦ inr own ];
@@ -93,7 +93,7 @@ held_then told lba block old mid new taken holds = record {
     was_held a is = by (a == lba) (old a) (sym (taken a) ∙ is)
 
 -- a read that caches an address holds what a write of it holds
-pub held_as : (told : Told) (lba : ℕ) (b block : Block) (old new : ℕ → Bool) → Holds told (Reads lba b) old new → Holds told (Writes lba block) old new
+pub held_as : (told : Told) (lba : ℕ) (b block : Block) (old new : ℕ → Bool) → HoldsAfter told (Reads lba b) old new → HoldsAfter told (Writes lba block) old new
 held_as told lba b block old new holds = record { own = holds.own; only = holds.only; stays = λ groups lie. holds.stays groups (record { few = lie.few; all = lie.all }) }
 
 on_ok : {T : Type 0} (r : Result T VolumeError) (A B : Type 0) → (A → B) → OnOk r A → OnOk r B
@@ -106,11 +106,11 @@ always (Err e) A holds = tt
 
 -- one block went to the disk, and none waits to be written back
 pub written_costs : {T : Type 0} (lba : ℕ) (block : Block) (old mid new : VolumeState) (before after : State) (r : Result T VolumeError) → old.told.mode ≡ Through → old.table ≡ [] → new.table ≡ []
-    → mid.told ≡ old.told → ((a : ℕ) → mid.held a ≡ cond (a == lba) false (old.held a)) → OnOk r (Holds mid.told (Writes lba block) mid.held new.held)
+    → mid.told ≡ old.told → ((a : ℕ) → mid.held a ≡ cond (a == lba) false (old.held a)) → OnOk r (HoldsAfter mid.told (Writes lba block) mid.held new.held)
     → RoseBy 1 before.counts.disk_writes after.counts.disk_writes → after.counts.disk_writes ≤ before.counts.disk_writes + 1 → after.counts.disk_reads ≡ before.counts.disk_reads → Costs (Writes lba block) old new before after r
 written_costs lba block old mid new before after r through none none_new told taken held rose most reads = record {
   table = always r _ (none_new ∙ sym none ∙ sym (ap (λ (m : Mode). table_written m old.told lba old.table) through));
-  held = on_ok r _ _ (λ holds. held_then old.told lba block old.held mid.held new.held taken (subst (λ (t : Told). Holds t (Writes lba block) mid.held new.held) told holds)) held;
+  held = on_ok r _ _ (λ holds. held_then old.told lba block old.held mid.held new.held taken (subst (λ (t : Told). HoldsAfter t (Writes lba block) mid.held new.held) told holds)) held;
   disk_writes = always r _ (subst (λ (n : ℕ). RoseBy n before.counts.disk_writes after.counts.disk_writes) (sym one) rose);
   most_writes = subst (λ (n : ℕ). after.counts.disk_writes ≤ before.counts.disk_writes + n) (sym one) most;
   most_reads = omega (arith, reads);

@@ -5,11 +5,11 @@ ghost use Rattle.ft_base.specs.Contents.{HasValue};
 ghost use Rattle.ft_base.specs.PlainDisk.{PlainDisk};
 ghost use Rattle.ft_media.specs.Media.{KeepsReady};
 ghost use Rattle.ft_media.specs.Passes.{Passes};
-ghost use Rattle.ft_volume.specs.Opening.{ImageIs, IsNewest, IsOpened, MayOpen, Opens, nothing_held};
+ghost use Rattle.ft_volume.specs.Opening.{ImageIs, IsNewestOnDisk, IsOpened, MayOpen, Opens, nothing_held};
 ghost use Rattle.ft_volume.specs.Volume.{ComesUp, HasCause, StandFor, told_for, volume_lost};
 ghost use Rattle.cache_model.specs.Cache.{CacheList};
 ghost use Rattle.cache_model.specs.Loading.{load};
-ghost use Rattle.cache_model.specs.Stands.{StandsFor};
+ghost use Rattle.cache_model.specs.Stands.{FlashStandsFor};
 ghost use Rattle.op_log.specs.Log.{FitsOn};
 ghost use Rattle.op_log.specs.Refusals.{open_failed, open_lost};
 ghost use Rattle.ssc.specs.CacheState.{entries_of};
@@ -42,9 +42,10 @@ impl WriteThrough {
         requires shape { FitsOn options.now.geometry (R.state rig.old).contents.shape }
         ensures owns { IfOk result (λ v. IsLeft v (R.state rig.new).contents) }
         ensures opened { IfOk result (λ v. IsOpened (told_for Through options.now) nothing_held (state_of v)) }
-        ensures stands { OnOk result ((d : PlainDisk) → IsNewest options.now.geometry (R.state rig.old).contents d
+        ensures stands { OnOk result ((d : PlainDisk) → IsNewestOnDisk options.now.geometry (R.state rig.old).contents d
             → StandFor (ImageIs (told_for Through options.now)) (R.state rig.new).contents d) }
-        ensures values { (lba : ℕ) (b : Block) → HasValue ((R.state rig.new).contents.disk lba) b → HasValue ((R.state rig.old).contents.disk lba) b }
+        ensures values { (lba : ℕ) (b : Block) → HasValue ((R.state rig.new).contents.disk lba) b
+            → HasValue ((R.state rig.old).contents.disk lba) b }
         ensures ready { OnOk result (KeepsReady (R.state rig.old) (R.state rig.new)) }
         ensures within { IsErrOf result VolumeError.OutOfVolume → ⊥ }
         ensures disk_reads { (R.state rig.new).counts.disk_reads ≡ (R.state rig.old).counts.disk_reads }
@@ -68,20 +69,24 @@ impl WriteThrough {
         requires shape { FitsOn options.now.geometry (R.state rig.old).contents.shape }
         requires agrees { MayOpen (told_for Through options.now) (R.state rig.old).contents }
         ensures owns { IfOk result (λ v. IsLeft v (R.state rig.new).contents) }
-        ensures opened { IfOk result (λ v. (s : CacheList) → StandsFor options.now.geometry (R.state rig.old).contents.flash.page s
+        ensures opened { IfOk result (λ v. (s : CacheList) → FlashStandsFor options.now.geometry (R.state rig.old).contents.flash.page s
             → IsOpened (told_for Through options.now) s (state_of v)) }
         ensures up { IfOk result (λ v. ((state_of v).told ≡ told_for Through options.now) × ((state_of v).down ≡ false)) }
         // Whatever is answered, and wherever power went off.
-        ensures opens { Opens options.now.geometry (R.state rig.old).contents (R.state rig.new).contents (disk_failed result) (open_lost result) }
-        ensures stands { IfOk result (λ v. (s : CacheList) → StandsFor options.now.geometry (R.state rig.old).contents.flash.page s
-            → (d : PlainDisk) → IsVolume options.now.geometry s (R.state rig.old).contents d → StandFor (ImageIs (told_for Through options.now)) (R.state rig.new).contents d) }
+        ensures opens { Opens options.now.geometry (R.state rig.old).contents (R.state rig.new).contents (disk_failed result)
+            (open_lost result) }
+        ensures stands { IfOk result (λ v. (s : CacheList) → FlashStandsFor options.now.geometry (R.state rig.old).contents.flash.page s
+            → (d : PlainDisk) → IsVolume options.now.geometry s (R.state rig.old).contents d
+            → StandFor (ImageIs (told_for Through options.now)) (R.state rig.new).contents d) }
         // Ok comes only where the flash stands for a list.
         ensures loads { IfOk result (λ v. load options.now.geometry (R.state rig.old).contents.flash.page ≡ Ok (entries_of v.disk.cache)) }
-        ensures refused { IfErr result (λ e. IsOpenRefusal options.now.geometry e (load options.now.geometry (R.state rig.old).contents.flash.page)) }
+        ensures refused { IfErr result (λ e. IsOpenRefusal options.now.geometry e
+            (load options.now.geometry (R.state rig.old).contents.flash.page)) }
         ensures ready { OnOk result (KeepsReady (R.state rig.old) (R.state rig.new)) }
         ensures disk_reads { (R.state rig.new).counts.disk_reads ≡ (R.state rig.old).counts.disk_reads }
         ensures disk_writes { (R.state rig.new).counts.disk_writes ≡ (R.state rig.old).counts.disk_writes }
-        ensures cause { CausedBy (R.state rig.old).faults (R.state rig.new).faults (open_failed result) (disk_failed result) (open_lost result) }
+        ensures cause { CausedBy (R.state rig.old).faults (R.state rig.new).faults (open_failed result) (disk_failed result)
+            (open_lost result) }
         ensures passes { Passes (R.state rig.old) (R.state rig.new) (open_lost result) }
     {
         let disk = CachedDisk::open(alloc, rig, options, Mode::Through)?;

@@ -7,7 +7,7 @@ ghost use Rattle.ft_media.specs.Media.{Crashed, DiskCause, FlashStays, after_wri
 ghost use Rattle.ft_media.specs.Passes.{Passes};
 ghost use Rattle.ft_media.specs.State.{failed, lost};
 ghost use Rattle.ft_volume.specs.Opening.{ImageIs};
-ghost use Rattle.ft_volume.specs.Volume.{Costs, FaultDowns, Goes, Holds, Programs, StandFor, WasDone, Writes};
+ghost use Rattle.ft_volume.specs.Volume.{Costs, FaultDowns, Goes, HoldsAfter, Programs, StandFor, WasDone, Writes};
 ghost use Rattle.cached_disk.specs.Kept as kept;
 ghost use Rattle.write_through.specs.Left.{IsLeft, state_of};
 
@@ -36,7 +36,8 @@ impl WriteThrough {
             → WasDone ImageIs (Writes lba block.now) (state_of self.old) (state_of self.new) (M.state media.new).contents result base }
         ensures goes { Goes (state_of self.old) (state_of self.new) (M.state media.old) (M.state media.new) result }
         ensures faulted { FaultDowns result (kept.is_down self.new.disk) }
-        ensures costs { Costs (Writes lba block.now) (state_of self.old) (state_of self.new) (M.state media.old) (M.state media.new) result }
+        ensures costs { Costs (Writes lba block.now) (state_of self.old) (state_of self.new) (M.state media.old) (M.state media.new)
+            result }
         ensures programs { OnOk result (Programs (M.state media.old) (M.state media.new)) }
         ensures within { IsErrOf result VolumeError.OutOfVolume → ⊥ }
     {
@@ -66,7 +67,8 @@ impl WriteThrough {
         requires up { kept.is_down self.old.disk ≡ false }
         requires lba { lba < self.old.disk.options.geometry.size }
         ensures left { IsLeft self.new (M.state media.new).contents }
-        ensures stands { (d : PlainDisk) → StandFor (ImageIs (state_of self.old).told) (M.state media.old).contents d → StandFor (ImageIs (state_of self.old).told) (M.state media.new).contents d }
+        ensures stands { (d : PlainDisk) → StandFor (ImageIs (state_of self.old).told) (M.state media.old).contents d
+            → StandFor (ImageIs (state_of self.old).told) (M.state media.new).contents d }
         ensures absent { OnOk result ((state_of self.new).held lba ≡ false) }
         ensures held { OnOk result ((a : ℕ) → (state_of self.new).held a ≡ (if a == lba then false else (state_of self.old).held a)) }
         ensures made { (self.new.disk.options ≡ self.old.disk.options) × (self.new.disk.mode ≡ self.old.disk.mode) }
@@ -98,7 +100,8 @@ impl WriteThrough {
         ensures left { IsLeft self.new (M.state media.new).contents }
         ensures was { (base : PlainDisk) → StandFor (ImageIs (state_of self.old).told) (M.state media.old).contents base
             → WasDone ImageIs (Writes lba block.now) (state_of self.old) (state_of self.new) (M.state media.new).contents result base }
-        ensures stands { OnOk result ((d : PlainDisk) → StandFor (ImageIs (state_of self.old).told) (M.state media.old).contents d → StandFor (ImageIs (state_of self.old).told) (M.state media.new).contents (set d lba block.now)) }
+        ensures stands { OnOk result ((d : PlainDisk) → StandFor (ImageIs (state_of self.old).told) (M.state media.old).contents d
+            → StandFor (ImageIs (state_of self.old).told) (M.state media.new).contents (set d lba block.now)) }
         ensures newest { OnOk result (block.now ≡ ((M.state media.new).contents.disk lba).newest) }
         ensures cache { self.new.disk.cache ≡ self.old.disk.cache }
         ensures made { (self.new.disk.options ≡ self.old.disk.options) × (self.new.disk.mode ≡ self.old.disk.mode) }
@@ -137,8 +140,10 @@ impl WriteThrough {
         requires newest { block.now ≡ ((M.state media.old).contents.disk lba).newest }
         requires ready { self.old.disk.cache.ready ≡ true }
         ensures left { IsLeft self.new (M.state media.new).contents }
-        ensures stands { (d : PlainDisk) → StandFor (ImageIs (state_of self.old).told) (M.state media.old).contents d → StandFor (ImageIs (state_of self.old).told) (M.state media.new).contents d }
-        ensures held { OnOk result (Holds (state_of self.old).told (Writes lba block.now) (state_of self.old).held (state_of self.new).held) }
+        ensures stands { (d : PlainDisk) → StandFor (ImageIs (state_of self.old).told) (M.state media.old).contents d
+            → StandFor (ImageIs (state_of self.old).told) (M.state media.new).contents d }
+        ensures held { OnOk result (HoldsAfter (state_of self.old).told (Writes lba block.now) (state_of self.old).held
+            (state_of self.new).held) }
         ensures goes { Goes (state_of self.old) (state_of self.new) (M.state media.old) (M.state media.new) result }
         ensures refused { OnErr result (kept.is_down self.new.disk ≡ true) }
         ensures disk_reads { (M.state media.new).counts.disk_reads ≡ (M.state media.old).counts.disk_reads }
@@ -157,7 +162,8 @@ impl WriteThrough {
 /// Writes a block to the disk, and sees that it stays there.
 fn put_block<M: Media>(media: &mut M, lba: u64, block: &Block) -> Result<(), MediaError>
     requires { lba < (M.state media.old).contents.shape.size }
-    ensures ok { OnOk result ((at : ℕ) → (M.state media.new).contents.disk at ≡ flushed (after_write (M.state media.old).contents.disk lba block.now at)) }
+    ensures ok { OnOk result ((at : ℕ) → (M.state media.new).contents.disk at ≡ flushed
+        (after_write (M.state media.old).contents.disk lba block.now at)) }
     // Whatever is answered, a disk block has a value that it had, or the one that is written.
     ensures values { (at : ℕ) (b : Block) → HasValue ((M.state media.new).contents.disk at) b
         → HasValue ((M.state media.old).contents.disk at) b ⊎ ((at ≡ lba) × (b ≡ block.now)) }

@@ -104,7 +104,8 @@ fn round<M: Measured>(rt: &(impl AllocGlobal + Clock), keys: &Keys) -> io::Resul
 
 /// Sets each key, with itself as its value.
 fn fill<M: Measured>(map: &mut M, keys: &[u64]) -> Result<(), AllocError>
-    ensures { OnOk result ((i : ℕ) → i < length keys.now → M.content map.new (slice_index_or keys.now i 0) ≡ Some (slice_index_or keys.now i 0)) }
+    ensures { OnOk result ((i : ℕ) → i < length keys.now
+        → M.content map.new (slice_index_or keys.now i 0) ≡ Some (slice_index_or keys.now i 0)) }
 {
     for key in keys {
         map.set(*key, *key)?;

@@ -36,7 +36,8 @@ impl Row {
         ensures bytes { result.bytes ≡ tenths self.now.size.bytes self.now.size.entries }
         ensures peak { result.peak ≡ tenths self.now.peak self.now.size.entries }
         ensures lookup { result.lookup ≡ tenths (nanoseconds self.now.times.lookups) (operations self.now.size.entries self.now.rounds) }
-        ensures insertion { result.insertion ≡ tenths (nanoseconds self.now.times.insertions) (operations self.now.size.entries self.now.rounds) }
+        ensures insertion { result.insertion ≡ tenths (nanoseconds self.now.times.insertions)
+            (operations self.now.size.entries self.now.rounds) }
         ensures removal { result.removal ≡ tenths (nanoseconds self.now.times.removals) (operations self.now.size.entries self.now.rounds) }
     {
         let entries = self.size.entries;

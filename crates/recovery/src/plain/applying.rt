@@ -75,8 +75,12 @@ fn apply_part(
     requires map { map.old.geometry ≡ geometry.now }
     ensures geometry { map.new.geometry ≡ map.old.geometry }
     ensures applied { IfOk result (λ damaged. MatchOption damaged
-        (loading.after_pages geometry.now part.now.kind part.now.era (place_of part.now.kind geometry.now part.now.region) 0 (loading.pages_from (page_in geometry.now pages.now) (place_of part.now.kind geometry.now part.now.region) 0 part.now.pages) map.old.entries ≡ Ok map.new.entries)
-        (λ at. loading.after_pages geometry.now part.now.kind part.now.era (place_of part.now.kind geometry.now part.now.region) 0 (loading.pages_from (page_in geometry.now pages.now) (place_of part.now.kind geometry.now part.now.region) 0 part.now.pages) map.old.entries ≡ Err (loading.Damaged at))) }
+        (loading.after_pages geometry.now part.now.kind part.now.era (place_of part.now.kind geometry.now part.now.region) 0
+        (loading.pages_from (page_in geometry.now pages.now) (place_of part.now.kind geometry.now part.now.region) 0 part.now.pages)
+        map.old.entries ≡ Ok map.new.entries)
+        (λ at. loading.after_pages geometry.now part.now.kind part.now.era (place_of part.now.kind geometry.now part.now.region) 0
+        (loading.pages_from (page_in geometry.now pages.now) (place_of part.now.kind geometry.now part.now.region) 0 part.now.pages)
+        map.old.entries ≡ Err (loading.Damaged at))) }
 {
     for i in 0..part.pages {
         let at = place_in(geometry, part.kind, part.region, i);
@@ -108,7 +112,8 @@ fn place_in(geometry: &Geometry, kind: PageKind, region: u32, i: u32) -> Place
 fn apply_page(page: &Page, header: &Header, map: &mut Map) -> Result<bool, AllocError>
     requires { loading.said header_read page.now ≡ Some header.now }
     ensures geometry { map.new.geometry ≡ map.old.geometry }
-    ensures applied { IfOk result (λ fits. option_and_then (λ changes. loading.after_all map.old.geometry changes map.old.entries) (loading.said (records_read header.now) page.now) ≡ (if fits then Some map.new.entries else None)) }
+    ensures applied { IfOk result (λ fits. option_and_then (λ changes. loading.after_all map.old.geometry changes map.old.entries)
+        (loading.said (records_read header.now) page.now) ≡ (if fits then Some map.new.entries else None)) }
 {
     let Page::Whole(block, _) = page else {
         return Ok(false);
@@ -123,7 +128,8 @@ fn apply_page(page: &Page, header: &Header, map: &mut Map) -> Result<bool, Alloc
 /// Applies records in order. False where one doesn't fit when its turn comes.
 fn apply_records(changes: &[Record], map: &mut Map) -> Result<bool, AllocError>
     ensures geometry { map.new.geometry ≡ map.old.geometry }
-    ensures applied { IfOk result (λ fits. loading.after_all map.old.geometry changes.now map.old.entries ≡ (if fits then Some map.new.entries else None)) }
+    ensures applied { IfOk result (λ fits. loading.after_all map.old.geometry changes.now
+        map.old.entries ≡ (if fits then Some map.new.entries else None)) }
 {
     for change in changes {
         if !map.fits(change) {

@@ -1,4 +1,5 @@
 ghost use Rattle.std.specs.Prelude.{◌≡◌, ◌<◌, ◌≤◌, IfSome, option_map};
+ghost use Rattle.ft_base.specs.Layout.{most_page_records};
 ghost use Rattle.cache_model.specs.Loading as loading;
 ghost use Rattle.recovery.specs.Plain as plain;
 
@@ -37,7 +38,7 @@ fn is_page(header: &Header, kind: PageKind, era: u8, i: u32) -> bool
 /// The header of a page of records, where it is one of this kind and era, at its own place.
 pub(crate) fn header_at(page: &Page, kind: PageKind, era: u8, i: u32) -> Option<Header>
     ensures value { result ≡ loading.header_at kind era i page.now }
-    ensures few { IfSome result (λ h. h.count ≤ 127) }
+    ensures few { IfSome result (λ h. h.count ≤ most_page_records) }
 {
     let Page::Whole(block, _) = page else {
         return None;

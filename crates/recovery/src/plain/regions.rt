@@ -45,7 +45,8 @@ fn chosen(first: Option<Sealed>, second: Option<Sealed>) -> Option<(u32, Sealed)
 /// The checkpoint of a region, where it is complete.
 fn checkpoint_in(pages: &[Page], geometry: &Geometry, region: u32) -> Option<Sealed>
     requires { region < 2 }
-    ensures { option_map told result ≡ loading.checkpoint_in (loading.checkpoint_region geometry.now (page_in geometry.now pages.now) region) }
+    ensures { option_map told result ≡ loading.checkpoint_in
+        (loading.checkpoint_region geometry.now (page_in geometry.now pages.now) region) }
 {
     let first = page_at(pages, geometry, geometry.checkpoint_at(region, 0));
     let era = era_in(&first)?;
@@ -55,7 +56,8 @@ fn checkpoint_in(pages: &[Page], geometry: &Geometry, region: u32) -> Option<Sea
 /// The checkpoint of this era in a region: map pages, and then their seal.
 fn sealed_from(pages: &[Page], geometry: &Geometry, region: u32, era: u8) -> Option<Sealed>
     requires { region < 2 }
-    ensures { option_map told result ≡ loading.sealed_from era 0 0 (loading.checkpoint_region geometry.now (page_in geometry.now pages.now) region) }
+    ensures { option_map told result ≡ loading.sealed_from era 0 0
+        (loading.checkpoint_region geometry.now (page_in geometry.now pages.now) region) }
 {
     let mut count = 0;
     for i in 0..geometry.k() * geometry.p {

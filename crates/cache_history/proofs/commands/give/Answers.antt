@@ -8,43 +8,58 @@ use Rattle.cache_history.proofs.RefusedLemmas.{still_of, unchanged_of}
 use Rattle.cache_history.proofs.commands.give.Goals as goal
 
 pub returns-in-WriteDirty-clause-answered : goal.returns-in-WriteDirty-clause-answered
-returns-in-WriteDirty-clause-answered g c = write_dirty_answer c.args.cache.now c.write_dirty.new.self (g.M.Media.state c.args.media.now).contents (g.M.Media.state c.write_dirty.new.media).contents c.args.kind c.args.lba c.args.block.now c.write_dirty.result c.in-WriteDirty.is c.write_dirty.ensures.geometry c.write_dirty.ensures.done c.write_dirty.ensures.nothing_waits
+returns-in-WriteDirty-clause-answered g c = write_dirty_answer c.args.cache.now c.write_dirty.new.self (g.M.Media.state c.args.media.now).contents
+    (g.M.Media.state c.write_dirty.new.media).contents c.args.kind c.args.lba c.args.block.now c.write_dirty.result c.in-WriteDirty.is c.write_dirty.ensures.geometry c.write_dirty.ensures.done
+    c.write_dirty.ensures.nothing_waits
 
 pub returns-in-WriteDirty-clause-images : goal.returns-in-WriteDirty-clause-images
 returns-in-WriteDirty-clause-images g c = left_of_write c.args.cache.now (g.M.Media.state c.args.media.now).contents (g.M.Media.state c.write_dirty.new.media).contents kinds.WriteDirty c.args.lba c.args.block.now (λ s v van. van) c.write_dirty.ensures.images c.args.kind c.in-WriteDirty.is
 
 pub returns-in-WriteDirty-clause-is_up : goal.returns-in-WriteDirty-clause-is_up
-returns-in-WriteDirty-clause-is_up g c = up_written c.args.cache.now c.write_dirty.new.self (g.M.Media.state c.args.media.now).contents (g.M.Media.state c.write_dirty.new.media).contents c.args.kind c.args.lba c.args.block.now c.write_dirty.result (written_dirty c.args.lba c.args.block.now) c.write_dirty.ensures.done c.write_dirty.ensures.stopped c.requires.up
+returns-in-WriteDirty-clause-is_up g c = up_written c.args.cache.now c.write_dirty.new.self (g.M.Media.state c.args.media.now).contents
+    (g.M.Media.state c.write_dirty.new.media).contents c.args.kind c.args.lba c.args.block.now c.write_dirty.result (written_dirty c.args.lba c.args.block.now)
+    c.write_dirty.ensures.done c.write_dirty.ensures.stopped c.requires.up
 
 pub returns-in-WriteClean-clause-answered : goal.returns-in-WriteClean-clause-answered
-returns-in-WriteClean-clause-answered g c = write_clean_answer c.args.cache.now c.write_clean.new.self (g.M.Media.state c.args.media.now).contents (g.M.Media.state c.write_clean.new.media).contents c.args.kind c.args.lba c.args.block.now c.write_clean.result c.in-WriteClean.is c.write_clean.ensures.geometry c.write_clean.ensures.done c.write_clean.ensures.over_held c.write_clean.ensures.at_absent
+returns-in-WriteClean-clause-answered g c = write_clean_answer c.args.cache.now c.write_clean.new.self (g.M.Media.state c.args.media.now).contents
+    (g.M.Media.state c.write_clean.new.media).contents c.args.kind c.args.lba c.args.block.now c.write_clean.result c.in-WriteClean.is c.write_clean.ensures.geometry c.write_clean.ensures.done
+    c.write_clean.ensures.over_held c.write_clean.ensures.at_absent
 
 pub returns-in-WriteClean-clause-images : goal.returns-in-WriteClean-clause-images
 returns-in-WriteClean-clause-images g c = left_of_write c.args.cache.now (g.M.Media.state c.args.media.now).contents (g.M.Media.state c.write_clean.new.media).contents kinds.WriteClean c.args.lba c.args.block.now (λ s v van. van) c.write_clean.ensures.images c.args.kind c.in-WriteClean.is
 
 pub returns-in-WriteClean-clause-is_up : goal.returns-in-WriteClean-clause-is_up
-returns-in-WriteClean-clause-is_up g c = up_written c.args.cache.now c.write_clean.new.self (g.M.Media.state c.args.media.now).contents (g.M.Media.state c.write_clean.new.media).contents c.args.kind c.args.lba c.args.block.now c.write_clean.result (written_clean c.args.lba c.args.block.now) c.write_clean.ensures.done c.write_clean.ensures.stopped c.requires.up
+returns-in-WriteClean-clause-is_up g c = up_written c.args.cache.now c.write_clean.new.self (g.M.Media.state c.args.media.now).contents
+    (g.M.Media.state c.write_clean.new.media).contents c.args.kind c.args.lba c.args.block.now c.write_clean.result (written_clean c.args.lba c.args.block.now)
+    c.write_clean.ensures.done c.write_clean.ensures.stopped c.requires.up
 
 pub returns-in-Evict-clause-answered : goal.returns-in-Evict-clause-answered
-returns-in-Evict-clause-answered g c = evict_answer c.args.cache.now c.evict.new.self (g.M.Media.state c.args.media.now).contents (g.M.Media.state c.evict.new.media).contents c.args.kind c.args.lba c.args.block.now c.evict.result (g.M.Media.state c.evict.new.media ≡ g.M.Media.state c.args.media.now) c.in-Evict.is c.evict.ensures.done c.evict.ensures.held c.evict.ensures.absent
+returns-in-Evict-clause-answered g c = evict_answer c.args.cache.now c.evict.new.self (g.M.Media.state c.args.media.now).contents
+    (g.M.Media.state c.evict.new.media).contents c.args.kind c.args.lba c.args.block.now c.evict.result (g.M.Media.state c.evict.new.media ≡ g.M.Media.state c.args.media.now)
+    c.in-Evict.is c.evict.ensures.done c.evict.ensures.held c.evict.ensures.absent
 
 pub returns-in-Evict-clause-images : goal.returns-in-Evict-clause-images
 returns-in-Evict-clause-images g c = left_of c.args.cache.now (g.M.Media.state c.args.media.now).contents (g.M.Media.state c.evict.new.media).contents kinds.Evict c.args.lba c.args.block.now c.evict.ensures.images c.args.kind c.in-Evict.is
 
 pub returns-in-Evict-clause-is_up : goal.returns-in-Evict-clause-is_up
-returns-in-Evict-clause-is_up g c = up_after c.args.cache.now c.evict.new.self (g.M.Media.state c.args.media.now).contents (g.M.Media.state c.evict.new.media).contents c.args.kind c.args.lba c.args.block.now c.evict.result (evicted c.args.lba) c.evict.ensures.done c.evict.ensures.stopped c.requires.up
+returns-in-Evict-clause-is_up g c = up_after c.args.cache.now c.evict.new.self (g.M.Media.state c.args.media.now).contents
+    (g.M.Media.state c.evict.new.media).contents c.args.kind c.args.lba c.args.block.now c.evict.result (evicted c.args.lba) c.evict.ensures.done c.evict.ensures.stopped c.requires.up
 
 pub returns-in-Clean-clause-answered : goal.returns-in-Clean-clause-answered
-returns-in-Clean-clause-answered g c = clean_answer c.args.cache.now c.clean.new.self (g.M.Media.state c.args.media.now).contents (g.M.Media.state c.clean.new.media).contents c.args.kind c.args.lba c.args.block.now c.clean.result (g.M.Media.state c.clean.new.media ≡ g.M.Media.state c.args.media.now) c.in-Clean.is c.clean.ensures.done c.clean.ensures.of_dirty c.clean.ensures.of_other
+returns-in-Clean-clause-answered g c = clean_answer c.args.cache.now c.clean.new.self (g.M.Media.state c.args.media.now).contents
+    (g.M.Media.state c.clean.new.media).contents c.args.kind c.args.lba c.args.block.now c.clean.result (g.M.Media.state c.clean.new.media ≡ g.M.Media.state c.args.media.now)
+    c.in-Clean.is c.clean.ensures.done c.clean.ensures.of_dirty c.clean.ensures.of_other
 
 pub returns-in-Clean-clause-images : goal.returns-in-Clean-clause-images
 returns-in-Clean-clause-images g c = left_of c.args.cache.now (g.M.Media.state c.args.media.now).contents (g.M.Media.state c.clean.new.media).contents kinds.Clean c.args.lba c.args.block.now c.clean.ensures.images c.args.kind c.in-Clean.is
 
 pub returns-in-Clean-clause-is_up : goal.returns-in-Clean-clause-is_up
-returns-in-Clean-clause-is_up g c = up_after c.args.cache.now c.clean.new.self (g.M.Media.state c.args.media.now).contents (g.M.Media.state c.clean.new.media).contents c.args.kind c.args.lba c.args.block.now c.clean.result (made_clean c.args.lba) c.clean.ensures.done c.clean.ensures.stopped c.requires.up
+returns-in-Clean-clause-is_up g c = up_after c.args.cache.now c.clean.new.self (g.M.Media.state c.args.media.now).contents
+    (g.M.Media.state c.clean.new.media).contents c.args.kind c.args.lba c.args.block.now c.clean.result (made_clean c.args.lba) c.clean.ensures.done c.clean.ensures.stopped c.requires.up
 
 pub returns-in-Commit-clause-answered : goal.returns-in-Commit-clause-answered
-returns-in-Commit-clause-answered g c = commit_answer c.args.cache.now c.commit.new.self (g.M.Media.state c.args.media.now).contents (g.M.Media.state c.commit.new.media).contents c.args.kind c.args.lba c.args.block.now c.commit.result c.in-Commit.is c.commit.ensures.done c.commit.ensures.nothing_waits
+returns-in-Commit-clause-answered g c = commit_answer c.args.cache.now c.commit.new.self (g.M.Media.state c.args.media.now).contents
+    (g.M.Media.state c.commit.new.media).contents c.args.kind c.args.lba c.args.block.now c.commit.result c.in-Commit.is c.commit.ensures.done c.commit.ensures.nothing_waits
 
 pub returns-in-Commit-clause-images : goal.returns-in-Commit-clause-images
 returns-in-Commit-clause-images g c = left_of c.args.cache.now (g.M.Media.state c.args.media.now).contents (g.M.Media.state c.commit.new.media).contents kinds.Commit c.args.lba c.args.block.now c.commit.ensures.images c.args.kind c.in-Commit.is
@@ -53,13 +68,15 @@ pub returns-in-Commit-clause-is_up : goal.returns-in-Commit-clause-is_up
 returns-in-Commit-clause-is_up g c = up_after c.args.cache.now c.commit.new.self (g.M.Media.state c.args.media.now).contents (g.M.Media.state c.commit.new.media).contents c.args.kind c.args.lba c.args.block.now c.commit.result (λ s. s) c.commit.ensures.done c.commit.ensures.stopped c.requires.up
 
 pub returns-in-Checkpoint-clause-answered : goal.returns-in-Checkpoint-clause-answered
-returns-in-Checkpoint-clause-answered g c = checkpoint_answer c.args.cache.now c.checkpoint.new.self (g.M.Media.state c.args.media.now).contents (g.M.Media.state c.checkpoint.new.media).contents c.args.kind c.args.lba c.args.block.now c.checkpoint.result c.in-Checkpoint.is c.checkpoint.ensures.done c.checkpoint.ensures.nothing_waits
+returns-in-Checkpoint-clause-answered g c = checkpoint_answer c.args.cache.now c.checkpoint.new.self (g.M.Media.state c.args.media.now).contents
+    (g.M.Media.state c.checkpoint.new.media).contents c.args.kind c.args.lba c.args.block.now c.checkpoint.result c.in-Checkpoint.is c.checkpoint.ensures.done c.checkpoint.ensures.nothing_waits
 
 pub returns-in-Checkpoint-clause-images : goal.returns-in-Checkpoint-clause-images
 returns-in-Checkpoint-clause-images g c = left_of c.args.cache.now (g.M.Media.state c.args.media.now).contents (g.M.Media.state c.checkpoint.new.media).contents kinds.Checkpoint c.args.lba c.args.block.now c.checkpoint.ensures.images c.args.kind c.in-Checkpoint.is
 
 pub returns-in-Checkpoint-clause-is_up : goal.returns-in-Checkpoint-clause-is_up
-returns-in-Checkpoint-clause-is_up g c = up_after c.args.cache.now c.checkpoint.new.self (g.M.Media.state c.args.media.now).contents (g.M.Media.state c.checkpoint.new.media).contents c.args.kind c.args.lba c.args.block.now c.checkpoint.result (λ s. s) c.checkpoint.ensures.done c.checkpoint.ensures.stopped c.requires.up
+returns-in-Checkpoint-clause-is_up g c = up_after c.args.cache.now c.checkpoint.new.self (g.M.Media.state c.args.media.now).contents
+    (g.M.Media.state c.checkpoint.new.media).contents c.args.kind c.args.lba c.args.block.now c.checkpoint.result (λ s. s) c.checkpoint.ensures.done c.checkpoint.ensures.stopped c.requires.up
 
 pub returns-in-WriteDirty-clause-full : goal.returns-in-WriteDirty-clause-full
 returns-in-WriteDirty-clause-full g c = λ n k e. (c.in-WriteDirty.is, λ s holds. full_of c.write_dirty.result (geometry_of c.args.cache.now) s c.args.lba n k (c.write_dirty.ensures.full s holds) e)
@@ -101,13 +118,16 @@ pub returns-in-WriteDirty-clause-unchanged : goal.returns-in-WriteDirty-clause-u
 returns-in-WriteDirty-clause-unchanged g c = unchanged_of c.args.cache.now c.write_dirty.new.self (g.M.Media.state c.args.media.now) (g.M.Media.state c.write_dirty.new.media) c.write_dirty.result c.write_dirty.ensures.full_keeps (λ is. let none = c.write_dirty.ensures.memory is in (none.1, none.2))
 
 pub returns-in-WriteDirty-clause-still : goal.returns-in-WriteDirty-clause-still
-returns-in-WriteDirty-clause-still g c = still_of c.args.cache.now c.write_dirty.new.self (g.M.Media.state c.args.media.now) (g.M.Media.state c.write_dirty.new.media) c.write_dirty.result c.write_dirty.ensures.full_keeps (λ is. let none = c.write_dirty.ensures.memory is in (none.1, none.2)) c.write_dirty.ensures.memory_holds
+returns-in-WriteDirty-clause-still g c = still_of c.args.cache.now c.write_dirty.new.self (g.M.Media.state c.args.media.now) (g.M.Media.state c.write_dirty.new.media)
+    c.write_dirty.result c.write_dirty.ensures.full_keeps (λ is. let none = c.write_dirty.ensures.memory is in (none.1, none.2)) c.write_dirty.ensures.memory_holds
 
 pub returns-in-WriteClean-clause-unchanged : goal.returns-in-WriteClean-clause-unchanged
-returns-in-WriteClean-clause-unchanged g c = unchanged_of c.args.cache.now c.write_clean.new.self (g.M.Media.state c.args.media.now) (g.M.Media.state c.write_clean.new.media) c.write_clean.result (λ n l is. absurd (c.write_clean.ensures.full n l is)) (λ is. let none = c.write_clean.ensures.memory is in (none.1, none.2))
+returns-in-WriteClean-clause-unchanged g c = unchanged_of c.args.cache.now c.write_clean.new.self (g.M.Media.state c.args.media.now) (g.M.Media.state c.write_clean.new.media) c.write_clean.result
+    (λ n l is. absurd (c.write_clean.ensures.full n l is)) (λ is. let none = c.write_clean.ensures.memory is in (none.1, none.2))
 
 pub returns-in-WriteClean-clause-still : goal.returns-in-WriteClean-clause-still
-returns-in-WriteClean-clause-still g c = still_of c.args.cache.now c.write_clean.new.self (g.M.Media.state c.args.media.now) (g.M.Media.state c.write_clean.new.media) c.write_clean.result (λ n l is. absurd (c.write_clean.ensures.full n l is)) (λ is. let none = c.write_clean.ensures.memory is in (none.1, none.2)) c.write_clean.ensures.memory_holds
+returns-in-WriteClean-clause-still g c = still_of c.args.cache.now c.write_clean.new.self (g.M.Media.state c.args.media.now) (g.M.Media.state c.write_clean.new.media) c.write_clean.result
+    (λ n l is. absurd (c.write_clean.ensures.full n l is)) (λ is. let none = c.write_clean.ensures.memory is in (none.1, none.2)) c.write_clean.ensures.memory_holds
 
 pub returns-in-Evict-clause-unchanged : goal.returns-in-Evict-clause-unchanged
 returns-in-Evict-clause-unchanged g c = unchanged_of c.args.cache.now c.evict.new.self (g.M.Media.state c.args.media.now) (g.M.Media.state c.evict.new.media) c.evict.result (λ n l is. absurd (c.evict.ensures.full n l is)) (λ is. absurd (c.evict.ensures.memory is))
@@ -125,10 +145,12 @@ pub returns-in-Commit-clause-unchanged : goal.returns-in-Commit-clause-unchanged
 returns-in-Commit-clause-unchanged g c = unchanged_of c.args.cache.now c.commit.new.self (g.M.Media.state c.args.media.now) (g.M.Media.state c.commit.new.media) c.commit.result (λ n l is. absurd (c.commit.ensures.full n l is)) (λ is. absurd (c.commit.ensures.memory is))
 
 pub returns-in-Commit-clause-still : goal.returns-in-Commit-clause-still
-returns-in-Commit-clause-still g c = still_of c.args.cache.now c.commit.new.self (g.M.Media.state c.args.media.now) (g.M.Media.state c.commit.new.media) c.commit.result (λ n l is. absurd (c.commit.ensures.full n l is)) (λ is. absurd (c.commit.ensures.memory is)) (λ is. absurd (c.commit.ensures.memory is))
+returns-in-Commit-clause-still g c = still_of c.args.cache.now c.commit.new.self (g.M.Media.state c.args.media.now) (g.M.Media.state c.commit.new.media) c.commit.result
+    (λ n l is. absurd (c.commit.ensures.full n l is)) (λ is. absurd (c.commit.ensures.memory is)) (λ is. absurd (c.commit.ensures.memory is))
 
 pub returns-in-Checkpoint-clause-unchanged : goal.returns-in-Checkpoint-clause-unchanged
 returns-in-Checkpoint-clause-unchanged g c = unchanged_of c.args.cache.now c.checkpoint.new.self (g.M.Media.state c.args.media.now) (g.M.Media.state c.checkpoint.new.media) c.checkpoint.result (λ n l is. absurd (c.checkpoint.ensures.full n l is)) (λ is. absurd (c.checkpoint.ensures.memory is))
 
 pub returns-in-Checkpoint-clause-still : goal.returns-in-Checkpoint-clause-still
-returns-in-Checkpoint-clause-still g c = still_of c.args.cache.now c.checkpoint.new.self (g.M.Media.state c.args.media.now) (g.M.Media.state c.checkpoint.new.media) c.checkpoint.result (λ n l is. absurd (c.checkpoint.ensures.full n l is)) (λ is. absurd (c.checkpoint.ensures.memory is)) (λ is. absurd (c.checkpoint.ensures.memory is))
+returns-in-Checkpoint-clause-still g c = still_of c.args.cache.now c.checkpoint.new.self (g.M.Media.state c.args.media.now) (g.M.Media.state c.checkpoint.new.media) c.checkpoint.result
+    (λ n l is. absurd (c.checkpoint.ensures.full n l is)) (λ is. absurd (c.checkpoint.ensures.memory is)) (λ is. absurd (c.checkpoint.ensures.memory is))

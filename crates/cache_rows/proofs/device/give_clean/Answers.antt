@@ -8,6 +8,8 @@ pub returns : goal.returns
 returns g c =
     let ensures = c.write_clean.ensures in
     record {
-      up = up_written c.write_clean.result c.args.cache.now c.write_clean.new.self (g.M.Media.state c.args.media.now) (g.M.Media.state c.write_clean.new.media) c.args.step.now.lba (written_clean c.args.step.now.lba c.block_of.result) c.requires.up ensures.stopped ensures.done (λ n l is. absurd (ensures.full n l is)) (λ is. ((ensures.memory is).2, ensures.memory_holds is));
+      up = up_written c.write_clean.result c.args.cache.now c.write_clean.new.self (g.M.Media.state c.args.media.now) (g.M.Media.state c.write_clean.new.media) c.args.step.now.lba
+          (written_clean c.args.step.now.lba c.block_of.result) c.requires.up ensures.stopped ensures.done (λ n l is. absurd (ensures.full n l is))
+          (λ is. ((ensures.memory is).2, ensures.memory_holds is));
       size = ap (λ (k : Geometry). k.size) ensures.geometry ∙ c.requires.size;
     }

@@ -12,4 +12,6 @@ returns-in-Ok-clause-opens g c =
     opens_after c.args.geometry.now (g.M.Media.state c.args.media.now).contents (g.M.Media.state c.flush_disk.new.self).contents (g.M.Media.state c.open.new.media).contents c.flush_disk.ensures.flash.page c.open.result c.in-Ok.ensures.ok e.same e.images e.refused e.drives.disk e.drives.crash
 
 pub returns-in-Err-clause-opens : goal.returns-in-Err-clause-opens
-returns-in-Err-clause-opens g c = opens_refused c.args.geometry.now (g.M.Media.state c.args.media.now).contents (g.M.Media.state c.flush_disk.new.self).contents (g.M.Media.state c.flush_disk.new.self).contents c.flush_disk.ensures.flash.page c.in-Err.error c.flush_error.result c.flush_error.ensures c.flush_disk.ensures.values c.in-Err.ensures.failed c.in-Err.ensures.memory c.in-Err.ensures.crash
+returns-in-Err-clause-opens g c = opens_refused c.args.geometry.now (g.M.Media.state c.args.media.now).contents (g.M.Media.state c.flush_disk.new.self).contents
+    (g.M.Media.state c.flush_disk.new.self).contents c.flush_disk.ensures.flash.page c.in-Err.error c.flush_error.result c.flush_error.ensures c.flush_disk.ensures.values c.in-Err.ensures.failed
+    c.in-Err.ensures.memory c.in-Err.ensures.crash

@@ -7,7 +7,8 @@ use Rattle.checkpoint.proofs.writing.program_maps.Goals as goal
 
 pub returns-in_err-program_map-clause-pages : goal.returns-in_err-program_map-clause-pages
 returns-in_err-program_map-clause-pages g c =
-    maps_left c.args.geometry.now c.args.target.now.region c.args.target.now.era c.args.map.now.records c.loop-sequence.sequence (g.M.Media.state c.args.media.now).contents.flash (g.M.Media.state c.loop-sequence.media).contents.flash c.loop-sequence.invariant.maps (g.M.Media.state c.program_map.new.media).contents.flash (omega arith) c.program_map.ensures.pages
+    maps_left c.args.geometry.now c.args.target.now.region c.args.target.now.era c.args.map.now.records c.loop-sequence.sequence (g.M.Media.state c.args.media.now).contents.flash
+    (g.M.Media.state c.loop-sequence.media).contents.flash c.loop-sequence.invariant.maps (g.M.Media.state c.program_map.new.media).contents.flash (omega arith) c.program_map.ensures.pages
 
 pub returns-in_err-program_map-clause-drives : goal.returns-in_err-program_map-clause-drives
 returns-in_err-program_map-clause-drives g c =
@@ -22,7 +23,8 @@ loop-sequence-init g c = record {
 
 pub loop-sequence-preserved : goal.loop-sequence-preserved
 loop-sequence-preserved g c = record {
-  maps = maps_more c.args.geometry.now c.args.target.now.region c.args.target.now.era c.args.map.now.records c.loop-sequence.sequence (g.M.Media.state c.args.media.now).contents.flash (g.M.Media.state c.loop-sequence.media).contents.flash c.loop-sequence.invariant.maps (g.M.Media.state c.program_map.new.media).contents.flash (omega arith) c.in_ok-program_map.ensures.done;
+  maps = maps_more c.args.geometry.now c.args.target.now.region c.args.target.now.era c.args.map.now.records c.loop-sequence.sequence (g.M.Media.state c.args.media.now).contents.flash
+      (g.M.Media.state c.loop-sequence.media).contents.flash c.loop-sequence.invariant.maps (g.M.Media.state c.program_map.new.media).contents.flash (omega arith) c.in_ok-program_map.ensures.done;
   counts = programs_more c.loop-sequence.sequence (g.M.Media.state c.args.media.now).counts (g.M.Media.state c.loop-sequence.media).counts (g.M.Media.state c.program_map.new.media).counts c.loop-sequence.invariant.counts c.in_ok-program_map.ensures.counts;
   drives = drives_then (g.M.Media.state c.args.media.now) (g.M.Media.state c.loop-sequence.media) (g.M.Media.state c.program_map.new.media) _ _ c.loop-sequence.invariant.drives c.in_ok-program_map.ensures.drives;
 }

@@ -70,7 +70,8 @@ returns-in-Err-power_again-clause-asks g c =
     let can = g.met.V.Volume.can_be_loaded c.args.volume.now _ c.requires.owns in
     let a = g.R.Media.state c.args.rig.now in
     subst (λ (s : State). Asks 0 a s) (sym c.in-Err-power_again.ensures.same)
-    (asks_still (g.V.Volume.state c.args.volume.now) (g.V.Volume.state c.report.new.self) (opened_of (g.V.Volume.state c.args.volume.now) can.0) a (g.R.Media.state c.report.new.rig) c.requires.on _ (not_lost c.in-Err.error c.in-Err-power_again.ensures.other) c.in-Err.ensures.goes (c.in-Err.ensures.costs can.0 can.1))
+    (asks_still (g.V.Volume.state c.args.volume.now) (g.V.Volume.state c.report.new.self) (opened_of (g.V.Volume.state c.args.volume.now) can.0) a (g.R.Media.state c.report.new.rig) c.requires.on _
+    (not_lost c.in-Err.error c.in-Err-power_again.ensures.other) c.in-Err.ensures.goes (c.in-Err.ensures.costs can.0 can.1))
 
 pub returns-in-Err-power_again-clause-flash : goal.returns-in-Err-power_again-clause-flash
 returns-in-Err-power_again-clause-flash g c = λ is. flash_rose _ _ _ _ _ c.in-Err-power_again.ensures.same _ c.in-Err.error c.in-Err-power_again.ended c.in-Err.ensures.goes c.in-Err-power_again.ensures.ended is

@@ -12,4 +12,5 @@ returns-then-not-may_have c = refused (too_many_blocks c.args.geometry.now c.arg
 pub returns : goal.returns
 returns c =
     group_decides c.args.geometry.now c.args.held.now.entries c.requires.map c.args.group c.args.block c.args.present c.args.dirty c.has_page-mapped.result c.has_page-marked.result c.may_have.result c.may_have-2.result
-    (c.if-group-geometry.false, c.is_set_below.ensures.0 c.if-not-is_set_below.false, c.is_set_below-2.ensures.0 c.if-not-is_set_below-2.false) (c.may_come.ensures.0 c.if-not-may_come.false) c.has_page-mapped.ensures c.may_have.ensures c.if-not-may_have.false c.has_page-marked.ensures c.may_have-2.ensures
+    (c.if-group-geometry.false, c.is_set_below.ensures.0 c.if-not-is_set_below.false, c.is_set_below-2.ensures.0 c.if-not-is_set_below-2.false) (c.may_come.ensures.0 c.if-not-may_come.false)
+    c.has_page-mapped.ensures c.may_have.ensures c.if-not-may_have.false c.has_page-marked.ensures c.may_have-2.ensures

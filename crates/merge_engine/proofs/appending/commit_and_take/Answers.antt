@@ -1,7 +1,7 @@
 use Rattle.std.proofs.Common.{◌≡◌, inr, ap, subst}
 use Rattle.ft_base.specs.declared.geometry.Geometry.{Geometry}
 use Rattle.ft_media.proofs.DrivesLemmas.{drives_then}
-use Rattle.cache_model.specs.Stands.{StandsFor}
+use Rattle.cache_model.specs.Stands.{FlashStandsFor}
 use Rattle.merge_engine.specs.declared.parts.Parts.{Parts}
 use Rattle.merge_engine.proofs.ResultLemmas.{on_ok_from}
 use Rattle.merge_engine.proofs.BesideLemmas.{lists_as}
@@ -15,7 +15,7 @@ returns-clause-lists g c = on_ok_from c.take_log_block.result (λ v is. λ list 
 pub returns-clause-stands : goal.returns-clause-stands
 returns-clause-stands g c = λ list durable lists.
     let same : c.commit.new.cache.geometry ≡ c.args.cache.now.geometry = ap (λ (p : Parts). p.geometry) c.commit.ensures.cache in
-    inr (subst (λ (h : Geometry). StandsFor h (g.M.Media.state c.take_log_block.new.media).contents.flash.page list) same
+    inr (subst (λ (h : Geometry). FlashStandsFor h (g.M.Media.state c.take_log_block.new.media).contents.flash.page list) same
     (c.take_log_block.ensures.lists list list (c.in_ok-commit.ensures.lists list durable lists)).stands)
 
 pub returns-clause-drives : goal.returns-clause-drives

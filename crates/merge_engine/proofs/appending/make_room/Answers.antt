@@ -2,7 +2,7 @@ use Rattle.std.proofs.Common.{ap, subst, arith}
 use Rattle.ft_base.specs.declared.geometry.Geometry.{Geometry}
 use Rattle.op_log.specs.Log.{LogValue}
 use Rattle.merge_engine.specs.declared.parts.Parts.{Parts}
-use Rattle.merge_engine.specs.Room.{StandsForGiven}
+use Rattle.merge_engine.specs.Room.{FlashStandsForGiven}
 use Rattle.merge_engine.specs.Steps.{GoesOn}
 use Rattle.merge_engine.proofs.ResultLemmas.{on_ok_from, ok_at}
 use Rattle.merge_engine.proofs.BesideLemmas.{lists_as}
@@ -31,7 +31,7 @@ pub returns-clause-stands : goal.returns-clause-stands
 returns-clause-stands g c = λ list durable lists.
     let mid = c.free_unheld.new.cache in
     let gave = c.free_unheld.ensures.cache in
-    subst (λ (h : Geometry). StandsForGiven h (g.M.Media.state c.free_log_block.new.media).contents.flash.page durable list) (ap (λ (p : Parts). p.geometry) gave)
+    subst (λ (h : Geometry). FlashStandsForGiven h (g.M.Media.state c.free_log_block.new.media).contents.flash.page durable list) (ap (λ (p : Parts). p.geometry) gave)
     (c.free_log_block.ensures.stands list durable
     (lists_as c.args.cache.now mid (g.M.Media.state c.args.media.now).contents.flash.page list durable (ap (λ (p : Parts). p.map) gave) (ap (λ (p : Parts). p.geometry) gave) lists))
 

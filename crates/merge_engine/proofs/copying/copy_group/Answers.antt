@@ -6,10 +6,14 @@ use Rattle.merge_engine.proofs.CopyLemmas.{copied_more, counted_more, filled_mor
 use Rattle.merge_engine.proofs.copying.copy_group.Goals as goal
 
 pub overflow_mul-lba : goal.overflow_mul-lba
-overflow_mul-lba g c = let page = is_page_of_group c.args.cache.now (g.M.Media.state c.args.media.now).contents c.args.group c.held_bits-held.result c.loop-page.page c.requires.agree c.held_bits-held.ensures c.loop-page-test.true in let low = page.1 in omega (arith, low, c.args.cache.now.geometry.in_range.size_high)
+overflow_mul-lba g c = let page = is_page_of_group c.args.cache.now (g.M.Media.state
+    c.args.media.now).contents c.args.group c.held_bits-held.result c.loop-page.page c.requires.agree c.held_bits-held.ensures c.loop-page-test.true in let low = page.1 in omega
+    (arith, low, c.args.cache.now.geometry.in_range.size_high)
 
 pub overflow_add-lba : goal.overflow_add-lba
-overflow_add-lba g c = let page = is_page_of_group c.args.cache.now (g.M.Media.state c.args.media.now).contents c.args.group c.held_bits-held.result c.loop-page.page c.requires.agree c.held_bits-held.ensures c.loop-page-test.true in let low = page.1 in omega (arith, low, c.args.cache.now.geometry.in_range.size_high)
+overflow_add-lba g c = let page = is_page_of_group c.args.cache.now (g.M.Media.state
+    c.args.media.now).contents c.args.group c.held_bits-held.result c.loop-page.page c.requires.agree c.held_bits-held.ensures c.loop-page-test.true in let low = page.1 in omega
+    (arith, low, c.args.cache.now.geometry.in_range.size_high)
 
 pub copy_page-requires-clause-page : goal.copy_page-requires-clause-page
 copy_page-requires-clause-page g c = (is_page_of_group c.args.cache.now (g.M.Media.state c.args.media.now).contents c.args.group c.held_bits-held.result c.loop-page.page c.requires.agree c.held_bits-held.ensures c.loop-page-test.true).0
@@ -26,9 +30,12 @@ loop-page-preserved g c = record {
   agree = c.in_ok-copy_page.ensures.agree;
   lists = λ list durable lists. c.copy_page.ensures.lists list durable (c.loop-page.invariant.lists list durable lists);
   next = c.in_ok-copy_page.ensures.next;
-  copied = copied_more c.args.cache.now (g.M.Media.state c.loop-page.media).contents (g.M.Media.state c.copy_page.new.media).contents.flash c.args.group c.args.block (c.args.group * c.args.cache.now.geometry.p + c.loop-page.page) c.loop-page.page (record { block = c.args.block; page = c.loop-page.page })
+  copied = copied_more c.args.cache.now (g.M.Media.state c.loop-page.media).contents (g.M.Media.state c.copy_page.new.media).contents.flash c.args.group c.args.block
+      (c.args.group * c.args.cache.now.geometry.p + c.loop-page.page) c.loop-page.page (record { block = c.args.block; page = c.loop-page.page })
       c.loop-page.invariant.agree (g.met.M.Media.blank_ahead c.loop-page.media) refl refl c.loop-page.invariant.next c.loop-page.invariant.copied c.in_ok-copy_page.ensures.others c.in_ok-copy_page.ensures.copied;
-  filled = filled_more c.args.cache.now.geometry c.args.cache.now.map.entries (g.M.Media.state c.loop-page.media).contents.flash (g.M.Media.state c.copy_page.new.media).contents.flash c.args.group c.args.block (c.args.group * c.args.cache.now.geometry.p + c.loop-page.page) c.loop-page.page (record { block = c.args.block; page = c.loop-page.page })
+  filled = filled_more c.args.cache.now.geometry c.args.cache.now.map.entries (g.M.Media.state c.loop-page.media).contents.flash
+      (g.M.Media.state c.copy_page.new.media).contents.flash c.args.group c.args.block (c.args.group * c.args.cache.now.geometry.p + c.loop-page.page) c.loop-page.page
+      (record { block = c.args.block; page = c.loop-page.page })
       refl refl c.loop-page.invariant.filled c.in_ok-copy_page.ensures.others c.in_ok-copy_page.ensures.filler;
   counts = counted_more c.loop-page.page (g.M.Media.state c.args.media.now).counts (g.M.Media.state c.loop-page.media).counts (g.M.Media.state c.copy_page.new.media).counts c.loop-page.invariant.counts c.in_ok-copy_page.ensures.counts;
   drives = drives_then (g.M.Media.state c.args.media.now) (g.M.Media.state c.loop-page.media) (g.M.Media.state c.copy_page.new.media) _ _ c.loop-page.invariant.drives c.in_ok-copy_page.ensures.drives;

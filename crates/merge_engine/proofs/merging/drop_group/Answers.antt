@@ -1,6 +1,6 @@
 use Rattle.std.proofs.Common.{subst}
 use Rattle.ft_base.specs.declared.geometry.Geometry.{Geometry}
-use Rattle.merge_engine.specs.Merges.{StandsForEither, list_without}
+use Rattle.merge_engine.specs.Merges.{FlashStandsForEither, list_without}
 use Rattle.merge_engine.proofs.ResultLemmas.{on_ok_from, ok_at}
 use Rattle.merge_engine.proofs.TakeLemmas.{agree_map}
 use Rattle.merge_engine.proofs.PutLemmas.{dropping_fits, as_noted, same_geometry, agree_without, lists_without}
@@ -27,6 +27,6 @@ pub returns-clause-stands : goal.returns-clause-stands
 returns-clause-stands g c = λ list durable lists.
     let n = c.note.ensures in
     let new = (g.M.Media.state c.commit.new.media).contents.flash.page in
-    subst (λ (h : Geometry). StandsForEither h new durable (list_without c.args.cache.now.geometry c.args.group list)) (same_geometry c.args.cache.now c.note.new.cache n.cache)
+    subst (λ (h : Geometry). FlashStandsForEither h new durable (list_without c.args.cache.now.geometry c.args.group list)) (same_geometry c.args.cache.now c.note.new.cache n.cache)
     (c.commit.ensures.stands (list_without c.args.cache.now.geometry c.args.group list) durable
     (lists_without c.args.cache.now c.note.new.cache (g.M.Media.state c.args.media.now).contents c.args.group c.requires.agree c.requires.held (as_noted c.args.cache.now c.note.new.cache _ n.cache n.log) n.entries n.of_one n.roles list durable lists))

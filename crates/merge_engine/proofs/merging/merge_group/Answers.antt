@@ -5,7 +5,8 @@ use Rattle.merge_engine.specs.Merges.{HasBlockOrRoom, list_without}
 use Rattle.merge_engine.proofs.ResultLemmas.{on_ok_from, ok_at}
 use Rattle.merge_engine.proofs.MoveLemmas.{fillers_gone, fillers_still, room_not_lacked}
 use Rattle.merge_engine.proofs.GaveLemmas.{page_mapped_stay, given_either}
-use Rattle.merge_engine.proofs.MergeLemmas.{lists_victims, has_own, has_room, lacks_room, victim_is, no_candidate, victim_gave, victim_way, group_gave, group_way, stays_way, held_then, room_then, merged_then, others_after, mapped_after, merged_gone, others_gone, mapped_gone, given_itself, given_after}
+use Rattle.merge_engine.proofs.MergeLemmas.{lists_victims, has_own, has_room, lacks_room, victim_is, no_candidate, victim_gave, victim_way, group_gave, group_way}
+use Rattle.merge_engine.proofs.MergeLemmas.{stays_way, held_then, room_then, merged_then, others_after, mapped_after, merged_gone, others_gone, mapped_gone, given_itself, given_after}
 use Rattle.merge_engine.proofs.SwitchLemmas.{logs_after}
 use Rattle.merge_engine.proofs.merging.merge_group.Goals.{then-own-via-then-own, then-own-via-else-own+then-data_blocks-cache}
 use Rattle.merge_engine.proofs.merging.merge_group.Goals as goal
@@ -38,7 +39,8 @@ returns-then-own-clause-stands g c =
 
 pub returns-in_err-drop_group-in-Some-clause-stands : goal.returns-in_err-drop_group-in-Some-clause-stands
 returns-in_err-drop_group-in-Some-clause-stands g c =
-    let lacks = lacks_room c.args.cache.now.geometry c.args.cache.now.map.geometry c.args.cache.now.map.entries c.args.group c.requires.agree.sound.of_one.map c.block_of.result c.is_some-own.result c.data_blocks.result c.is_some-own.ensures c.if-own.false c.block_of.ensures.none c.data_blocks.ensures.count c.data_blocks.ensures.most c.if-data_blocks-cache.false in
+    let lacks = lacks_room c.args.cache.now.geometry c.args.cache.now.map.geometry c.args.cache.now.map.entries c.args.group c.requires.agree.sound.of_one.map c.block_of.result c.is_some-own.result
+    c.data_blocks.result c.is_some-own.ensures c.if-own.false c.block_of.ensures.none c.data_blocks.ensures.count c.data_blocks.ensures.most c.if-data_blocks-cache.false in
     let victim = victim_is c.args.cache.now.geometry c.args.cache.now.map.geometry c.args.cache.now.map.entries c.args.group c.requires.agree.sound.of_one.map c.in-Some.victim c.in-Some.ensures.some in
     λ list durable lists.
     given_either c.args.cache.now.geometry (g.M.Media.state c.drop_group.new.media).contents.flash.page durable list (list_without c.args.cache.now.geometry c.in-Some.victim list)
@@ -47,52 +49,63 @@ returns-in_err-drop_group-in-Some-clause-stands g c =
 
 pub move_group-requires-in-Some-clause-held : goal.move_group-requires-in-Some-clause-held
 move_group-requires-in-Some-clause-held g c =
-    let lacks = lacks_room c.args.cache.now.geometry c.args.cache.now.map.geometry c.args.cache.now.map.entries c.args.group c.requires.agree.sound.of_one.map c.block_of.result c.is_some-own.result c.data_blocks.result c.is_some-own.ensures c.if-own.false c.block_of.ensures.none c.data_blocks.ensures.count c.data_blocks.ensures.most c.if-data_blocks-cache.false in
+    let lacks = lacks_room c.args.cache.now.geometry c.args.cache.now.map.geometry c.args.cache.now.map.entries c.args.group c.requires.agree.sound.of_one.map c.block_of.result c.is_some-own.result
+    c.data_blocks.result c.is_some-own.ensures c.if-own.false c.block_of.ensures.none c.data_blocks.ensures.count c.data_blocks.ensures.most c.if-data_blocks-cache.false in
     let victim = victim_is c.args.cache.now.geometry c.args.cache.now.map.geometry c.args.cache.now.map.entries c.args.group c.requires.agree.sound.of_one.map c.in-Some.victim c.in-Some.ensures.some in
     let same = ap (λ (p : Parts). p.geometry) c.drop_group.ensures.cache in
     held_then c.args.cache.now.geometry c.drop_group.new.cache.geometry c.args.cache.now.map.entries c.drop_group.new.cache.map.entries c.args.group c.in-Some.victim same c.drop_group.ensures.entries lacks victim c.requires.held
 
 pub move_group-requires-in-Some-clause-block : goal.move_group-requires-in-Some-clause-block
 move_group-requires-in-Some-clause-block g c =
-    let lacks = lacks_room c.args.cache.now.geometry c.args.cache.now.map.geometry c.args.cache.now.map.entries c.args.group c.requires.agree.sound.of_one.map c.block_of.result c.is_some-own.result c.data_blocks.result c.is_some-own.ensures c.if-own.false c.block_of.ensures.none c.data_blocks.ensures.count c.data_blocks.ensures.most c.if-data_blocks-cache.false in
+    let lacks = lacks_room c.args.cache.now.geometry c.args.cache.now.map.geometry c.args.cache.now.map.entries c.args.group c.requires.agree.sound.of_one.map c.block_of.result c.is_some-own.result
+    c.data_blocks.result c.is_some-own.ensures c.if-own.false c.block_of.ensures.none c.data_blocks.ensures.count c.data_blocks.ensures.most c.if-data_blocks-cache.false in
     let victim = victim_is c.args.cache.now.geometry c.args.cache.now.map.geometry c.args.cache.now.map.entries c.args.group c.requires.agree.sound.of_one.map c.in-Some.victim c.in-Some.ensures.some in
     let same = ap (λ (p : Parts). p.geometry) c.drop_group.ensures.cache in
     room_then c.args.cache.now.geometry c.drop_group.new.cache.geometry c.args.cache.now.map.entries c.drop_group.new.cache.map.entries c.args.group c.in-Some.victim same c.drop_group.ensures.entries lacks victim
 
 pub returns-in_ok-drop_group-in-Some-clause-lists : goal.returns-in_ok-drop_group-in-Some-clause-lists
 returns-in_ok-drop_group-in-Some-clause-lists g c =
-    let lacks = lacks_room c.args.cache.now.geometry c.args.cache.now.map.geometry c.args.cache.now.map.entries c.args.group c.requires.agree.sound.of_one.map c.block_of.result c.is_some-own.result c.data_blocks.result c.is_some-own.ensures c.if-own.false c.block_of.ensures.none c.data_blocks.ensures.count c.data_blocks.ensures.most c.if-data_blocks-cache.false in
+    let lacks = lacks_room c.args.cache.now.geometry c.args.cache.now.map.geometry c.args.cache.now.map.entries c.args.group c.requires.agree.sound.of_one.map c.block_of.result c.is_some-own.result
+    c.data_blocks.result c.is_some-own.ensures c.if-own.false c.block_of.ensures.none c.data_blocks.ensures.count c.data_blocks.ensures.most c.if-data_blocks-cache.false in
     let victim = victim_is c.args.cache.now.geometry c.args.cache.now.map.geometry c.args.cache.now.map.entries c.args.group c.requires.agree.sound.of_one.map c.in-Some.victim c.in-Some.ensures.some in
     on_ok_from c.move_group-in-Some.result (λ v is. λ list durable lists. (
       list_without c.args.cache.now.geometry c.in-Some.victim list,
       victim_way c.args.cache.now (g.M.Media.state c.args.media.now).contents c.requires.agree c.args.group lacks c.requires.held c.in-Some.victim list durable victim lists,
-      ok_at c.move_group-in-Some.result v is c.move_group-in-Some.ensures.lists (list_without c.args.cache.now.geometry c.in-Some.victim list) (list_without c.args.cache.now.geometry c.in-Some.victim list) (c.in_ok-drop_group-in-Some.ensures.lists list durable (lists_victims c.args.cache.now c.victim.new.self (g.M.Media.state c.args.media.now).contents.flash.page list durable lists)),
+      ok_at c.move_group-in-Some.result v is c.move_group-in-Some.ensures.lists (list_without c.args.cache.now.geometry c.in-Some.victim list)
+          (list_without c.args.cache.now.geometry c.in-Some.victim list) (c.in_ok-drop_group-in-Some.ensures.lists list durable
+          (lists_victims c.args.cache.now c.victim.new.self (g.M.Media.state c.args.media.now).contents.flash.page list durable lists)),
     ))
 
 pub returns-in_ok-drop_group-in-Some-clause-merged : goal.returns-in_ok-drop_group-in-Some-clause-merged
 returns-in_ok-drop_group-in-Some-clause-merged g c =
     let same = ap (λ (p : Parts). p.geometry) c.drop_group.ensures.cache in
-    on_ok_from c.move_group-in-Some.result (λ v is. merged_then c.args.cache.now.geometry c.drop_group.new.cache.geometry c.args.cache.now.map.entries c.drop_group.new.cache.map.entries c.args.group c.in-Some.victim same c.drop_group.ensures.entries c.move_group-in-Some.new.cache.map.entries (ok_at c.move_group-in-Some.result v is c.move_group-in-Some.ensures.merged))
+    on_ok_from c.move_group-in-Some.result (λ v is. merged_then c.args.cache.now.geometry c.drop_group.new.cache.geometry c.args.cache.now.map.entries c.drop_group.new.cache.map.entries c.args.group
+    c.in-Some.victim same c.drop_group.ensures.entries c.move_group-in-Some.new.cache.map.entries (ok_at c.move_group-in-Some.result v is c.move_group-in-Some.ensures.merged))
 
 pub returns-in_ok-drop_group-in-Some-clause-others : goal.returns-in_ok-drop_group-in-Some-clause-others
 returns-in_ok-drop_group-in-Some-clause-others g c =
     let same = ap (λ (p : Parts). p.geometry) c.drop_group.ensures.cache in
-    on_ok_from c.move_group-in-Some.result (λ v is. others_after c.args.cache.now.geometry c.drop_group.new.cache.geometry c.args.cache.now.map.entries c.drop_group.new.cache.map.entries c.args.group c.in-Some.victim same c.drop_group.ensures.entries c.move_group-in-Some.new.cache.map.entries (ok_at c.move_group-in-Some.result v is c.move_group-in-Some.ensures.others))
+    on_ok_from c.move_group-in-Some.result (λ v is. others_after c.args.cache.now.geometry c.drop_group.new.cache.geometry c.args.cache.now.map.entries c.drop_group.new.cache.map.entries c.args.group
+    c.in-Some.victim same c.drop_group.ensures.entries c.move_group-in-Some.new.cache.map.entries (ok_at c.move_group-in-Some.result v is c.move_group-in-Some.ensures.others))
 
 pub returns-in_ok-drop_group-in-Some-clause-page_mapped : goal.returns-in_ok-drop_group-in-Some-clause-page_mapped
 returns-in_ok-drop_group-in-Some-clause-page_mapped g c =
     let same = ap (λ (p : Parts). p.geometry) c.drop_group.ensures.cache in
-    on_ok_from c.move_group-in-Some.result (λ v is. mapped_after c.args.cache.now.geometry c.drop_group.new.cache.geometry c.args.cache.now.map.entries c.drop_group.new.cache.map.entries c.args.group c.in-Some.victim same c.drop_group.ensures.entries c.move_group-in-Some.new.cache.map.entries (ok_at c.move_group-in-Some.result v is c.move_group-in-Some.ensures.merged) (ok_at c.move_group-in-Some.result v is c.move_group-in-Some.ensures.others))
+    on_ok_from c.move_group-in-Some.result (λ v is. mapped_after c.args.cache.now.geometry c.drop_group.new.cache.geometry c.args.cache.now.map.entries c.drop_group.new.cache.map.entries c.args.group
+    c.in-Some.victim same c.drop_group.ensures.entries c.move_group-in-Some.new.cache.map.entries (ok_at c.move_group-in-Some.result v is c.move_group-in-Some.ensures.merged)
+    (ok_at c.move_group-in-Some.result v is c.move_group-in-Some.ensures.others))
 
 pub returns-in_ok-drop_group-in-Some-clause-stands : goal.returns-in_ok-drop_group-in-Some-clause-stands
 returns-in_ok-drop_group-in-Some-clause-stands g c =
-    let lacks = lacks_room c.args.cache.now.geometry c.args.cache.now.map.geometry c.args.cache.now.map.entries c.args.group c.requires.agree.sound.of_one.map c.block_of.result c.is_some-own.result c.data_blocks.result c.is_some-own.ensures c.if-own.false c.block_of.ensures.none c.data_blocks.ensures.count c.data_blocks.ensures.most c.if-data_blocks-cache.false in
+    let lacks = lacks_room c.args.cache.now.geometry c.args.cache.now.map.geometry c.args.cache.now.map.entries c.args.group c.requires.agree.sound.of_one.map c.block_of.result c.is_some-own.result
+    c.data_blocks.result c.is_some-own.ensures c.if-own.false c.block_of.ensures.none c.data_blocks.ensures.count c.data_blocks.ensures.most c.if-data_blocks-cache.false in
     let victim = victim_is c.args.cache.now.geometry c.args.cache.now.map.geometry c.args.cache.now.map.entries c.args.group c.requires.agree.sound.of_one.map c.in-Some.victim c.in-Some.ensures.some in
     let same = ap (λ (p : Parts). p.geometry) c.drop_group.ensures.cache in
     λ list durable lists.
     given_after c.args.cache.now.geometry c.drop_group.new.cache.geometry (g.M.Media.state c.move_group-in-Some.new.media).contents.flash.page durable list (list_without c.args.cache.now.geometry c.in-Some.victim list) same
     (victim_gave c.args.cache.now (g.M.Media.state c.args.media.now).contents c.requires.agree c.args.group lacks c.requires.held c.in-Some.victim list durable victim lists)
-    (c.move_group-in-Some.ensures.stands (list_without c.args.cache.now.geometry c.in-Some.victim list) (list_without c.args.cache.now.geometry c.in-Some.victim list) (c.in_ok-drop_group-in-Some.ensures.lists list durable (lists_victims c.args.cache.now c.victim.new.self (g.M.Media.state c.args.media.now).contents.flash.page list durable lists)))
+    (c.move_group-in-Some.ensures.stands (list_without c.args.cache.now.geometry c.in-Some.victim list) (list_without c.args.cache.now.geometry c.in-Some.victim list)
+    (c.in_ok-drop_group-in-Some.ensures.lists list durable (lists_victims c.args.cache.now c.victim.new.self (g.M.Media.state c.args.media.now).contents.flash.page list durable lists)))
 
 pub returns-in_ok-drop_group-in-Some-clause-drives : goal.returns-in_ok-drop_group-in-Some-clause-drives
 returns-in_ok-drop_group-in-Some-clause-drives g c =
@@ -100,7 +113,8 @@ returns-in_ok-drop_group-in-Some-clause-drives g c =
 
 pub returns-in-None-clause-lists : goal.returns-in-None-clause-lists
 returns-in-None-clause-lists g c =
-    let lacks = lacks_room c.args.cache.now.geometry c.args.cache.now.map.geometry c.args.cache.now.map.entries c.args.group c.requires.agree.sound.of_one.map c.block_of.result c.is_some-own.result c.data_blocks.result c.is_some-own.ensures c.if-own.false c.block_of.ensures.none c.data_blocks.ensures.count c.data_blocks.ensures.most c.if-data_blocks-cache.false in
+    let lacks = lacks_room c.args.cache.now.geometry c.args.cache.now.map.geometry c.args.cache.now.map.entries c.args.group c.requires.agree.sound.of_one.map c.block_of.result c.is_some-own.result
+    c.data_blocks.result c.is_some-own.ensures c.if-own.false c.block_of.ensures.none c.data_blocks.ensures.count c.data_blocks.ensures.most c.if-data_blocks-cache.false in
     let none = no_candidate c.args.cache.now.geometry c.args.cache.now.map.geometry c.args.cache.now.map.entries c.args.group c.requires.agree.sound.of_one.map c.in-None.ensures.none in
     on_ok_from c.drop_group-in-None.result (λ v is. λ list durable lists. (
       list_without c.args.cache.now.geometry c.args.group list,
@@ -122,7 +136,8 @@ returns-in-None-clause-page_mapped g c =
 
 pub returns-in-None-clause-stands : goal.returns-in-None-clause-stands
 returns-in-None-clause-stands g c =
-    let lacks = lacks_room c.args.cache.now.geometry c.args.cache.now.map.geometry c.args.cache.now.map.entries c.args.group c.requires.agree.sound.of_one.map c.block_of.result c.is_some-own.result c.data_blocks.result c.is_some-own.ensures c.if-own.false c.block_of.ensures.none c.data_blocks.ensures.count c.data_blocks.ensures.most c.if-data_blocks-cache.false in
+    let lacks = lacks_room c.args.cache.now.geometry c.args.cache.now.map.geometry c.args.cache.now.map.entries c.args.group c.requires.agree.sound.of_one.map c.block_of.result c.is_some-own.result
+    c.data_blocks.result c.is_some-own.ensures c.if-own.false c.block_of.ensures.none c.data_blocks.ensures.count c.data_blocks.ensures.most c.if-data_blocks-cache.false in
     let none = no_candidate c.args.cache.now.geometry c.args.cache.now.map.geometry c.args.cache.now.map.entries c.args.group c.requires.agree.sound.of_one.map c.in-None.ensures.none in
     λ list durable lists.
     given_either c.args.cache.now.geometry (g.M.Media.state c.drop_group-in-None.new.media).contents.flash.page durable list (list_without c.args.cache.now.geometry c.args.group list)
@@ -132,7 +147,8 @@ returns-in-None-clause-stands g c =
 pub returns-in_ok-drop_group-in-Some-clause-filled : goal.returns-in_ok-drop_group-in-Some-clause-filled
 returns-in_ok-drop_group-in-Some-clause-filled g c =
     let same = ap (λ (p : Parts). p.geometry) c.drop_group.ensures.cache in
-    on_ok_from c.move_group-in-Some.result (λ v is. fillers_still c.args.cache.now.geometry c.drop_group.new.cache.geometry c.move_group-in-Some.new.cache.map.entries c.args.group (g.M.Media.state c.move_group-in-Some.new.media).contents.flash.page same (ok_at c.move_group-in-Some.result v is c.move_group-in-Some.ensures.filled))
+    on_ok_from c.move_group-in-Some.result (λ v is. fillers_still c.args.cache.now.geometry c.drop_group.new.cache.geometry c.move_group-in-Some.new.cache.map.entries c.args.group
+    (g.M.Media.state c.move_group-in-Some.new.media).contents.flash.page same (ok_at c.move_group-in-Some.result v is c.move_group-in-Some.ensures.filled))
 
 pub returns-in-None-clause-filled : goal.returns-in-None-clause-filled
 returns-in-None-clause-filled g c =
@@ -143,32 +159,38 @@ returns-then-own-clause-counts g c = on_ok_from c.move_group.result (λ v is. λ
 
 pub returns-in_ok-drop_group-in-Some-clause-counts : goal.returns-in_ok-drop_group-in-Some-clause-counts
 returns-in_ok-drop_group-in-Some-clause-counts g c =
-    let lacks = lacks_room c.args.cache.now.geometry c.args.cache.now.map.geometry c.args.cache.now.map.entries c.args.group c.requires.agree.sound.of_one.map c.block_of.result c.is_some-own.result c.data_blocks.result c.is_some-own.ensures c.if-own.false c.block_of.ensures.none c.data_blocks.ensures.count c.data_blocks.ensures.most c.if-data_blocks-cache.false in
+    let lacks = lacks_room c.args.cache.now.geometry c.args.cache.now.map.geometry c.args.cache.now.map.entries c.args.group c.requires.agree.sound.of_one.map c.block_of.result c.is_some-own.result
+    c.data_blocks.result c.is_some-own.ensures c.if-own.false c.block_of.ensures.none c.data_blocks.ensures.count c.data_blocks.ensures.most c.if-data_blocks-cache.false in
     on_ok_from c.move_group-in-Some.result (λ v is. λ room. absurd (room_not_lacked c.args.cache.now.geometry c.args.cache.now.map.entries c.args.group lacks room))
 
 pub returns-in-None-clause-counts : goal.returns-in-None-clause-counts
 returns-in-None-clause-counts g c =
-    let lacks = lacks_room c.args.cache.now.geometry c.args.cache.now.map.geometry c.args.cache.now.map.entries c.args.group c.requires.agree.sound.of_one.map c.block_of.result c.is_some-own.result c.data_blocks.result c.is_some-own.ensures c.if-own.false c.block_of.ensures.none c.data_blocks.ensures.count c.data_blocks.ensures.most c.if-data_blocks-cache.false in
+    let lacks = lacks_room c.args.cache.now.geometry c.args.cache.now.map.geometry c.args.cache.now.map.entries c.args.group c.requires.agree.sound.of_one.map c.block_of.result c.is_some-own.result
+    c.data_blocks.result c.is_some-own.ensures c.if-own.false c.block_of.ensures.none c.data_blocks.ensures.count c.data_blocks.ensures.most c.if-data_blocks-cache.false in
     on_ok_from c.drop_group-in-None.result (λ v is. λ room. absurd (room_not_lacked c.args.cache.now.geometry c.args.cache.now.map.entries c.args.group lacks room))
 
 pub returns-in_ok-drop_group-in-Some-clause-switched : goal.returns-in_ok-drop_group-in-Some-clause-switched
 returns-in_ok-drop_group-in-Some-clause-switched g c =
-    let lacks = lacks_room c.args.cache.now.geometry c.args.cache.now.map.geometry c.args.cache.now.map.entries c.args.group c.requires.agree.sound.of_one.map c.block_of.result c.is_some-own.result c.data_blocks.result c.is_some-own.ensures c.if-own.false c.block_of.ensures.none c.data_blocks.ensures.count c.data_blocks.ensures.most c.if-data_blocks-cache.false in
+    let lacks = lacks_room c.args.cache.now.geometry c.args.cache.now.map.geometry c.args.cache.now.map.entries c.args.group c.requires.agree.sound.of_one.map c.block_of.result c.is_some-own.result
+    c.data_blocks.result c.is_some-own.ensures c.if-own.false c.block_of.ensures.none c.data_blocks.ensures.count c.data_blocks.ensures.most c.if-data_blocks-cache.false in
     on_ok_from c.move_group-in-Some.result (λ v is. λ room. absurd (room_not_lacked c.args.cache.now.geometry c.args.cache.now.map.entries c.args.group lacks room))
 
 pub returns-in-None-clause-switched : goal.returns-in-None-clause-switched
 returns-in-None-clause-switched g c =
-    let lacks = lacks_room c.args.cache.now.geometry c.args.cache.now.map.geometry c.args.cache.now.map.entries c.args.group c.requires.agree.sound.of_one.map c.block_of.result c.is_some-own.result c.data_blocks.result c.is_some-own.ensures c.if-own.false c.block_of.ensures.none c.data_blocks.ensures.count c.data_blocks.ensures.most c.if-data_blocks-cache.false in
+    let lacks = lacks_room c.args.cache.now.geometry c.args.cache.now.map.geometry c.args.cache.now.map.entries c.args.group c.requires.agree.sound.of_one.map c.block_of.result c.is_some-own.result
+    c.data_blocks.result c.is_some-own.ensures c.if-own.false c.block_of.ensures.none c.data_blocks.ensures.count c.data_blocks.ensures.most c.if-data_blocks-cache.false in
     on_ok_from c.drop_group-in-None.result (λ v is. λ room. absurd (room_not_lacked c.args.cache.now.geometry c.args.cache.now.map.entries c.args.group lacks room))
 
 pub returns-in_ok-drop_group-in-Some-clause-one_program : goal.returns-in_ok-drop_group-in-Some-clause-one_program
 returns-in_ok-drop_group-in-Some-clause-one_program g c =
-    let lacks = lacks_room c.args.cache.now.geometry c.args.cache.now.map.geometry c.args.cache.now.map.entries c.args.group c.requires.agree.sound.of_one.map c.block_of.result c.is_some-own.result c.data_blocks.result c.is_some-own.ensures c.if-own.false c.block_of.ensures.none c.data_blocks.ensures.count c.data_blocks.ensures.most c.if-data_blocks-cache.false in
+    let lacks = lacks_room c.args.cache.now.geometry c.args.cache.now.map.geometry c.args.cache.now.map.entries c.args.group c.requires.agree.sound.of_one.map c.block_of.result c.is_some-own.result
+    c.data_blocks.result c.is_some-own.ensures c.if-own.false c.block_of.ensures.none c.data_blocks.ensures.count c.data_blocks.ensures.most c.if-data_blocks-cache.false in
     on_ok_from c.move_group-in-Some.result (λ v is. λ room. absurd (room_not_lacked c.args.cache.now.geometry c.args.cache.now.map.entries c.args.group lacks room))
 
 pub returns-in-None-clause-one_program : goal.returns-in-None-clause-one_program
 returns-in-None-clause-one_program g c =
-    let lacks = lacks_room c.args.cache.now.geometry c.args.cache.now.map.geometry c.args.cache.now.map.entries c.args.group c.requires.agree.sound.of_one.map c.block_of.result c.is_some-own.result c.data_blocks.result c.is_some-own.ensures c.if-own.false c.block_of.ensures.none c.data_blocks.ensures.count c.data_blocks.ensures.most c.if-data_blocks-cache.false in
+    let lacks = lacks_room c.args.cache.now.geometry c.args.cache.now.map.geometry c.args.cache.now.map.entries c.args.group c.requires.agree.sound.of_one.map c.block_of.result c.is_some-own.result
+    c.data_blocks.result c.is_some-own.ensures c.if-own.false c.block_of.ensures.none c.data_blocks.ensures.count c.data_blocks.ensures.most c.if-data_blocks-cache.false in
     on_ok_from c.drop_group-in-None.result (λ v is. λ room. absurd (room_not_lacked c.args.cache.now.geometry c.args.cache.now.map.entries c.args.group lacks room))
 
 pub returns-in_ok-drop_group-in-Some-clause-logs : goal.returns-in_ok-drop_group-in-Some-clause-logs

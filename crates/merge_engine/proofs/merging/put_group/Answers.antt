@@ -24,14 +24,16 @@ returns-clause-agree c =
     let r = c.requires in
     let n = c.note.ensures in
     let s = c.set_role.ensures in
-    agree_moved c.args.cache.now c.note.new.cache c.set_role.new.self c.args.group c.args.block c.held_bits.result c.dirty_bits.result r.of_one r.is_map r.roles r.held r.block r.free c.held_bits.ensures c.dirty_bits.ensures (as_noted c.args.cache.now c.note.new.cache _ n.cache n.log) n.entries n.of_one n.roles s.geometry s.role s.others
+    agree_moved c.args.cache.now c.note.new.cache c.set_role.new.self c.args.group c.args.block c.held_bits.result c.dirty_bits.result r.of_one r.is_map r.roles r.held r.block r.free
+    c.held_bits.ensures c.dirty_bits.ensures (as_noted c.args.cache.now c.note.new.cache _ n.cache n.log) n.entries n.of_one n.roles s.geometry s.role s.others
 
 pub returns-clause-lists : goal.returns-clause-lists
 returns-clause-lists c =
     let r = c.requires in
     let n = c.note.ensures in
     let s = c.set_role.ensures in
-    lists_moved c.args.cache.now c.note.new.cache c.set_role.new.self c.args.group c.args.block c.held_bits.result c.dirty_bits.result r.of_one r.is_map r.roles r.held r.block r.free c.held_bits.ensures c.dirty_bits.ensures (as_noted c.args.cache.now c.note.new.cache _ n.cache n.log) n.entries n.of_one n.roles s.geometry s.role s.others
+    lists_moved c.args.cache.now c.note.new.cache c.set_role.new.self c.args.group c.args.block c.held_bits.result c.dirty_bits.result r.of_one r.is_map r.roles r.held r.block r.free
+    c.held_bits.ensures c.dirty_bits.ensures (as_noted c.args.cache.now c.note.new.cache _ n.cache n.log) n.entries n.of_one n.roles s.geometry s.role s.others
 
 pub returns-clause-waits : goal.returns-clause-waits
 returns-clause-waits c = λ none. pushed_some c.args.cache.now.log.buffered _ (sym (ap (λ (l : LogValue). l.buffered) c.note.ensures.log) ∙ none)

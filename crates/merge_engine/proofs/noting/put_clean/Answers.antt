@@ -22,4 +22,6 @@ returns-clause-agree c = λ contents agree.
 pub returns-clause-lists : goal.returns-clause-lists
 returns-clause-lists c = λ contents list durable lists.
     let old = c.args.cache.now in
-    lists_noted old c.apply.new.self c.push.new.self old.pool (Clean c.args.lba) contents (c.apply.ensures.entries ∙ ap (λ (h : Geometry). after h (Clean c.args.lba) c.args.cache.now.map.entries) c.requires.of_one.map) c.push.ensures list (made_clean c.args.lba list) durable (cleaned_held old.geometry old.map.entries c.args.lba contents.flash.page list lists.held) lists
+    lists_noted old c.apply.new.self c.push.new.self old.pool (Clean c.args.lba) contents
+    (c.apply.ensures.entries ∙ ap (λ (h : Geometry). after h (Clean c.args.lba) c.args.cache.now.map.entries) c.requires.of_one.map) c.push.ensures list (made_clean c.args.lba list) durable
+    (cleaned_held old.geometry old.map.entries c.args.lba contents.flash.page list lists.held) lists

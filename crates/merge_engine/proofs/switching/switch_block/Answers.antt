@@ -24,14 +24,16 @@ returns-clause-agree c =
     let r = c.requires in
     let n = c.note.ensures in
     let s = c.set_role.ensures in
-    agree_switch c.args.cache.now c.note.new.cache c.set_role.new.self c.release.new.self c.args.group c.args.block c.held_bits.result c.dirty_bits.result r.of_one r.is_map r.roles r.held r.block r.switch c.held_bits.ensures c.dirty_bits.ensures n.cache n.log n.entries n.of_one n.roles c.release.ensures.released c.release.ensures.sound s.geometry s.role s.others
+    agree_switch c.args.cache.now c.note.new.cache c.set_role.new.self c.release.new.self c.args.group c.args.block c.held_bits.result c.dirty_bits.result r.of_one r.is_map r.roles r.held r.block
+    r.switch c.held_bits.ensures c.dirty_bits.ensures n.cache n.log n.entries n.of_one n.roles c.release.ensures.released c.release.ensures.sound s.geometry s.role s.others
 
 pub returns-clause-lists : goal.returns-clause-lists
 returns-clause-lists c =
     let r = c.requires in
     let n = c.note.ensures in
     let s = c.set_role.ensures in
-    lists_switch c.args.cache.now c.note.new.cache c.set_role.new.self c.release.new.self c.args.group c.args.block c.held_bits.result c.dirty_bits.result r.of_one r.is_map r.roles r.held r.block r.switch c.held_bits.ensures c.dirty_bits.ensures n.cache n.log n.entries n.of_one n.roles c.release.ensures.released c.release.ensures.sound s.geometry s.role s.others
+    lists_switch c.args.cache.now c.note.new.cache c.set_role.new.self c.release.new.self c.args.group c.args.block c.held_bits.result c.dirty_bits.result r.of_one r.is_map r.roles r.held r.block
+    r.switch c.held_bits.ensures c.dirty_bits.ensures n.cache n.log n.entries n.of_one n.roles c.release.ensures.released c.release.ensures.sound s.geometry s.role s.others
 
 pub returns-clause-waits : goal.returns-clause-waits
 returns-clause-waits c = λ none. pushed_some c.args.cache.now.log.buffered _ (sym (ap (λ (l : LogValue). l.buffered) c.note.ensures.log) ∙ none)

@@ -20,16 +20,22 @@ pub returns-in_err-apply_page-clause-refused : goal.returns-in_err-apply_page-cl
 returns-in_err-apply_page-clause-refused g c =
     let start = (g.M.Media.state c.args.media.now).contents in
     let loads = after_pages c.args.geometry.now Log c.args.era (log_at c.args.geometry.now c.args.region) 0 (log_region c.args.geometry.now start.flash.page c.args.region) c.args.map.now.entries in
-    let refused = turn_refused c.args.geometry.now c.args.region c.args.era start (g.M.Media.state c.loop-i.media).contents c.loop-i.invariant.reads.contents c.args.map.now.entries c.loop-i.map.entries c.apply_page.new.map.entries c.loop-i.i c.log_at-at.result c.log_at-at.ensures c.loop-i-test.true c.loop-i.invariant.rolled c.in_err-apply_page.field-0.0 c.in_err-apply_page.ensures.answers in
+    let refused = turn_refused c.args.geometry.now c.args.region c.args.era start
+    (g.M.Media.state c.loop-i.media).contents c.loop-i.invariant.reads.contents c.args.map.now.entries c.loop-i.map.entries c.apply_page.new.map.entries c.loop-i.i c.log_at-at.result
+    c.log_at-at.ensures c.loop-i-test.true c.loop-i.invariant.rolled c.in_err-apply_page.field-0.0 c.in_err-apply_page.ensures.answers in
     if_err c.from_residual.result _ _ c.from_residual.ensures.1 (λ e is. subst (λ (x : OpenError). IsRefusal c.args.geometry.now x loads) (sym is) refused)
 
 pub returns-then-not-branch-clause-applied : goal.returns-then-not-branch-clause-applied
 returns-then-not-branch-clause-applied g c =
-    (turn_end c.args.geometry.now c.args.region c.args.era (g.M.Media.state c.args.media.now).contents (g.M.Media.state c.loop-i.media).contents c.loop-i.invariant.reads.contents c.args.map.now.entries c.loop-i.map.entries c.apply_page.new.map.entries c.loop-i.i c.log_at-at.result c.log_at-at.ensures c.loop-i-test.true c.loop-i.invariant.rolled c.in_ok-apply_page.field-0 c.if-not-branch.true c.in_ok-apply_page.ensures.answers).0
+    (turn_end c.args.geometry.now c.args.region c.args.era (g.M.Media.state c.args.media.now).contents
+    (g.M.Media.state c.loop-i.media).contents c.loop-i.invariant.reads.contents c.args.map.now.entries c.loop-i.map.entries c.apply_page.new.map.entries c.loop-i.i c.log_at-at.result
+    c.log_at-at.ensures c.loop-i-test.true c.loop-i.invariant.rolled c.in_ok-apply_page.field-0 c.if-not-branch.true c.in_ok-apply_page.ensures.answers).0
 
 pub returns-then-not-branch-clause-count : goal.returns-then-not-branch-clause-count
 returns-then-not-branch-clause-count g c =
-    (turn_end c.args.geometry.now c.args.region c.args.era (g.M.Media.state c.args.media.now).contents (g.M.Media.state c.loop-i.media).contents c.loop-i.invariant.reads.contents c.args.map.now.entries c.loop-i.map.entries c.apply_page.new.map.entries c.loop-i.i c.log_at-at.result c.log_at-at.ensures c.loop-i-test.true c.loop-i.invariant.rolled c.in_ok-apply_page.field-0 c.if-not-branch.true c.in_ok-apply_page.ensures.answers).1
+    (turn_end c.args.geometry.now c.args.region c.args.era (g.M.Media.state c.args.media.now).contents
+    (g.M.Media.state c.loop-i.media).contents c.loop-i.invariant.reads.contents c.args.map.now.entries c.loop-i.map.entries c.apply_page.new.map.entries c.loop-i.i c.log_at-at.result
+    c.log_at-at.ensures c.loop-i-test.true c.loop-i.invariant.rolled c.in_ok-apply_page.field-0 c.if-not-branch.true c.in_ok-apply_page.ensures.answers).1
 
 pub returns-then-not-branch-clause-room : goal.returns-then-not-branch-clause-room
 returns-then-not-branch-clause-room g c = room_taken _ c.args.map.now c.loop-i.map c.apply_page.new.map c.loop-i.invariant.room c.in_ok-apply_page.ensures.room
@@ -37,7 +43,9 @@ returns-then-not-branch-clause-room g c = room_taken _ c.args.map.now c.loop-i.m
 pub loop-i-preserved : goal.loop-i-preserved
 loop-i-preserved g c = record {
   geometry = search rules;
-  rolled = turn_more c.args.geometry.now c.args.region c.args.era (g.M.Media.state c.args.media.now).contents (g.M.Media.state c.loop-i.media).contents c.loop-i.invariant.reads.contents c.args.map.now.entries c.loop-i.map.entries c.apply_page.new.map.entries c.loop-i.i c.log_at-at.result c.log_at-at.ensures c.loop-i-test.true c.loop-i.invariant.rolled c.in_ok-apply_page.field-0 c.if-not-branch.false c.in_ok-apply_page.ensures.answers;
+  rolled = turn_more c.args.geometry.now c.args.region c.args.era (g.M.Media.state c.args.media.now).contents
+      (g.M.Media.state c.loop-i.media).contents c.loop-i.invariant.reads.contents c.args.map.now.entries c.loop-i.map.entries c.apply_page.new.map.entries c.loop-i.i c.log_at-at.result
+      c.log_at-at.ensures c.loop-i-test.true c.loop-i.invariant.rolled c.in_ok-apply_page.field-0 c.if-not-branch.false c.in_ok-apply_page.ensures.answers;
   room = room_taken _ c.args.map.now c.loop-i.map c.apply_page.new.map c.loop-i.invariant.room c.in_ok-apply_page.ensures.room;
   reads = reads_then (g.M.Media.state c.args.media.now) (g.M.Media.state c.loop-i.media) (g.M.Media.state c.apply_page.new.media) false false c.loop-i.invariant.reads c.in_ok-apply_page.ensures.reads;
 }

@@ -14,7 +14,8 @@ returns-then-has_seal-clause-grammar c = c.has_seal.ensures.0 c.if-has_seal.true
 
 pub returns-clause-value : goal.returns-clause-value
 returns-clause-value c =
-    no_seal c.args.page.now.0 c.header_in-header.result c.numbers_in-seal.result (c.header_in-header.ensures ∙ ap header_in c.line_at.ensures) (c.numbers_in-seal.ensures ∙ ap numbers_in c.line_at-2.ensures ∙ numbers_are c.args.page.now.0) (λ is. both_ways _ c.if-has_seal.false (c.has_seal.ensures.1 is))
+    no_seal c.args.page.now.0 c.header_in-header.result c.numbers_in-seal.result (c.header_in-header.ensures ∙ ap header_in c.line_at.ensures)
+    (c.numbers_in-seal.ensures ∙ ap numbers_in c.line_at-2.ensures ∙ numbers_are c.args.page.now.0) (λ is. both_ways _ c.if-has_seal.false (c.has_seal.ensures.1 is))
 
 pub returns-clause-grammar : goal.returns-clause-grammar
 returns-clause-grammar c = seal_match c.args.page.now.0 _ (returns-clause-value c)

@@ -35,5 +35,6 @@ loop-i-preserved g c =
       geometry = c.in_ok-apply_page.ensures.geometry ∙ c.loop-i.invariant.geometry;
       walked =
           stepped_on g' map_page n.era (checkpoint_at g' n.region) (g.M.Media.state c.args.media.now).contents.flash.page n.pages c.args.map.now.entries c.loop-i.i c.loop-i.map.entries c.loop-i-test.true c.loop-i.invariant.walked
-          c.checkpoint_at-at.result (g.M.Media.state c.loop-i.media).contents.flash.page c.checkpoint_at-at.ensures (ap (λ (k : Contents). k.flash.page) c.loop-i.invariant.reads.contents) c.in_ok-apply_page.field-0 c.apply_page.new.map.entries c.if-not-branch.false c.in_ok-apply_page.ensures.answers;
+          c.checkpoint_at-at.result (g.M.Media.state c.loop-i.media).contents.flash.page c.checkpoint_at-at.ensures (ap (λ (k : Contents). k.flash.page) c.loop-i.invariant.reads.contents)
+          c.in_ok-apply_page.field-0 c.apply_page.new.map.entries c.if-not-branch.false c.in_ok-apply_page.ensures.answers;
     }

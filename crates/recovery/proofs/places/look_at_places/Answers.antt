@@ -16,7 +16,8 @@ returns-in_err-look_at-clause-refused g c =
     let m = c.args.map.now.entries in
     let has = has_sorted m c.in_ok-addresses.addresses.items c.sort.new.self.items c.deref-lba-items.result.now c.in_ok-sort.ensures.permutation c.deref-lba-items.ensures.value c.in_ok-addresses.ensures in
     let refused =
-    looked_refused (g.M.Media.state c.args.media.now).contents.flash.page m c.deref-lba-items.result.now has c.loop-lba.lba-index c.loop-lba.invariant.looked (rises c.sort.new.self.items c.deref-lba-items.result.now c.deref-lba-items.ensures.value c.in_ok-sort.ensures.sorted) _ c.loop-lba-test.true c.in-Some.at c.in-Some.field-0-1
+    looked_refused (g.M.Media.state c.args.media.now).contents.flash.page m c.deref-lba-items.result.now has c.loop-lba.lba-index c.loop-lba.invariant.looked
+    (rises c.sort.new.self.items c.deref-lba-items.result.now c.deref-lba-items.ensures.value c.in_ok-sort.ensures.sorted) _ c.loop-lba-test.true c.in-Some.at c.in-Some.field-0-1
     (sym c.in-Some.is ∙ c.place.ensures.place) c.args.geometry.now (g.M.Media.state c.loop-lba.media).contents.flash.page c.in_err-look_at.field-0.0 (ap (λ (k : Contents). k.flash.page) c.loop-lba.invariant.reads.contents) c.in_err-look_at.ensures.refused
     in
     search rules

@@ -14,11 +14,17 @@ loop-i-preserved c =
     let m = c.args.map.now.entries in
     elim c.if-lba-geometry.branch [
       | then-lba-geometry+else-is_dirty w ↦
-          rw w.held-is (clean_here g m c.in-Some.ensures.is_map c.args.group c.loop-i.i c.in-Some.lba c.in-Some.field-0-1 c.loop-i.held c.in-Some.ensures.some c.loop-i.invariant (subst (λ (g : Geometry). c.in-Some.lba / g.p ≡ c.args.group) c.requires w.if-lba-geometry.true) (λ dirty. both_ways w.is_dirty.result w.if-is_dirty.false (w.is_dirty.ensures.1 dirty)))
+          rw w.held-is (clean_here g m c.in-Some.ensures.is_map c.args.group c.loop-i.i c.in-Some.lba c.in-Some.field-0-1 c.loop-i.held c.in-Some.ensures.some c.loop-i.invariant
+          (subst (λ (g : Geometry). c.in-Some.lba / g.p ≡ c.args.group) c.requires w.if-lba-geometry.true) (λ dirty. both_ways w.is_dirty.result w.if-is_dirty.false (w.is_dirty.ensures.1 dirty)))
       | else-lba-geometry w ↦
-          rw w.held-is (clean_elsewhere g m c.in-Some.ensures.is_map c.args.group c.loop-i.i c.in-Some.lba c.in-Some.field-0-1 c.loop-i.held c.in-Some.ensures.some c.loop-i.invariant (λ here. w.if-lba-geometry.false (subst (λ (g : Geometry). c.in-Some.lba / g.p ≡ c.args.group) (sym c.requires) here)))
+          rw w.held-is (clean_elsewhere g m c.in-Some.ensures.is_map c.args.group c.loop-i.i c.in-Some.lba c.in-Some.field-0-1 c.loop-i.held c.in-Some.ensures.some c.loop-i.invariant
+          (λ here. w.if-lba-geometry.false (subst (λ (g : Geometry). c.in-Some.lba / g.p ≡ c.args.group) (sym c.requires) here)))
     ]
 
 pub returns : goal.returns
-returns c =
-    (clean_all c.args.map.now.geometry c.args.map.now.entries c.args.group c.loop-i.i c.numbers-i-end.result c.loop-i.held c.numbers-i-end.ensures.each c.loop-i-test.false c.loop-i.invariant, clean_held c.args.map.now.geometry c.args.map.now.entries c.args.group c.loop-i.i c.numbers-i-end.result c.loop-i.held c.numbers-i-end.ensures.each c.loop-i-test.false c.loop-i.invariant)
+returns c = (
+  clean_all c.args.map.now.geometry c.args.map.now.entries c.args.group c.loop-i.i c.numbers-i-end.result c.loop-i.held c.numbers-i-end.ensures.each c.loop-i-test.false
+      c.loop-i.invariant,
+  clean_held c.args.map.now.geometry c.args.map.now.entries c.args.group c.loop-i.i c.numbers-i-end.result c.loop-i.held c.numbers-i-end.ensures.each c.loop-i-test.false
+      c.loop-i.invariant,
+)

@@ -4,7 +4,7 @@ use Rattle.ft_base.specs.declared.record.Record.TheVariants.{Clean}
 use Rattle.cache_model.specs.Cache.{made_clean}
 use Rattle.merge_engine.specs.declared.parts.Parts.{Parts}
 use Rattle.merge_engine.proofs.ResultLemmas.{on_ok_from, ok_at}
-use Rattle.ssc.specs.Steps.{StandsForEither}
+use Rattle.ssc.specs.Steps.{FlashStandsForEither}
 use Rattle.ssc.proofs.StepLemmas.{cleaned_fits, after_pushed}
 use Rattle.ssc.proofs.putting.mark_clean.Goals as goal
 
@@ -18,5 +18,5 @@ returns-clause-lists g c = on_ok_from c.commit_if_full.result (λ v is. λ list 
 
 pub returns-clause-stands : goal.returns-clause-stands
 returns-clause-stands g c = λ list durable lists.
-    subst (λ (h : Geometry). StandsForEither h (g.M.Media.state c.commit_if_full.new.media).contents.flash.page durable (made_clean c.args.lba list)) (ap (λ (p : Parts). p.geometry) c.put_clean.ensures.cache)
+    subst (λ (h : Geometry). FlashStandsForEither h (g.M.Media.state c.commit_if_full.new.media).contents.flash.page durable (made_clean c.args.lba list)) (ap (λ (p : Parts). p.geometry) c.put_clean.ensures.cache)
     (c.commit_if_full.ensures.stands (made_clean c.args.lba list) durable (c.put_clean.ensures.lists (g.M.Media.state c.args.media.now).contents list durable lists))

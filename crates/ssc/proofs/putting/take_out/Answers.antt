@@ -5,7 +5,7 @@ use Rattle.cache_model.specs.Cache.{evicted}
 use Rattle.merge_engine.specs.declared.parts.Parts.{Parts}
 use Rattle.merge_engine.proofs.ResultLemmas.{on_ok_from, ok_at}
 use Rattle.merge_engine.proofs.TakeLemmas.{agree_map}
-use Rattle.ssc.specs.Steps.{StandsForEither}
+use Rattle.ssc.specs.Steps.{FlashStandsForEither}
 use Rattle.ssc.proofs.StepLemmas.{removed_fits}
 use Rattle.ssc.proofs.WrittenLemmas.{left_pushed, pushed_some}
 use Rattle.ssc.proofs.putting.take_out.Goals as goal
@@ -22,7 +22,7 @@ returns-clause-lists g c = on_ok_from c.commit.result (λ v is. λ list durable 
 
 pub returns-clause-stands : goal.returns-clause-stands
 returns-clause-stands g c = λ list durable lists.
-    subst (λ (h : Geometry). StandsForEither h (g.M.Media.state c.commit.new.media).contents.flash.page durable (evicted c.args.lba list)) (ap (λ (p : Parts). p.geometry) c.put_out.ensures.cache)
+    subst (λ (h : Geometry). FlashStandsForEither h (g.M.Media.state c.commit.new.media).contents.flash.page durable (evicted c.args.lba list)) (ap (λ (p : Parts). p.geometry) c.put_out.ensures.cache)
     (c.commit.ensures.stands (evicted c.args.lba list) durable (c.put_out.ensures.lists (g.M.Media.state c.args.media.now).contents list durable lists))
 
 pub returns-clause-one_program : goal.returns-clause-one_program

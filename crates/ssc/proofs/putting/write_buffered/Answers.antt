@@ -21,7 +21,8 @@ returns-clause-stands g c = λ list durable lists.
 
 pub returns-clause-one_program : goal.returns-clause-one_program
 returns-clause-one_program g c = on_ok_from c.commit_if_full.result (λ v is. λ room few.
-    still_pushed c.args.parts.now c.write_page.new.parts c.commit_if_full.new.parts c.args.lba false (g.M.Media.state c.args.media.now) (g.M.Media.state c.write_page.new.media) (g.M.Media.state c.commit_if_full.new.media) few (c.in_ok-write_page.ensures.one_program room) c.commit_if_full.ensures.no_write)
+    still_pushed c.args.parts.now c.write_page.new.parts c.commit_if_full.new.parts c.args.lba false (g.M.Media.state c.args.media.now) (g.M.Media.state c.write_page.new.media)
+    (g.M.Media.state c.commit_if_full.new.media) few (c.in_ok-write_page.ensures.one_program room) c.commit_if_full.ensures.no_write)
 
 pub returns-clause-spends : goal.returns-clause-spends
 returns-clause-spends g c = on_ok_from c.commit_if_full.result (λ v is.

@@ -21,37 +21,50 @@ returns-in_err-go_on-in-Err-clause-went g c =
 pub returns-in_err-go_on-in-Err-clause-images : goal.returns-in_err-go_on-in-Err-clause-images
 returns-in_err-go_on-in-Err-clause-images g c = λ d stood.
     subst (λ (k : Contents). StandForEither (g.V.Volume.stands (g.V.Volume.state c.write.new.self).told) k d (set d c.args.lba c.args.block.now)) (still_contents c.in-Err.error _ _ c.go_on.ensures.powered c.go_on.ensures.same)
-    (one_call g.V.Volume.stands (Writes c.args.lba c.args.block.now) (g.V.Volume.state c.args.volume.now) (g.V.Volume.state c.write.new.self) _ _ _ d (g.met.V.Volume.write_owes_nothing c.args.volume.now _ c.requires.owns) (g.met.V.Volume.write_owes_nothing c.write.new.self _ c.write.ensures.owns) c.requires.ack c.write.ensures.goes.told c.in-Err.ensures.disk stood).images
+    (one_call g.V.Volume.stands (Writes c.args.lba c.args.block.now) (g.V.Volume.state c.args.volume.now) (g.V.Volume.state c.write.new.self) _ _ _ d
+    (g.met.V.Volume.write_owes_nothing c.args.volume.now _ c.requires.owns) (g.met.V.Volume.write_owes_nothing c.write.new.self _ c.write.ensures.owns)
+    c.requires.ack c.write.ensures.goes.told c.in-Err.ensures.disk stood).images
 
 pub returns-in_ok-go_on-in-Err-clause-images : goal.returns-in_ok-go_on-in-Err-clause-images
 returns-in_ok-go_on-in-Err-clause-images g c = λ d stood.
     subst (λ (k : Contents). StandForEither (g.V.Volume.stands (g.V.Volume.state c.write.new.self).told) k d (set d c.args.lba c.args.block.now)) (still_contents c.in-Err.error _ _ c.go_on.ensures.powered c.go_on.ensures.same)
-    (one_call g.V.Volume.stands (Writes c.args.lba c.args.block.now) (g.V.Volume.state c.args.volume.now) (g.V.Volume.state c.write.new.self) _ _ _ d (g.met.V.Volume.write_owes_nothing c.args.volume.now _ c.requires.owns) (g.met.V.Volume.write_owes_nothing c.write.new.self _ c.write.ensures.owns) c.requires.ack c.write.ensures.goes.told c.in-Err.ensures.disk stood).images
+    (one_call g.V.Volume.stands (Writes c.args.lba c.args.block.now) (g.V.Volume.state c.args.volume.now) (g.V.Volume.state c.write.new.self) _ _ _ d
+    (g.met.V.Volume.write_owes_nothing c.args.volume.now _ c.requires.owns) (g.met.V.Volume.write_owes_nothing c.write.new.self _ c.write.ensures.owns)
+    c.requires.ack c.write.ensures.goes.told c.in-Err.ensures.disk stood).images
 
 pub returns-in_ok-go_on-in-Err-clause-one : goal.returns-in_ok-go_on-in-Err-clause-one
 returns-in_ok-go_on-in-Err-clause-one g c = λ _ d stood.
     subst (λ (k : Contents). StandForOne (g.V.Volume.stands (g.V.Volume.state c.write.new.self).told) k d (set d c.args.lba c.args.block.now)) (still_contents c.in-Err.error _ _ c.go_on.ensures.powered c.go_on.ensures.same)
-    ((one_call g.V.Volume.stands (Writes c.args.lba c.args.block.now) (g.V.Volume.state c.args.volume.now) (g.V.Volume.state c.write.new.self) _ _ _ d (g.met.V.Volume.write_owes_nothing c.args.volume.now _ c.requires.owns) (g.met.V.Volume.write_owes_nothing c.write.new.self _ c.write.ensures.owns) c.requires.ack c.write.ensures.goes.told c.in-Err.ensures.disk stood).one (ap Err c.in_ok-go_on-in-Err.ensures.lost))
+    ((one_call g.V.Volume.stands (Writes c.args.lba c.args.block.now) (g.V.Volume.state c.args.volume.now) (g.V.Volume.state c.write.new.self) _ _ _ d
+    (g.met.V.Volume.write_owes_nothing c.args.volume.now _ c.requires.owns) (g.met.V.Volume.write_owes_nothing c.write.new.self _ c.write.ensures.owns)
+    c.requires.ack c.write.ensures.goes.told c.in-Err.ensures.disk stood).one (ap Err c.in_ok-go_on-in-Err.ensures.lost))
 
 pub returns-in-Ok-clause-done : goal.returns-in-Ok-clause-done
-returns-in-Ok-clause-done g c = λ _ d stood. (one_call g.V.Volume.stands (Writes c.args.lba c.args.block.now) (g.V.Volume.state c.args.volume.now) (g.V.Volume.state c.write.new.self) _ _ _ d (g.met.V.Volume.write_owes_nothing c.args.volume.now _ c.requires.owns) (g.met.V.Volume.write_owes_nothing c.write.new.self _ c.write.ensures.owns) c.requires.ack c.write.ensures.goes.told c.in-Ok.ensures.disk stood).done
+returns-in-Ok-clause-done g c = λ _ d stood. (one_call g.V.Volume.stands (Writes c.args.lba c.args.block.now) (g.V.Volume.state c.args.volume.now) (g.V.Volume.state c.write.new.self) _ _ _ d
+    (g.met.V.Volume.write_owes_nothing c.args.volume.now _ c.requires.owns) (g.met.V.Volume.write_owes_nothing c.write.new.self _ c.write.ensures.owns)
+    c.requires.ack c.write.ensures.goes.told c.in-Ok.ensures.disk stood).done
 
 pub returns-in-Ok-clause-images : goal.returns-in-Ok-clause-images
-returns-in-Ok-clause-images g c = λ d stood. (one_call g.V.Volume.stands (Writes c.args.lba c.args.block.now) (g.V.Volume.state c.args.volume.now) (g.V.Volume.state c.write.new.self) _ _ _ d (g.met.V.Volume.write_owes_nothing c.args.volume.now _ c.requires.owns) (g.met.V.Volume.write_owes_nothing c.write.new.self _ c.write.ensures.owns) c.requires.ack c.write.ensures.goes.told c.in-Ok.ensures.disk stood).images
+returns-in-Ok-clause-images g c = λ d stood. (one_call g.V.Volume.stands (Writes c.args.lba c.args.block.now) (g.V.Volume.state c.args.volume.now) (g.V.Volume.state c.write.new.self) _ _ _ d
+    (g.met.V.Volume.write_owes_nothing c.args.volume.now _ c.requires.owns) (g.met.V.Volume.write_owes_nothing c.write.new.self _ c.write.ensures.owns)
+    c.requires.ack c.write.ensures.goes.told c.in-Ok.ensures.disk stood).images
 
 pub returns-in_err-go_on-in-Err-clause-spends : goal.returns-in_err-go_on-in-Err-clause-spends
 returns-in_err-go_on-in-Err-clause-spends g c =
     spends_ends (Puts c.args.lba ∷ []) _ _ _ _ c.from_residual.result _ c.from_residual.ensures.1
-    (λ quiet. call_most (Unit {0}) g.V.Volume.loads (Writes c.args.lba c.args.block.now) (g.V.Volume.state c.args.volume.now) (g.V.Volume.state c.write.new.self) (g.R.Media.state c.args.rig.now) (g.R.Media.state c.write.new.rig) c.in-Err.error _ quiet (g.met.V.Volume.can_be_loaded c.args.volume.now _ c.requires.owns) c.in-Err.ensures.costs c.in-Err.ensures.goes c.go_on.ensures.same)
+    (λ quiet. call_most (Unit {0}) g.V.Volume.loads (Writes c.args.lba c.args.block.now) (g.V.Volume.state c.args.volume.now) (g.V.Volume.state c.write.new.self) (g.R.Media.state c.args.rig.now)
+    (g.R.Media.state c.write.new.rig) c.in-Err.error _ quiet (g.met.V.Volume.can_be_loaded c.args.volume.now _ c.requires.owns) c.in-Err.ensures.costs c.in-Err.ensures.goes c.go_on.ensures.same)
 
 pub returns-in_ok-go_on-in-Err-clause-spends : goal.returns-in_ok-go_on-in-Err-clause-spends
 returns-in_ok-go_on-in-Err-clause-spends g c = record {
-  done = λ quiet. absurd (call_never_lost (Unit {0}) g.V.Volume.loads (Writes c.args.lba c.args.block.now) (g.V.Volume.state c.args.volume.now) (g.V.Volume.state c.write.new.self) (g.R.Media.state c.args.rig.now) (g.R.Media.state c.write.new.rig) c.in-Err.error c.in_ok-go_on-in-Err.ensures.lost quiet c.in-Err.ensures.goes);
+  done = λ quiet. absurd (call_never_lost (Unit {0}) g.V.Volume.loads (Writes c.args.lba c.args.block.now) (g.V.Volume.state c.args.volume.now) (g.V.Volume.state c.write.new.self)
+      (g.R.Media.state c.args.rig.now) (g.R.Media.state c.write.new.rig) c.in-Err.error c.in_ok-go_on-in-Err.ensures.lost quiet c.in-Err.ensures.goes);
   ended = tt;
 }
 
 pub returns-in-Ok-clause-spends : goal.returns-in-Ok-clause-spends
 returns-in-Ok-clause-spends g c = record {
-  done = λ quiet. call_spent (Unit {0}) g.V.Volume.loads (Writes c.args.lba c.args.block.now) (g.V.Volume.state c.args.volume.now) (g.V.Volume.state c.write.new.self) (g.R.Media.state c.args.rig.now) (g.R.Media.state c.write.new.rig) tt quiet (g.met.V.Volume.can_be_loaded c.args.volume.now _ c.requires.owns) c.in-Ok.ensures.costs c.in-Ok.ensures.goes;
+  done = λ quiet. call_spent (Unit {0}) g.V.Volume.loads (Writes c.args.lba c.args.block.now) (g.V.Volume.state c.args.volume.now) (g.V.Volume.state c.write.new.self) (g.R.Media.state c.args.rig.now)
+      (g.R.Media.state c.write.new.rig) tt quiet (g.met.V.Volume.can_be_loaded c.args.volume.now _ c.requires.owns) c.in-Ok.ensures.costs c.in-Ok.ensures.goes;
   ended = tt;
 }

@@ -44,11 +44,21 @@ loop-address-preserved g c =
       said = (
         walked.0 ++ a ∷ [],
         walk_more walked.0 a c.loop-address.address-iterator _ _ walked.1 c.in-Some.ensures.steps,
-        (λ d stood. touched_more g.P.Script.came c.args.script.now c.loop-address.script c.read_through.new.script c.touched.new.self c.loop-address.cuts c.in_ok-more.more a c.read_through.new.block d walked.0 (walked.2 d stood) c.in_ok-more.ensures.went.done.said c.in_ok-touched.ensures.told (c.in_ok-more.ensures.found d (c.loop-address.invariant.kept d stood))),
+        (λ d stood. touched_more g.P.Script.came c.args.script.now c.loop-address.script c.read_through.new.script c.touched.new.self c.loop-address.cuts c.in_ok-more.more a c.read_through.new.block d
+            walked.0 (walked.2 d stood) c.in_ok-more.ensures.went.done.said c.in_ok-touched.ensures.told (c.in_ok-more.ensures.found d (c.loop-address.invariant.kept d stood))),
         λ quiet. let spent = walked.3 quiet in each_more _ _ _ _ walked.0 a _ _ spent (c.in_ok-more.ensures.spends.done spent.quiet),
       );
       cuts = cuts_then c.loop-address.cuts c.in_ok-more.more 0 0 _ _ _ c.loop-address.invariant.cuts c.in_ok-more.ensures.went.done.cut;
-      goes = goes_script g.P.Script.state g.P.Script.came g.P.Script.broke g.P.Script.knows _ _ _ _ _ (goes_then g.P.Script.state g.P.Script.came g.P.Script.broke g.P.Script.knows _ _ _ _ _ _ c.loop-address.invariant.goes c.read_through.ensures.went.goes) (record { source = c.touched.ensures.source_later; sink = c.touched.ensures.later; lent = c.touched.ensures.lent; size = c.touched.ensures.size; turns = c.touched.ensures.turns; knew = c.touched.ensures.knew });
+      goes = goes_script g.P.Script.state g.P.Script.came g.P.Script.broke g.P.Script.knows _ _ _ _ _
+          (goes_then g.P.Script.state g.P.Script.came g.P.Script.broke g.P.Script.knows _ _ _ _ _ _ c.loop-address.invariant.goes c.read_through.ensures.went.goes)
+          (record {
+            source = c.touched.ensures.source_later;
+            sink = c.touched.ensures.later;
+            lent = c.touched.ensures.lent;
+            size = c.touched.ensures.size;
+            turns = c.touched.ensures.turns;
+            knew = c.touched.ensures.knew;
+          });
       few = c.loop-address.invariant.few;
     }
 
@@ -56,15 +66,25 @@ pub returns-in_err-more-clause-ends : goal.returns-in_err-more-clause-ends
 returns-in_err-more-clause-ends g c =
     let walked = c.loop-address.invariant.said in
     at_exit c.from_residual.result _ _ c.from_residual.ensures.1
-    (λ d stood end. end_reading g.P.Script.state g.P.Script.came g.P.Script.broke g.P.Script.knows c.args.script.now c.loop-address.script c.read_through.new.script c.loop-address.cuts walked.0 d (walked.2 d stood) _ _ (g.R.Media.state c.loop-address.rig) _ end c.loop-address.invariant.goes c.loop-address.invariant.cuts c.in_err-more.ensures.went.ended)
+    (λ d stood end. end_reading g.P.Script.state g.P.Script.came g.P.Script.broke g.P.Script.knows c.args.script.now c.loop-address.script c.read_through.new.script c.loop-address.cuts walked.0 d
+    (walked.2 d stood) _ _ (g.R.Media.state c.loop-address.rig) _ end c.loop-address.invariant.goes c.loop-address.invariant.cuts c.in_err-more.ensures.went.ended)
 
 pub returns-in_err-touched-clause-ends : goal.returns-in_err-touched-clause-ends
 returns-in_err-touched-clause-ends g c =
     let walked = c.loop-address.invariant.said in
     let memory = c.in_err-touched.ensures.memory in
     at_exit c.from_residual-in_err-touched.result _ _ c.from_residual-in_err-touched.ensures.1
-    (λ d stood end. end_reading g.P.Script.state g.P.Script.came g.P.Script.broke g.P.Script.knows c.args.script.now c.loop-address.script c.touched.new.self c.loop-address.cuts walked.0 d (walked.2 d stood) _ _ (g.R.Media.state c.loop-address.rig) _ end c.loop-address.invariant.goes c.loop-address.invariant.cuts
-    (ends_untold g.P.Script.state g.P.Script.came g.P.Script.broke g.P.Script.knows c.in_err-touched.field-0.0 c.in_ok-more.more _ c.read_through.new.script c.touched.new.self _ _ memory.0 c.in_ok-more.ensures.went.done (record { source = c.touched.ensures.source_later; sink = c.touched.ensures.later; lent = c.touched.ensures.lent; size = c.touched.ensures.size; turns = c.touched.ensures.turns; knew = c.touched.ensures.knew }) memory.1))
+    (λ d stood end. end_reading g.P.Script.state g.P.Script.came g.P.Script.broke g.P.Script.knows c.args.script.now c.loop-address.script c.touched.new.self c.loop-address.cuts walked.0 d
+    (walked.2 d stood) _ _ (g.R.Media.state c.loop-address.rig) _ end c.loop-address.invariant.goes c.loop-address.invariant.cuts
+    (ends_untold g.P.Script.state g.P.Script.came g.P.Script.broke g.P.Script.knows c.in_err-touched.field-0.0 c.in_ok-more.more _ c.read_through.new.script c.touched.new.self _ _ memory.0
+    c.in_ok-more.ensures.went.done (record {
+      source = c.touched.ensures.source_later;
+      sink = c.touched.ensures.later;
+      lent = c.touched.ensures.lent;
+      size = c.touched.ensures.size;
+      turns = c.touched.ensures.turns;
+      knew = c.touched.ensures.knew;
+    }) memory.1))
 
 pub returns-clause-said : goal.returns-clause-said
 returns-clause-said g c =

@@ -5,7 +5,7 @@ use Rattle.ft_volume.specs.Volume.{StandFor}
 use Rattle.trace_replay.specs.Said.{Cuts}
 use Rattle.trace_replay.specs.Saying.{SaysTouched}
 use Rattle.trace_replay.specs.Spends.{IsQuiet, Spent, touches_each}
-use Rattle.trace_replay.specs.Went.{Goes, Keeps}
+use Rattle.trace_replay.specs.Went.{KeepsFrame, Keeps}
 use Rattle.trace_replay.proofs.touched.tell_touched.Given as goal
 
 abbrev pub invariant-loop-address : goal.invariant-loop-address
@@ -23,6 +23,6 @@ invariant-loop-address g l =
           × ((d : PlainDisk) → StandFor (g.V.Volume.stands was.told) first.contents d → SaysTouched g.P.Script.came l.fn.script l.script l.cuts front d)
           × (IsQuiet was first → Spent (touches_each front) was is first now);
       cuts : Cuts l.cuts 0 first now;
-      goes : Goes g.P.Script.state g.P.Script.came g.P.Script.broke g.P.Script.knows l.fn.script l.script first now;
+      goes : KeepsFrame g.P.Script.state g.P.Script.came g.P.Script.broke g.P.Script.knows l.fn.script l.script first now;
       few : length first.power.stops ≤ 16;
     }

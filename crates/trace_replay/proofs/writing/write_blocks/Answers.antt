@@ -25,7 +25,9 @@ loop-i-preserved g c =
       owns = c.write_once.ensures.owns;
       told = c.write_once.ensures.told ∙ c.loop-i.invariant.told;
       ack = ap (λ (t : Told). t.ack) c.write_once.ensures.told ∙ c.loop-i.invariant.ack;
-      disk = λ d stood. one_more (g.V.Volume.stands (g.V.Volume.state c.write_once.new.volume).told) (g.R.Media.state c.write_once.new.rig).contents c.args.request.lba c.args.request.tag c.loop-i.i c.args.request.count d c.pattern.new.out c.pattern.ensures (c.in_ok-cut.ensures.done c.if-cut.false (after_blocks c.args.request.lba c.args.request.tag c.loop-i.i d) (c.loop-i.invariant.disk d stood));
+      disk = λ d stood. one_more (g.V.Volume.stands (g.V.Volume.state c.write_once.new.volume).told)
+          (g.R.Media.state c.write_once.new.rig).contents c.args.request.lba c.args.request.tag c.loop-i.i c.args.request.count d c.pattern.new.out c.pattern.ensures
+          (c.in_ok-cut.ensures.done c.if-cut.false (after_blocks c.args.request.lba c.args.request.tag c.loop-i.i d) (c.loop-i.invariant.disk d stood));
       went = went_then g.P.Script.state g.P.Script.came g.P.Script.broke g.P.Script.knows 0 (count_of c.in_ok-cut.cut) c.loop-i.i 1 0 (c.loop-i.i + 1) _ _ _ _ _ _ c.loop-i.invariant.went c.in_ok-cut.ensures.went.done (omega (arith, none)) refl;
       spent = λ quiet. let spent = c.loop-i.invariant.spent quiet in puts_more _ _ _ _ c.args.request.lba c.loop-i.i _ _ spent (c.in_ok-cut.ensures.spends.done spent.quiet);
     }

@@ -2,7 +2,7 @@ use Rattle.std.proofs.Common.{refl, sym, subst, false}
 use Rattle.ft_base.specs.Contents.{Shape}
 use Rattle.op_log.specs.Log.{FitsOn}
 use Rattle.cache_model.specs.Cache.{CacheList}
-use Rattle.cache_model.specs.Stands.{StandsFor}
+use Rattle.cache_model.specs.Stands.{FlashStandsFor}
 use Rattle.ssc.specs.CacheState.{entries_of}
 use Rattle.ssc.proofs.ListLemmas.{stands_some}
 use Rattle.cached_disk.specs.declared.disk.CachedDisk.{CachedDisk}
@@ -15,7 +15,7 @@ returns-clause-owns g c =
     let old = (g.M.Media.state c.args.media.now).contents in
     let some = stands_some old.flash.page c.args.options.now.geometry (entries_of c.in_ok-cache.cache) c.in_ok-cache.ensures.opened.loads in
     let s : CacheList = some.0 in
-    let stands : StandsFor c.args.options.now.geometry old.flash.page s = some.1 in
+    let stands : FlashStandsFor c.args.options.now.geometry old.flash.page s = some.1 in
     let may = c.requires.agrees s stands in
     opened_left v old (g.M.Media.state c.open_cache.new.media).contents s c.in_ok-cache.ensures.opened c.in_ok-cache.ensures.opens stands may.0 may.1
     (subst (λ (x : Shape). FitsOn c.args.options.now.geometry x) (sym c.in_ok-cache.ensures.passes.shape) c.requires.shape)

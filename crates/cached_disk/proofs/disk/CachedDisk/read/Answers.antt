@@ -50,7 +50,8 @@ returns-in-Ok-false-clause-goes g c = λ order.
     let between = g.M.Media.state c.read.new.media in
     let after = g.M.Media.state c.read_missing.new.media in
     subst (λ (k : Ssc). Goes (state_in order (record v { cache = k })) (state_in order c.read_missing.new.self) before after c.read_missing.result) c.read.ensures.same
-    (goes_after before between after c.read.ensures.reads.contents c.in-Ok-false.ensures.reads.cause.flash (let x = c.in-Ok-false.ensures.reads.cause.disk in omega (arith, x)) c.in-Ok-false.ensures.reads.cause.cuts c.in-Ok-false.ensures.reads.passes (state_in order u) (state_in order c.read_missing.new.self) c.read_missing.result (c.read_missing.ensures.goes order))
+    (goes_after before between after c.read.ensures.reads.contents c.in-Ok-false.ensures.reads.cause.flash (let x = c.in-Ok-false.ensures.reads.cause.disk in omega (arith, x))
+    c.in-Ok-false.ensures.reads.cause.cuts c.in-Ok-false.ensures.reads.passes (state_in order u) (state_in order c.read_missing.new.self) c.read_missing.result (c.read_missing.ensures.goes order))
 
 pub returns-in-Ok-false-clause-costs : goal.returns-in-Ok-false-clause-costs
 returns-in-Ok-false-clause-costs g c = λ order.
@@ -61,7 +62,9 @@ returns-in-Ok-false-clause-costs g c = λ order.
     let after = g.M.Media.state c.read_missing.new.media in
     let call = Reads c.args.lba c.read_missing.new.block in
     subst (λ (k : Ssc). Costs call (state_in order (record v { cache = k })) (state_in order c.read_missing.new.self) before after c.read_missing.result) c.read.ensures.same
-    (costs_after before between after c.read.ensures.reads.contents c.in-Ok-false.ensures.reads.cause.flash (let x = c.in-Ok-false.ensures.reads.cause.disk in omega (arith, x)) c.in-Ok-false.ensures.reads.cause.cuts c.in-Ok-false.ensures.reads.passes (state_in order u) (state_in order c.read_missing.new.self) c.read_missing.result call c.in-Ok-false.ensures.reads.counts (c.read_missing.ensures.costs order))
+    (costs_after before between after c.read.ensures.reads.contents c.in-Ok-false.ensures.reads.cause.flash (let x = c.in-Ok-false.ensures.reads.cause.disk in omega (arith, x))
+    c.in-Ok-false.ensures.reads.cause.cuts c.in-Ok-false.ensures.reads.passes (state_in order u) (state_in order c.read_missing.new.self)
+    c.read_missing.result call c.in-Ok-false.ensures.reads.counts (c.read_missing.ensures.costs order))
 
 -- the cache holds it
 

@@ -133,7 +133,8 @@ returns-in-Ok-clause-costs g c = λ order.
     let w : CachedDisk = record v { cache = put } in
     missed_costs c.args.lba c.read_block.new.block (state_in order v) (state_in order w) before mid after (ap is_some c.requires.absent)
     (ap (waiting_in v.options.geometry.p order) (put_dirty u put mid.contents after.contents s by c.args.lba c.read_block.new.block absent newest h ∙ ap dirty_lbas c.reserve.ensures.entries))
-    (subst (λ (m : Entries). calls.Holds (told_of v) (Reads c.args.lba c.read_block.new.block) (λ a. is_some (get m a)) (λ a. is_some (get (entries_of put) a))) c.reserve.ensures.entries (put_held u put mid.contents after.contents s by c.args.lba c.read_block.new.block absent newest h c.read_block.new.block))
+    (subst (λ (m : Entries). calls.HoldsAfter (told_of v) (Reads c.args.lba c.read_block.new.block) (λ a. is_some (get m a)) (λ a. is_some (get (entries_of put) a))) c.reserve.ensures.entries
+    (put_held u put mid.contents after.contents s by c.args.lba c.read_block.new.block absent newest h c.read_block.new.block))
     c.in_default.ensures.counts c.write_clean.ensures.drives.disk_reads c.write_clean.ensures.drives.disk_writes
 
 pub returns-in-Ok-clause-dirty : goal.returns-in-Ok-clause-dirty

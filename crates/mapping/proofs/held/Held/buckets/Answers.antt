@@ -6,4 +6,5 @@ use Rattle.mapping.proofs.ListingLemmas.{buckets_bound}
 use Rattle.mapping.proofs.held.Held.buckets.Goals as goal
 
 pub returns-clause-bound : goal.returns-clause-bound
-returns-clause-bound c = rw (← c.self.view_is) (subst (λ n. AreBucketsFor (entries_of c.self.inside.geometry (map_of c.self.inside.pages) (map_of c.self.inside.blocks)) n) (sym c.buckets.ensures.buckets) (buckets_bound c.self.inside.geometry c.self.inside.pages c.self.inside.blocks c.self.invariant))
+returns-clause-bound c = rw (← c.self.view_is) (subst (λ n. AreBucketsFor (entries_of c.self.inside.geometry (map_of c.self.inside.pages) (map_of c.self.inside.blocks)) n)
+    (sym c.buckets.ensures.buckets) (buckets_bound c.self.inside.geometry c.self.inside.pages c.self.inside.blocks c.self.invariant))

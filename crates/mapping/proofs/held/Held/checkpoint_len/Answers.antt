@@ -12,7 +12,9 @@ overflow_add-result c =
     search rules
 
 pub returns-clause-count : goal.returns-clause-count
-returns-clause-count c = rw (← c.self.view_is) (ap₂ (λ a b. a + b) c.len.ensures.len c.len-2.ensures.len ∙ sym (records_long c.self.inside.geometry (entries_of c.self.inside.geometry (map_of c.self.inside.pages) (map_of c.self.inside.blocks)) c.self.inside.pages c.self.inside.blocks c.self.invariant.pages_sound c.self.invariant.blocks_sound))
+returns-clause-count c = rw (← c.self.view_is) (ap₂ (λ a b. a + b) c.len.ensures.len c.len-2.ensures.len
+    ∙ sym (records_long c.self.inside.geometry (entries_of c.self.inside.geometry (map_of c.self.inside.pages) (map_of c.self.inside.blocks))
+    c.self.inside.pages c.self.inside.blocks c.self.invariant.pages_sound c.self.invariant.blocks_sound))
 
 pub returns-clause-listing : goal.returns-clause-listing
 returns-clause-listing c = rw (← c.self.view_is) (listed c.self.inside.geometry c.self.inside.pages c.self.inside.blocks c.self.invariant)

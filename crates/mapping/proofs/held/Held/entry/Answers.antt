@@ -6,7 +6,8 @@ use Rattle.mapping.proofs.PackedLemmas.{get_held}
 use Rattle.mapping.proofs.held.Held.entry.Goals as goal
 
 pub returns-in-Some : goal.returns-in-Some
-returns-in-Some c = rw (← c.self.view_is) (ap (λ o. entry_in o (page_in (get (map_of c.self.inside.blocks) (c.args.lba / c.self.inside.geometry.p)) (c.args.lba % c.self.inside.geometry.p))) c.in-Some.ensures ∙ sym (get_held c.self.inside.geometry (map_of c.self.inside.pages) (map_of c.self.inside.blocks) c.args.lba))
+returns-in-Some c = rw (← c.self.view_is) (ap (λ o. entry_in o (page_in (get (map_of c.self.inside.blocks) (c.args.lba / c.self.inside.geometry.p)) (c.args.lba % c.self.inside.geometry.p)))
+    c.in-Some.ensures ∙ sym (get_held c.self.inside.geometry (map_of c.self.inside.pages) (map_of c.self.inside.blocks) c.args.lba))
 
 pub returns-in-None : goal.returns-in-None
 returns-in-None c = rw (← c.self.view_is) (c.page_in.ensures ∙ ap₂ (λ o b. entry_in o (page_in b (c.args.lba % c.self.inside.geometry.p))) c.in-None.ensures c.block_at.ensures ∙ sym (get_held c.self.inside.geometry (map_of c.self.inside.pages) (map_of c.self.inside.blocks) c.args.lba))

@@ -18,7 +18,9 @@ overflow_add-self c =
     search rules
 
 pub returns-then-before-eq0 : goal.returns-then-before-eq0
-returns-then-before-eq0 c = λ m is_map logs is. entered_logs c.args.geometry.now m is_map c.args.lba c.args.entry.now is c.args.self.now _ c.first_pool.result c.index-before.result.now (ap not c.if-entry.false) c.first_pool.ensures.place c.index-before.ensures refl (one_more c.index-before.result.now c.args.self.now.used c.if-before-eq0.true) logs
+returns-then-before-eq0 c = λ m is_map logs is. entered_logs c.args.geometry.now m is_map c.args.lba c.args.entry.now is c.args.self.now _ c.first_pool.result c.index-before.result.now
+    (ap not c.if-entry.false) c.first_pool.ensures.place c.index-before.ensures refl (one_more c.index-before.result.now c.args.self.now.used c.if-before-eq0.true) logs
 
 pub returns-else-before-eq0 : goal.returns-else-before-eq0
-returns-else-before-eq0 c = λ m is_map logs is. entered_logs c.args.geometry.now m is_map c.args.lba c.args.entry.now is c.args.self.now _ c.first_pool.result c.index-before.result.now (ap not c.if-entry.false) c.first_pool.ensures.place c.index-before.ensures refl (sym (none_less c.index-before.result.now c.args.self.now.used c.if-before-eq0.false)) logs
+returns-else-before-eq0 c = λ m is_map logs is. entered_logs c.args.geometry.now m is_map c.args.lba c.args.entry.now is c.args.self.now _ c.first_pool.result c.index-before.result.now
+    (ap not c.if-entry.false) c.first_pool.ensures.place c.index-before.ensures refl (sym (none_less c.index-before.result.now c.args.self.now.used c.if-before-eq0.false)) logs

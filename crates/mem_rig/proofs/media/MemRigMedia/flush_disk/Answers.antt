@@ -1,8 +1,8 @@
-use Rattle.std.proofs.Common.{ap, ℕ}
+use Rattle.std.proofs.Common.{true, ap, ℕ}
 use Rattle.ft_base.specs.Contents.{Values}
 use Rattle.device_calls.specs.declared.ending.Ending.TheVariants as ending
 use Rattle.mem_rig.specs.Rig.{state_of}
-use Rattle.mem_rig.proofs.MediaLemmas.{device_done, ready_same, flush_values}
+use Rattle.mem_rig.proofs.MediaLemmas.{device_done, ready_same, flush_values, settled_by, settled_kept, settled_off}
 use Rattle.mem_rig.proofs.media.MemRigMedia.flush_disk.Goals as goal
 
 pub returns-in-Done-clause-ok : goal.returns-in-Done-clause-ok
@@ -25,3 +25,27 @@ returns-in-Cut-clause-values c = flush_values (ending.Cut c.in-Cut.field-0) (sta
 
 pub returns-in-Off-clause-values : goal.returns-in-Off-clause-values
 returns-in-Off-clause-values c = flush_values ending.Off (state_of c.args.self.now).contents.disk (state_of c.flush_blocks.new.self).contents.disk c.in-Off.ensures.written.disk
+
+pub returns-in-Done-clause-settled : goal.returns-in-Done-clause-settled
+returns-in-Done-clause-settled c =
+    let old = state_of c.args.self.now in
+    let new = state_of c.flush_blocks.new.self in
+    settled_kept old new old.contents.disk
+
+pub returns-in-Failed-clause-settled : goal.returns-in-Failed-clause-settled
+returns-in-Failed-clause-settled c =
+    let old = state_of c.args.self.now in
+    let new = state_of c.flush_blocks.new.self in
+    settled_kept old new old.contents.disk
+
+pub returns-in-Cut-clause-settled : goal.returns-in-Cut-clause-settled
+returns-in-Cut-clause-settled c =
+    let old = state_of c.args.self.now in
+    let new = state_of c.flush_blocks.new.self in
+    settled_by old new c.in-Cut.field-0 old.contents.disk c.in-Cut.ensures.power c.in-Cut.ensures.written.disk
+
+pub returns-in-Off-clause-settled : goal.returns-in-Off-clause-settled
+returns-in-Off-clause-settled c =
+    let old = state_of c.args.self.now in
+    let new = state_of c.flush_blocks.new.self in
+    settled_off old new true old.contents.disk c.in-Off.ensures.power.0

@@ -1,8 +1,8 @@
-use Rattle.std.proofs.Common.{false, ap, ◌+◌, arith}
+use Rattle.std.proofs.Common.{true, false, ap, ◌+◌, arith}
 use Rattle.ft_base.specs.Contents.{Flash}
 use Rattle.nand_model.specs.Nand.{blank_ahead}
 use Rattle.mem_rig.specs.Rig.{state_of}
-use Rattle.mem_rig.proofs.MediaLemmas.{disk_same, disk_cut, device_done, ready_set, page_left}
+use Rattle.mem_rig.proofs.MediaLemmas.{disk_same, disk_cut, device_done, ready_set, page_left, settled_by, settled_kept, settled_off}
 use Rattle.mem_rig.proofs.media.MemRigMedia.program.Goals as goal
 
 pub returns-in-Done-clause-disk : goal.returns-in-Done-clause-disk
@@ -24,3 +24,27 @@ returns-in-Cut-clause-page c =
 
 pub returns-in-Cut-clause-disk : goal.returns-in-Cut-clause-disk
 returns-in-Cut-clause-disk c = disk_cut (state_of c.args.self.now).contents (state_of c.program_page.new.self).contents c.in-Cut.field-0 c.in-Cut.ensures.written.disk
+
+pub returns-in-Done-clause-settled : goal.returns-in-Done-clause-settled
+returns-in-Done-clause-settled c =
+    let old = state_of c.args.self.now in
+    let new = state_of c.program_page.new.self in
+    settled_kept old new old.contents.disk
+
+pub returns-in-Failed-clause-settled : goal.returns-in-Failed-clause-settled
+returns-in-Failed-clause-settled c =
+    let old = state_of c.args.self.now in
+    let new = state_of c.program_page.new.self in
+    settled_kept old new old.contents.disk
+
+pub returns-in-Cut-clause-settled : goal.returns-in-Cut-clause-settled
+returns-in-Cut-clause-settled c =
+    let old = state_of c.args.self.now in
+    let new = state_of c.program_page.new.self in
+    settled_by old new c.in-Cut.field-0 old.contents.disk c.in-Cut.ensures.power c.in-Cut.ensures.written.disk
+
+pub returns-in-Off-clause-settled : goal.returns-in-Off-clause-settled
+returns-in-Off-clause-settled c =
+    let old = state_of c.args.self.now in
+    let new = state_of c.program_page.new.self in
+    settled_off old new true old.contents.disk c.in-Off.ensures.power.0

@@ -1,10 +1,11 @@
-use Rattle.std.proofs.Common.{◌∙◌, ap, ℕ}
+use Rattle.std.proofs.Common.{true, ◌∙◌, ap, ℕ}
 use Rattle.ft_base.specs.Contents.{Values}
+use Rattle.ft_media.specs.Media.{after_write}
 use Rattle.disk_model.specs.Steps.{write_left}
 use Rattle.mem_rig.specs.Rig.{state_of, disk_listed}
 use Rattle.mem_rig.specs.Steps.{flash_beside}
 use Rattle.mem_rig.proofs.PowerLemmas.{on_where_it_takes}
-use Rattle.mem_rig.proofs.MediaLemmas.{device_done, device_refused, done_power, ready_same, values_refused, write_values}
+use Rattle.mem_rig.proofs.MediaLemmas.{device_done, device_refused, done_power, off_power, ready_same, settled_kept, settled_off, settled_write, values_refused, write_values}
 use Rattle.mem_rig.proofs.media.MemRigMedia.write_block.Goals as goal
 
 pub returns-in_default-clause-values : goal.returns-in_default-clause-values
@@ -33,3 +34,37 @@ returns-in-Cut-clause-values c = write_values c.in-Ok.ending (state_of c.args.se
 
 pub returns-in-Off-clause-values : goal.returns-in-Off-clause-values
 returns-in-Off-clause-values c = write_values c.in-Ok.ending (state_of c.args.self.now).contents.disk (state_of c.write_disk.new.self).contents.disk c.args.lba c.args.block.now c.in-Ok.ensures.written.disk
+
+pub returns-in_default-clause-settled : goal.returns-in_default-clause-settled
+returns-in_default-clause-settled c =
+    let old = state_of c.args.self.now in
+    let new = state_of c.write_disk.new.self in
+    let left = after_write old.contents.disk c.args.lba c.args.block.now in
+    settled_kept old new left
+
+pub returns-in-Done-clause-settled : goal.returns-in-Done-clause-settled
+returns-in-Done-clause-settled c =
+    let old = state_of c.args.self.now in
+    let new = state_of c.write_disk.new.self in
+    let left = after_write old.contents.disk c.args.lba c.args.block.now in
+    settled_kept old new left
+
+pub returns-in-Failed-clause-settled : goal.returns-in-Failed-clause-settled
+returns-in-Failed-clause-settled c =
+    let old = state_of c.args.self.now in
+    let new = state_of c.write_disk.new.self in
+    let left = after_write old.contents.disk c.args.lba c.args.block.now in
+    settled_kept old new left
+
+pub returns-in-Cut-clause-settled : goal.returns-in-Cut-clause-settled
+returns-in-Cut-clause-settled c =
+    let old = state_of c.args.self.now in
+    let new = state_of c.write_disk.new.self in
+    settled_write c.in-Ok.ending old new c.in-Cut.field-0 c.args.lba c.args.block.now c.in-Cut.is c.in-Ok.ensures.power c.in-Ok.ensures.written.disk
+
+pub returns-in-Off-clause-settled : goal.returns-in-Off-clause-settled
+returns-in-Off-clause-settled c =
+    let old = state_of c.args.self.now in
+    let new = state_of c.write_disk.new.self in
+    let left = after_write old.contents.disk c.args.lba c.args.block.now in
+    settled_off old new true left (off_power c.in-Ok.ending old.power new.power c.in-Off.is c.in-Ok.ensures.power)

@@ -15,6 +15,10 @@ invariant_of-self c =
     let disk = disk_of old.disk in
     record {
       cuts_small = c.cuts_after-self.ensures.small old.cuts_small;
-      unready = unready_after c.flush-ending.result c.current-current.result _ (power_of old.supply) (power_of c.count_write.new.self) c.flush-ending.ensures.ending c.current-current.ensures c.count_write.ensures (λ (how : Ending). flash_beside how flash) flash (flash_of c.stop_beside.new.nand) (λ outcome b. refl) refl c.stop_beside.ensures.flash old.unready;
-      settled = settled_after c.flush-ending.result c.current-current.result _ (power_of old.supply) (power_of c.count_write.new.self) c.flush-ending.ensures.ending c.current-current.ensures c.count_write.ensures (λ (how : Ending). flush_left how disk) disk (disk_of c.flush-ending.new.self) (λ outcome lba. refl) refl c.flush-ending.ensures.disk old.settled;
+      unready = unready_after c.flush-ending.result c.current-current.result _ (power_of old.supply) (power_of c.count_write.new.self)
+          c.flush-ending.ensures.ending c.current-current.ensures c.count_write.ensures (λ (how : Ending). flash_beside how flash) flash (flash_of c.stop_beside.new.nand) (λ outcome b. refl)
+          refl c.stop_beside.ensures.flash old.unready;
+      settled = settled_after c.flush-ending.result c.current-current.result _ (power_of old.supply) (power_of c.count_write.new.self)
+          c.flush-ending.ensures.ending c.current-current.ensures c.count_write.ensures (λ (how : Ending). flush_left how disk) disk (disk_of c.flush-ending.new.self) (λ outcome lba. refl)
+          refl c.flush-ending.ensures.disk old.settled;
     }

@@ -15,6 +15,10 @@ invariant_of-self c =
     let disk = disk_of old.disk in
     record {
       cuts_small = c.cuts_after-self.ensures.small old.cuts_small;
-      unready = unready_after c.program-ending.result c.current-current.result _ (power_of old.supply) (power_of c.count_write.new.self) c.program-ending.ensures.ending c.current-current.ensures c.count_write.ensures (λ (how : Ending). program_left how flash c.args.at c.args.block.now c.args.spare.now) flash (flash_of c.program-ending.new.self) (λ outcome b. refl) refl c.program-ending.ensures.flash old.unready;
-      settled = settled_after c.program-ending.result c.current-current.result _ (power_of old.supply) (power_of c.count_write.new.self) c.program-ending.ensures.ending c.current-current.ensures c.count_write.ensures (λ (how : Ending). disk_beside how disk) disk (disk_of c.settle_beside.new.disk) (λ outcome lba. refl) refl c.settle_beside.ensures.disk old.settled;
+      unready = unready_after c.program-ending.result c.current-current.result _ (power_of old.supply) (power_of c.count_write.new.self)
+          c.program-ending.ensures.ending c.current-current.ensures c.count_write.ensures (λ (how : Ending). program_left how flash c.args.at c.args.block.now c.args.spare.now) flash
+          (flash_of c.program-ending.new.self) (λ outcome b. refl) refl c.program-ending.ensures.flash old.unready;
+      settled = settled_after c.program-ending.result c.current-current.result _ (power_of old.supply) (power_of c.count_write.new.self)
+          c.program-ending.ensures.ending c.current-current.ensures c.count_write.ensures (λ (how : Ending). disk_beside how disk) disk (disk_of c.settle_beside.new.disk) (λ outcome lba. refl)
+          refl c.settle_beside.ensures.disk old.settled;
     }

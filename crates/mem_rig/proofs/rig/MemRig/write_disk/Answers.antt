@@ -16,8 +16,12 @@ invariant_of-self-2 c =
     let disk = disk_of old.disk in
     record {
       cuts_small = c.cuts_after-self.ensures.small old.cuts_small;
-      unready = unready_after c.in_ok-ending.ending c.current-current.result _ (power_of old.supply) (power_of c.count_write.new.self) c.in_ok-ending.ensures.ending c.current-current.ensures c.count_write.ensures (λ (how : Ending). flash_beside how flash) flash (flash_of c.stop_beside.new.nand) (λ outcome b. refl) refl c.stop_beside.ensures.flash old.unready;
-      settled = settled_after c.in_ok-ending.ending c.current-current.result _ (power_of old.supply) (power_of c.count_write.new.self) c.in_ok-ending.ensures.ending c.current-current.ensures c.count_write.ensures (λ (how : Ending). write_left how disk c.args.lba c.args.block.now) disk (disk_of c.write.new.self) (λ outcome lba. refl) refl c.in_ok-ending.ensures.disk old.settled;
+      unready = unready_after c.in_ok-ending.ending c.current-current.result _ (power_of old.supply) (power_of c.count_write.new.self)
+          c.in_ok-ending.ensures.ending c.current-current.ensures c.count_write.ensures (λ (how : Ending). flash_beside how flash) flash (flash_of c.stop_beside.new.nand) (λ outcome b. refl)
+          refl c.stop_beside.ensures.flash old.unready;
+      settled = settled_after c.in_ok-ending.ending c.current-current.result _ (power_of old.supply) (power_of c.count_write.new.self)
+          c.in_ok-ending.ensures.ending c.current-current.ensures c.count_write.ensures (λ (how : Ending). write_left how disk c.args.lba c.args.block.now) disk (disk_of c.write.new.self)
+          (λ outcome lba. refl) refl c.in_ok-ending.ensures.disk old.settled;
     }
 
 pub invariant_of-self : goal.invariant_of-self

@@ -9,7 +9,8 @@ pub returns-then-not-is_whole : goal.returns-then-not-is_whole
 returns-then-not-is_whole c =
     let m = c.args.map.now.entries in
     let has = has_sorted m c.in_ok-addresses.addresses.items c.sort.new.self.items c.deref-lba-items.result.now c.in_ok-sort.ensures.permutation c.deref-lba-items.ensures.value c.in_ok-addresses.ensures in
-    looked_damaged (page_in c.args.geometry.now c.args.pages.now) m c.deref-lba-items.result.now has c.loop-lba.lba-index c.loop-lba.invariant (rises c.sort.new.self.items c.deref-lba-items.result.now c.deref-lba-items.ensures.value c.in_ok-sort.ensures.sorted) _ c.loop-lba-test.true c.in-Some.at c.in-Some.field-0-1
+    looked_damaged (page_in c.args.geometry.now c.args.pages.now) m c.deref-lba-items.result.now has c.loop-lba.lba-index c.loop-lba.invariant
+    (rises c.sort.new.self.items c.deref-lba-items.result.now c.deref-lba-items.ensures.value c.in_ok-sort.ensures.sorted) _ c.loop-lba-test.true c.in-Some.at c.in-Some.field-0-1
     (sym c.in-Some.is ∙ c.place.ensures.place) (ap is_whole (sym c.page_at.ensures) ∙ sym c.is_whole.ensures ∙ c.if-not-is_whole.true)
 
 pub loop-lba-preserved : goal.loop-lba-preserved

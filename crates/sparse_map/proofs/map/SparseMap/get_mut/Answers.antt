@@ -23,7 +23,8 @@ invariant_of-self-lent g c =
 pub returns-in-Some : goal.returns-in-Some
 returns-in-Some g c =
     let ends = lent_ends c.self.inside c.args.self.now c.self.invariant c.self.view_is c.in-Some.seat.bucket c.args.key c.index_mut.result.now (ap (λ us. key_at (slots_of us) c.in-Some.seat.bucket) (sym c.as_slice.ensures.value) ∙ c.in-Some.ensures.found) c.index_mut.ensures.value in
-    let value = lent_value c.self.inside c.args.self.now c.self.invariant c.self.view_is c.in-Some.seat.bucket c.args.key c.index_mut.result.now (ap (λ us. key_at (slots_of us) c.in-Some.seat.bucket) (sym c.as_slice.ensures.value) ∙ c.in-Some.ensures.found) c.index_mut.ensures.value c.value_mut.result.now c.value_mut.ensures.value in
+    let value = lent_value c.self.inside c.args.self.now c.self.invariant c.self.view_is c.in-Some.seat.bucket c.args.key c.index_mut.result.now
+    (ap (λ us. key_at (slots_of us) c.in-Some.seat.bucket) (sym c.as_slice.ensures.value) ∙ c.in-Some.ensures.found) c.index_mut.ensures.value c.value_mut.result.now c.value_mut.ensures.value in
     ((refl, ends, refl), record { writes_back = tt; value = value })
 
 pub returns-in-None : goal.returns-in-None

@@ -5,7 +5,7 @@ use Rattle.sparse_map.specs.Slots.{slot_at, key_at}
 use Rattle.sparse_map.specs.Groups.{slots_of, small_groups}
 use Rattle.sparse_map.specs.Ranks.{IsRankOf}
 use Rattle.sparse_map.proofs.RankedLemmas.{key_found, free_found, rank_found, rank_free}
-use Rattle.sparse_map.specs.Kept.{IsKept}
+use Rattle.sparse_map.specs.Kept.{KeepsTable}
 use Rattle.sparse_map.specs.Places.{sizes_of, places_of, loose_of}
 use Rattle.sparse_map.specs.Probe.{IsFreeFor}
 use Rattle.sparse_map.proofs.SlotLemmas.{slot_of_key}
@@ -39,7 +39,7 @@ invariant_of-self g c =
     let long : length ws ≡ vec_len m.groups = c.replace-old.auto.groups ∙ c.as_mut_slice.ensures.len in
     let slots = c.replace-old.ensures.slots ∙ ap (λ us. set (slots_of us) c.in-Found.bucket (Some (c.args.key, c.args.value))) c.as_mut_slice.ensures.value in
     let has = ap (λ us. key_at (slots_of us) c.in-Found.bucket) (sym c.as_slice.ensures.value) ∙ (key_found (slots_of c.as_slice.result.now) c.args.key c.in-Found.bucket c.probe-spot.result.at c.probe-spot.ensures.place c.in-Found.is) in
-    subst (λ us. IsKept m.bits m.len m.spare (vec_len m.stock) us) (sym (written m.groups ws long))
+    subst (λ us. KeepsTable m.bits m.len m.spare (vec_len m.stock) us) (sym (written m.groups ws long))
     (kept_value m c.args.self.now c.self.invariant c.self.view_is ws c.in-Found.bucket c.args.key c.args.value slots has (c.replace-old.ensures.small ∙ ap small_groups c.as_mut_slice.ensures.value))
 
 pub put-grew-requires-clause-within : goal.put-grew-requires-clause-within
@@ -51,7 +51,8 @@ put-grew-requires-clause-within g c =
 pub put-grew-requires-clause-stocked : goal.put-grew-requires-clause-stocked
 put-grew-requires-clause-stocked g c =
     let m = c.self.inside in
-    let place : IsFreeFor (slots_of m.groups.items) c.args.key c.in-Free.bucket = subst (λ us. IsFreeFor (slots_of us) c.args.key c.in-Free.bucket) c.as_slice.ensures.value (free_found (slots_of c.as_slice.result.now) c.args.key c.in-Free.bucket c.probe-spot.result.at c.probe-spot.ensures.place c.in-Free.is) in
+    let place : IsFreeFor (slots_of m.groups.items) c.args.key c.in-Free.bucket = subst (λ us. IsFreeFor (slots_of us) c.args.key c.in-Free.bucket) c.as_slice.ensures.value
+    (free_found (slots_of c.as_slice.result.now) c.args.key c.in-Free.bucket c.probe-spot.result.at c.probe-spot.ensures.place c.in-Free.is) in
     let more = absent_needs_room m c.args.self.now c.self.invariant c.self.view_is c.args.key place.absent c.requires in
     let same : small_groups c.as_mut_slice-in-Free.result.now ≡ small_groups m.groups.items = ap small_groups c.as_mut_slice-in-Free.ensures.value in
     λ some. omega (arith, c.self.invariant.stocked, more, same)
@@ -59,7 +60,8 @@ put-grew-requires-clause-stocked g c =
 pub overflow_sub-self : goal.overflow_sub-self
 overflow_sub-self g c =
     let m = c.self.inside in
-    let place : IsFreeFor (slots_of m.groups.items) c.args.key c.in-Free.bucket = subst (λ us. IsFreeFor (slots_of us) c.args.key c.in-Free.bucket) c.as_slice.ensures.value (free_found (slots_of c.as_slice.result.now) c.args.key c.in-Free.bucket c.probe-spot.result.at c.probe-spot.ensures.place c.in-Free.is) in
+    let place : IsFreeFor (slots_of m.groups.items) c.args.key c.in-Free.bucket = subst (λ us. IsFreeFor (slots_of us) c.args.key c.in-Free.bucket) c.as_slice.ensures.value
+    (free_found (slots_of c.as_slice.result.now) c.args.key c.in-Free.bucket c.probe-spot.result.at c.probe-spot.ensures.place c.in-Free.is) in
     let more = absent_needs_room m c.args.self.now c.self.invariant c.self.view_is c.args.key place.absent c.requires in
     omega (arith, more)
 
@@ -69,10 +71,11 @@ invariant_of-self-in-Free g c =
     let ws = c.put-grew.new.groups in
     let long : length ws ≡ vec_len m.groups = c.put-grew.auto.groups ∙ c.as_mut_slice-in-Free.ensures.len in
     let slots = c.put-grew.ensures.slots ∙ ap (λ us. set (slots_of us) c.in-Free.bucket (Some (c.args.key, c.args.value))) c.as_mut_slice-in-Free.ensures.value in
-    let place : IsFreeFor (slots_of m.groups.items) c.args.key c.in-Free.bucket = subst (λ us. IsFreeFor (slots_of us) c.args.key c.in-Free.bucket) c.as_slice.ensures.value (free_found (slots_of c.as_slice.result.now) c.args.key c.in-Free.bucket c.probe-spot.result.at c.probe-spot.ensures.place c.in-Free.is) in
+    let place : IsFreeFor (slots_of m.groups.items) c.args.key c.in-Free.bucket = subst (λ us. IsFreeFor (slots_of us) c.args.key c.in-Free.bucket) c.as_slice.ensures.value
+    (free_found (slots_of c.as_slice.result.now) c.args.key c.in-Free.bucket c.probe-spot.result.at c.probe-spot.ensures.place c.in-Free.is) in
     let more = absent_needs_room m c.args.self.now c.self.invariant c.self.view_is c.args.key place.absent c.requires in
     let same : small_groups c.as_mut_slice-in-Free.result.now ≡ small_groups m.groups.items = ap small_groups c.as_mut_slice-in-Free.ensures.value in
-    subst (λ us. IsKept m.bits (m.len + 1) (m.spare - 1) (vec_len c.put-grew.new.stock) us) (sym (written m.groups ws long))
+    subst (λ us. KeepsTable m.bits (m.len + 1) (m.spare - 1) (vec_len c.put-grew.new.stock) us) (sym (written m.groups ws long))
     (kept_new_key m c.args.self.now c.self.invariant c.self.view_is ws c.in-Free.bucket c.args.key c.args.value slots (vec_len c.put-grew.new.stock) place more c.put-grew.ensures.one_less (omega (arith, c.put-grew.ensures.one_widened, same)))
 
 pub returns-in-Found-clause-old : goal.returns-in-Found-clause-old
@@ -107,7 +110,8 @@ returns-in-Found-clause-sound g c =
 pub returns-in-Free-clause-old : goal.returns-in-Free-clause-old
 returns-in-Free-clause-old g c =
     let m = c.self.inside in
-    let place : IsFreeFor (slots_of m.groups.items) c.args.key c.in-Free.bucket = subst (λ us. IsFreeFor (slots_of us) c.args.key c.in-Free.bucket) c.as_slice.ensures.value (free_found (slots_of c.as_slice.result.now) c.args.key c.in-Free.bucket c.probe-spot.result.at c.probe-spot.ensures.place c.in-Free.is) in
+    let place : IsFreeFor (slots_of m.groups.items) c.args.key c.in-Free.bucket = subst (λ us. IsFreeFor (slots_of us) c.args.key c.in-Free.bucket) c.as_slice.ensures.value
+    (free_found (slots_of c.as_slice.result.now) c.args.key c.in-Free.bucket c.probe-spot.result.at c.probe-spot.ensures.place c.in-Free.is) in
     sym (get_absent m c.args.self.now c.self.invariant c.self.view_is c.args.key place.absent)
 
 pub returns-in-Free-clause-map : goal.returns-in-Free-clause-map
@@ -116,7 +120,8 @@ returns-in-Free-clause-map g c =
     let ws = c.put-grew.new.groups in
     let long : length ws ≡ vec_len m.groups = c.put-grew.auto.groups ∙ c.as_mut_slice-in-Free.ensures.len in
     let slots = c.put-grew.ensures.slots ∙ ap (λ us. set (slots_of us) c.in-Free.bucket (Some (c.args.key, c.args.value))) c.as_mut_slice-in-Free.ensures.value in
-    let place : IsFreeFor (slots_of m.groups.items) c.args.key c.in-Free.bucket = subst (λ us. IsFreeFor (slots_of us) c.args.key c.in-Free.bucket) c.as_slice.ensures.value (free_found (slots_of c.as_slice.result.now) c.args.key c.in-Free.bucket c.probe-spot.result.at c.probe-spot.ensures.place c.in-Free.is) in
+    let place : IsFreeFor (slots_of m.groups.items) c.args.key c.in-Free.bucket = subst (λ us. IsFreeFor (slots_of us) c.args.key c.in-Free.bucket) c.as_slice.ensures.value
+    (free_found (slots_of c.as_slice.result.now) c.args.key c.in-Free.bucket c.probe-spot.result.at c.probe-spot.ensures.place c.in-Free.is) in
     map_new_key m c.args.self.now c.self.invariant c.self.view_is ws c.in-Free.bucket c.args.key c.args.value slots _ (ap slots_of (written m.groups ws long)) place
 
 pub returns-in-Free-clause-sound : goal.returns-in-Free-clause-sound
@@ -125,7 +130,8 @@ returns-in-Free-clause-sound g c =
     let ws = c.put-grew.new.groups in
     let long : length ws ≡ vec_len m.groups = c.put-grew.auto.groups ∙ c.as_mut_slice-in-Free.ensures.len in
     let slots = c.put-grew.ensures.slots ∙ ap (λ us. set (slots_of us) c.in-Free.bucket (Some (c.args.key, c.args.value))) c.as_mut_slice-in-Free.ensures.value in
-    let place : IsFreeFor (slots_of m.groups.items) c.args.key c.in-Free.bucket = subst (λ us. IsFreeFor (slots_of us) c.args.key c.in-Free.bucket) c.as_slice.ensures.value (free_found (slots_of c.as_slice.result.now) c.args.key c.in-Free.bucket c.probe-spot.result.at c.probe-spot.ensures.place c.in-Free.is) in
+    let place : IsFreeFor (slots_of m.groups.items) c.args.key c.in-Free.bucket = subst (λ us. IsFreeFor (slots_of us) c.args.key c.in-Free.bucket) c.as_slice.ensures.value
+    (free_found (slots_of c.as_slice.result.now) c.args.key c.in-Free.bucket c.probe-spot.result.at c.probe-spot.ensures.place c.in-Free.is) in
     let more = absent_needs_room m c.args.self.now c.self.invariant c.self.view_is c.args.key place.absent c.requires in
     let same : small_groups c.as_mut_slice-in-Free.result.now ≡ small_groups m.groups.items = ap small_groups c.as_mut_slice-in-Free.ensures.value in
     kept_sound m.bits (m.len + 1) (m.spare - 1) (vec_len c.put-grew.new.stock) ws

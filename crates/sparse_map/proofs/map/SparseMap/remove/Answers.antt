@@ -6,7 +6,7 @@ use Rattle.std.specs.FinMap.{find}
 use Rattle.sparse_map.specs.Slots.{slot_at, key_at, items_of}
 use Rattle.sparse_map.specs.Groups.{slots_of, small_groups}
 use Rattle.sparse_map.specs.Ranks.{IsRankOf}
-use Rattle.sparse_map.specs.Kept.{IsKept}
+use Rattle.sparse_map.specs.Kept.{KeepsTable}
 use Rattle.sparse_map.specs.Places.{sizes_of, places_of, loose_of}
 use Rattle.sparse_map.proofs.SlotLemmas.{slot_of_key, not_found}
 use Rattle.sparse_map.proofs.TableLemmas.{length-slots_of}
@@ -19,7 +19,9 @@ use Rattle.sparse_map.proofs.map.SparseMap.remove.Goals as goal
 
 pub returns-in_err-seat-clause-value : goal.returns-in_err-seat-clause-value
 returns-in_err-seat-clause-value g c =
-    c.from_residual.ensures ∙ sym (get-map_of c.args.self.now c.args.key ∙ not_found c.args.self.now.slots c.args.key (subst (λ s. (q : ℕ) → key_at s q ≢ Some c.args.key) (ap slots_of c.as_slice.ensures.value ∙ seen_slots c.self.inside c.args.self.now c.self.invariant c.self.view_is) c.in_err-seat.ensures.found))
+    c.from_residual.ensures ∙ sym (get-map_of c.args.self.now c.args.key ∙ not_found c.args.self.now.slots c.args.key
+    (subst (λ s. (q : ℕ) → key_at s q ≢ Some c.args.key) (ap slots_of c.as_slice.ensures.value ∙ seen_slots c.self.inside c.args.self.now c.self.invariant c.self.view_is)
+    c.in_err-seat.ensures.found))
 
 pub returns-in_err-seat-clause-map : goal.returns-in_err-seat-clause-map
 returns-in_err-seat-clause-map g c = absent_stays c.args.self.now c.args.key (subst (λ s. (q : ℕ) → key_at s q ≢ Some c.args.key) (ap slots_of c.as_slice.ensures.value ∙ seen_slots c.self.inside c.args.self.now c.self.invariant c.self.view_is) c.in_err-seat.ensures.found)
@@ -33,7 +35,7 @@ invariant_of-self g c =
     let ws = c.remove_at-value.new.groups in
     let long : length ws ≡ vec_len m.groups = c.remove_at-value.auto.groups ∙ c.as_mut_slice.ensures.len in
     let count : length (items_of (slots_of ws)) + 1 ≡ length (items_of (slots_of m.groups.items)) = c.remove_at-value.ensures.count ∙ ap (λ us. length (items_of (slots_of us))) c.as_mut_slice.ensures.value in
-    subst (λ us. IsKept m.bits (m.len - 1) m.spare (vec_len m.stock) us) (sym (written m.groups ws long))
+    subst (λ us. KeepsTable m.bits (m.len - 1) m.spare (vec_len m.stock) us) (sym (written m.groups ws long))
     (kept_removed m c.args.self.now c.self.invariant c.self.view_is ws long c.remove_at-value.ensures.packed count (c.remove_at-value.ensures.small ∙ ap small_groups c.as_mut_slice.ensures.value))
 
 pub returns-clause-value : goal.returns-clause-value

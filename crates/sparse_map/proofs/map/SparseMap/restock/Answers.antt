@@ -2,7 +2,7 @@ use Rattle.std.proofs.Common.{◌≡◌, ◌+◌, ◌*◌, ◌≤◌, min, lengt
 use Rattle.std.specs.Vec.{vec_len}
 use Rattle.sparse_map.specs.Groups.{slots_of}
 use Rattle.sparse_map.specs.Packed.{buckets_of}
-use Rattle.sparse_map.specs.Kept.{IsKept}
+use Rattle.sparse_map.specs.Kept.{KeepsTable}
 use Rattle.sparse_map.proofs.TableLemmas.{length-slots_of}
 use Rattle.sparse_map.proofs.ViewLemmas.{seen_len, seen_slots}
 use Rattle.sparse_map.proofs.ChangeLemmas.{written}
@@ -26,7 +26,7 @@ invariant_of-self-in_err-trim_grown g c =
     let written_long : length ws ≡ vec_len m.groups = c.trim_grown.auto.groups ∙ c.as_mut_slice.ensures.len in
     let long : length (slots_of m.groups.items) ≡ buckets_of t = ap length (seen_slots m t c.self.invariant c.self.view_is) in
     let stocked : min m.spare (length m.groups.items) ≤ vec_len c.add_blanks.new.stock = omega (arith, c.max-spare.ensures, c.in_ok-add_blanks.ensures.ok, c.min-wanted.ensures, c.groups.ensures.groups, length-slots_of m.groups.items, long) in
-    subst (λ us. IsKept m.bits m.len m.spare (vec_len c.add_blanks.new.stock) us) (sym (written m.groups ws written_long))
+    subst (λ us. KeepsTable m.bits m.len m.spare (vec_len c.add_blanks.new.stock) us) (sym (written m.groups ws written_long))
     (kept_same_slots m.bits m.len m.spare (vec_len m.stock) m.groups.items ws (vec_len c.add_blanks.new.stock) c.self.invariant
     (c.trim_grown.ensures.slots ∙ ap slots_of c.as_mut_slice.ensures.value) stocked)
 
@@ -41,7 +41,7 @@ invariant_of-self-2 g c =
     let long : length (slots_of m.groups.items) ≡ buckets_of t = ap length (seen_slots m t c.self.invariant c.self.view_is) in
     let room : 4 * (m.len + c.max-spare.result) ≤ 3 * length (slots_of m.groups.items) = omega (arith, c.max-spare.ensures, c.requires, len, long, c.self.invariant.room) in
     let stocked : min c.max-spare.result (length m.groups.items) ≤ blanks = omega (arith, c.truncate.ensures.len, c.in_ok-add_blanks.ensures.ok, c.min-wanted.ensures, c.groups.ensures.groups, length-slots_of m.groups.items, long) in
-    subst (λ us. IsKept m.bits m.len c.max-spare.result blanks us) (sym (written m.groups ws written_long))
+    subst (λ us. KeepsTable m.bits m.len c.max-spare.result blanks us) (sym (written m.groups ws written_long))
     (kept_same_slots m.bits m.len c.max-spare.result blanks m.groups.items ws blanks
     (kept_more_room m.bits m.len m.spare (vec_len m.stock) m.groups.items c.max-spare.result blanks c.self.invariant room stocked)
     (c.trim_grown.ensures.slots ∙ ap slots_of c.as_mut_slice.ensures.value) stocked)

@@ -9,7 +9,7 @@ use Rattle.sparse_map.specs.declared.table.Grown.TheVariants.{Nowhere}
 use Rattle.sparse_map.specs.Slots.{items_of}
 use Rattle.sparse_map.specs.Groups.{slots_of}
 use Rattle.sparse_map.specs.Packed.{buckets_of}
-use Rattle.sparse_map.specs.Kept.{IsKept}
+use Rattle.sparse_map.specs.Kept.{KeepsTable}
 use Rattle.sparse_map.specs.Places.{sizes_of, places_of, loose_of}
 use Rattle.sparse_map.specs.Seen.{seen_of}
 use Rattle.sparse_map.proofs.TableLemmas.{length-slots_of}
@@ -54,7 +54,7 @@ invariant_of-self g c =
     let len = seen_len m t c.self.invariant c.self.view_is in
     let size : length (slots_of ws) ≡ 2 ^ c.args.bits = length-slots_of ws ∙ omega (arith, long, c.in_ok-groups.ensures.count) in
     let before : length (slots_of m.groups.items) ≡ buckets_of t = ap length (seen_slots m t c.self.invariant c.self.view_is) in
-    subst (λ us. IsKept c.args.bits m.len c.max-spare.result (vec_len c.add_blanks.new.stock) us) (sym (written new ws long))
+    subst (λ us. KeepsTable c.args.bits m.len c.max-spare.result (vec_len c.add_blanks.new.stock) us) (sym (written new ws long))
     (kept_groups c.args.bits m.len c.max-spare.result (vec_len c.add_blanks.new.stock) ws c.requires.many c.requires.few size w.packed
     (c.self.invariant.counted ∙ sym w.count)
     (omega (arith, c.requires.room, c.requires.wider, c.max-spare.ensures, len, before, c.self.invariant.room))
@@ -95,7 +95,7 @@ returns-clause-memory g c =
     let len = seen_len m t c.self.invariant c.self.view_is in
     let size : length (slots_of ws) ≡ 2 ^ c.args.bits = length-slots_of ws ∙ omega (arith, long, c.in_ok-groups.ensures.count) in
     let before : length (slots_of m.groups.items) ≡ buckets_of t = ap length (seen_slots m t c.self.invariant c.self.view_is) in
-    let kept : IsKept c.args.bits m.len c.max-spare.result (vec_len c.add_blanks.new.stock) ws =
+    let kept : KeepsTable c.args.bits m.len c.max-spare.result (vec_len c.add_blanks.new.stock) ws =
     kept_groups c.args.bits m.len c.max-spare.result (vec_len c.add_blanks.new.stock) ws c.requires.many c.requires.few size w.packed
     (c.self.invariant.counted ∙ sym w.count)
     (omega (arith, c.requires.room, c.requires.wider, c.max-spare.ensures, len, before, c.self.invariant.room))
@@ -129,7 +129,7 @@ returns-clause-sound g c =
     let len = seen_len m t c.self.invariant c.self.view_is in
     let size : length (slots_of ws) ≡ 2 ^ c.args.bits = length-slots_of ws ∙ omega (arith, long, c.in_ok-groups.ensures.count) in
     let before : length (slots_of m.groups.items) ≡ buckets_of t = ap length (seen_slots m t c.self.invariant c.self.view_is) in
-    let kept : IsKept c.args.bits m.len c.max-spare.result (vec_len c.add_blanks.new.stock) ws =
+    let kept : KeepsTable c.args.bits m.len c.max-spare.result (vec_len c.add_blanks.new.stock) ws =
     kept_groups c.args.bits m.len c.max-spare.result (vec_len c.add_blanks.new.stock) ws c.requires.many c.requires.few size w.packed
     (c.self.invariant.counted ∙ sym w.count)
     (omega (arith, c.requires.room, c.requires.wider, c.max-spare.ensures, len, before, c.self.invariant.room))

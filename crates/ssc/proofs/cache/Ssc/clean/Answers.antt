@@ -20,7 +20,9 @@ pub returns-in-Ok-clause-done : goal.returns-in-Ok-clause-done
 returns-in-Ok-clause-done g c = λ s holds.
     let old = (g.M.Media.state c.args.media.now).contents in
     let h = dirty_entry c.args.self.now old s c.args.lba holds (c.if-not-is_dirty.ensures.0 refl) in
-    holds_cleaned s c.args.lba h.0 h.1 c.args.self.now _ old (g.M.Media.state c.mark_clean.new.media).contents holds (record { agree = c.in-Ok.ensures.agree; memory = λ ready. c.mark_clean.ensures.reserved (holds.memory ready) }) c.in-Ok.ensures.room (c.in-Ok.ensures.lists s (undo (pending c.args.self.now) s) holds.lists)
+    holds_cleaned s c.args.lba h.0 h.1 c.args.self.now _ old (g.M.Media.state c.mark_clean.new.media).contents holds
+    (record { agree = c.in-Ok.ensures.agree; memory = λ ready. c.mark_clean.ensures.reserved (holds.memory ready) }) c.in-Ok.ensures.room
+    (c.in-Ok.ensures.lists s (undo (pending c.args.self.now) s) holds.lists)
 
 pub returns-in-Ok-clause-of_dirty : goal.returns-in-Ok-clause-of_dirty
 returns-in-Ok-clause-of_dirty g c = λ s b holds dirty.

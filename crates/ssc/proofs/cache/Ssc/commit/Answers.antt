@@ -12,7 +12,11 @@ returns-in-Ok-clause-nothing g c = λ none. let n = c.in-Ok.ensures.nothing (wai
 
 pub returns-in-Ok-clause-done : goal.returns-in-Ok-clause-done
 returns-in-Ok-clause-done g c = λ s holds.
-    holds_committed _ (g.M.Media.state c.commit.new.media).contents s (record { agree = c.in-Ok.ensures.agree; memory = λ ready. memory_logged c.args.self.now.parts c.commit.new.cache c.commit.ensures.cache (holds.memory ready) }) c.in-Ok.ensures.nothing_waits (c.in-Ok.ensures.lists s (undo (pending c.args.self.now) s) holds.lists)
+    holds_committed _ (g.M.Media.state c.commit.new.media).contents s (record {
+      agree = c.in-Ok.ensures.agree;
+      memory = λ ready. memory_logged c.args.self.now.parts c.commit.new.cache c.commit.ensures.cache (holds.memory ready);
+    }) c.in-Ok.ensures.nothing_waits
+    (c.in-Ok.ensures.lists s (undo (pending c.args.self.now) s) holds.lists)
 
 pub returns-in-Ok-clause-images : goal.returns-in-Ok-clause-images
 returns-in-Ok-clause-images g c = λ s holds. images_before (geometry_of c.args.self.now) (g.M.Media.state c.commit.new.media).contents (undo (pending c.args.self.now) s) s s (c.commit.ensures.stands s (undo (pending c.args.self.now) s) holds.lists)

@@ -17,7 +17,9 @@ take_out-requires-clause-few g c = few_buffered c.args.self.now (g.M.Media.state
 
 pub returns-in-Ok-clause-done : goal.returns-in-Ok-clause-done
 returns-in-Ok-clause-done g c = λ s holds.
-    holds_committed _ (g.M.Media.state c.take_out.new.media).contents (evicted c.args.lba s) (record { agree = c.in-Ok.ensures.agree; memory = λ ready. c.take_out.ensures.reserved (holds.memory ready) }) c.in-Ok.ensures.nothing_waits (c.in-Ok.ensures.lists s (undo (pending c.args.self.now) s) holds.lists)
+    holds_committed _ (g.M.Media.state c.take_out.new.media).contents (evicted c.args.lba s)
+    (record { agree = c.in-Ok.ensures.agree; memory = λ ready. c.take_out.ensures.reserved (holds.memory ready) }) c.in-Ok.ensures.nothing_waits
+    (c.in-Ok.ensures.lists s (undo (pending c.args.self.now) s) holds.lists)
 
 pub returns-in-Ok-clause-absent : goal.returns-in-Ok-clause-absent
 returns-in-Ok-clause-absent g c = λ s holds none.

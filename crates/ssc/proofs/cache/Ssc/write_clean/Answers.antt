@@ -25,13 +25,17 @@ put_clean-requires-clause-few g c = few_buffered c.reserve.new.self (g.M.Media.s
 pub returns-in-Ok-clause-done : goal.returns-in-Ok-clause-done
 returns-in-Ok-clause-done g c = λ s holds. written_from c.reserve.new.self.parts _ (g.M.Media.state c.put_clean.new.media).contents s c.args.lba (written_clean c.args.lba c.args.block.now) c.put_clean.ensures.geometry
     (left_clean c.reserve.new.self _ (g.M.Media.state c.args.media.now).contents (g.M.Media.state c.put_clean.new.media).contents s c.args.lba c.args.block.now (c.reserve.ensures.holds (g.M.Media.state c.args.media.now).contents s holds)
-    (settled_unready c.put_clean.new.self (g.M.Media.state c.put_clean.new.media).contents (ap (λ (v : Ssc). v.ready) c.put_clean.ensures.cache) c.in-Ok.ensures.agree) c.in-Ok.ensures.few c.in-Ok.ensures.over_held (held_none c.reserve.new.self (g.M.Media.state c.args.media.now).contents s c.args.lba (c.reserve.ensures.holds (g.M.Media.state c.args.media.now).contents s holds))
+    (settled_unready c.put_clean.new.self (g.M.Media.state c.put_clean.new.media).contents (ap (λ (v : Ssc). v.ready) c.put_clean.ensures.cache) c.in-Ok.ensures.agree)
+    c.in-Ok.ensures.few c.in-Ok.ensures.over_held (held_none c.reserve.new.self (g.M.Media.state c.args.media.now).contents s c.args.lba
+    (c.reserve.ensures.holds (g.M.Media.state c.args.media.now).contents s holds))
     (c.in-Ok.ensures.lists s (undo (pending c.reserve.new.self) s) (c.reserve.ensures.holds (g.M.Media.state c.args.media.now).contents s holds).lists))
 
 pub returns-in-Ok-clause-inside : goal.returns-in-Ok-clause-inside
 returns-in-Ok-clause-inside g c = λ room s holds. inside_from c.reserve.new.self.parts _ (g.M.Media.state c.put_clean.new.media).contents s (written_clean c.args.lba c.args.block.now) (inl (room_left c.args.self.now c.reserve.new.self c.reserve.ensures.parts room))
     (left_clean c.reserve.new.self _ (g.M.Media.state c.args.media.now).contents (g.M.Media.state c.put_clean.new.media).contents s c.args.lba c.args.block.now (c.reserve.ensures.holds (g.M.Media.state c.args.media.now).contents s holds)
-    (settled_unready c.put_clean.new.self (g.M.Media.state c.put_clean.new.media).contents (ap (λ (v : Ssc). v.ready) c.put_clean.ensures.cache) c.in-Ok.ensures.agree) c.in-Ok.ensures.few c.in-Ok.ensures.over_held (held_none c.reserve.new.self (g.M.Media.state c.args.media.now).contents s c.args.lba (c.reserve.ensures.holds (g.M.Media.state c.args.media.now).contents s holds))
+    (settled_unready c.put_clean.new.self (g.M.Media.state c.put_clean.new.media).contents (ap (λ (v : Ssc). v.ready) c.put_clean.ensures.cache) c.in-Ok.ensures.agree)
+    c.in-Ok.ensures.few c.in-Ok.ensures.over_held (held_none c.reserve.new.self (g.M.Media.state c.args.media.now).contents s c.args.lba
+    (c.reserve.ensures.holds (g.M.Media.state c.args.media.now).contents s holds))
     (c.in-Ok.ensures.lists s (undo (pending c.reserve.new.self) s) (c.reserve.ensures.holds (g.M.Media.state c.args.media.now).contents s holds).lists))
 
 pub returns-in-Ok-clause-over_held : goal.returns-in-Ok-clause-over_held
@@ -40,12 +44,15 @@ returns-in-Ok-clause-over_held g c = λ s holds held. over_held c.reserve.new.se
 pub returns-in-Ok-clause-at_absent : goal.returns-in-Ok-clause-at_absent
 returns-in-Ok-clause-at_absent g c = λ s holds absent.
     subst (λ q. PendsWith q (pending c.put_clean.new.self) (Inserted c.args.lba)) c.reserve.ensures.pending
-    (pends_written c.reserve.new.self c.put_clean.new.self (g.M.Media.state c.put_clean.new.media).contents s (undo (pending c.reserve.new.self) s) c.args.lba c.args.block.now (c.in-Ok.ensures.lists s (undo (pending c.reserve.new.self) s) (c.reserve.ensures.holds (g.M.Media.state c.args.media.now).contents s holds).lists))
+    (pends_written c.reserve.new.self c.put_clean.new.self (g.M.Media.state c.put_clean.new.media).contents s (undo (pending c.reserve.new.self) s) c.args.lba c.args.block.now
+    (c.in-Ok.ensures.lists s (undo (pending c.reserve.new.self) s) (c.reserve.ensures.holds (g.M.Media.state c.args.media.now).contents s holds).lists))
 
 pub returns-in-Ok-clause-one_program : goal.returns-in-Ok-clause-one_program
 returns-in-Ok-clause-one_program g c = λ s holds absent room few.
     one_pends c.args.self.now c.reserve.new.self c.put_clean.new.self c.args.lba _ _ (ap (λ (p : Parts). p.log) c.reserve.ensures.parts)
-    (c.in-Ok.ensures.one_program (none_of_absent c.reserve.new.self (g.M.Media.state c.args.media.now).contents s c.args.lba (c.reserve.ensures.holds (g.M.Media.state c.args.media.now).contents s holds) absent) (room_left c.args.self.now c.reserve.new.self c.reserve.ensures.parts room) (few_left c.args.self.now c.reserve.new.self c.reserve.ensures.parts few))
+    (c.in-Ok.ensures.one_program (none_of_absent c.reserve.new.self (g.M.Media.state c.args.media.now).contents s c.args.lba
+    (c.reserve.ensures.holds (g.M.Media.state c.args.media.now).contents s holds) absent) (room_left c.args.self.now c.reserve.new.self c.reserve.ensures.parts room)
+    (few_left c.args.self.now c.reserve.new.self c.reserve.ensures.parts few))
 
 pub returns-in-Ok-clause-images : goal.returns-in-Ok-clause-images
 returns-in-Ok-clause-images g c = λ s holds.
@@ -63,7 +70,9 @@ returns-in-Err-clause-drives g c = drives_given_up (Unit {0}) (g.M.Media.state c
 pub returns-in-Ok-clause-kept : goal.returns-in-Ok-clause-kept
 returns-in-Ok-clause-kept g c = λ room s holds. inside_from c.reserve.new.self.parts _ (g.M.Media.state c.put_clean.new.media).contents s (written_clean c.args.lba c.args.block.now) (log_room_left c.args.self.now c.reserve.new.self c.reserve.ensures.parts c.reserve.ensures.entries room)
     (left_clean c.reserve.new.self _ (g.M.Media.state c.args.media.now).contents (g.M.Media.state c.put_clean.new.media).contents s c.args.lba c.args.block.now (c.reserve.ensures.holds (g.M.Media.state c.args.media.now).contents s holds)
-    (settled_unready c.put_clean.new.self (g.M.Media.state c.put_clean.new.media).contents (ap (λ (v : Ssc). v.ready) c.put_clean.ensures.cache) c.in-Ok.ensures.agree) c.in-Ok.ensures.few c.in-Ok.ensures.over_held (held_none c.reserve.new.self (g.M.Media.state c.args.media.now).contents s c.args.lba (c.reserve.ensures.holds (g.M.Media.state c.args.media.now).contents s holds))
+    (settled_unready c.put_clean.new.self (g.M.Media.state c.put_clean.new.media).contents (ap (λ (v : Ssc). v.ready) c.put_clean.ensures.cache) c.in-Ok.ensures.agree)
+    c.in-Ok.ensures.few c.in-Ok.ensures.over_held (held_none c.reserve.new.self (g.M.Media.state c.args.media.now).contents s c.args.lba
+    (c.reserve.ensures.holds (g.M.Media.state c.args.media.now).contents s holds))
     (c.in-Ok.ensures.lists s (undo (pending c.reserve.new.self) s) (c.reserve.ensures.holds (g.M.Media.state c.args.media.now).contents s holds).lists))
 
 pub returns-in-Ok-clause-kept_images : goal.returns-in-Ok-clause-kept_images

@@ -23,5 +23,7 @@ returns-clause-sink g c = λ is. (
   λ s b e came.
       let same : c.finalize-digest.result ≡ sha256 (told_bytes e) = c.finalize-digest.ensures (told_bytes e) (subst (λ h. Holds256 h (told_bytes e)) (sym c.in-Ok.ensures.cases) came.1) in
       subst (λ (d : List ℕ). BrokeStream b (g.O.Sink.state c.say.new.sink) e (Took (answer.End c.args.writes c.args.reads c.args.touched d))) same
-      (came_broke _ _ _ s b e came.0 (g.O.Sink.state c.say.new.sink) (answer.End c.args.writes c.args.reads c.args.touched c.finalize-digest.result) (sink_part c.say.result (g.O.Sink.state c.args.self.now.sink.now) (g.O.Sink.state c.say.new.sink) (answer.End c.args.writes c.args.reads c.args.touched c.finalize-digest.result) is c.say.ensures.part)),
+      (came_broke _ _ _ s b e came.0 (g.O.Sink.state c.say.new.sink) (answer.End c.args.writes c.args.reads c.args.touched c.finalize-digest.result)
+      (sink_part c.say.result (g.O.Sink.state c.args.self.now.sink.now) (g.O.Sink.state c.say.new.sink) (answer.End c.args.writes c.args.reads c.args.touched c.finalize-digest.result)
+      is c.say.ensures.part)),
 )

@@ -6,13 +6,19 @@ use Rattle.write_back.specs.Left.{state_of}
 use Rattle.write_back.proofs.volume.WriteBackVolume.flush.Goals as goal
 
 pub returns-in-Ok-clause-disk : goal.returns-in-Ok-clause-disk
-returns-in-Ok-clause-disk g c = done_through ImageIs Loads (state_of c.args.self.now) (state_of c.bring_up.new.self) (state_of (record { disk = c.flush.new.self; dirty = c.bring_up.new.self.dirty })) (g.R.Media.state c.args.rig.now) (g.R.Media.state c.bring_up.new.media) (g.R.Media.state c.flush.new.media) tt c.in-Ok.ensures.comes c.flush.result Flushes (c.flush.ensures.was c.bring_up.new.self.dirty.order)
+returns-in-Ok-clause-disk g c = done_through ImageIs Loads (state_of c.args.self.now) (state_of c.bring_up.new.self) (state_of (record { disk = c.flush.new.self; dirty = c.bring_up.new.self.dirty }))
+    (g.R.Media.state c.args.rig.now) (g.R.Media.state c.bring_up.new.media) (g.R.Media.state c.flush.new.media) tt c.in-Ok.ensures.comes c.flush.result Flushes
+    (c.flush.ensures.was c.bring_up.new.self.dirty.order)
 
 pub returns-in-Ok-clause-goes : goal.returns-in-Ok-clause-goes
-returns-in-Ok-clause-goes g c = goes_through ImageIs Loads (state_of c.args.self.now) (state_of c.bring_up.new.self) (state_of (record { disk = c.flush.new.self; dirty = c.bring_up.new.self.dirty })) (g.R.Media.state c.args.rig.now) (g.R.Media.state c.bring_up.new.media) (g.R.Media.state c.flush.new.media) tt c.in-Ok.ensures.comes c.flush.result (c.flush.ensures.goes c.bring_up.new.self.dirty.order)
+returns-in-Ok-clause-goes g c = goes_through ImageIs Loads (state_of c.args.self.now) (state_of c.bring_up.new.self) (state_of (record { disk = c.flush.new.self; dirty = c.bring_up.new.self.dirty }))
+    (g.R.Media.state c.args.rig.now) (g.R.Media.state c.bring_up.new.media) (g.R.Media.state c.flush.new.media) tt c.in-Ok.ensures.comes c.flush.result
+    (c.flush.ensures.goes c.bring_up.new.self.dirty.order)
 
 pub returns-in-Ok-clause-costs : goal.returns-in-Ok-clause-costs
-returns-in-Ok-clause-costs g c = λ m has. costs_through ImageIs Loads (state_of c.args.self.now) (state_of c.bring_up.new.self) (state_of (record { disk = c.flush.new.self; dirty = c.bring_up.new.self.dirty })) (g.R.Media.state c.args.rig.now) (g.R.Media.state c.bring_up.new.media) (g.R.Media.state c.flush.new.media) tt c.in-Ok.ensures.comes c.flush.result Flushes m has (c.flush.ensures.costs c.bring_up.new.self.dirty.order)
+returns-in-Ok-clause-costs g c = λ m has. costs_through ImageIs Loads (state_of c.args.self.now) (state_of c.bring_up.new.self)
+    (state_of (record { disk = c.flush.new.self; dirty = c.bring_up.new.self.dirty })) (g.R.Media.state c.args.rig.now) (g.R.Media.state c.bring_up.new.media) (g.R.Media.state c.flush.new.media)
+    tt c.in-Ok.ensures.comes c.flush.result Flushes m has (c.flush.ensures.costs c.bring_up.new.self.dirty.order)
 
 pub returns-in-Err-clause-disk : goal.returns-in-Err-clause-disk
 returns-in-Err-clause-disk g c = done_refused ImageIs Loads Flushes (state_of c.args.self.now) (state_of c.bring_up.new.self) (g.R.Media.state c.args.rig.now) (g.R.Media.state c.bring_up.new.media) c.in-Err.error c.in-Err.ensures.comes

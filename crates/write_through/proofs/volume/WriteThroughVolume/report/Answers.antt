@@ -12,13 +12,16 @@ use Rattle.write_through.specs.Left.{state_of}
 use Rattle.write_through.proofs.volume.WriteThroughVolume.report.Goals as goal
 
 pub returns-in-Ok-clause-disk : goal.returns-in-Ok-clause-disk
-returns-in-Ok-clause-disk g c = done_through ImageIs Loads (state_of c.args.self.now) (state_of c.bring_up.new.self) (state_in [] c.report.new.self) (g.R.Media.state c.args.rig.now) (g.R.Media.state c.bring_up.new.media) (g.R.Media.state c.report.new.media) tt c.in-Ok.ensures.comes c.report.result Reports (c.report.ensures.was [])
+returns-in-Ok-clause-disk g c = done_through ImageIs Loads (state_of c.args.self.now) (state_of c.bring_up.new.self) (state_in [] c.report.new.self) (g.R.Media.state c.args.rig.now)
+    (g.R.Media.state c.bring_up.new.media) (g.R.Media.state c.report.new.media) tt c.in-Ok.ensures.comes c.report.result Reports (c.report.ensures.was [])
 
 pub returns-in-Ok-clause-goes : goal.returns-in-Ok-clause-goes
-returns-in-Ok-clause-goes g c = goes_through ImageIs Loads (state_of c.args.self.now) (state_of c.bring_up.new.self) (state_in [] c.report.new.self) (g.R.Media.state c.args.rig.now) (g.R.Media.state c.bring_up.new.media) (g.R.Media.state c.report.new.media) tt c.in-Ok.ensures.comes c.report.result (c.report.ensures.goes [])
+returns-in-Ok-clause-goes g c = goes_through ImageIs Loads (state_of c.args.self.now) (state_of c.bring_up.new.self) (state_in [] c.report.new.self) (g.R.Media.state c.args.rig.now)
+    (g.R.Media.state c.bring_up.new.media) (g.R.Media.state c.report.new.media) tt c.in-Ok.ensures.comes c.report.result (c.report.ensures.goes [])
 
 pub returns-in-Ok-clause-costs : goal.returns-in-Ok-clause-costs
-returns-in-Ok-clause-costs g c = λ m has. costs_through ImageIs Loads (state_of c.args.self.now) (state_of c.bring_up.new.self) (state_in [] c.report.new.self) (g.R.Media.state c.args.rig.now) (g.R.Media.state c.bring_up.new.media) (g.R.Media.state c.report.new.media) tt c.in-Ok.ensures.comes c.report.result Reports m has (c.report.ensures.costs [])
+returns-in-Ok-clause-costs g c = λ m has. costs_through ImageIs Loads (state_of c.args.self.now) (state_of c.bring_up.new.self) (state_in [] c.report.new.self) (g.R.Media.state c.args.rig.now)
+    (g.R.Media.state c.bring_up.new.media) (g.R.Media.state c.report.new.media) tt c.in-Ok.ensures.comes c.report.result Reports m has (c.report.ensures.costs [])
 
 pub returns-in-Ok-clause-report : goal.returns-in-Ok-clause-report
 returns-in-Ok-clause-report g c =
