@@ -1,5 +1,5 @@
 -- What a command leaves of the two lists.
-use Rattle.std.proofs.Common.{◌≡◌, ◌⊎◌, ℕ, ◌==◌, Bool, true, false, cond, List, [], ◌∷◌, Option, Some, None, Result, Ok, Err, OnOk, IfOk, refl, sym, ◌∙◌, ap, subst, inl, inr}
+use Rattle.std.proofs.Common.{◌≡◌, ◌⊎◌, ℕ, ◌==◌, Bool, true, false, cond, List, [], ◌∷◌, ◌++◌, Option, Some, None, Result, Ok, Err, OnOk, IfOk, refl, sym, ◌∙◌, ap, subst, inl, inr}
 use Rattle.std.specs.FinMap.{get}
 use Rattle.std.proofs.lemmas.Bool.{cases_Bool, false≢true}
 use Rattle.ft_base.specs.declared.block.Block.{Block}
@@ -15,7 +15,7 @@ use Rattle.ssc.specs.declared.error.SscError.TheVariants as error
 use Rattle.ssc.specs.Errors.{stops}
 use Rattle.ssc.specs.declared.cache.Ssc.{Ssc}
 use Rattle.ssc.specs.CacheState.{Holds, IsUp, geometry_of, pending}
-use Rattle.ssc.specs.Commands.{FlashStandsForOne, ImagesOf, FlashStandsForWrite, ImagesOfWrite, HoldsWritten, FullExactly, PendsWith, IsHeldIn}
+use Rattle.ssc.specs.Commands.{FlashStandsForOne, ImagesOf, FlashStandsForWrite, ImagesOfWrite, HoldsWritten, FullExactly, PendsWith, IsDirtyIn, IsHeldIn}
 use Rattle.ssc.specs.Commands.FlashStandsForOne.{AsUndone, AsBefore, AsAfter}
 use Rattle.ssc.specs.Commands.FlashStandsForWrite.{AsUndone, AsLeft, AsWritten}
 use Rattle.ssc.proofs.CommandLemmas.{evicted_absent}
@@ -90,11 +90,15 @@ loses_undone g q s lba v van a = elim (vanished_at g s lba v van a) [
 none_undone : (d : Ssc) → pending d ≡ [] → (s : CacheList) → undo (pending d) s ≡ s
 none_undone d none s = ap (λ (q : List Buffered). undo q s) none
 
-not_both : (k b : Block) → Some (held k false) ≡ Some (held b true) → ⊥
-not_both k b both = let same : held k false ≡ held b true = cc in false≢true (ap (λ (h : Held). h.dirty) same)
+-- what is held dirty isn't held clean, and is held
+not_clean : (s : CacheList) (a : ℕ) → IsDirtyIn s a → (k : Held) → get s a ≡ Some k → k.dirty ≡ false → ⊥
+not_clean s a dirty k at clean =
+    let both : Some k ≡ Some dirty.0 = sym at ∙ dirty.1 in
+    let same : k ≡ dirty.0 = cc in
+    false≢true (sym clean ∙ ap (λ (x : Held). x.dirty) same ∙ dirty.2)
 
-none_not_held : (b : Block) → None ≡ Some (held b true) → ⊥
-none_not_held b both = cc
+not_none : (s : CacheList) (a : ℕ) → IsDirtyIn s a → get s a ≡ None → ⊥
+not_none s a dirty none = let both : None ≡ Some dirty.0 = sym none ∙ dirty.1 in cc
 
 module _ (c d : Ssc) (contents contents' : Contents) (kind : Kind) (lba : ℕ) (block : Block) where
   -- a command of this kind, where it is the kind that was given
@@ -177,18 +181,21 @@ module _ (c d : Ssc) (contents contents' : Contents) (kind : Kind) (lba : ℕ) (
       by s h (Some k) at = inr (inr (none_undone d (held s h (k, at)) (evicted lba s)))
 
   -- a clean of a dirty address, buffered or committed
-  cleaned : (s : CacheList) (b : Block) → Holds c contents s → get s lba ≡ Some (held b true) → PendsWith (pending c) (pending d) (Cleaned lba)
+  cleaned : (s : CacheList) → Holds c contents s → IsDirtyIn s lba → PendsWith (pending c) (pending d) (Cleaned lba)
       → LosesOf (pending c) s s (undo (pending d) (made_clean lba s)) ⊎ (undo (pending d) (made_clean lba s) ≡ s) ⊎ (undo (pending d) (made_clean lba s) ≡ made_clean lba s)
-  cleaned s b h dirty (inl e) = inl (loses_none (pending c) s (undo (pending d) (made_clean lba s)) (ap (λ (q : List Buffered). undo q (made_clean lba s)) e ∙ undo_cleaned (pending c) s lba b dirty (undone_away (pending c) lba (not_waiting (pending c) s lba never h.waits.clean))))
+  cleaned s h dirty (inl e) = inl (loses_none (pending c) s (undo (pending d) (made_clean lba s)) (ap (λ (q : List Buffered). undo q (made_clean lba s)) e ∙ undone))
     where
-      never : (k : Block) → get s lba ≡ Some (held k false) → ⊥
-      never k clean = not_both k b (sym clean ∙ dirty)
-  cleaned s b h dirty (inr (inl e)) = inr (inl (ap (λ (q : List Buffered). undo q (made_clean lba s)) e ∙ undo_cleaned [] s lba b dirty (λ o. refl)))
-  cleaned s b h dirty (inr (inr e)) = inr (inr (none_undone d e (made_clean lba s)))
+      spelled : get s lba ≡ Some (held dirty.0.block dirty.0.spare true)
+      spelled = dirty.1 ∙ ap (λ m. Some (held dirty.0.block dirty.0.spare m)) dirty.2
+
+      undone : undo (pending c ++ Cleaned lba ∷ []) (made_clean lba s) ≡ undo (pending c) s
+      undone = undo_cleaned (pending c) s lba dirty.0.block dirty.0.spare spelled (undone_away (pending c) lba (not_waiting (pending c) s lba (not_clean s lba dirty) h.waits.clean))
+  cleaned s h dirty (inr (inl e)) = inr (inl (ap (λ (q : List Buffered). undo q (made_clean lba s)) e ∙ undo_cleaned [] s lba dirty.0.block dirty.0.spare (dirty.1 ∙ ap (λ m. Some (held dirty.0.block dirty.0.spare m)) dirty.2) (λ o. refl)))
+  cleaned s h dirty (inr (inr e)) = inr (inr (none_undone d e (made_clean lba s)))
 
   pub clean_answer : {T : Type 0} (r : Result T SscError) (same : Type 0) → kind ≡ kinds.Clean → OnOk r ((s : CacheList) → Holds c contents s → Holds d contents' (made_clean lba s))
-      → OnOk r ((s : CacheList) (b : Block) → Holds c contents s → get s lba ≡ Some (held b true) → PendsWith (pending c) (pending d) (Cleaned lba))
-      → OnOk r ((s : CacheList) → Holds c contents s → ((b : Block) → get s lba ≡ Some (held b true) → ⊥) → (d ≡ c) × same) → OnOk r (IsAnswer c d contents contents' (given kind lba block))
+      → OnOk r ((s : CacheList) → Holds c contents s → IsDirtyIn s lba → PendsWith (pending c) (pending d) (Cleaned lba))
+      → OnOk r ((s : CacheList) → Holds c contents s → (IsDirtyIn s lba → ⊥) → (d ≡ c) × same) → OnOk r (IsAnswer c d contents contents' (given kind lba block))
   clean_answer (Err e) same is done dirty other = tt
   clean_answer (Ok v) same is done dirty other = of_kind kinds.Clean is (λ s h. record {
     left = s;
@@ -198,23 +205,14 @@ module _ (c d : Ssc) (contents contents' : Contents) (kind : Kind) (lba : ℕ) (
     at_once = λ t. absurd t;
   })
     where
-      as_before : (s : CacheList) → Holds c contents s → ((b : Block) → get s lba ≡ Some (held b true) → ⊥) → made_clean lba s ≡ s → LosesOf (pending c) s s (undo (pending d) (made_clean lba s))
+      as_before : (s : CacheList) → Holds c contents s → (IsDirtyIn s lba → ⊥) → made_clean lba s ≡ s → LosesOf (pending c) s s (undo (pending d) (made_clean lba s))
       as_before s h never is = loses_none (pending c) s (undo (pending d) (made_clean lba s)) (ap (λ (v : Ssc). undo (pending v) (made_clean lba s)) (other s h never).0 ∙ ap (undo (pending c)) is)
 
-      never_none : (s : CacheList) → get s lba ≡ None → (b : Block) → get s lba ≡ Some (held b true) → ⊥
-      never_none s at b dirty = none_not_held b (sym at ∙ dirty)
-
-      never_clean : (s : CacheList) (k b : Block) → get s lba ≡ Some (held k false) → get s lba ≡ Some (held b true) → ⊥
-      never_clean s k b at dirty = not_both k b (sym at ∙ dirty)
-
-      marked_at : (s : CacheList) (k : Held) (b : Bool) → get s lba ≡ Some k → k.dirty ≡ b → get s lba ≡ Some (held k.block b)
-      marked_at s k b at is = at ∙ ap (λ m. Some (held k.block m)) is
-
       by : (s : CacheList) → Holds c contents s → (o : Option Held) → get s lba ≡ o → LosesOf (pending c) s s (undo (pending d) (made_clean lba s)) ⊎ (undo (pending d) (made_clean lba s) ≡ s) ⊎ (undo (pending d) (made_clean lba s) ≡ made_clean lba s)
-      by s h None at = inl (as_before s h (never_none s at) (ap (marked false lba s) at))
+      by s h None at = inl (as_before s h (λ own. not_none s lba own at) (ap (marked false lba s) at))
       by s h (Some k) at = elim (cases_Bool k.dirty) [
-        | inl t ↦ cleaned s k.block h (marked_at s k true at t) (dirty s k.block h (marked_at s k true at t))
-        | inr f ↦ let clean = marked_at s k false at f in inl (as_before s h (λ b. never_clean s k.block b clean) (cleaned_clean s lba k.block clean))
+        | inl t ↦ cleaned s h (k, at, t) (dirty s h (k, at, t))
+        | inr f ↦ inl (as_before s h (λ own. not_clean s lba own k at f) (cleaned_clean s lba k at f))
       ]
 
   -- ---- up again

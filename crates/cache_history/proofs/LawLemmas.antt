@@ -3,7 +3,7 @@ use Rattle.std.proofs.Common.{◌≡◌, ◌⊎◌, ℕ, ◌==◌, ◌&&◌, Boo
 use Rattle.std.proofs.lemmas.Bool.{cases_Bool, and_parts, or_parts, both_ways, false≢true}
 use Rattle.std.specs.List.{list_any}
 use Rattle.ft_base.specs.declared.block.Block.{Block}
-use Rattle.cache_model.specs.Cache.{Held, held}
+use Rattle.cache_model.specs.Cache.{Held, written_block}
 use Rattle.cache_model.proofs.CountLemmas.{same_number}
 use Rattle.cache_history.specs.declared.kind.Kind.{Kind}
 use Rattle.cache_history.specs.declared.kind.Kind.TheVariants.{WriteDirty, WriteClean, Evict, Clean, Commit, Checkpoint}
@@ -16,9 +16,9 @@ use Rattle.cache_history.proofs.MightLemmas.{Lags, Might, From, Stepped, Kept, G
 module _ (kinds : Kind → Bool) (a : ℕ) (P : Option Held → Type 0) (first : List CacheEvent)
     (own : (o : Option Held) → Might a first o → P o)
     (never : (o : Option Held) → IsClean o → P o → ⊥)
-    (kept : (here : Bool) (kind : Kind) (block : Block) (o : Option Held) → kinds kind && here ≡ false → P o → P (step_at here kind block o)) where
-  after : (answered : Bool) (y : Given) (p o : Option Held) → names kinds a y ≡ false → P p → From answered (a == y.address) y.kind y.block p o → P o
-  after answered y p o f before (Stepped is) = subst P (sym is) (kept (a == y.address) y.kind y.block p f before)
+    (kept : (here : Bool) (kind : Kind) (lba : ℕ) (block : Block) (o : Option Held) → kinds kind && here ≡ false → P o → P (step_at here kind lba block o)) where
+  after : (answered : Bool) (y : Given) (p o : Option Held) → names kinds a y ≡ false → P p → From answered (a == y.address) y.kind y.address y.block p o → P o
+  after answered y p o f before (Stepped is) = subst P (sym is) (kept (a == y.address) y.kind y.address y.block p f before)
   after answered y p o f before (Kept is lag) = subst P (sym is) before
   after answered y p o f before (GaveWay away clean is) = absurd (never p clean before)
 
@@ -31,19 +31,19 @@ module _ (kinds : Kind → Bool) (a : ℕ) (P : Option Held → Type 0) (first :
 clean_some : (o : Option Held) → IsClean o → o ≡ None → ⊥
 clean_some o clean is = let both : None ≡ Some clean.0 = sym is ∙ clean.1 in cc
 
-clean_not_dirty : (o : Option Held) → IsClean o → (b : Block) → o ≡ Some (held b true) → ⊥
-clean_not_dirty o clean b is =
-    let both : Some clean.0 ≡ Some (held b true) = sym clean.1 ∙ is in
-    let same : clean.0 ≡ held b true = cc in
-    false≢true (sym clean.2 ∙ ap (λ (h : Held). h.dirty) same)
+clean_not_dirty : (o : Option Held) → IsClean o → IsDirty o → ⊥
+clean_not_dirty o clean dirty =
+    let both : Some clean.0 ≡ Some dirty.0 = sym clean.1 ∙ dirty.1 in
+    let same : clean.0 ≡ dirty.0 = cc in
+    false≢true (sym clean.2 ∙ ap (λ (h : Held). h.dirty) same ∙ dirty.2)
 
-none_kept : (here : Bool) (kind : Kind) (block : Block) (o : Option Held) → is_write kind && here ≡ false → o ≡ None → step_at here kind block o ≡ None
-none_kept here kind block o f is = ap (step_at here kind block) is ∙ step_none here kind block f
+none_kept : (here : Bool) (kind : Kind) (lba : ℕ) (block : Block) (o : Option Held) → is_write kind && here ≡ false → o ≡ None → step_at here kind lba block o ≡ None
+none_kept here kind lba block o f is = ap (step_at here kind lba block) is ∙ step_none here kind lba block f
 
 evicted_own : (a : ℕ) (b : Block) (before : List CacheEvent) (o : Option Held) → Might a (Answered (given Evict a b) ∷ before) o → o ≡ None
 evicted_own a b before o m = by m.2
   where
-    by : From true (a == a) Evict b m.0 o → o ≡ None
+    by : From true (a == a) Evict a b m.0 o → o ≡ None
     by (Stepped is) = is ∙ ap (λ t. cond t None m.0) (same_number a)
     by (Kept is lag) = lag refl (same_number a)
     by (GaveWay away clean is) = is
@@ -55,22 +55,22 @@ evicted_none a b later before = since is_write a (λ o. o ≡ None) (Answered (g
 pub still_none : (a : ℕ) (later : List CacheEvent) (o : Option Held) → Might a later o → NoneIs is_write a later → o ≡ None
 still_none a later o m = since is_write a (λ o. o ≡ None) [] (λ o is. is) clean_some none_kept later o (subst (λ (es : List CacheEvent). Might a es o) (sym (append-nil later)) m)
 
-written_own : (a : ℕ) (b : Block) (before : List CacheEvent) (o : Option Held) → Might a (Answered (given WriteDirty a b) ∷ before) o → o ≡ Some (held b true)
+written_own : (a : ℕ) (b : Block) (before : List CacheEvent) (o : Option Held) → Might a (Answered (given WriteDirty a b) ∷ before) o → o ≡ Some (written_block a b true)
 written_own a b before o m = by m.2
   where
-    by : From true (a == a) WriteDirty b m.0 o → o ≡ Some (held b true)
-    by (Stepped is) = is ∙ ap (λ t. cond t (Some (held b true)) m.0) (same_number a)
+    by : From true (a == a) WriteDirty a b m.0 o → o ≡ Some (written_block a b true)
+    by (Stepped is) = is ∙ ap (λ t. cond t (Some (written_block a b true)) m.0) (same_number a)
     by (Kept is lag) = absurd (lag refl (same_number a))
     by (GaveWay away clean is) = absurd (both_ways _ (away refl) (same_number a))
 
-pub dirty_some : (a : ℕ) (b : Block) (later before : List CacheEvent) (o : Option Held) → Might a (later ++ Answered (given WriteDirty a b) ∷ before) o → NoneIs is_change a later → o ≡ Some (held b true)
+pub dirty_some : (a : ℕ) (b : Block) (later before : List CacheEvent) (o : Option Held) → Might a (later ++ Answered (given WriteDirty a b) ∷ before) o → NoneIs is_change a later → o ≡ Some (written_block a b true)
 dirty_some a b later before =
-    since is_change a (λ o. o ≡ Some (held b true)) (Answered (given WriteDirty a b) ∷ before) (written_own a b before) (λ o clean is. clean_not_dirty o clean b is)
-    (λ here kind block o f is. step_same here kind block o f ∙ is) later
+    since is_change a (λ o. o ≡ Some (written_block a b true)) (Answered (given WriteDirty a b) ∷ before) (written_own a b before) (λ o clean is. clean_not_dirty o clean (written_block a b true, is, refl))
+    (λ here kind lba block o f is. step_same here kind lba block o f ∙ is) later
 
 pub dirty_still : (a : ℕ) (b : Block) (later before : List CacheEvent) (o : Option Held) → Might a (later ++ Answered (given WriteDirty a b) ∷ before) o → NoneIs may_undirty a later → IsDirty o
 dirty_still a b later before =
-    since may_undirty a IsDirty (Answered (given WriteDirty a b) ∷ before) (λ o m. (b, written_own a b before o m)) (λ o clean dirty. clean_not_dirty o clean dirty.0 dirty.1)
+    since may_undirty a IsDirty (Answered (given WriteDirty a b) ∷ before) (λ o m. (written_block a b true, written_own a b before o m, refl)) clean_not_dirty
     step_dirty later
 
 -- where the flash lags behind a write its address isn't held
@@ -82,27 +82,27 @@ lag_none Clean o h t lag is = cc
 lag_none Commit o h t lag is = cc
 lag_none Checkpoint o h t lag is = cc
 
-older : (a : ℕ) (es : List CacheEvent) → ((o : Option Held) (h : Held) → Might a es o → o ≡ Some h → IsNewest a h.block es) → (y : Given) (p : Option Held) (h : Held) → Might a es p → names is_write a y ≡ false → step_at (a == y.address) y.kind y.block p ≡ Some h → IsNewest a h.block es
+older : (a : ℕ) (es : List CacheEvent) → ((o : Option Held) (h : Held) → Might a es o → o ≡ Some h → IsNewest a h.block es) → (y : Given) (p : Option Held) (h : Held) → Might a es p → names is_write a y ≡ false → step_at (a == y.address) y.kind y.address y.block p ≡ Some h → IsNewest a h.block es
 older a es rest y p h m f is =
-    let k = step_older (a == y.address) y.kind y.block p h f is in
+    let k = step_older (a == y.address) y.kind y.address y.block p h f is in
     subst (λ (b : Block). IsNewest a b es) k.2 (rest p k.0 m k.1)
 
 module _ (a : ℕ) (y : Given) (es : List CacheEvent) (p o : Option Held) (h : Held) (is : o ≡ Some h) (rest : (o : Option Held) (h : Held) → Might a es o → o ≡ Some h → IsNewest a h.block es) (m : Might a es p) where
   not_none : o ≡ None → ⊥
   not_none none = let both : None ≡ Some h = sym none ∙ is in cc
 
-  newest_other : (answered : Bool) → names is_write a y ≡ false → From answered (a == y.address) y.kind y.block p o → IsNewest a h.block es
+  newest_other : (answered : Bool) → names is_write a y ≡ false → From answered (a == y.address) y.kind y.address y.block p o → IsNewest a h.block es
   newest_other answered f (Stepped s) = older a es rest y p h m f (sym s ∙ is)
   newest_other answered f (Kept s lag) = rest p h m (sym s ∙ is)
   newest_other answered f (GaveWay away clean none) = absurd (not_none none)
 
-  newest_own : names is_write a y ≡ true → From true (a == y.address) y.kind y.block p o → h.block ≡ y.block
-  newest_own t (Stepped s) = step_newest (a == y.address) y.kind y.block p h t (sym s ∙ is)
+  newest_own : names is_write a y ≡ true → From true (a == y.address) y.kind y.address y.block p o → h.block ≡ y.block
+  newest_own t (Stepped s) = step_newest (a == y.address) y.kind y.address y.block p h t (sym s ∙ is)
   newest_own t (Kept s lag) = let parts = and_parts (is_write y.kind) (a == y.address) t in absurd (lag_none y.kind o h parts.0 (lag refl parts.1) is)
   newest_own t (GaveWay away clean none) = absurd (not_none none)
 
-  newest_refused : names is_write a y ≡ true → From false (a == y.address) y.kind y.block p o → ((names is_write a y ≡ true) × (h.block ≡ y.block)) ⊎ IsNewest a h.block es
-  newest_refused t (Stepped s) = inl (t, step_newest (a == y.address) y.kind y.block p h t (sym s ∙ is))
+  newest_refused : names is_write a y ≡ true → From false (a == y.address) y.kind y.address y.block p o → ((names is_write a y ≡ true) × (h.block ≡ y.block)) ⊎ IsNewest a h.block es
+  newest_refused t (Stepped s) = inl (t, step_newest (a == y.address) y.kind y.address y.block p h t (sym s ∙ is))
   newest_refused t (Kept s lag) = inr (rest p h m (sym s ∙ is))
   newest_refused t (GaveWay away clean none) = absurd (not_none none)
 

@@ -1,11 +1,10 @@
 -- A dirty address is listed.
-use Rattle.std.proofs.Common.{◌≡◌, ℕ, ◌+◌, ◌<◌, ◌≤◌, ◌&&◌, nat_le, nat_lt, Bool, true, false, cond, List, [], ◌∷◌, map, filter, Some, sym, subst, arith}
+use Rattle.std.proofs.Common.{◌≡◌, ℕ, ◌+◌, ◌<◌, ◌≤◌, ◌&&◌, nat_le, nat_lt, Bool, true, false, cond, List, [], ◌∷◌, map, filter, Some, sym, ◌∙◌, ap, subst, arith}
 use Rattle.std.specs.List.{AllByRecursion, Contains}
 use Rattle.std.specs.FinMap.{get, entries}
 use Rattle.std.proofs.lemmas.Bool.Decides.{nat_tests}
 use Rattle.std.proofs.lemmas.List.Elements.{Contains-append_left, Contains-append_right, Contains-push}
-use Rattle.ft_base.specs.declared.block.Block.{Block}
-use Rattle.cache_model.specs.Cache.{held, CacheList, dirty_between}
+use Rattle.cache_model.specs.Cache.{Held, CacheList, dirty_between}
 use Rattle.cache_model.proofs.MapLemmas.{by_get}
 
 contains_first : (n : ℕ) (ns : List ℕ) → Contains (n ∷ ns) n
@@ -36,7 +35,7 @@ module _ {X : Type 0} (t : ℕ × X → Bool) where
 tests : (from end a : ℕ) → from ≤ a → a < end → (true && nat_le from a && nat_lt a end) ≡ true
 tests from end a low high = grind (arith, nat_tests)
 
-pub dirty_listed : (s : CacheList) (a : ℕ) (b : Block) (from count : ℕ) → get s a ≡ Some (held b true) → from ≤ a → a < from + count → Contains (dirty_between from count s) a
-dirty_listed s a b from count is low high =
+pub dirty_listed : (s : CacheList) (a : ℕ) (h : Held) (from count : ℕ) → get s a ≡ Some h → h.dirty ≡ true → from ≤ a → a < from + count → Contains (dirty_between from count s) a
+dirty_listed s a h from count is dirty low high =
     by_get s (λ k h. (h.dirty && nat_le from k && nat_lt k (from + count)) ≡ true → Contains (dirty_between from count s) k)
-    (all_passed (λ x. x.1.dirty && nat_le from x.0 && nat_lt x.0 (from + count)) (entries s)) a (held b true) is (tests from (from + count) a low high)
+    (all_passed (λ x. x.1.dirty && nat_le from x.0 && nat_lt x.0 (from + count)) (entries s)) a h is (ap (λ d. d && nat_le from a && nat_lt a (from + count)) dirty ∙ tests from (from + count) a low high)

@@ -21,15 +21,15 @@ Lags Commit o = Unit {0}
 Lags Checkpoint o = Unit {0}
 
 -- what a command makes of what is held at an address, if it was answered Ok or not: its step; or what was there, where a crash would undo the command; or nothing, where a clean block gave way
-pub data From (answered here : Bool) (kind : Kind) (block : Block) (p o : Option Held) : Type 0 where
-  Stepped : o ≡ step_at here kind block p → From answered here kind block p o
-  Kept : o ≡ p → (answered ≡ true → here ≡ true → Lags kind o) → From answered here kind block p o
-  GaveWay : (answered ≡ true → here ≡ false) → IsClean p → o ≡ None → From answered here kind block p o
+pub data From (answered here : Bool) (kind : Kind) (lba : ℕ) (block : Block) (p o : Option Held) : Type 0 where
+  Stepped : o ≡ step_at here kind lba block p → From answered here kind lba block p o
+  Kept : o ≡ p → (answered ≡ true → here ≡ true → Lags kind o) → From answered here kind lba block p o
+  GaveWay : (answered ≡ true → here ≡ false) → IsClean p → o ≡ None → From answered here kind lba block p o
 
 abbrev pub Might : ℕ → List CacheEvent → Option Held → Type 0
 Might a [] o = o ≡ None
-Might a (Answered x ∷ es) o = (p : Option Held) × Might a es p × From true (a == x.address) x.kind x.block p o
-Might a (Refused x ∷ es) o = (p : Option Held) × Might a es p × From false (a == x.address) x.kind x.block p o
+Might a (Answered x ∷ es) o = (p : Option Held) × Might a es p × From true (a == x.address) x.kind x.address x.block p o
+Might a (Refused x ∷ es) o = (p : Option Held) × Might a es p × From false (a == x.address) x.kind x.address x.block p o
 Might a (Crashed ∷ es) o = Might a es o
 
 -- both may be so, and what isn't held a crash doesn't bring back
@@ -80,13 +80,13 @@ write_at_once Commit o w some = absurd (cc)
 write_at_once Checkpoint o w some = absurd (cc)
 
 -- a write looks at nothing that was held
-write_alike : (kind : Kind) (block : Block) (p o : Option Held) → is_write kind ≡ true → step_of kind block p ≡ step_of kind block o
-write_alike WriteDirty block p o w = refl
-write_alike WriteClean block p o w = refl
-write_alike Evict block p o w = absurd (cc)
-write_alike Clean block p o w = absurd (cc)
-write_alike Commit block p o w = absurd (cc)
-write_alike Checkpoint block p o w = absurd (cc)
+write_alike : (kind : Kind) (lba : ℕ) (block : Block) (p o : Option Held) → is_write kind ≡ true → step_of kind lba block p ≡ step_of kind lba block o
+write_alike WriteDirty lba block p o w = refl
+write_alike WriteClean lba block p o w = refl
+write_alike Evict lba block p o w = absurd (cc)
+write_alike Clean lba block p o w = absurd (cc)
+write_alike Commit lba block p o w = absurd (cc)
+write_alike Checkpoint lba block p o w = absurd (cc)
 
 lags : (kind : Kind) (s n e : Option Held) → (AtOnce kind s → e ≡ n) → (s ≡ None → e ≡ None) → (e ≡ n) ⊎ Lags kind e
 lags WriteDirty s n e once absent = inl (once tt)
@@ -99,32 +99,32 @@ lags Commit s n e once absent = inl (once tt)
 lags Checkpoint s n e once absent = inl (once tt)
 
 -- where the step leaves nothing a crash brings nothing back
-gone : (kind : Kind) (block : Block) (s n e : Option Held) → (AtOnce kind s → e ≡ n) → (s ≡ None → e ≡ None) → n ≡ None → step_of kind block s ≡ None → e ≡ None
-gone WriteDirty block s n e once absent none is = absurd (cc)
-gone WriteClean block s n e once absent none is = absurd (cc)
-gone Evict block None n e once absent none is = absent refl
-gone Evict block (Some h) n e once absent none is = once (h, refl) ∙ none
-gone Clean block s n e once absent none is = absent (cleaned_none s is)
-gone Commit block s n e once absent none is = absent is
-gone Checkpoint block s n e once absent none is = absent is
+gone : (kind : Kind) (lba : ℕ) (block : Block) (s n e : Option Held) → (AtOnce kind s → e ≡ n) → (s ≡ None → e ≡ None) → n ≡ None → step_of kind lba block s ≡ None → e ≡ None
+gone WriteDirty lba block s n e once absent none is = absurd (cc)
+gone WriteClean lba block s n e once absent none is = absurd (cc)
+gone Evict lba block None n e once absent none is = absent refl
+gone Evict lba block (Some h) n e once absent none is = once (h, refl) ∙ none
+gone Clean lba block s n e once absent none is = absent (cleaned_none s is)
+gone Commit lba block s n e once absent none is = absent is
+gone Checkpoint lba block s n e once absent none is = absent is
 
-abbrev pub FromOne : Bool → Bool → Kind → Block → (Option Held → Type 0) → Option Held → Type 0
-FromOne answered here kind block P o = (p : Option Held) × P p × From answered here kind block p o
+abbrev pub FromOne : Bool → Bool → Kind → ℕ → Block → (Option Held → Type 0) → Option Held → Type 0
+FromOne answered here kind lba block P o = (p : Option Held) × P p × From answered here kind lba block p o
 
-module _ (kind : Kind) (block : Block) (P : Option Held → Type 0) (s n e : Option Held) (may : P s) where
+module _ (kind : Kind) (lba : ℕ) (block : Block) (P : Option Held → Type 0) (s n e : Option Held) (may : P s) where
   -- a crash would leave what may have been before
-  behind : (here : Bool) → n ≡ step_at here kind block s → (here ≡ true → AtOnce kind s → e ≡ n) → P e → (s ≡ None → e ≡ None) → Both (FromOne true here kind block P) n e
+  behind : (here : Bool) → n ≡ step_at here kind lba block s → (here ≡ true → AtOnce kind s → e ≡ n) → P e → (s ≡ None → e ≡ None) → Both (FromOne true here kind lba block P) n e
   behind true is once before absent = elim (lags kind s n e (once refl) absent) [
-    | inl same ↦ alike (FromOne true true kind block P) n e same (s, may, Stepped is)
-    | inr lag ↦ record { now = (s, may, Stepped is); durable = (e, before, Kept refl (λ x y. lag)); absent = λ none. gone kind block s n e (once refl) absent none (sym is ∙ none) }
+    | inl same ↦ alike (FromOne true true kind lba block P) n e same (s, may, Stepped is)
+    | inr lag ↦ record { now = (s, may, Stepped is); durable = (e, before, Kept refl (λ x y. lag)); absent = λ none. gone kind lba block s n e (once refl) absent none (sym is ∙ none) }
   ]
   behind false is once before absent = record { now = (s, may, Stepped is); durable = (e, before, Kept refl (λ x y. absurd (let both : false ≡ true = y in cc))); absent = λ none. absent (sym is ∙ none) }
 
   -- what was there gave way
-  lost : (here : Bool) → IsClean s → is_write kind ≡ true → n ≡ step_at here kind block None → (here ≡ true → AtOnce kind s → e ≡ n) → (e ≡ None) ⊎ (e ≡ n) → Both (FromOne true here kind block P) n e
-  lost true clean w is once at = alike (FromOne true true kind block P) n e (once refl (write_at_once kind s w (clean.0, clean.1))) (s, may, Stepped (is ∙ write_alike kind block None s w))
-  lost false clean w is once (inl at) = let own : FromOne true false kind block P n = (s, may, GaveWay (λ x. refl) clean is) in alike (FromOne true false kind block P) n e (at ∙ sym is) own
-  lost false clean w is once (inr at) = alike (FromOne true false kind block P) n e at (s, may, GaveWay (λ x. refl) clean is)
+  lost : (here : Bool) → IsClean s → is_write kind ≡ true → n ≡ step_at here kind lba block None → (here ≡ true → AtOnce kind s → e ≡ n) → (e ≡ None) ⊎ (e ≡ n) → Both (FromOne true here kind lba block P) n e
+  lost true clean w is once at = alike (FromOne true true kind lba block P) n e (once refl (write_at_once kind s w (clean.0, clean.1))) (s, may, Stepped (is ∙ write_alike kind lba block None s w))
+  lost false clean w is once (inl at) = let own : FromOne true false kind lba block P n = (s, may, GaveWay (λ x. refl) clean is) in alike (FromOne true false kind lba block P) n e (at ∙ sym is) own
+  lost false clean w is once (inr at) = alike (FromOne true false kind lba block P) n e at (s, may, GaveWay (λ x. refl) clean is)
 
 -- ---- the lists after an event
 
@@ -132,7 +132,7 @@ at : (a : ℕ) (s t : CacheList) → s ≡ t → get s a ≡ get t a
 at a s t e = ap (λ (l : CacheList). get l a) e
 
 module _ (g : Geometry) (a : ℕ) (es : List CacheEvent) (x : Given) (old new : TwoLists) (after : AfterAnswer g x old new) (m : Mights a es old) where
-  now_is : get new.now a ≡ step_at (a == x.address) x.kind x.block (get after.left a)
+  now_is : get new.now a ≡ step_at (a == x.address) x.kind x.address x.block (get after.left a)
   now_is = at a new.now _ after.now ∙ get_stepped x.kind x.address x.block after.left a
 
   once : (a == x.address) ≡ true → AtOnce x.kind (get old.now a) → get new.durable a ≡ get new.now a
@@ -147,14 +147,14 @@ module _ (g : Geometry) (a : ℕ) (es : List CacheEvent) (x : Given) (old new : 
     ]
   ]
     where
-      stepped_here : get new.now a ≡ step_at (a == x.address) x.kind x.block (get old.now a)
-      stepped_here = now_is ∙ ap (step_at (a == x.address) x.kind x.block) same
+      stepped_here : get new.now a ≡ step_at (a == x.address) x.kind x.address x.block (get old.now a)
+      stepped_here = now_is ∙ ap (step_at (a == x.address) x.kind x.address x.block) same
 
       from : Might a es (get new.durable a) → (get old.now a ≡ None → get new.durable a ≡ None) → Mights a (Answered x ∷ es) new
-      from = behind x.kind x.block (Might a es) (get old.now a) (get new.now a) (get new.durable a) m.now (a == x.address) stepped_here once
+      from = behind x.kind x.address x.block (Might a es) (get old.now a) (get new.now a) (get new.durable a) m.now (a == x.address) stepped_here once
 
   answered_lost : IsClean (get old.now a) → get after.left a ≡ None → is_write x.kind ≡ true → Mights a (Answered x ∷ es) new
-  answered_lost clean none w = lost x.kind x.block (Might a es) (get old.now a) (get new.now a) (get new.durable a) m.now (a == x.address) clean w (now_is ∙ ap (step_at (a == x.address) x.kind x.block) none) once (by after.durable)
+  answered_lost clean none w = lost x.kind x.address x.block (Might a es) (get old.now a) (get new.now a) (get new.durable a) m.now (a == x.address) clean w (now_is ∙ ap (step_at (a == x.address) x.kind x.address x.block) none) once (by after.durable)
     where
       by : ((y : ℕ) → get new.durable y ≡ unless_gone (get old.now y) (get after.left y) (get old.durable y)) ⊎ (new.durable ≡ after.left) ⊎ (new.durable ≡ new.now) → (get new.durable a ≡ None) ⊎ (get new.durable a ≡ get new.now a)
       by (inl loses) = inl (loses a ∙ unless_lost _ _ (get old.durable a) clean none)
@@ -173,13 +173,13 @@ module _ (g : Geometry) (a : ℕ) (es : List CacheEvent) (x : Given) (old new : 
     | inl is ↦ (get old.durable a, m.durable, Kept (at a new.now old.durable is) (λ answered. absurd (cc)))
     | inr d ↦ elim d [
       | inl is ↦ (get old.now a, m.now, Kept (at a new.now after.left is ∙ same) (λ answered. absurd (cc)))
-      | inr is ↦ (get old.now a, m.now, Stepped (at a new.now _ is ∙ get_stepped x.kind x.address x.block after.left a ∙ ap (step_at (a == x.address) x.kind x.block) same))
+      | inr is ↦ (get old.now a, m.now, Stepped (at a new.now _ is ∙ get_stepped x.kind x.address x.block after.left a ∙ ap (step_at (a == x.address) x.kind x.address x.block) same))
     ]
   ]
 
   -- what gave way is gone, or was written
-  lost_step : IsClean (get old.now a) → is_write x.kind ≡ true → (here : Bool) → get new.now a ≡ step_at here x.kind x.block None → From false here x.kind x.block (get old.now a) (get new.now a)
-  lost_step clean w true is = Stepped (is ∙ write_alike x.kind x.block None (get old.now a) w)
+  lost_step : IsClean (get old.now a) → is_write x.kind ≡ true → (here : Bool) → get new.now a ≡ step_at here x.kind x.address x.block None → From false here x.kind x.address x.block (get old.now a) (get new.now a)
+  lost_step clean w true is = Stepped (is ∙ write_alike x.kind x.address x.block None (get old.now a) w)
   lost_step clean w false is = GaveWay (λ answered. refl) clean is
 
   refused_lost : IsClean (get old.now a) → get after.left a ≡ None → is_write x.kind ≡ true → Might a (Refused x ∷ es) (get new.now a)
@@ -187,7 +187,7 @@ module _ (g : Geometry) (a : ℕ) (es : List CacheEvent) (x : Given) (old new : 
     | inl is ↦ (get old.durable a, m.durable, Kept (at a new.now old.durable is) (λ answered. absurd (cc)))
     | inr d ↦ elim d [
       | inl is ↦ (get old.now a, m.now, GaveWay (λ answered. absurd (cc)) clean (at a new.now after.left is ∙ none))
-      | inr is ↦ (get old.now a, m.now, lost_step clean w (a == x.address) (at a new.now _ is ∙ get_stepped x.kind x.address x.block after.left a ∙ ap (step_at (a == x.address) x.kind x.block) none))
+      | inr is ↦ (get old.now a, m.now, lost_step clean w (a == x.address) (at a new.now _ is ∙ get_stepped x.kind x.address x.block after.left a ∙ ap (step_at (a == x.address) x.kind x.address x.block) none))
     ]
   ]
 

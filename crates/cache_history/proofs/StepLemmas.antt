@@ -3,7 +3,7 @@ use Rattle.std.proofs.Common.{◌≡◌, ℕ, ◌==◌, ◌&&◌, Bool, true, fa
 use Rattle.std.specs.Option.{option_map}
 use Rattle.std.specs.FinMap.{get}
 use Rattle.ft_base.specs.declared.block.Block.{Block}
-use Rattle.cache_model.specs.Cache.{Held, held, CacheList, marked_as}
+use Rattle.cache_model.specs.Cache.{Held, written_block, CacheList, marked_as}
 use Rattle.cache_model.proofs.MapLemmas.{get_insert, get_remove}
 use Rattle.cache_model.proofs.UndoLemmas.{get_marked}
 use Rattle.cache_history.specs.declared.kind.Kind.{Kind}
@@ -11,76 +11,76 @@ use Rattle.cache_history.specs.declared.kind.Kind.TheVariants.{WriteDirty, Write
 use Rattle.cache_history.specs.History.{stepped_by, is_write, is_change, may_undirty}
 
 -- of its own address
-abbrev pub step_of : Kind → Block → Option Held → Option Held
-step_of WriteDirty block o = Some (held block true)
-step_of WriteClean block o = Some (held block false)
-step_of Evict block o = None
-step_of Clean block o = option_map (marked_as false) o
-step_of Commit block o = o
-step_of Checkpoint block o = o
+abbrev pub step_of : Kind → ℕ → Block → Option Held → Option Held
+step_of WriteDirty lba block o = Some (written_block lba block true)
+step_of WriteClean lba block o = Some (written_block lba block false)
+step_of Evict lba block o = None
+step_of Clean lba block o = option_map (marked_as false) o
+step_of Commit lba block o = o
+step_of Checkpoint lba block o = o
 
 -- and of another it makes nothing
-abbrev pub step_at : Bool → Kind → Block → Option Held → Option Held
-step_at here kind block o = cond here (step_of kind block o) o
+abbrev pub step_at : Bool → Kind → ℕ → Block → Option Held → Option Held
+step_at here kind lba block o = cond here (step_of kind lba block o) o
 
 either_way : (b : Bool) (o : Option Held) → o ≡ cond b o o
 either_way true o = refl
 either_way false o = refl
 
-pub get_stepped : (kind : Kind) (a : ℕ) (block : Block) (s : CacheList) (q : ℕ) → get (stepped_by kind a block s) q ≡ step_at (q == a) kind block (get s q)
-get_stepped WriteDirty a block s q = get_insert s a (held block true) q
-get_stepped WriteClean a block s q = get_insert s a (held block false) q
+pub get_stepped : (kind : Kind) (a : ℕ) (block : Block) (s : CacheList) (q : ℕ) → get (stepped_by kind a block s) q ≡ step_at (q == a) kind a block (get s q)
+get_stepped WriteDirty a block s q = get_insert s a (written_block a block true) q
+get_stepped WriteClean a block s q = get_insert s a (written_block a block false) q
 get_stepped Evict a block s q = get_remove s a q
 get_stepped Clean a block s q = get_marked false a s (get s a) q refl
 get_stepped Commit a block s q = either_way (q == a) (get s q)
 get_stepped Checkpoint a block s q = either_way (q == a) (get s q)
 
 -- an absent address stays absent without a write
-pub step_none : (here : Bool) (kind : Kind) (block : Block) → is_write kind && here ≡ false → step_at here kind block None ≡ None
-step_none false kind block f = refl
-step_none true WriteDirty block f = absurd (cc)
-step_none true WriteClean block f = absurd (cc)
-step_none true Evict block f = refl
-step_none true Clean block f = refl
-step_none true Commit block f = refl
-step_none true Checkpoint block f = refl
+pub step_none : (here : Bool) (kind : Kind) (lba : ℕ) (block : Block) → is_write kind && here ≡ false → step_at here kind lba block None ≡ None
+step_none false kind lba block f = refl
+step_none true WriteDirty lba block f = absurd (cc)
+step_none true WriteClean lba block f = absurd (cc)
+step_none true Evict lba block f = refl
+step_none true Clean lba block f = refl
+step_none true Commit lba block f = refl
+step_none true Checkpoint lba block f = refl
 
-pub step_same : (here : Bool) (kind : Kind) (block : Block) (o : Option Held) → is_change kind && here ≡ false → step_at here kind block o ≡ o
-step_same false kind block o f = refl
-step_same true WriteDirty block o f = absurd (cc)
-step_same true WriteClean block o f = absurd (cc)
-step_same true Evict block o f = absurd (cc)
-step_same true Clean block o f = absurd (cc)
-step_same true Commit block o f = refl
-step_same true Checkpoint block o f = refl
+pub step_same : (here : Bool) (kind : Kind) (lba : ℕ) (block : Block) (o : Option Held) → is_change kind && here ≡ false → step_at here kind lba block o ≡ o
+step_same false kind lba block o f = refl
+step_same true WriteDirty lba block o f = absurd (cc)
+step_same true WriteClean lba block o f = absurd (cc)
+step_same true Evict lba block o f = absurd (cc)
+step_same true Clean lba block o f = absurd (cc)
+step_same true Commit lba block o f = refl
+step_same true Checkpoint lba block o f = refl
 
 -- something is held, dirty
 abbrev pub IsDirty : Option Held → Type 0
-IsDirty o = (b : Block) × (o ≡ Some (held b true))
+IsDirty o = (h : Held) × (o ≡ Some h) × (h.dirty ≡ true)
 
-pub step_dirty : (here : Bool) (kind : Kind) (block : Block) (o : Option Held) → may_undirty kind && here ≡ false → IsDirty o → IsDirty (step_at here kind block o)
-step_dirty false kind block o f d = d
-step_dirty true WriteDirty block o f d = (block, refl)
-step_dirty true WriteClean block o f d = absurd (cc)
-step_dirty true Evict block o f d = absurd (cc)
-step_dirty true Clean block o f d = absurd (cc)
-step_dirty true Commit block o f d = d
-step_dirty true Checkpoint block o f d = d
+pub step_dirty : (here : Bool) (kind : Kind) (lba : ℕ) (block : Block) (o : Option Held) → may_undirty kind && here ≡ false → IsDirty o → IsDirty (step_at here kind lba block o)
+step_dirty false kind lba block o f d = d
+step_dirty true WriteDirty lba block o f d = (written_block lba block true, refl, refl)
+step_dirty true WriteClean lba block o f d = absurd (cc)
+step_dirty true Evict lba block o f d = absurd (cc)
+step_dirty true Clean lba block o f d = absurd (cc)
+step_dirty true Commit lba block o f d = d
+step_dirty true Checkpoint lba block o f d = d
 
 -- a write holds its own block
-pub step_newest : (here : Bool) (kind : Kind) (block : Block) (o : Option Held) (h : Held) → is_write kind && here ≡ true → step_at here kind block o ≡ Some h → h.block ≡ block
-step_newest true WriteDirty block o h t is = let same : held block true ≡ h = cc in sym (ap (λ (x : Held). x.block) same)
-step_newest true WriteClean block o h t is = let same : held block false ≡ h = cc in sym (ap (λ (x : Held). x.block) same)
-step_newest true Evict block o h t is = absurd (cc)
-step_newest true Clean block o h t is = absurd (cc)
-step_newest true Commit block o h t is = absurd (cc)
-step_newest true Checkpoint block o h t is = absurd (cc)
-step_newest false WriteDirty block o h t is = absurd (cc)
-step_newest false WriteClean block o h t is = absurd (cc)
-step_newest false Evict block o h t is = absurd (cc)
-step_newest false Clean block o h t is = absurd (cc)
-step_newest false Commit block o h t is = absurd (cc)
-step_newest false Checkpoint block o h t is = absurd (cc)
+pub step_newest : (here : Bool) (kind : Kind) (lba : ℕ) (block : Block) (o : Option Held) (h : Held) → is_write kind && here ≡ true → step_at here kind lba block o ≡ Some h → h.block ≡ block
+step_newest true WriteDirty lba block o h t is = let same : written_block lba block true ≡ h = cc in sym (ap (λ (x : Held). x.block) same)
+step_newest true WriteClean lba block o h t is = let same : written_block lba block false ≡ h = cc in sym (ap (λ (x : Held). x.block) same)
+step_newest true Evict lba block o h t is = absurd (cc)
+step_newest true Clean lba block o h t is = absurd (cc)
+step_newest true Commit lba block o h t is = absurd (cc)
+step_newest true Checkpoint lba block o h t is = absurd (cc)
+step_newest false WriteDirty lba block o h t is = absurd (cc)
+step_newest false WriteClean lba block o h t is = absurd (cc)
+step_newest false Evict lba block o h t is = absurd (cc)
+step_newest false Clean lba block o h t is = absurd (cc)
+step_newest false Commit lba block o h t is = absurd (cc)
+step_newest false Checkpoint lba block o h t is = absurd (cc)
 
 -- this block is held, dirty or clean
 abbrev pub HasBlock : Option Held → Block → Type 0
@@ -91,11 +91,11 @@ cleaned_block None h is = absurd (cc)
 cleaned_block (Some k) h is = let same : marked_as false k ≡ h = cc in (k, refl, ap (λ (x : Held). x.block) same)
 
 -- and any other command the block that was held
-pub step_older : (here : Bool) (kind : Kind) (block : Block) (o : Option Held) (h : Held) → is_write kind && here ≡ false → step_at here kind block o ≡ Some h → HasBlock o h.block
-step_older false kind block o h f is = (h, is, refl)
-step_older true WriteDirty block o h f is = absurd (cc)
-step_older true WriteClean block o h f is = absurd (cc)
-step_older true Evict block o h f is = absurd (cc)
-step_older true Clean block o h f is = cleaned_block o h is
-step_older true Commit block o h f is = (h, is, refl)
-step_older true Checkpoint block o h f is = (h, is, refl)
+pub step_older : (here : Bool) (kind : Kind) (lba : ℕ) (block : Block) (o : Option Held) (h : Held) → is_write kind && here ≡ false → step_at here kind lba block o ≡ Some h → HasBlock o h.block
+step_older false kind lba block o h f is = (h, is, refl)
+step_older true WriteDirty lba block o h f is = absurd (cc)
+step_older true WriteClean lba block o h f is = absurd (cc)
+step_older true Evict lba block o h f is = absurd (cc)
+step_older true Clean lba block o h f is = cleaned_block o h is
+step_older true Commit lba block o h f is = (h, is, refl)
+step_older true Checkpoint lba block o h f is = (h, is, refl)

@@ -5,7 +5,7 @@ ghost use Rattle.std.specs.FinMap.{get};
 ghost use Rattle.ft_base.specs.declared.block.Block.{Block};
 ghost use Rattle.ft_base.specs.declared.geometry.Geometry.{Geometry};
 ghost use Rattle.ft_base.specs.Contents.{Contents, Image, Now};
-ghost use Rattle.cache_model.specs.Cache.{Held, dirty_between, held};
+ghost use Rattle.cache_model.specs.Cache.{AreOwn, Held, dirty_between, written_block};
 ghost use Rattle.cache_model.specs.Stands.{FlashStandsFor};
 ghost use Rattle.ssc.specs.declared.cache.Ssc.{Ssc};
 ghost use Rattle.ssc.specs.CacheState.{geometry_of};
@@ -25,7 +25,8 @@ pub fn history_laws()
     // A block whose dirty write was answered Ok is held, dirty, until a write, an evict or a clean of
     // its address is given, whatever that answers.
     ensures dirty_stays { (g : Geometry) (later before : List CacheEvent) (l : TwoLists) (a : ℕ) (b : Block)
-        → Lived g (later ++ Answered (given WriteDirty a b) ∷ before) l → NoneIs is_change a later → get l.now a ≡ Some (held b true) }
+        → Lived g (later ++ Answered (given WriteDirty a b) ∷ before) l → NoneIs is_change a later
+        → get l.now a ≡ Some (written_block a b true) }
     // What is held at an address is the block of the newest write of it that was answered Ok, or of a
     // later one that was refused, and never an older one.
     ensures newest_is_held { (g : Geometry) (events : List CacheEvent) (l : TwoLists) (a : ℕ) (h : Held) → Lived g events l
@@ -35,6 +36,10 @@ pub fn history_laws()
     ensures dirty_is_listed { (g : Geometry) (later before : List CacheEvent) (l : TwoLists) (a : ℕ) (b : Block) (from count : ℕ)
         → Lived g (later ++ Answered (given WriteDirty a b) ∷ before) l → NoneIs may_undirty a later → from ≤ a → a < from + count
         → Contains (dirty_between from count l.now) a }
+    // Where each block that is held has the spare bytes of a data page of its address, and each that a
+    // crash would leave, that is so whatever becomes of the cache.
+    ensures own_stays { (g : Geometry) (start l : TwoLists) (events : List CacheEvent) → LivedFrom g start events l → AreOwn start.now
+        → AreOwn start.durable → AreOwn l.now × AreOwn l.durable }
     // Between two commands a crash leaves the second list.
     ensures crash_leaves_durable { (c : Ssc) (contents : Contents) (l : TwoLists) (x : Image) → IsMoment c contents l → Now contents x
         → FlashStandsFor (geometry_of c) x.page l.durable }

@@ -20,7 +20,7 @@ use Rattle.ft_volume.specs.Opening.{ImageIs, Suits}
 use Rattle.ft_volume.specs.Volume.{Reads, StandFor}
 use Rattle.ft_volume.specs.Volume as calls
 use Rattle.ft_volume.specs.declared.volume.Idled.TheVariants.{Nothing, Checkpointed}
-use Rattle.cache_model.specs.Cache.{Agrees, Buffered, Inserted, CacheList, Held, Vanish, held, undo, written_clean}
+use Rattle.cache_model.specs.Cache.{Agrees, Buffered, Inserted, CacheList, Held, Vanish, undo, written_block, written_clean}
 use Rattle.cache_model.specs.Stands.{FlashStandsFor}
 use Rattle.op_log.specs.Log.{FitsOn}
 use Rattle.ssc.specs.declared.cache.Ssc.{Ssc}
@@ -264,7 +264,7 @@ module _ (v : CachedDisk) (c : Ssc) (old new : Contents) (s : CacheList) (by : D
 
     pub put_held : (b : Block) → calls.HoldsAfter (told_of v) (Reads lba b) (λ a. is_some (get (entries_of v.cache) a)) (λ a. is_some (get (entries_of c) a))
     put_held b = held_along (told_of v) (Reads lba b) (λ a. is_some (get s a)) (λ a. is_some (get (written_clean lba block h.left) a)) (λ a. is_some (get (entries_of v.cache) a)) (λ a. is_some (get (entries_of c) a))
-        (holds_held v.cache old s by.is.holds) (holds_held c new (written_clean lba block h.left) h.holds) (written_held (told_of v) (Reads lba b) s h.left lba (held block false) vanish_own refl (λ a is. is))
+        (holds_held v.cache old s by.is.holds) (holds_held c new (written_clean lba block h.left) h.holds) (written_held (told_of v) (Reads lba b) s h.left lba (written_block lba block false) vanish_own refl (λ a is. is))
 
   -- it was refused or cut
   module _ (stands : FlashStandsForWrite (geometry_of v.cache) new.flash.page (undo (pending v.cache) s) s lba (written_clean lba block)) where

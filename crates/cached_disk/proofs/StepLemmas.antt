@@ -8,7 +8,7 @@ use Rattle.ft_base.specs.declared.block.Block.{Block}
 use Rattle.ft_base.specs.declared.geometry.Geometry.{Geometry}
 use Rattle.ft_base.specs.Contents.{Values, HasValue, set}
 use Rattle.ft_base.specs.PlainDisk.{PlainDisk}
-use Rattle.cache_model.specs.Cache.{Agrees, Buffered, Inserted, Cleaned, CacheList, Held, MayWait, Vanish, address_of, held, held_or, marked_as, undo, written_clean, written_dirty}
+use Rattle.cache_model.specs.Cache.{Agrees, Buffered, Inserted, Cleaned, CacheList, Held, MayWait, Vanish, address_of, held_or, written_block, marked_as, undo, written_clean, written_dirty}
 use Rattle.cache_model.proofs.MapLemmas.{get_insert}
 use Rattle.cache_model.proofs.UndoLemmas.{back_at, get_undo, undone_at}
 use Rattle.cached_disk.specs.Kept.{IsDirtyIn}
@@ -53,14 +53,14 @@ back_other (Inserted k) a o other = ap (λ t. cond t None o) other
 back_other (Cleaned k) a o other = ap (λ t. cond t (option_map (marked_as true) o) o) other
 
 module _ (disk : ℕ → Values) (s : CacheList) (agrees : Agrees s disk) where
-  clean_beneath : (a : ℕ) (b : Block) → HasValue (disk a) b → (block : Block) × (get s a ≡ Some (held block false)) → held_or (get s a) b ≡ b
-  clean_beneath a b has clean = ap (λ (o : Option Held). held_or o b) clean.1 ∙ sym (agrees a (held clean.0 false) b clean.1 refl has)
+  clean_beneath : (a : ℕ) (b : Block) → HasValue (disk a) b → (h : Held) × (get s a ≡ Some h) × (h.dirty ≡ false) → held_or (get s a) b ≡ b
+  clean_beneath a b has clean = ap (λ (o : Option Held). held_or o b) clean.1 ∙ sym (agrees a clean.0 b clean.1 clean.2 has)
 
-  undone_same : (q : List Buffered) → AllByRecursion (λ x. (block : Block) × (get s (address_of x) ≡ Some (held block false))) q → (a : ℕ) (b : Block) → HasValue (disk a) b → held_or (undone_at q a (get s a)) b ≡ held_or (get s a) b
+  undone_same : (q : List Buffered) → AllByRecursion (λ x. (h : Held) × (get s (address_of x) ≡ Some h) × (h.dirty ≡ false)) q → (a : ℕ) (b : Block) → HasValue (disk a) b → held_or (undone_at q a (get s a)) b ≡ held_or (get s a) b
   undone_same [] all a b has = refl
   undone_same (x ∷ q) all a b has = elim (cases_Bool (a == address_of x)) [
     | inl here ↦
-        let clean : (block : Block) × (get s a ≡ Some (held block false)) = subst (λ (n : ℕ). (block : Block) × (get s n ≡ Some (held block false))) (sym (eqb-true a (address_of x) here)) all.0 in
+        let clean : (h : Held) × (get s a ≡ Some h) × (h.dirty ≡ false) = subst (λ (n : ℕ). (h : Held) × (get s n ≡ Some h) × (h.dirty ≡ false)) (sym (eqb-true a (address_of x) here)) all.0 in
         let is = clean_beneath a b has clean in
         undone_beneath (x ∷ q) a (get s a) b is ∙ sym is
     | inr other ↦ ap (λ (o : Option Held). held_or (undone_at q a o) b) (back_other x a (get s a) other) ∙ undone_same q all.1 a b has
@@ -94,13 +94,13 @@ module _ (disk : ℕ → Values) (s : CacheList) (agrees : Agrees s disk) where
 pub undo_dirty : (q : List Buffered) (s : CacheList) → MayWait q s → (a : ℕ) → IsDirtyIn s a → IsDirtyIn (undo q s) a
 undo_dirty q s may a dirty = (dirty.0, get_undo q s a ∙ undone q may.clean ∙ dirty.1, dirty.2)
   where
-    undone : (q : List Buffered) → AllByRecursion (λ x. (block : Block) × (get s (address_of x) ≡ Some (held block false))) q → undone_at q a (get s a) ≡ get s a
+    undone : (q : List Buffered) → AllByRecursion (λ x. (h : Held) × (get s (address_of x) ≡ Some h) × (h.dirty ≡ false)) q → undone_at q a (get s a) ≡ get s a
     undone [] all = refl
     undone (x ∷ q) all = elim (cases_Bool (a == address_of x)) [
       | inl here ↦
-          let both : Some dirty.0 ≡ Some (held all.0.0 false) = sym dirty.1 ∙ ap (λ (n : ℕ). get s n) (eqb-true a (address_of x) here) ∙ all.0.1 in
-          let same : dirty.0 ≡ held all.0.0 false = cc in
-          absurd (false≢true (sym (ap (λ (h : Held). h.dirty) same) ∙ dirty.2))
+          let both : Some dirty.0 ≡ Some all.0.0 = sym dirty.1 ∙ ap (λ (n : ℕ). get s n) (eqb-true a (address_of x) here) ∙ all.0.1 in
+          let same : dirty.0 ≡ all.0.0 = cc in
+          absurd (false≢true (sym all.0.2 ∙ sym (ap (λ (h : Held). h.dirty) same) ∙ dirty.2))
       | inr other ↦ ap (λ (o : Option Held). undone_at q a o) (back_other x a (get s a) other) ∙ undone q all.1
     ]
 
@@ -144,14 +144,14 @@ module _ (s : CacheList) (lba : ℕ) (block : Block) where
   abbrev pub with_block : CacheList
   with_block = written_dirty lba block s
 
-  pub written_here : get with_block lba ≡ Some (held block true)
-  written_here = get_insert s lba (held block true) lba ∙ ap (λ t. cond t (Some (held block true)) (get s lba)) (let same : (lba == lba) ≡ true = grind (arith, nat_tests) in same)
+  pub written_here : get with_block lba ≡ Some (written_block lba block true)
+  written_here = get_insert s lba (written_block lba block true) lba ∙ ap (λ t. cond t (Some (written_block lba block true)) (get s lba)) (let same : (lba == lba) ≡ true = grind (arith, nat_tests) in same)
 
   -- what stands there is the block, or stood there
-  pub written_was : (a : ℕ) (h : Held) → get with_block a ≡ Some h → ((a ≡ lba) × (h ≡ held block true)) ⊎ (get s a ≡ Some h)
+  pub written_was : (a : ℕ) (h : Held) → get with_block a ≡ Some h → ((a ≡ lba) × (h ≡ written_block lba block true)) ⊎ (get s a ≡ Some h)
   written_was a h at = elim (cases_Bool (a == lba)) [
-    | inl t ↦ inl (eqb-true a lba t, let same : Some (held block true) ≡ Some h = sym (ap (λ c. cond c (Some (held block true)) (get s a)) t) ∙ sym (get_insert s lba (held block true) a) ∙ at in let is : held block true ≡ h = cc in sym is)
-    | inr f ↦ inr (sym (ap (λ c. cond c (Some (held block true)) (get s a)) f) ∙ sym (get_insert s lba (held block true) a) ∙ at)
+    | inl t ↦ inl (eqb-true a lba t, let same : Some (written_block lba block true) ≡ Some h = sym (ap (λ c. cond c (Some (written_block lba block true)) (get s a)) t) ∙ sym (get_insert s lba (written_block lba block true) a) ∙ at in let is : written_block lba block true ≡ h = cc in sym is)
+    | inr f ↦ inr (sym (ap (λ c. cond c (Some (written_block lba block true)) (get s a)) f) ∙ sym (get_insert s lba (written_block lba block true) a) ∙ at)
   ]
 
   pub written_agrees : (disk : ℕ → Values) → Agrees s disk → Agrees with_block disk
@@ -162,20 +162,20 @@ module _ (s : CacheList) (lba : ℕ) (block : Block) where
 
   pub written_dirty-keeps : (a : ℕ) → IsDirtyIn s a → IsDirtyIn with_block a
   written_dirty-keeps a dirty = elim (cases_Bool (a == lba)) [
-    | inl t ↦ (held block true, get_insert s lba (held block true) a ∙ ap (λ c. cond c (Some (held block true)) (get s a)) t, refl)
-    | inr f ↦ (dirty.0, get_insert s lba (held block true) a ∙ ap (λ c. cond c (Some (held block true)) (get s a)) f ∙ dirty.1, dirty.2)
+    | inl t ↦ (written_block lba block true, get_insert s lba (written_block lba block true) a ∙ ap (λ c. cond c (Some (written_block lba block true)) (get s a)) t, refl)
+    | inr f ↦ (dirty.0, get_insert s lba (written_block lba block true) a ∙ ap (λ c. cond c (Some (written_block lba block true)) (get s a)) f ∙ dirty.1, dirty.2)
   ]
 
   turned : (q a : ℕ) → (q == a) ≡ (a == q)
   turned q a = grind (arith, nat_tests)
 
-  read_choice : (t : Bool) (beneath : Block) (o : Option Held) → held_or (cond t (Some (held block true)) o) beneath ≡ cond t block (held_or o beneath)
+  read_choice : (t : Bool) (beneath : Block) (o : Option Held) → held_or (cond t (Some (written_block lba block true)) o) beneath ≡ cond t block (held_or o beneath)
   read_choice true beneath o = refl
   read_choice false beneath o = refl
 
   pub written_over : (g : Geometry) (disk : ℕ → Values) (d : PlainDisk) → IsOver g s disk d → IsOver g with_block disk (set d lba block)
   written_over g disk d over a within b has =
-      ap (λ (o : Option Held). held_or o b) (get_insert s lba (held block true) a)
+      ap (λ (o : Option Held). held_or o b) (get_insert s lba (written_block lba block true) a)
       ∙ read_choice (a == lba) b (get s a)
       ∙ ap (λ c. cond c block (held_or (get s a) b)) (turned a lba)
       ∙ ap (λ (x : Block). cond (lba == a) block x) (over a within b has)
@@ -187,10 +187,10 @@ module _ (s : CacheList) (lba : ℕ) (block : Block) where
   with_clean = written_clean lba block s
 
   -- what stands there is the block, or stood there
-  pub clean_was : (a : ℕ) (h : Held) → get with_clean a ≡ Some h → ((a ≡ lba) × (h ≡ held block false)) ⊎ (get s a ≡ Some h)
+  pub clean_was : (a : ℕ) (h : Held) → get with_clean a ≡ Some h → ((a ≡ lba) × (h ≡ written_block lba block false)) ⊎ (get s a ≡ Some h)
   clean_was a h at = elim (cases_Bool (a == lba)) [
-    | inl t ↦ inl (eqb-true a lba t, let same : Some (held block false) ≡ Some h = sym (ap (λ c. cond c (Some (held block false)) (get s a)) t) ∙ sym (get_insert s lba (held block false) a) ∙ at in let is : held block false ≡ h = cc in sym is)
-    | inr f ↦ inr (sym (ap (λ c. cond c (Some (held block false)) (get s a)) f) ∙ sym (get_insert s lba (held block false) a) ∙ at)
+    | inl t ↦ inl (eqb-true a lba t, let same : Some (written_block lba block false) ≡ Some h = sym (ap (λ c. cond c (Some (written_block lba block false)) (get s a)) t) ∙ sym (get_insert s lba (written_block lba block false) a) ∙ at in let is : written_block lba block false ≡ h = cc in sym is)
+    | inr f ↦ inr (sym (ap (λ c. cond c (Some (written_block lba block false)) (get s a)) f) ∙ sym (get_insert s lba (written_block lba block false) a) ∙ at)
   ]
 
   -- no other block becomes dirty
@@ -210,9 +210,9 @@ module _ (s : CacheList) (lba : ℕ) (block : Block) where
 
     -- where the address wasn't dirty, nothing else is shown
     pub clean_same : (IsDirtyIn s lba → ⊥) → IsSameOver disk s with_clean
-    clean_same none a b has = ap (λ (o : Option Held). held_or o b) (get_insert s lba (held block false) a) ∙ elim (cases_Bool (a == lba)) [
-      | inl t ↦ ap (λ c. held_or (cond c (Some (held block false)) (get s a)) b) t ∙ sym (only b (subst (λ (n : ℕ). HasValue (disk n) b) (eqb-true a lba t) has)) ∙ beneath (eqb-true a lba t) (get s a) refl
-      | inr f ↦ ap (λ c. held_or (cond c (Some (held block false)) (get s a)) b) f
+    clean_same none a b has = ap (λ (o : Option Held). held_or o b) (get_insert s lba (written_block lba block false) a) ∙ elim (cases_Bool (a == lba)) [
+      | inl t ↦ ap (λ c. held_or (cond c (Some (written_block lba block false)) (get s a)) b) t ∙ sym (only b (subst (λ (n : ℕ). HasValue (disk n) b) (eqb-true a lba t) has)) ∙ beneath (eqb-true a lba t) (get s a) refl
+      | inr f ↦ ap (λ c. held_or (cond c (Some (written_block lba block false)) (get s a)) b) f
     ]
       where
         beneath : a ≡ lba → (o : Option Held) → get s a ≡ o → b ≡ held_or o b
@@ -226,5 +226,5 @@ module _ (s : CacheList) (lba : ℕ) (block : Block) where
   pub clean_dirty : (IsDirtyIn s lba → ⊥) → (a : ℕ) → IsDirtyIn s a → IsDirtyIn with_clean a
   clean_dirty none a dirty = elim (cases_Bool (a == lba)) [
     | inl t ↦ absurd (none (subst (IsDirtyIn s) (eqb-true a lba t) dirty))
-    | inr f ↦ (dirty.0, get_insert s lba (held block false) a ∙ ap (λ c. cond c (Some (held block false)) (get s a)) f ∙ dirty.1, dirty.2)
+    | inr f ↦ (dirty.0, get_insert s lba (written_block lba block false) a ∙ ap (λ c. cond c (Some (written_block lba block false)) (get s a)) f ∙ dirty.1, dirty.2)
   ]

@@ -1,5 +1,5 @@
 -- What a cache over a disk is, and what it leaves on its media.
-use Rattle.std.specs.Prelude.{◌≡◌, ◌⊎◌, ◌<◌, ◌/◌, ◌==◌, ◌||◌, ℕ, Bool, true, false, List, [], map, filter, Some, Ok, Result, OnOk, OnErr, IsErrOf, ⊤}
+use Rattle.std.specs.Prelude.{◌≡◌, ◌⊎◌, ◌<◌, ◌/◌, ◌==◌, ◌||◌, ℕ, Bool, true, false, List, [], map, filter, Ok, Result, OnOk, OnErr, IsErrOf, ⊤}
 use Rattle.std.specs.List.{AllByRecursion}
 use Rattle.std.specs.FinMap.{get}
 use Rattle.std.specs.Option.{is_some}
@@ -23,7 +23,8 @@ use Rattle.ft_volume.specs.declared.volume.VolumeError.{VolumeError}
 use Rattle.ft_volume.specs.declared.volume.VolumeError.TheVariants.{OutOfVolume}
 use Rattle.cache_model.specs.Loading.{load}
 use Rattle.cache_model.specs.Records.{Entries}
-use Rattle.cache_model.specs.Cache.{Agrees, Buffered, CacheList, Cleaned, Held, Inserted, dirty_between, vol}
+pub use Rattle.ssc.specs.Commands.{IsDirtyIn}
+use Rattle.cache_model.specs.Cache.{Agrees, Buffered, CacheList, Cleaned, Inserted, dirty_between, vol}
 use Rattle.cache_model.specs.Stands.{FlashStandsFor}
 use Rattle.op_log.specs.Log.{FitsOn}
 use Rattle.ssc.specs.declared.cache.Ssc.{Ssc}
@@ -59,10 +60,6 @@ state_in order v = record {
 -- the flash has these entries
 abbrev pub Loads : Told → (Place → Page) → Entries → Type 0
 Loads told page m = load told.geometry page ≡ Ok m
-
--- the address is held, and the disk may lack its block
-abbrev pub IsDirtyIn : CacheList → ℕ → Type 0
-IsDirtyIn s a = (h : Held) × (get s a ≡ Some h) × (h.dirty ≡ true)
 
 -- what is only buffered came clean
 abbrev pub IsInserted : Buffered → Type 0

@@ -4,9 +4,6 @@ use Rattle.std.specs.Option.{unwrap_or, option_eq}
 use Rattle.std.specs.List.{list_any, IsDistinct}
 use Rattle.ft_base.specs.declared.geometry.Geometry.{Geometry}
 use Rattle.ft_base.specs.declared.block.Place.{Place}
-use Rattle.ft_base.specs.declared.block.Spare.{Spare}
-use Rattle.cache_model.specs.declared.format.SpareKind.TheVariants.{Page as DataPage}
-use Rattle.cache_model.specs.Spelling.{spelled_spare, spare_fields}
 
 -- the log blocks in the order in which they were taken, the open one, and how many of its pages are left
 pub record LogBlocksValue : Type 0 where
@@ -66,7 +63,3 @@ next_page logs = logs.geometry.p - logs.room
 -- where that page lies
 abbrev pub next_place : LogBlocksValue → Place
 next_place logs = record { block = unwrap_or logs.open_block 0; page = next_page logs }
-
--- the spare bytes of a data page of this address
-abbrev pub data_spare : ℕ → Spare
-data_spare lba = record { 0 = spelled_spare (spare_fields DataPage 0 lba) }

@@ -5,7 +5,8 @@ ghost use Rattle.ft_base.specs.Contents.{set};
 ghost use Rattle.ft_media.specs.Media.{LeavesPage, after_program, if_ok, program_counted};
 ghost use Rattle.ft_media.specs.Passes.{Spends};
 ghost use Rattle.ft_media.specs.Drives.{DrivesFlash};
-ghost use Rattle.log_blocks.specs.Logs.{IsInUse, IsSound, without, begun, adopted, released, next_place, data_spare};
+ghost use Rattle.log_blocks.specs.Logs.{IsInUse, IsSound, without, begun, adopted, released, next_place};
+ghost use Rattle.cache_model.specs.Spelling.{data_spare};
 
 use cache_model::SpareKind;
 use ft_base::{Block, Geometry, Place};

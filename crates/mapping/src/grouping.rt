@@ -2,6 +2,7 @@
 ghost use Rattle.std.specs.Prelude.{◌≡◌, ◌<◌, ◌≤◌, ◌-◌, ◌/◌, ◌^◌, ◌↔◌, IsTrue};
 ghost use Rattle.ft_base.specs.declared.record.Record.TheVariants.{SetGroup};
 ghost use Rattle.cache_model.specs.Entries.{IsMap, Fits};
+ghost use Rattle.cache_model.specs.Spelling.{set_width};
 ghost use Rattle.mapping.specs.Counts.{dirty_group_count, data_block_count};
 ghost use Rattle.mapping.specs.Fitting.{HasPageBelow, EndsBelowSize, BlockMayCome};
 ghost use Rattle.mapping.specs.Index.{IsIndex};
@@ -15,7 +16,7 @@ use ft_base::{Geometry, Record};
 
 /// Whether a set has one of the first pages.
 fn has_page(set: u64, pages: u32) -> bool
-    requires { pages ≤ 64 }
+    requires { pages ≤ set_width }
     ensures { IsTrue result ↔ HasPageBelow set pages }
 {
     for page in 0..pages {
@@ -28,7 +29,7 @@ fn has_page(set: u64, pages: u32) -> bool
 
 /// Whether a set has no pages but the first ones.
 fn is_set_below(set: u64, pages: u32) -> bool
-    requires { pages ≤ 64 }
+    requires { pages ≤ set_width }
     ensures { IsTrue result ↔ (set < 2 ^ pages) }
 {
     if pages == 64 {

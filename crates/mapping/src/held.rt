@@ -2,6 +2,7 @@
 ghost use Rattle.std.specs.Prelude.{◌≡◌, ◌<◌, ◌≤◌, ◌+◌, ◌-◌, ◌*◌, ◌/◌, ◌%◌, ◌^◌, ◌==◌, ℕ, None, false, length, max, IfSome, IfNone, OnOk, OnErr, if◌then◌else◌};
 ghost use Rattle.std.specs.FinMap as map;
 ghost use Rattle.cache_model.specs.Records.{no_entries, after, has_bit};
+ghost use Rattle.cache_model.specs.Spelling.{set_width};
 ghost use Rattle.ft_base.specs.declared.record.Record.TheVariants.{SetPage, Remove, Clean, SetGroup, RemoveGroup};
 ghost use Rattle.block_map.specs.PageSets.{IsSound as IsSoundBlock};
 ghost use Rattle.sparse_map.specs.Packed.{map_of, buckets_of, IsSound};
@@ -259,7 +260,7 @@ fn block_at(blocks: &SparseMap<BlockAt>, group: u64) -> Option<BlockAt>
 
 /// The entry of a page of a data block.
 fn page_in(block: Option<BlockAt>, page: u32) -> Option<Entry>
-    requires { page < 64 }
+    requires { page < set_width }
     ensures { result ≡ page_in block page }
 {
     let found = block?;
@@ -278,7 +279,7 @@ fn page_in(block: Option<BlockAt>, page: u32) -> Option<Entry>
 
 /// Leaves a page out of the data block of a group.
 fn take_out(geometry: &Geometry, blocks: &mut SparseMap<BlockAt>, group: u64, page: u32)
-    requires page { page < 64 }
+    requires page { page < set_width }
     requires sound { IsSound blocks.old }
     ensures left { IsLeftOut geometry.now (map_of blocks.old) (map_of blocks.new) group page }
     ensures spare { blocks.new.spare ≡ blocks.old.spare }

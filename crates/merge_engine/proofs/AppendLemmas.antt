@@ -13,7 +13,8 @@ use Rattle.cache_model.specs.declared.entry.Entry.{Entry}
 use Rattle.cache_model.specs.Loading.{is_whole}
 use Rattle.cache_model.specs.Cache.{CacheList}
 use Rattle.checkpoint.proofs.MapsLemmas.{set_page-here}
-use Rattle.log_blocks.specs.Logs.{LogBlocksValue, IsInUse, next_place, data_spare}
+use Rattle.cache_model.specs.Spelling.{data_spare}
+use Rattle.log_blocks.specs.Logs.{LogBlocksValue, IsInUse, next_place}
 use Rattle.merge_engine.specs.declared.parts.Parts.{Parts}
 use Rattle.merge_engine.specs.Agreement.{Agree, IsOpenBlock, Lists}
 use Rattle.merge_engine.specs.Steps.{IsNewPage}

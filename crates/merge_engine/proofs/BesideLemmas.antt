@@ -1,6 +1,6 @@
 -- Pages of the pool in which no entry stands may change: nothing looks at them.
 use Rattle.std.proofs.Common.{◌≡◌, ℕ, ◌<◌, ◌≤◌, ◌⊎◌, inl, inr, Option, Some, None, ok_or, Ok, refl, sym, ◌∙◌, ap, subst, arith, take, List, [], ◌∷◌, true}
-use Rattle.std.specs.Option.{option_and_then, option_map}
+use Rattle.std.specs.Option.{option_and_then}
 use Rattle.std.specs.FinMap.{get}
 use Rattle.ft_base.specs.declared.geometry.Geometry.{Geometry}
 use Rattle.ft_base.specs.declared.block.Block.{Block}
@@ -20,7 +20,7 @@ use Rattle.cache_model.specs.Loading.{◌>>=◌, after_all, checkpoint_of, load,
 use Rattle.cache_model.specs.Loading.Refusal.{NotFormatted}
 use Rattle.cache_model.specs.Laws.{ArePages, LoadsAlike, SameBut}
 use Rattle.cache_model.specs.Cache.{CacheList, held}
-use Rattle.cache_model.specs.Stands.{FlashStandsFor, held_at, block_in}
+use Rattle.cache_model.specs.Stands.{FlashStandsFor, held_at, held_in}
 use Rattle.cache_model.proofs.MapLemmas.{by_get}
 use Rattle.cache_model.proofs.LoadLemmas.{checkpoint_below, log_below, loaded_is, newest_below, newest_is, same_for, load_same, stands_but, set_page-other, pages_from-same}
 use Rattle.cache_model.proofs.FitsLemmas.{load-map, after_all-map}
@@ -65,7 +65,7 @@ log_same g page page' region low same = pages_from-same page page' (log_at g reg
 
 pub held_same : (page page' : Place → Page) (o : Option Entry) → ((e : Entry) → o ≡ Some e → page e.place ≡ page' e.place) → option_and_then (held_at page) o ≡ option_and_then (held_at page') o
 held_same page page' None at = refl
-held_same page page' (Some e) at = ap (λ q. option_map (λ block. held block e.dirty) (block_in q)) (at e refl)
+held_same page page' (Some e) at = ap (held_in e.dirty) (at e refl)
 
 pub current_map : (page : Place → Page) (log : LogValue) (m : Entries) → IsCurrent page log m → IsMap log.geometry m
 current_map page log m k = after_all-map log.geometry log.buffered k.durable m (load-map log.geometry page k.durable k.loads) k.buffered

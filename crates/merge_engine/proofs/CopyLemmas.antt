@@ -11,7 +11,7 @@ use Rattle.ft_base.specs.declared.block.Block.{Block}
 use Rattle.ft_base.specs.declared.block.Spare.{Spare}
 use Rattle.ft_base.specs.declared.block.Place.{Place}
 use Rattle.ft_base.specs.declared.block.Page.{Page}
-use Rattle.ft_base.specs.declared.block.Page.TheVariants.{Blank, Whole, Torn}
+use Rattle.ft_base.specs.declared.block.Page.TheVariants.{Blank, Whole}
 use Rattle.ft_base.specs.Contents.{Contents, Flash, zero_block}
 use Rattle.ft_base.proofs.Images.{set_other}
 use Rattle.ft_media.specs.declared.rig.Counts.{Counts}
@@ -20,14 +20,13 @@ use Rattle.cache_model.specs.declared.entry.Entry.{Entry}
 use Rattle.cache_model.specs.Records.{Entries}
 use Rattle.cache_model.specs.Entries.{IsMap, InPool}
 use Rattle.cache_model.specs.Loading.{is_whole, load}
-use Rattle.cache_model.specs.Stands.{block_in}
 use Rattle.mapping.specs.Counts.{place_and_mark}
 use Rattle.cache_model.specs.declared.format.SpareKind.TheVariants.{Filler}
 use Rattle.cache_model.specs.Spelling.{spelled_spare, spare_fields}
 use Rattle.cache_model.specs.Cache.{CacheList}
 use Rattle.cache_model.proofs.LoadLemmas.{set_page-other}
 use Rattle.block_pool.specs.Pool.{IsFree, IsInPool}
-use Rattle.log_blocks.specs.Logs.{IsInUse, next_place, data_spare}
+use Rattle.log_blocks.specs.Logs.{IsInUse, next_place}
 use Rattle.mapping.specs.declared.bits.Choice.TheVariants.{Held}
 use Rattle.mapping.specs.Bits.{set_of, is_chosen, chosen_of}
 use Rattle.mapping.proofs.BitsLemmas.{set_below}
@@ -92,54 +91,49 @@ readable parts contents lba from dirty agree is =
 whole_apart : (page : Place → Page) (at to : Place) → is_whole (page at) ≡ true → page to ≡ Blank → at ≡ to → ⊥
 whole_apart page at to whole blank same = let both : is_whole Blank ≡ true = ap is_whole (sym blank) ∙ ap (λ q. is_whole (page q)) (sym same) ∙ whole in absurd (cc)
 
-held_block : (q : Page) (block : Block) → block_in q ≡ Some block → (spare : Spare) × (q ≡ Whole block spare)
-held_block Blank block is = absurd (cc)
-held_block (Whole b s) block is = let same : b ≡ block = cc in (s, ap (λ x. Whole x s) same)
-held_block Torn block is = absurd (cc)
-
 pub copy_is : (parts : Parts) (old new : Contents) (agree : Agree parts old) (lba : ℕ) (from to : Place) (dirty : Bool) (block : Block) (spare : Spare) → old.flash.next to.block ≡ Some to.page → IsBlankAhead old → Some (from, dirty) ≡ option_map place_and_mark (get parts.map.entries lba)
-    → block_in (old.flash.page from) ≡ Some block → spare ≡ data_spare lba → new.flash ≡ after_program old.flash to block spare → (e : Entry) → get parts.map.entries lba ≡ Some e → IsCopyOf new.flash.page e.place to lba
-copy_is parts old new agree lba from to dirty block spare ready ahead is read spelled ok e there =
+    → old.flash.page from ≡ Whole block spare → new.flash ≡ after_program old.flash to block spare → (e : Entry) → get parts.map.entries lba ≡ Some e → IsCopyOf new.flash.page e.place to
+copy_is parts old new agree lba from to dirty block spare ready ahead is read ok e there =
     let x = placed_entry (get parts.map.entries lba) from dirty is in
     let same : x.0 ≡ e = let both : Some x.0 ≡ Some e = sym x.1 ∙ there in cc in
     let here : e.place ≡ from = ap (λ (y : Entry). y.place) (sym same) ∙ x.2 in
-    let was = held_block (old.flash.page from) block read in
     let apart = whole_apart old.flash.page e.place to (agree.sound.whole.whole lba e there) (ahead to to.page ready (omega arith)) in
+    let stays : new.flash.page e.place ≡ Whole block spare = ap (λ (f : Flash). f.page e.place) ok ∙ set_page-other old.flash.page to e.place (Whole block spare) apart ∙ ap old.flash.page here ∙ read in
     record {
-      block = block;
-      spare = was.0;
-      original = ap (λ (f : Flash). f.page e.place) ok ∙ set_page-other old.flash.page to e.place (Whole block spare) apart ∙ ap old.flash.page here ∙ was.1;
-      copy = ap (λ (f : Flash). f.page to) ok ∙ set_page-here old.flash.page to (Whole block spare) ∙ ap (λ s. Whole block s) spelled;
+      whole = ap is_whole stays;
+      copy = ap (λ (f : Flash). f.page to) ok ∙ set_page-here old.flash.page to (Whole block spare) ∙ sym stays;
     }
 
 -- ---- the copies so far
 
 -- each held address of the group whose page is below this one has its copy
 pub record IsCopiedBelow (g : Geometry) (m : Entries) (group block n : ℕ) (page : Place → Page) : Type 0 where
-  pub each : (a : ℕ) (e : Entry) → get m a ≡ Some e → a / g.p ≡ group → a % g.p < n → IsCopyOf page e.place (record { block = block; page = a % g.p }) a
+  pub each : (a : ℕ) (e : Entry) → get m a ≡ Some e → a / g.p ≡ group → a % g.p < n → IsCopyOf page e.place (record { block = block; page = a % g.p })
 
 -- one more page was copied, and no other one changed
 pub copied_more : (parts : Parts) (old : Contents) (new : Flash) (group block lba n : ℕ) (to : Place) → Agree parts old → IsBlankAhead old → lba ≡ group * parts.geometry.p + n → to ≡ record { block = block; page = n } → old.flash.next block ≡ Some n
     → IsCopiedBelow parts.geometry parts.map.entries group block n old.flash.page
     → ((at : Place) → (at ≡ to → ⊥) → new.page at ≡ old.flash.page at)
-    → ((e : Entry) → get parts.map.entries lba ≡ Some e → IsCopyOf new.page e.place to lba)
+    → ((e : Entry) → get parts.map.entries lba ≡ Some e → IsCopyOf new.page e.place to)
     → IsCopiedBelow parts.geometry parts.map.entries group block (n + 1) new.page
 copied_more parts old new group block lba n to agree ahead address here ready so_far others copied = record {
   each = λ a e there in_group low. elim (cases_lt (a % parts.geometry.p) n) [
     | inl less ↦
         let was = so_far.each a e there in_group less in
         let from_apart = whole_apart old.flash.page e.place (record { block = block; page = n }) (agree.sound.whole.whole a e there) (ahead (record { block = block; page = n }) n ready (omega arith)) in
+        let stays = others e.place (λ same. from_apart (same ∙ here)) in
         record {
-          block = was.block;
-          spare = was.spare;
-          original = others e.place (λ same. from_apart (same ∙ here)) ∙ was.original;
-          copy = others (record { block = block; page = a % parts.geometry.p }) (λ same. let page : a % parts.geometry.p ≡ n = ap (λ (x : Place). x.page) (same ∙ here) in absurd (omega arith)) ∙ was.copy;
+          whole = ap is_whole stays ∙ was.whole;
+          copy =
+              others (record { block = block; page = a % parts.geometry.p }) (λ same. let page : a % parts.geometry.p ≡ n = ap (λ (x : Place). x.page) (same ∙ here) in absurd (omega arith))
+              ∙ was.copy
+              ∙ sym stays;
         }
     | inr high ↦
         let same : a % parts.geometry.p ≡ n = omega arith in
         let this : lba ≡ a = address ∙ ap (λ q. q * parts.geometry.p + n) (sym in_group) ∙ ap (λ r. a / parts.geometry.p * parts.geometry.p + r) (sym same) ∙ div-add-mod' a parts.geometry.p in
         let place : to ≡ record { block = block; page = a % parts.geometry.p } = here ∙ ap (λ r. record { block = block; page = r }) (sym same) in
-        subst (λ (q : Place). IsCopyOf new.page e.place q a) place (subst (λ k. IsCopyOf new.page e.place to k) this (copied e (ap (get parts.map.entries) this ∙ there)))
+        subst (λ (q : Place). IsCopyOf new.page e.place q) place (copied e (ap (get parts.map.entries) this ∙ there))
   ];
 }
 

@@ -1,18 +1,17 @@
 -- Groups that give way, in the entries and in the list.
 use Rattle.std.proofs.Common.{◌≡◌, ℕ, suc, ◌/◌, ◌<◌, ◌≤◌, ◌==◌, Bool, true, false, cond, not, List, [], ◌∷◌, length, map, filter, Option, Some, None, refl, sym, ◌∙◌, ap, subst, arith, inl, inr, eqb-true, ne_eqb}
-use Rattle.std.specs.Option.{option_and_then, option_map}
+use Rattle.std.specs.Option.{option_and_then}
 use Rattle.std.specs.FinMap.{get, entries}
 use Rattle.std.proofs.lemmas.Bool.{cases_Bool, cases_eq, both_ways, or_cases}
 use Rattle.ft_base.specs.declared.geometry.Geometry.{Geometry}
 use Rattle.ft_base.specs.declared.block.Place.{Place}
 use Rattle.ft_base.specs.declared.block.Page.{Page}
-use Rattle.ft_base.specs.declared.block.Page.TheVariants.{Blank, Whole, Torn}
 use Rattle.cache_model.specs.declared.entry.Entry.{Entry}
 use Rattle.cache_model.specs.Records.{Entries, is_in_group}
 use Rattle.cache_model.specs.Entries.{each_once, IsMap}
-use Rattle.cache_model.specs.Loading.{is_whole}
 use Rattle.cache_model.specs.Cache.{CacheList, Held, held, IsWhollyClean, groups}
-use Rattle.cache_model.specs.Stands.{held_at, block_in}
+use Rattle.cache_model.specs.Stands.{held_at}
+use Rattle.cache_model.proofs.StandLemmas.{whole_held}
 use Rattle.cache_model.proofs.MapLemmas.{by_get, get_retain}
 use Rattle.cache_model.proofs.CountLemmas.{member, numbers, all_members, each_once-le, others, length_others, member_others, member_self}
 use Rattle.checkpoint.specs.Current.{AreWhole}
@@ -83,16 +82,8 @@ is_listed g s a h is =
 -- ---- the list of entries
 
 module _ (g : Geometry) (m : Entries) (page : Place → Page) (s : CacheList) (whole : AreWhole page m) (on : IsListOn page m s) where
-  held_whole : (e : Entry) → is_whole (page e.place) ≡ true → (h : Held) × (held_at page e ≡ Some h) × (h.dirty ≡ e.dirty)
-  held_whole e is = by_page (page e.place) is
-    where
-      by_page : (q : Page) → is_whole q ≡ true → (h : Held) × (option_map (λ block. held block e.dirty) (block_in q) ≡ Some h) × (h.dirty ≡ e.dirty)
-      by_page Blank is = absurd (cc)
-      by_page (Whole block spare) is = (held block e.dirty, refl, refl)
-      by_page Torn is = absurd (cc)
-
   pub listed : (a : ℕ) (e : Entry) → get m a ≡ Some e → (h : Held) × (get s a ≡ Some h) × (h.dirty ≡ e.dirty)
-  listed a e is = let x = held_whole e (whole.whole a e is) in (x.0, on a ∙ ap (option_and_then (held_at page)) is ∙ x.1, x.2)
+  listed a e is = let x = whole_held page e (whole.whole a e is) in (x.0, on a ∙ ap (option_and_then (held_at page)) is ∙ x.1, x.2)
 
   pub entered : (a : ℕ) (h : Held) → get s a ≡ Some h → (e : Entry) × (get m a ≡ Some e) × (h.dirty ≡ e.dirty)
   entered a h is = by_entry (get m a) refl

@@ -16,8 +16,9 @@ use Rattle.cache_model.specs.Records.{Entries, after, cleaned, in_log_block}
 use Rattle.cache_model.specs.Entries.{IsMap, Fits, fits}
 use Rattle.cache_model.specs.Loading.{after_all, is_whole}
 use Rattle.cache_model.specs.Laws.{IsLess, IsLessOf}
-use Rattle.cache_model.specs.Cache.{held, CacheList, marked_as, evicted, made_clean}
-use Rattle.cache_model.specs.Stands.{held_at, block_in}
+use Rattle.cache_model.specs.Cache.{written_block, CacheList, marked_as, evicted, made_clean}
+use Rattle.cache_model.specs.Spelling.{data_spare}
+use Rattle.cache_model.specs.Stands.{held_at, held_in}
 use Rattle.cache_model.proofs.MapLemmas.{get_insert, get_remove}
 use Rattle.cache_model.proofs.StepLemmas.{get-after}
 use Rattle.cache_model.proofs.FitsLemmas.{fits-from}
@@ -114,15 +115,15 @@ module _ (g : Geometry) (m : Entries) (lba : ℕ) (at : Place) (dirty : Bool) wh
       let most = g.in_range.p_high in
       omega arith
 
-  pub placed_held : (page : Place → Page) (s : CacheList) (block : Block) → block_in (page at) ≡ Some block → IsListOn page m s → IsListOn page (after g (SetPage lba at dirty) m) (insert s lba (held block dirty))
+  pub placed_held : (page : Place → Page) (s : CacheList) (block : Block) → page at ≡ Whole block (data_spare lba) → IsListOn page m s → IsListOn page (after g (SetPage lba at dirty) m) (insert s lba (written_block lba block dirty))
   placed_held page s block has same a =
-      get_insert s lba (held block dirty) a
-      ∙ ap (λ o. cond (a == lba) (Some (held block dirty)) o) (same a)
+      get_insert s lba (written_block lba block dirty) a
+      ∙ ap (λ o. cond (a == lba) (Some (written_block lba block dirty)) o) (same a)
       ∙ by (a == lba) (get m a)
       ∙ ap (option_and_then (held_at page)) (sym (at_address a))
     where
-      by : (b : Bool) (o : Option Entry) → cond b (Some (held block dirty)) (option_and_then (held_at page) o) ≡ option_and_then (held_at page) (cond b (Some there) o)
-      by true o = ap (option_map (λ block. held block dirty)) (sym has)
+      by : (b : Bool) (o : Option Entry) → cond b (Some (written_block lba block dirty)) (option_and_then (held_at page) o) ≡ option_and_then (held_at page) (cond b (Some there) o)
+      by true o = ap (held_in dirty) (sym has)
       by false o = refl
 
   pub placed_changes : ChangesOne g (lba / g.p) m (after g (SetPage lba at dirty) m)
@@ -198,7 +199,7 @@ cleaned_held g m lba page list on a = get_marked false lba list (get list lba) a
     by true None = refl
     by true (Some e) = by_page (page e.place)
       where
-        by_page : (q : Page) → option_map (marked_as false) (option_map (λ block. held block e.dirty) (block_in q)) ≡ option_map (λ block. held block false) (block_in q)
+        by_page : (q : Page) → option_map (marked_as false) (held_in e.dirty q) ≡ held_in false q
         by_page Blank = refl
         by_page (Whole block spare) = refl
         by_page Torn = refl

@@ -1,6 +1,6 @@
 -- A group that moves into an erase block, or that is dropped: the parts agree again.
 use Rattle.std.proofs.Common.{◌≡◌, ℕ, ◌/◌, ◌%◌, not, cond, true, Bool, ◌↔◌, eq-eqb, ne_eqb, IsTrue, Option, Some, None, refl, sym, ◌∙◌, ap, ap₂, subst, inl, inr}
-use Rattle.std.specs.Option.{option_and_then, option_map}
+use Rattle.std.specs.Option.{option_and_then}
 use Rattle.std.specs.FinMap.{get}
 use Rattle.std.proofs.lemmas.Bool.{cases_eq}
 use Rattle.ft_base.specs.declared.geometry.Geometry.{Geometry}
@@ -16,7 +16,7 @@ use Rattle.cache_model.specs.Entries.{IsMap, Fits}
 use Rattle.cache_model.specs.Spelling.{may_stand_in}
 use Rattle.cache_model.specs.Loading.{is_whole}
 use Rattle.cache_model.specs.Cache.{CacheList, held}
-use Rattle.cache_model.specs.Stands.{held_at, block_in}
+use Rattle.cache_model.specs.Stands.{held_at, held_in}
 use Rattle.cache_model.proofs.MapLemmas.{get_retain}
 use Rattle.op_log.specs.Log.{LogValue, pushed}
 use Rattle.checkpoint.specs.Current.{IsCurrent, AreWhole}
@@ -127,11 +127,11 @@ module _ (parts : Parts) (contents : Contents) (group : ℕ) (agree : Agree part
 -- ---- a group that moves
 
 -- the copy is a whole page, and makes the same of the list
-copy_whole : (page : Place → Page) (from to : Place) (lba : ℕ) → IsCopyOf page from to lba → is_whole (page to) ≡ true
-copy_whole page from to lba copied = ap is_whole copied.copy
+copy_whole : (page : Place → Page) (from to : Place) → IsCopyOf page from to → is_whole (page to) ≡ true
+copy_whole page from to copied = ap is_whole copied.copy ∙ copied.whole
 
-copy_held : (page : Place → Page) (from to : Place) (lba : ℕ) (dirty : Bool) → IsCopyOf page from to lba → option_map (λ block. held block dirty) (block_in (page from)) ≡ option_map (λ block. held block dirty) (block_in (page to))
-copy_held page from to lba dirty copied = ap (λ q. option_map (λ block. held block dirty) (block_in q)) copied.original ∙ sym (ap (λ q. option_map (λ block. held block dirty) (block_in q)) copied.copy)
+copy_held : (page : Place → Page) (from to : Place) (dirty : Bool) → IsCopyOf page from to → held_in dirty (page from) ≡ held_in dirty (page to)
+copy_held page from to dirty copied = ap (held_in dirty) (sym copied.copy)
 
 module _ (parts : Parts) (group block present dirty : ℕ) (one : AreOfOne parts) (is_map : IsMap parts.geometry parts.map.entries) (roles : RolesAgree parts)
     (held : IsGroupHeld parts.geometry parts.map.entries group) (room : HasBlockOrRoom parts.geometry parts.map.entries group) (free : IsFree parts.pool block)
@@ -211,7 +211,7 @@ module _ (parts : Parts) (group block present dirty : ℕ) (one : AreOfOne parts
           whole = λ a f at. elim (cases_eq (a / parts.geometry.p) group) [
             | inl same ↦
                 let x = from a f at same in
-                ap (λ (y : Entry). is_whole (contents.flash.page y.place)) x.2 ∙ copy_whole contents.flash.page x.0.place (record { block = block; page = a % parts.geometry.p }) a (copied a x.0 x.1 same)
+                ap (λ (y : Entry). is_whole (contents.flash.page y.place)) x.2 ∙ copy_whole contents.flash.page x.0.place (record { block = block; page = a % parts.geometry.p }) (copied a x.0 x.1 same)
             | inr other ↦ agree.sound.whole.whole a f (sym (others a other) ∙ at)
           ];
         })
@@ -230,7 +230,7 @@ module _ (parts : Parts) (group block present dirty : ℕ) (one : AreOfOne parts
         by_entry a same None at = ap (option_and_then (held_at contents.flash.page)) (at ∙ sym (ap (λ n. get n a) entries_are ∙ moved_none parts.geometry parts.map.entries group block a at same))
         by_entry a same (Some e) at =
             ap (option_and_then (held_at contents.flash.page)) at
-            ∙ copy_held contents.flash.page e.place (record { block = block; page = a % parts.geometry.p }) a e.dirty (copied a e at same)
+            ∙ copy_held contents.flash.page e.place (record { block = block; page = a % parts.geometry.p }) e.dirty (copied a e at same)
             ∙ sym (ap (option_and_then (held_at contents.flash.page)) (ap (λ n. get n a) entries_are ∙ moved_here parts.geometry parts.map.entries group block a e at same))
 
 -- ---- the same of parts that are known by equations

@@ -1,6 +1,6 @@
 -- A log block becomes the data block of the group that it holds in order: the parts agree again.
 use Rattle.std.proofs.Common.{◌≡◌, ℕ, ◌/◌, ◌%◌, true, false, IsTrue, Option, None, Some, refl, sym, ◌∙◌, ap, ap₂, subst, inl, inr}
-use Rattle.std.specs.Option.{option_and_then, option_map}
+use Rattle.std.specs.Option.{option_and_then}
 use Rattle.std.specs.FinMap.{get}
 use Rattle.std.proofs.lemmas.Bool.{cases_eq, both_ways}
 use Rattle.ft_base.specs.declared.geometry.Geometry.{Geometry}
@@ -15,7 +15,7 @@ use Rattle.cache_model.specs.Entries.{IsMap, Fits}
 use Rattle.cache_model.specs.Spelling.{may_stand_in}
 use Rattle.cache_model.specs.Loading.{is_whole}
 use Rattle.cache_model.specs.Cache.{CacheList, held}
-use Rattle.cache_model.specs.Stands.{held_at, block_in}
+use Rattle.cache_model.specs.Stands.{held_at, held_in}
 use Rattle.op_log.specs.Log.{LogValue, pushed}
 use Rattle.checkpoint.specs.Current.{IsCurrent}
 use Rattle.mapping.specs.declared.bits.Choice.TheVariants.{Held, Dirty}
@@ -158,7 +158,7 @@ module _ (parts : Parts) (group block present dirty : ℕ) (one : AreOfOne parts
         by_entry a same None at = ap (option_and_then (held_at contents.flash.page)) (at ∙ sym (ap (λ n. get n a) entries_are ∙ moved_none parts.geometry parts.map.entries group block a at same))
         by_entry a same (Some e) at =
             ap (option_and_then (held_at contents.flash.page)) at
-            ∙ ap (λ (p : Place). option_map (λ b. held b e.dirty) (block_in (contents.flash.page p))) (stays_at a e at same)
+            ∙ ap (λ (p : Place). held_in e.dirty (contents.flash.page p)) (stays_at a e at same)
             ∙ sym (ap (option_and_then (held_at contents.flash.page)) (ap (λ n. get n a) entries_are ∙ moved_here parts.geometry parts.map.entries group block a e at same))
 
 -- ---- the same of parts that are known by equations

@@ -2,20 +2,20 @@
 use Rattle.std.specs.Prelude.{◌≡◌, ◌⊎◌, ◌≤◌, ◌<◌, ◌/◌, ◌%◌, ℕ, true, [], length, Some, None}
 use Rattle.std.specs.FinMap.{get}
 use Rattle.ft_base.specs.declared.block.Block.{Block}
-use Rattle.ft_base.specs.declared.block.Spare.{Spare}
 use Rattle.ft_base.specs.declared.block.Place.{Place}
 use Rattle.ft_base.specs.declared.block.Page.{Page}
 use Rattle.ft_base.specs.declared.block.Page.TheVariants.{Whole}
 use Rattle.ft_base.specs.declared.geometry.Geometry.{Geometry}
 use Rattle.ft_base.specs.Contents.{zero_block}
 use Rattle.cache_model.specs.declared.format.SpareKind.TheVariants.{Filler}
-use Rattle.cache_model.specs.Spelling.{spelled_spare, spare_fields}
+use Rattle.cache_model.specs.Spelling.{data_spare, spelled_spare, spare_fields}
+use Rattle.cache_model.specs.Loading.{is_whole}
 use Rattle.cache_model.specs.declared.entry.Entry.{Entry}
 use Rattle.cache_model.specs.Records.{Entries}
 use Rattle.cache_model.specs.Cache.{CacheList, with_group}
 use Rattle.cache_model.specs.Entries.{groups_with}
 use Rattle.op_log.specs.Log.{LogValue}
-use Rattle.log_blocks.specs.Logs.{IsInUse, data_spare}
+use Rattle.log_blocks.specs.Logs.{IsInUse}
 use Rattle.merge_engine.specs.declared.parts.Parts.{Parts}
 use Rattle.block_pool.specs.Pool.{PoolValue, IsInPool, role_of}
 use Rattle.block_pool.specs.declared.pool.Role.TheVariants.{Free}
@@ -47,17 +47,15 @@ pub record FollowsGroup (g : Geometry) (group : ℕ) (m m' : Entries) (old new :
   pub freed : (b : ℕ) → IsInPool g b → IsGroupBlock g m group b → (IsGroupBlock g m' group b → ⊥) → role_of new b ≡ Free
   pub kept : (b : ℕ) → IsInPool g b → (IsGroupBlock g m group b → IsGroupBlock g m' group b) → role_of new b ≡ role_of old b
 
--- the page is whole, and has the block that stands at the other, as a data page of the address
-pub record IsCopyOf (page : Place → Page) (from to : Place) (lba : ℕ) : Type 0 where
-  pub block : Block
-  pub spare : Spare
-  pub original : page from ≡ Whole block spare
-  pub copy : page to ≡ Whole block (data_spare lba)
+-- a whole page, and the same at the other place, block and spare bytes
+pub record IsCopyOf (page : Place → Page) (from to : Place) : Type 0 where
+  pub whole : is_whole (page from) ≡ true
+  pub copy : page to ≡ page from
 
 -- each held address of the group has a copy at its own page of the erase block
 abbrev pub IsCopied : Geometry → Entries → ℕ → ℕ → (Place → Page) → Type 0
 IsCopied g m group block page = (a : ℕ) (e : Entry) → get m a ≡ Some e → a / g.p ≡ group
-    → IsCopyOf page e.place (record { block = block; page = a % g.p }) a
+    → IsCopyOf page e.place (record { block = block; page = a % g.p })
 
 -- a filler page: the zero block, with the spare bytes of a filler
 abbrev pub filler_page : Page

@@ -1,5 +1,5 @@
 //! The pages of a group are copied into one erase block.
-ghost use Rattle.std.specs.Prelude.{◌≡◌, ◌≤◌, ◌<◌, ◌+◌, [], ℕ, true, None, Some, OnOk, IsErrOf};
+ghost use Rattle.std.specs.Prelude.{◌≡◌, ◌<◌, ◌+◌, [], ℕ, true, None, Some, OnOk, IsErrOf};
 ghost use Rattle.std.specs.FinMap.{get};
 ghost use Rattle.ft_base.specs.declared.block.Place.{Place as PlaceValue};
 ghost use Rattle.ft_media.specs.State.{failed, lost};
@@ -8,7 +8,7 @@ ghost use Rattle.ft_media.specs.Media.{after_program, program_counted};
 ghost use Rattle.cache_model.specs.declared.entry.Entry.{Entry};
 ghost use Rattle.cache_model.specs.Cache.{CacheList};
 ghost use Rattle.cache_model.specs.Loading.{is_whole};
-ghost use Rattle.cache_model.specs.Stands.{block_in};
+ghost use Rattle.ft_base.specs.declared.block.Page.TheVariants.{Whole};
 ghost use Rattle.block_pool.specs.Pool.{IsFree};
 ghost use Rattle.merge_engine.specs.Agreement.{Agree, Lists};
 ghost use Rattle.merge_engine.specs.Merges.{ReachesTo, programs_counted};
@@ -52,7 +52,8 @@ pub(crate) fn copy_group<M: Media>(
     Ok(())
 }
 
-/// Programs one page of a data block: the address's block, or a filler where it isn't held.
+/// Programs one page of a data block: what stands at the address's page, with its spare bytes, or a filler
+/// where the address isn't held.
 fn copy_page<M: Media>(
     cache: &Parts,
     media: &mut M,
@@ -68,7 +69,7 @@ fn copy_page<M: Media>(
     ensures lists { (list durable : CacheList) → Lists cache.now (M.state media.old).contents.flash.page list durable
         → Lists cache.now (M.state media.new).contents.flash.page list durable }
     ensures copied { OnOk result ((e : Entry) → get cache.now.map.entries lba ≡ Some e
-        → IsCopyOf (M.state media.new).contents.flash.page e.place to lba) }
+        → IsCopyOf (M.state media.new).contents.flash.page e.place to) }
     ensures filler { OnOk result (get cache.now.map.entries lba ≡ None → (M.state media.new).contents.flash.page to ≡ filler_page) }
     ensures others { OnOk result ((at : PlaceValue) → (at ≡ to → ⊥)
         → (M.state media.new).contents.flash.page at ≡ (M.state media.old).contents.flash.page at) }
@@ -81,8 +82,8 @@ fn copy_page<M: Media>(
         let spare = write_spare(SpareKind::Filler, 0, 0);
         return program_unheld(cache, media, to, &zero_block(), &spare);
     };
-    read_whole(media, from, buffer)?;
-    let spare = write_spare(SpareKind::Page, 0, lba);
+    let mut spare = Spare([0; 32]);
+    read_whole(media, from, buffer, &mut spare)?;
     program_unheld(cache, media, to, buffer, &spare)
 }
 
@@ -111,18 +112,22 @@ fn program_unheld<M: Media>(
 }
 
 /// Reads a page that an entry names, which is whole.
-fn read_whole<M: Media>(media: &mut M, at: Place, buffer: &mut Block) -> Result<(), MediaError>
+fn read_whole<M: Media>(
+    media: &mut M,
+    at: Place,
+    buffer: &mut Block,
+    spare: &mut Spare,
+) -> Result<(), MediaError>
     requires block { at.block < (M.state media.old).contents.shape.blocks }
     requires page { at.page < (M.state media.old).contents.shape.pages }
     requires whole { is_whole ((M.state media.old).contents.flash.page at) ≡ true }
-    ensures found { OnOk result (block_in ((M.state media.old).contents.flash.page at) ≡ Some buffer.new) }
+    ensures found { OnOk result ((M.state media.old).contents.flash.page at ≡ Whole buffer.new spare.new) }
     ensures contents { (M.state media.new).contents ≡ (M.state media.old).contents }
     ensures counts { (M.state media.new).counts ≡ (M.state media.old).counts }
     ensures memory { IsErrOf result MediaError.OutOfMemory → ⊥ }
     ensures drives { DrivesFlash (M.state media.old) (M.state media.new) (failed result) (lost result) }
 {
-    let mut spare = Spare([0; 32]);
-    match media.read_page(at, buffer, &mut spare)? {
+    match media.read_page(at, buffer, spare)? {
         PageRead::Whole => Ok(()),
         PageRead::Blank | PageRead::Torn => unreachable!(),
     }

@@ -1,10 +1,10 @@
 //! Changes of the map: each is buffered, made in the map, and followed by the roles of the pool.
-ghost use Rattle.std.specs.Prelude.{◌≡◌, ◌≤◌, ◌<◌, ◌/◌, ◌+◌, length, ℕ, true, IsTrue};
+ghost use Rattle.std.specs.Prelude.{◌≡◌, ◌≤◌, ◌<◌, ◌/◌, ◌+◌, length, IsTrue};
 ghost use Rattle.ft_base.specs.declared.record.Record.TheVariants.{SetPage, Remove, Clean};
 ghost use Rattle.ft_base.specs.declared.block.Block.{Block};
 ghost use Rattle.ft_base.specs.Contents.{Contents};
 ghost use Rattle.ft_base.specs.Layout.{page_records};
-ghost use Rattle.cache_model.specs.Cache.{CacheList, evicted, held, made_clean};
+ghost use Rattle.cache_model.specs.Cache.{CacheList, evicted, written_block, made_clean};
 ghost use Rattle.cache_model.specs.Entries.{Fits, IsMap};
 ghost use Rattle.cache_model.specs.Records.{after};
 ghost use Rattle.std.specs.FinMap.{insert};
@@ -37,7 +37,7 @@ pub fn put_page(cache: &mut Parts, lba: u64, place: Place, dirty: bool)
     ensures lists { (contents : Contents) (block : Block) (list durable : CacheList)
         → IsNewPage cache.old contents.flash.page place lba block
         → Lists cache.old contents.flash.page list durable
-        → Lists cache.new contents.flash.page (insert list lba (held block dirty)) durable }
+        → Lists cache.new contents.flash.page (insert list lba (written_block lba block dirty)) durable }
 {
     let change = Record::SetPage { lba, place, dirty };
     note(cache, &change, lba / cache.geometry.p as u64);

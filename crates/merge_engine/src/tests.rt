@@ -1,8 +1,8 @@
 ghost use Rattle.std.specs.Prelude.{◌≡◌, ◌<◌, ◌≤◌, Ok, IfOk, OnOk, length};
 ghost use Rattle.std.specs.Bool.{OnTrue};
-ghost use Rattle.cache_model.specs.Entries.{Fits};
 ghost use Rattle.cache_model.specs.Loading.{Complete, checkpoint_of, load};
 ghost use Rattle.cache_model.specs.Records.{no_entries};
+ghost use Rattle.ft_base.specs.Layout.{page_records};
 ghost use Rattle.mem_rig.specs.Rig.{state_of};
 ghost use Rattle.op_log.specs.Log.{FitsOn};
 
@@ -137,7 +137,7 @@ fn reserve(parts: &mut Parts) -> Result<(), Fail>
     ensures entries { parts.new.map.entries ≡ parts.old.map.entries }
     ensures pages { OnOk result (1 ≤ parts.new.map.spare_pages) }
     ensures groups { OnOk result (parts.new.geometry.p ≤ parts.new.map.spare_groups) }
-    ensures room { OnOk result (length parts.new.log.buffered < 127) }
+    ensures room { OnOk result (length parts.new.log.buffered < page_records parts.new.log.geometry) }
 {
     if parts.log.buffered() >= 127 {
         return Err(Fail::from("too much is buffered"));

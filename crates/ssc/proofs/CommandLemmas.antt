@@ -20,7 +20,7 @@ use Rattle.ft_media.specs.declared.media.PageRead.TheVariants as read
 use Rattle.ft_media.specs.declared.media.MediaError.{MediaError}
 use Rattle.ft_media.specs.declared.media.MediaError.TheVariants as media
 use Rattle.cache_model.specs.declared.entry.Entry.{Entry}
-use Rattle.cache_model.specs.Cache.{held, CacheList, evicted, made_clean, marked}
+use Rattle.cache_model.specs.Cache.{Held, held, CacheList, evicted, made_clean, marked, marked_as}
 use Rattle.cache_model.specs.Loading.{is_whole}
 use Rattle.cache_model.proofs.MapLemmas.{get_insert, get_remove}
 use Rattle.mapping.specs.Counts.{place_and_mark}
@@ -77,13 +77,13 @@ evicted_absent s a absent = same_map nat_cmp_total nat_cmp-IsAntisymmetric _ _ (
       | inr f ↦ ap (λ b. cond b None (get s x)) f
     ]
 
-pub cleaned_clean : (s : CacheList) (a : ℕ) (block : Block) → get s a ≡ Some (held block false) → made_clean a s ≡ s
-cleaned_clean s a block clean = ap (marked false a s) clean ∙ same_map nat_cmp_total nat_cmp-IsAntisymmetric _ _ (λ x. get_insert s a (held block false) x ∙ at x)
+pub cleaned_clean : (s : CacheList) (a : ℕ) (h : Held) → get s a ≡ Some h → h.dirty ≡ false → made_clean a s ≡ s
+cleaned_clean s a h is clean = ap (marked false a s) is ∙ same_map nat_cmp_total nat_cmp-IsAntisymmetric _ _ (λ x. get_insert s a (marked_as false h) x ∙ at x)
   where
-    at : (x : ℕ) → cond (x == a) (Some (held block false)) (get s x) ≡ get s x
+    at : (x : ℕ) → cond (x == a) (Some (marked_as false h)) (get s x) ≡ get s x
     at x = elim (cases_Bool (x == a)) [
-      | inl t ↦ ap (λ b. cond b (Some (held block false)) (get s x)) t ∙ sym (ap (λ n. get s n) (eqb-true x a t) ∙ clean)
-      | inr f ↦ ap (λ b. cond b (Some (held block false)) (get s x)) f
+      | inl t ↦ ap (λ b. cond b (Some (marked_as false h)) (get s x)) t ∙ ap (λ m. Some (held h.block h.spare m)) (sym clean) ∙ sym (ap (λ n. get s n) (eqb-true x a t) ∙ is)
+      | inr f ↦ ap (λ b. cond b (Some (marked_as false h)) (get s x)) f
     ]
 
 module _ (c : Ssc) (contents : Contents) (s : CacheList) (lba : ℕ) (holds : Holds c contents s) where
@@ -96,10 +96,10 @@ module _ (c : Ssc) (contents : Contents) (s : CacheList) (lba : ℕ) (holds : Ho
       by (Some e) is = absurd (never (e, is))
 
   pub an_entry : (e : Entry) → get (entries_of c) lba ≡ Some e → get s lba ≡ None → ⊥
-  an_entry e is none = let h = held_some c contents s lba e holds is in let both : None ≡ Some (held h.0 e.dirty) = sym none ∙ h.1 in cc
+  an_entry e is none = let h = held_some c contents s lba e holds is in let both : None ≡ Some h.0 = sym none ∙ h.1 in cc
 
-  pub dirty_entry : ((e : Entry) × (get (entries_of c) lba ≡ Some e) × (e.dirty ≡ true)) → (block : Block) × (get s lba ≡ Some (held block true))
-  dirty_entry x = let h = held_some c contents s lba x.0 holds x.1 in (h.0, h.1 ∙ ap (λ b. Some (held h.0 b)) x.2)
+  pub dirty_entry : ((e : Entry) × (get (entries_of c) lba ≡ Some e) × (e.dirty ≡ true)) → (h : Held) × (get s lba ≡ Some h) × (h.dirty ≡ true)
+  dirty_entry x = let h = held_some c contents s lba x.0 holds x.1 in (h.0, h.1, h.2 ∙ x.2)
 
   pub no_dirty_entry : ((e : Entry) × (get (entries_of c) lba ≡ Some e) × (e.dirty ≡ true) → ⊥) → made_clean lba s ≡ s
   no_dirty_entry never = by (get (entries_of c) lba) refl
@@ -108,7 +108,7 @@ module _ (c : Ssc) (contents : Contents) (s : CacheList) (lba : ℕ) (holds : Ho
       by None is = ap (marked false lba s) (held_none c contents s lba holds is)
       by (Some e) is = elim (cases_Bool e.dirty) [
         | inl t ↦ absurd (never (e, is, t))
-        | inr f ↦ let h = held_some c contents s lba e holds is in cleaned_clean s lba h.0 (h.1 ∙ ap (λ b. Some (held h.0 b)) f)
+        | inr f ↦ let h = held_some c contents s lba e holds is in cleaned_clean s lba h.0 h.1 (h.2 ∙ f)
       ]
 
 -- ---- an entry is there

@@ -1,19 +1,19 @@
 -- How many groups have a dirty address, together with that of one more.
 use Rattle.std.proofs.Common.{◌≡◌, ℕ, suc, ◌+◌, ◌*◌, ◌/◌, ◌%◌, ◌<◌, ◌≤◌, ◌==◌, nat_lt, ◌&&◌, ◌||◌, Bool, true, false, cond, List, [], ◌∷◌, length, Option, Some, None, refl, sym, ◌∙◌, ap, arith, inl, inr, nat_cmp, eqb-true, lt-ltb}
-use Rattle.std.specs.Option.{option_and_then, option_map}
+use Rattle.std.specs.Option.{option_and_then}
 use Rattle.std.specs.FinMap.{FinMap, get, entries}
 use Rattle.std.proofs.lemmas.Bool.{cases_Bool, both_ways, false≢true, and_from}
 use Rattle.std.proofs.lemmas.Nat.{div-mul-add, div-add-mod', mod_below}
 use Rattle.ft_base.specs.declared.geometry.Geometry.{Geometry}
 use Rattle.ft_base.specs.declared.block.Place.{Place}
 use Rattle.ft_base.specs.declared.block.Page.{Page}
-use Rattle.ft_base.specs.declared.block.Page.TheVariants.{Blank, Whole, Torn}
 use Rattle.cache_model.specs.declared.entry.Entry.{Entry}
 use Rattle.cache_model.specs.Records.{Entries, has_bit}
 use Rattle.cache_model.specs.Entries.{each_once, groups_with}
 use Rattle.cache_model.specs.Loading.{is_whole}
-use Rattle.cache_model.specs.Cache.{Held, held, CacheList, with_group, dirty_groups}
-use Rattle.cache_model.specs.Stands.{held_at, block_in}
+use Rattle.cache_model.specs.Cache.{Held, CacheList, with_group, dirty_groups}
+use Rattle.cache_model.specs.Stands.{held_at}
+use Rattle.cache_model.proofs.StandLemmas.{held_of, whole_held}
 use Rattle.cache_model.proofs.MapLemmas.{all_entries, by_get}
 use Rattle.cache_model.proofs.CountLemmas.{member, numbers, all_members, member_of, each_once-same}
 use Rattle.mapping.specs.declared.bits.Choice.TheVariants.{Dirty}
@@ -116,23 +116,6 @@ full_absent g m lba n bits some is most high bits_is none = elim (cases_Bool (me
 ]
 
 -- ---- the list of the cache has the groups of its entries
-
-pub held_of : (page : Place → Page) (o : Option Entry) (h : Held) → option_and_then (held_at page) o ≡ Some h → (e : Entry) × (o ≡ Some e) × (h.dirty ≡ e.dirty)
-held_of page None h is = absurd (cc)
-held_of page (Some e) h is = (e, refl, by_page (page e.place) is)
-  where
-    by_page : (q : Page) → option_map (λ block. held block e.dirty) (block_in q) ≡ Some h → h.dirty ≡ e.dirty
-    by_page Blank is = absurd (cc)
-    by_page (Whole block spare) is = let same : held block e.dirty ≡ h = cc in ap (λ (x : Held). x.dirty) (sym same)
-    by_page Torn is = absurd (cc)
-
-pub whole_held : (page : Place → Page) (e : Entry) → is_whole (page e.place) ≡ true → (h : Held) × (held_at page e ≡ Some h) × (h.dirty ≡ e.dirty)
-whole_held page e whole = by_page (page e.place) whole
-  where
-    by_page : (q : Page) → is_whole q ≡ true → (h : Held) × (option_map (λ block. held block e.dirty) (block_in q) ≡ Some h) × (h.dirty ≡ e.dirty)
-    by_page Blank whole = absurd (cc)
-    by_page (Whole block spare) whole = (held block e.dirty, refl, refl)
-    by_page Torn whole = absurd (cc)
 
 abbrev list_numbers : Geometry → CacheList → List ℕ
 list_numbers g s = numbers (λ (x : ℕ × Held). x.0 / g.p) (λ (h : Held). h.dirty) (entries s)

@@ -7,15 +7,13 @@ use Rattle.std.proofs.lemmas.Bool.{cases_Bool, and_parts, and_from, or_parts, fa
 use Rattle.std.proofs.lemmas.Bool.Decides.{nat_tests}
 use Rattle.ft_base.specs.declared.block.Block.{Block}
 use Rattle.ft_base.specs.declared.block.Place.{Place}
-use Rattle.ft_base.specs.declared.block.Page.{Page}
-use Rattle.ft_base.specs.declared.block.Page.TheVariants.{Blank, Whole, Torn}
 use Rattle.ft_base.specs.declared.record.Record.{Record}
 use Rattle.ft_base.specs.declared.record.Record.TheVariants.{SetPage, Clean}
 use Rattle.ft_base.specs.Contents.{Contents}
 use Rattle.cache_model.specs.declared.entry.Entry.{Entry}
-use Rattle.cache_model.specs.Loading.{is_whole}
-use Rattle.cache_model.specs.Cache.{Held, held, CacheList, Buffered, Inserted, Cleaned, address_of, AreApart, MayWait, undo, written_clean, made_clean, marked_as}
-use Rattle.cache_model.specs.Stands.{held_at, block_in}
+use Rattle.cache_model.specs.Cache.{Held, held, written_block, CacheList, Buffered, Inserted, Cleaned, address_of, AreApart, MayWait, undo, written_clean, made_clean, marked_as}
+use Rattle.cache_model.specs.Stands.{held_at}
+use Rattle.cache_model.proofs.StandLemmas.{whole_held}
 use Rattle.cache_model.proofs.MapLemmas.{get_insert}
 use Rattle.cache_model.proofs.CountLemmas.{member, same_number}
 use Rattle.cache_model.proofs.UndoLemmas.{undone_at, undo_inserted, undo_cleaned, get_marked}
@@ -52,13 +50,13 @@ few_buffered c contents s holds = let few = holds.waits.few in let same = length
 -- ---- what may wait beside a list
 
 abbrev pub IsCleanIn : CacheList → Buffered → Type 0
-IsCleanIn s b = (block : Block) × (get s (address_of b) ≡ Some (held block false))
+IsCleanIn s b = (h : Held) × (get s (address_of b) ≡ Some h) × (h.dirty ≡ false)
 
 -- an address that isn't held clean isn't buffered
-pub not_waiting : (q : List Buffered) (s : CacheList) (a : ℕ) → ((block : Block) → get s a ≡ Some (held block false) → ⊥) → AllByRecursion (IsCleanIn s) q → member a (map address_of q) ≡ false
+pub not_waiting : (q : List Buffered) (s : CacheList) (a : ℕ) → ((h : Held) → get s a ≡ Some h → h.dirty ≡ false → ⊥) → AllByRecursion (IsCleanIn s) q → member a (map address_of q) ≡ false
 not_waiting [] s a never all = refl
 not_waiting (b ∷ bs) s a never all = elim (cases_Bool (address_of b == a)) [
-  | inl t ↦ absurd (never all.0.0 (ap (λ n. get s n) (sym (eqb-true _ _ t)) ∙ all.0.1))
+  | inl t ↦ absurd (never all.0.0 (ap (λ n. get s n) (sym (eqb-true _ _ t)) ∙ all.0.1) all.0.2)
   | inr f ↦ ap (λ x. x || member a (map address_of bs)) f ∙ not_waiting bs s a never all.1
 ]
 
@@ -92,12 +90,12 @@ map_push (x ∷ xs) b = ap (λ l. address_of x ∷ l) (map_push xs b)
 waits_none : (s : CacheList) → MayWait [] s
 waits_none s = record { apart = tt; clean = tt; few = omega arith }
 
-waits_push : (q : List Buffered) (own : Buffered) (s s' : CacheList) → ((block : Block) → get s (address_of own) ≡ Some (held block false) → ⊥) → ((a : ℕ) → (a ≡ address_of own → ⊥) → get s' a ≡ get s a) → IsCleanIn s' own → length q + 1 < 127 → MayWait q s → MayWait (q ++ own ∷ []) s'
+waits_push : (q : List Buffered) (own : Buffered) (s s' : CacheList) → ((h : Held) → get s (address_of own) ≡ Some h → h.dirty ≡ false → ⊥) → ((a : ℕ) → (a ≡ address_of own → ⊥) → get s' a ≡ get s a) → IsCleanIn s' own → length q + 1 < 127 → MayWait q s → MayWait (q ++ own ∷ []) s'
 waits_push q own s s' never same clean few waits =
     let absent = not_waiting q s (address_of own) never waits.clean in
     record {
       apart = subst AreApart (sym (map_push q own)) (apart_push (map address_of q) (address_of own) absent waits.apart);
-      clean = all_push (IsCleanIn s) (IsCleanIn s') q own (λ b is. (is.0, same (address_of b) (λ e. never is.0 (ap (λ n. get s n) (sym e) ∙ is.1)) ∙ is.1)) waits.clean clean;
+      clean = all_push (IsCleanIn s) (IsCleanIn s') q own (λ b is. (is.0, same (address_of b) (λ e. never is.0 (ap (λ n. get s n) (sym e) ∙ is.1) is.2) ∙ is.1, is.2)) waits.clean clean;
       few = omega (arith, length-append q (own ∷ []));
     }
 
@@ -128,7 +126,7 @@ holds_committed c contents s settled is lists = holds_from c contents s s [] set
 -- a step that waits, in a record of its own
 module _ (s s' : CacheList) (own : Record)
     (may : may_wait own ≡ true)
-    (never : (block : Block) → get s (address_of (waiting_as own)) ≡ Some (held block false) → ⊥)
+    (never : (h : Held) → get s (address_of (waiting_as own)) ≡ Some h → h.dirty ≡ false → ⊥)
     (same : (a : ℕ) → (a ≡ address_of (waiting_as own) → ⊥) → get s' a ≡ get s a)
     (clean : IsCleanIn s' (waiting_as own))
     (undone : (q : List Buffered) → ((o : Option Held) → undone_at q (address_of (waiting_as own)) o ≡ o) → undo (q ++ waiting_as own ∷ []) s' ≡ undo q s) where
@@ -163,41 +161,44 @@ pends_after own old new contents' durable before list (inr (inr k)) = inr (inr (
 
 -- a clean block at an address that was absent
 module _ (s : CacheList) (lba : ℕ) (at : Place) (block : Block) (absent : get s lba ≡ None) where
-  none_clean : (b : Block) → get s lba ≡ Some (held b false) → ⊥
-  none_clean b is = let both : None ≡ Some (held b false) = sym absent ∙ is in cc
+  none_clean : (h : Held) → get s lba ≡ Some h → h.dirty ≡ false → ⊥
+  none_clean h is clean = let both : None ≡ Some h = sym absent ∙ is in cc
 
   other_inserted : (a : ℕ) → (a ≡ lba → ⊥) → get (written_clean lba block s) a ≡ get s a
-  other_inserted a other = get_insert s lba (held block false) a ∙ ap (λ x. cond x (Some (held block false)) (get s a)) (ne_eqb a lba other)
+  other_inserted a other = get_insert s lba (written_block lba block false) a ∙ ap (λ x. cond x (Some (written_block lba block false)) (get s a)) (ne_eqb a lba other)
 
-  here_inserted : get (written_clean lba block s) lba ≡ Some (held block false)
-  here_inserted = get_insert s lba (held block false) lba ∙ ap (λ x. cond x (Some (held block false)) (get s lba)) (same_number lba)
+  here_inserted : get (written_clean lba block s) lba ≡ Some (written_block lba block false)
+  here_inserted = get_insert s lba (written_block lba block false) lba ∙ ap (λ x. cond x (Some (written_block lba block false)) (get s lba)) (same_number lba)
 
   pub inserted_behind : (old new : Ssc) (contents contents' : Contents) → Holds old contents s → IsSettled new contents' → length new.parts.log.buffered < 127
       → new.parts.log.buffered ≡ old.parts.log.buffered ++ SetPage lba at false ∷ [] → Lists new.parts contents'.flash.page (written_clean lba block s) (undo (pending old) s)
       → Holds new contents' (written_clean lba block s)
-  inserted_behind = holds_behind s (written_clean lba block s) (SetPage lba at false) refl none_clean other_inserted (block, here_inserted) (λ q away. undo_inserted q s lba block absent)
+  inserted_behind = holds_behind s (written_clean lba block s) (SetPage lba at false) refl none_clean other_inserted (written_block lba block false, here_inserted, refl) (λ q away. undo_inserted q s lba block absent)
 
   pub inserted_alone : (new : Ssc) (contents' : Contents) → IsSettled new contents' → new.parts.log.buffered ≡ SetPage lba at false ∷ [] → Lists new.parts contents'.flash.page (written_clean lba block s) s → Holds new contents' (written_clean lba block s)
-  inserted_alone = holds_alone s (written_clean lba block s) (SetPage lba at false) refl none_clean other_inserted (block, here_inserted) (λ q away. undo_inserted q s lba block absent)
+  inserted_alone = holds_alone s (written_clean lba block s) (SetPage lba at false) refl none_clean other_inserted (written_block lba block false, here_inserted, refl) (λ q away. undo_inserted q s lba block absent)
 
 -- an address that was dirty, and is clean
-module _ (s : CacheList) (lba : ℕ) (block : Block) (dirty : get s lba ≡ Some (held block true)) where
-  dirty_not_clean : (b : Block) → get s lba ≡ Some (held b false) → ⊥
-  dirty_not_clean b is =
-      let both : Some (held block true) ≡ Some (held b false) = sym dirty ∙ is in
-      let same : held block true ≡ held b false = cc in
-      let bits : true ≡ false = ap (λ (h : Held). h.dirty) same in
+module _ (s : CacheList) (lba : ℕ) (h : Held) (is : get s lba ≡ Some h) (dirty : h.dirty ≡ true) where
+  is_dirty : get s lba ≡ Some (held h.block h.spare true)
+  is_dirty = is ∙ ap (λ m. Some (held h.block h.spare m)) dirty
+
+  dirty_not_clean : (k : Held) → get s lba ≡ Some k → k.dirty ≡ false → ⊥
+  dirty_not_clean k there clean =
+      let both : Some h ≡ Some k = sym is ∙ there in
+      let same : h ≡ k = cc in
+      let bits : true ≡ false = sym dirty ∙ ap (λ (x : Held). x.dirty) same ∙ clean in
       cc
 
   other_cleaned : (a : ℕ) → (a ≡ lba → ⊥) → get (made_clean lba s) a ≡ get s a
   other_cleaned a other = get_marked false lba s (get s lba) a refl ∙ ap (λ x. cond x (option_map (marked_as false) (get s a)) (get s a)) (ne_eqb a lba other)
 
-  here_cleaned : get (made_clean lba s) lba ≡ Some (held block false)
-  here_cleaned = get_marked false lba s (get s lba) lba refl ∙ ap (λ x. cond x (option_map (marked_as false) (get s lba)) (get s lba)) (same_number lba) ∙ ap (option_map (marked_as false)) dirty
+  here_cleaned : get (made_clean lba s) lba ≡ Some (held h.block h.spare false)
+  here_cleaned = get_marked false lba s (get s lba) lba refl ∙ ap (λ x. cond x (option_map (marked_as false) (get s lba)) (get s lba)) (same_number lba) ∙ ap (option_map (marked_as false)) is
 
   pub holds_cleaned : (old new : Ssc) (contents contents' : Contents) → Holds old contents s → IsSettled new contents' → length new.parts.log.buffered < 127
       → ListsAfter old.parts.log.buffered (Clean lba) new.parts contents'.flash.page (undo (pending old) s) s (made_clean lba s) → Holds new contents' (made_clean lba s)
-  holds_cleaned = holds_after s (made_clean lba s) (Clean lba) refl dirty_not_clean other_cleaned (block, here_cleaned) (λ q away. undo_cleaned q s lba block dirty away)
+  holds_cleaned = holds_after s (made_clean lba s) (Clean lba) refl dirty_not_clean other_cleaned (held h.block h.spare false, here_cleaned, refl) (λ q away. undo_cleaned q s lba h.block h.spare is_dirty away)
 
 -- ---- a cache whose map alone has more buckets
 
@@ -245,13 +246,7 @@ before_holds old new contents s before unready holds = subst (λ (c : Ssc). Hold
 pub held_none : (c : Ssc) (contents : Contents) (s : CacheList) (a : ℕ) → Holds c contents s → get (entries_of c) a ≡ None → get s a ≡ None
 held_none c contents s a holds none = holds.lists.held a ∙ ap (option_and_then (held_at contents.flash.page)) none
 
-pub held_some : (c : Ssc) (contents : Contents) (s : CacheList) (a : ℕ) (e : Entry) → Holds c contents s → get (entries_of c) a ≡ Some e → (block : Block) × (get s a ≡ Some (held block e.dirty))
-held_some c contents s a e holds is = let h = held_whole contents.flash.page e (holds.agree.sound.whole.whole a e is) in (h.0, holds.lists.held a ∙ ap (option_and_then (held_at contents.flash.page)) is ∙ h.1)
-  where
-    held_whole : (page : Place → Page) (e : Entry) → is_whole (page e.place) ≡ true → (block : Block) × (held_at page e ≡ Some (held block e.dirty))
-    held_whole page e whole = by_page (page e.place) whole
-      where
-        by_page : (q : Page) → is_whole q ≡ true → (block : Block) × (option_map (λ block. held block e.dirty) (block_in q) ≡ Some (held block e.dirty))
-        by_page Blank whole = absurd (cc)
-        by_page (Whole block spare) whole = (block, refl)
-        by_page Torn whole = absurd (cc)
+pub held_some : (c : Ssc) (contents : Contents) (s : CacheList) (a : ℕ) (e : Entry) → Holds c contents s → get (entries_of c) a ≡ Some e → (h : Held) × (get s a ≡ Some h) × (h.dirty ≡ e.dirty)
+held_some c contents s a e holds is =
+    let h = whole_held contents.flash.page e (holds.agree.sound.whole.whole a e is) in
+    (h.0, holds.lists.held a ∙ ap (option_and_then (held_at contents.flash.page)) is ∙ h.1, h.2)

@@ -12,9 +12,8 @@ use Rattle.cache_model.specs.Loading.{load, is_whole}
 use Rattle.cache_model.specs.Cache.{CacheList, Held}
 use Rattle.cache_model.specs.Stands.{FlashStandsFor, held_at}
 use Rattle.cache_model.proofs.MapLemmas.{all_entries, eq_key, get_insert}
-use Rattle.cache_model.proofs.StandLemmas.{entry_whole}
+use Rattle.cache_model.proofs.StandLemmas.{entry_whole, whole_held}
 use Rattle.merge_engine.specs.Agreement.{IsListOn}
-use Rattle.ssc.proofs.DirtyLemmas.{whole_held}
 
 module _ (page : Place → Page) where
   abbrev with_held : CacheList → ℕ → Option Held → CacheList

@@ -374,7 +374,7 @@ module _ (c : Ssc) (contents : Contents) (s : CacheList) (holds : Holds c conten
     where
       by : (o : Option Entry) → get (entries_of c) a ≡ o → option_map (λ (h : Held). h.dirty) (get s a) ≡ option_map (λ (e : Entry). e.dirty) o
       by None is = ap (option_map (λ (h : Held). h.dirty)) (held_none c contents s a holds is)
-      by (Some e) is = let h = held_some c contents s a e holds is in ap (option_map (λ (h : Held). h.dirty)) h.1
+      by (Some e) is = let h = held_some c contents s a e holds is in ap (option_map (λ (h : Held). h.dirty)) h.1 ∙ ap Some h.2
 
   pub listed_is : (from count : ℕ) → listed from (from + count) (entries (entries_of c)) ≡ dirty_between from count s
   listed_is from count =

@@ -2,7 +2,8 @@
 use Rattle.std.proofs.Common.{◌≡◌, ◌↔◌, ℕ, ◌+◌, Bool, true, false, Option, Some, None, Result, Ok, Err, IsTrue, refl, sym, ◌∙◌, ap, subst, arith, inl, inr}
 use Rattle.std.specs.Result.{IsErrAnd}
 use Rattle.std.specs.Str.{bytes_eq}
-use Rattle.std.specs.FinMap.{entries}
+use Rattle.std.specs.FinMap.{entries, get}
+use Rattle.std.specs.Option.{option_and_then}
 use Rattle.std.proofs.lemmas.Bool.{cases_lt, false≢true}
 use Rattle.std.proofs.lemmas.Slice.Eq.{bytes_eq-Decides}
 use Rattle.ft_base.specs.declared.block.Block.{Block}
@@ -20,13 +21,18 @@ use Rattle.ft_media.specs.declared.media.PageRead.TheVariants as read
 use Rattle.cache_model.specs.declared.format.SpareKind.TheVariants.{Page as DataPage}
 use Rattle.cache_model.specs.Records.{Entries}
 use Rattle.cache_model.specs.Entries.{IsMap}
-use Rattle.cache_model.specs.Spelling.{spare_fields, spelled_spare}
-use Rattle.log_blocks.specs.Logs.{data_spare}
+use Rattle.cache_model.specs.Spelling.{data_spare, spare_fields, spelled_spare}
+use Rattle.cache_model.specs.Loading.{is_whole}
+use Rattle.cache_model.specs.declared.entry.Entry.{Entry}
+use Rattle.cache_model.specs.Cache.{AreOwn, CacheList, Held, held}
+use Rattle.cache_model.specs.Stands.{held_at, held_in}
+use Rattle.checkpoint.specs.Current.{AreWhole}
+use Rattle.merge_engine.specs.Agreement.{IsListOn}
 use Rattle.mapping.specs.Numbers.{number_of, AreNumbered, HasNone, HasNumber}
 use Rattle.ssc.specs.declared.error.SscError.{SscError}
 use Rattle.ssc.specs.declared.scrubbing.Scrub.{Scrub}
 use Rattle.ssc.specs.Errors.{ssc_failed, ssc_lost}
-use Rattle.ssc.specs.Scrubbed.{IsDataPage, IsLowestBelow, IsLowestStrange, IsScrub, IsScrubBelow, lowest_with}
+use Rattle.ssc.specs.Scrubbed.{AreDataPages, IsDataPage, IsLowestBelow, IsLowestStrange, IsScrub, IsScrubBelow, IsStrange, lowest_with}
 use Rattle.ssc.proofs.NumberLemmas.{all_below, below_none, none_more, number, one_more, the_entry}
 
 -- ---- one page
@@ -48,6 +54,41 @@ own_page (Whole b s) got block spare own lba same found whole spelled is =
 
     spare_in : (c : Block) → Whole b s ≡ Whole c (data_spare lba) → s ≡ data_spare lba
     spare_in c both = cc
+
+-- ---- the list of the entries
+
+-- where each page is a data page of its address, each block that is held has spare bytes of its own
+own_from : (page : Place → Page) (m : Entries) (s : CacheList) → IsListOn page m s → AreDataPages page m → AreOwn s
+own_from page m s on pages a h is = by_entry (get m a) refl
+  where
+    by_entry : (o : Option Entry) → get m a ≡ o → h.spare ≡ data_spare a
+    by_entry None at = absurd (let both : None ≡ Some h = sym (on a ∙ ap (option_and_then (held_at page)) at) ∙ is in cc)
+    by_entry (Some e) at =
+        let own = pages a e at in
+        let both : Some (held own.0 (data_spare a) e.dirty) ≡ Some h = sym (on a ∙ ap (option_and_then (held_at page)) at ∙ ap (held_in e.dirty) own.1) ∙ is in
+        let same : held own.0 (data_spare a) e.dirty ≡ h = cc in
+        sym (ap (λ (x : Held). x.spare) same)
+
+-- and then no page is strange
+never_strange : (page : Place → Page) (m : Entries) (s : CacheList) → IsListOn page m s → AreWhole page m → AreOwn s → (at : Place) → IsStrange page m at → ⊥
+never_strange page m s on whole own at strange = strange.other (subst (λ (p : Place). IsDataPage page p strange.lba) strange.place (by_page (page strange.entry.place) refl (whole.whole strange.lba strange.entry strange.held)))
+  where
+    by_page : (q : Page) → page strange.entry.place ≡ q → is_whole q ≡ true → IsDataPage page strange.entry.place strange.lba
+    by_page Blank is w = absurd (cc)
+    by_page (Whole b spare) is w =
+        let there : get s strange.lba ≡ Some (held b spare strange.entry.dirty) = on strange.lba ∙ ap (option_and_then (held_at page)) strange.held ∙ ap (held_in strange.entry.dirty) is in
+        (b, is ∙ ap (λ (x : Spare). Whole b x) (own strange.lba (held b spare strange.entry.dirty) there))
+    by_page Torn is w = absurd (cc)
+
+pub own_scrub : (g : Geometry) (page : Place → Page) (m : Entries) (scrub : Scrub) (s : CacheList) → IsScrub g page m scrub → IsListOn page m s → AreWhole page m → (scrub.strange ≡ None) ↔ AreOwn s
+own_scrub g page m scrub s is on whole = (
+  λ none. own_from page m s on (subst (IsLowestStrange g page m) none is.strange),
+  λ own. by_strange own scrub.strange is.strange,
+)
+  where
+    by_strange : AreOwn s → (o : Option Place) → IsLowestStrange g page m o → o ≡ None
+    by_strange own None lowest = refl
+    by_strange own (Some at) lowest = absurd (never_strange page m s on whole own at lowest.0)
 
 -- ---- media that are only read
 

@@ -16,7 +16,7 @@ use Rattle.ft_media.specs.declared.media.MediaError.{MediaError}
 use Rattle.ft_media.specs.declared.media.MediaError.TheVariants as media
 use Rattle.cache_model.specs.declared.entry.Entry.{Entry}
 use Rattle.cache_model.specs.Records.{Entries}
-use Rattle.cache_model.specs.Cache.{Inserted, CacheList, Held, held, IsFull, Vanish, dirty_groups, undo, with_group, written_clean}
+use Rattle.cache_model.specs.Cache.{Inserted, CacheList, Held, written_block, IsFull, Vanish, dirty_groups, undo, with_group, written_clean}
 use Rattle.op_log.specs.Log.{LogValue}
 use Rattle.merge_engine.specs.declared.parts.Parts.{Parts}
 use Rattle.merge_engine.specs.Agreement.{Agree, Lists}
@@ -112,7 +112,7 @@ module _ (r new : Ssc) (contents contents' : Contents) (s : CacheList) (lba : �
   holds_alone v at absent (inr (inl k)) = inserted_alone v lba at block absent new contents' settled k.0 k.1
   holds_alone v at absent (inr (inr k)) = holds_committed new contents' (written_clean lba block v) settled k.0 k.1
 
-  pub left_absent : get s lba ≡ None → PutsBlock r.parts lba (held block false) new.parts contents'.flash.page (undo (pending r) s) s → HoldsLeft r.parts new contents' s (written_clean lba block)
+  pub left_absent : get s lba ≡ None → PutsBlock r.parts lba (written_block lba block false) new.parts contents'.flash.page (undo (pending r) s) s → HoldsLeft r.parts new contents' s (written_clean lba block)
   left_absent absent (at, inl (inl k)) = (s, same_of, inserted_behind s lba at block absent r new contents contents' holds settled few k.0 k.1)
   left_absent absent (at, inl (inr (inl k))) = (s, same_of, inserted_alone s lba at block absent new contents' settled k.0 k.1)
   left_absent absent (at, inl (inr (inr k))) = (s, same_of, holds_committed new contents' (written_clean lba block s) settled k.0 k.1)
@@ -124,12 +124,12 @@ module _ (r new : Ssc) (contents contents' : Contents) (s : CacheList) (lba : �
   none_after buffered own d before l none (inr (inr k)) = k.1
 
   -- over a held one it was committed
-  pub left_held : new.parts.log.buffered ≡ [] → PutsBlock r.parts lba (held block false) new.parts contents'.flash.page (undo (pending r) s) s → HoldsLeft r.parts new contents' s (written_clean lba block)
+  pub left_held : new.parts.log.buffered ≡ [] → PutsBlock r.parts lba (written_block lba block false) new.parts contents'.flash.page (undo (pending r) s) s → HoldsLeft r.parts new contents' s (written_clean lba block)
   left_held none (at, inl after) = (s, same_of, holds_committed new contents' (written_clean lba block s) settled none (none_after r.parts.log.buffered (SetPage lba at false) (undo (pending r) s) s (written_clean lba block s) none after))
   left_held none (at, inr (v, left, after)) = (v, left, holds_committed new contents' (written_clean lba block v) settled none (none_after [] (SetPage lba at false) v v (written_clean lba block v) none after))
 
   pub left_clean : ((e : Entry) → get (entries_of r) lba ≡ Some e → new.parts.log.buffered ≡ []) → (get (entries_of r) lba ≡ None → get s lba ≡ None)
-      → PutsBlock r.parts lba (held block false) new.parts contents'.flash.page (undo (pending r) s) s → HoldsLeft r.parts new contents' s (written_clean lba block)
+      → PutsBlock r.parts lba (written_block lba block false) new.parts contents'.flash.page (undo (pending r) s) s → HoldsLeft r.parts new contents' s (written_clean lba block)
   left_clean over absent puts = by (get (entries_of r) lba) refl
     where
       by : (o : Option Entry) → get (entries_of r) lba ≡ o → HoldsLeft r.parts new contents' s (written_clean lba block)
@@ -138,7 +138,7 @@ module _ (r new : Ssc) (contents contents' : Contents) (s : CacheList) (lba : �
 
 -- ---- what is buffered then
 
-pub pends_written : (r new : Ssc) (contents' : Contents) (s durable : CacheList) (lba : ℕ) (block : Block) → PutsBlock r.parts lba (held block false) new.parts contents'.flash.page durable s → PendsWith (pending r) (pending new) (Inserted lba)
+pub pends_written : (r new : Ssc) (contents' : Contents) (s durable : CacheList) (lba : ℕ) (block : Block) → PutsBlock r.parts lba (written_block lba block false) new.parts contents'.flash.page durable s → PendsWith (pending r) (pending new) (Inserted lba)
 pends_written r new contents' s durable lba block (at, inl after) = pends_after (SetPage lba at false) r new contents' durable s (written_clean lba block s) after
 pends_written r new contents' s durable lba block (at, inr (v, left, inl k)) = inr (inl (ap waiting k.0))
 pends_written r new contents' s durable lba block (at, inr (v, left, inr (inl k))) = inr (inl (ap waiting k.0))
@@ -154,7 +154,7 @@ none_of_absent r contents s lba holds none = by (get (entries_of r) lba) refl
   where
     by : (o : Option Entry) → get (entries_of r) lba ≡ o → get (entries_of r) lba ≡ None
     by None is = is
-    by (Some e) is = let h = held_some r contents s lba e holds is in absurd (let both : None ≡ Some (held h.0 e.dirty) = sym none ∙ h.1 in cc)
+    by (Some e) is = let h = held_some r contents s lba e holds is in absurd (let both : None ≡ Some h.0 = sym none ∙ h.1 in cc)
 
 -- what is held has an entry
 pub over_held : (r new : Ssc) (contents : Contents) (s : CacheList) (lba : ℕ) → Holds r contents s → IsHeldIn s lba → ((e : Entry) → get (entries_of r) lba ≡ Some e → new.parts.log.buffered ≡ []) → pending new ≡ []

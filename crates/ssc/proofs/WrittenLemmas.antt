@@ -29,7 +29,8 @@ use Rattle.merge_engine.specs.Steps.{GoesOn, HasLogRoom, HasRoomFor}
 use Rattle.mapping.specs.MapValue.{MapValue}
 use Rattle.ssc.specs.Commands.{FlashStandsForOne, AsUndone, AsBefore, AsAfter}
 use Rattle.ssc.specs.Steps.{IsPushed, LeftOf, ListsAfter, ListsWritten, PutsBlock, FlashStandsForEither, FlashStandsForStep}
-use Rattle.ssc.proofs.DirtyLemmas.{dirty_numbers, held_of, member_from, member_once, member_to, whole_held}
+use Rattle.ssc.proofs.DirtyLemmas.{dirty_numbers, member_from, member_once, member_to}
+use Rattle.cache_model.proofs.StandLemmas.{held_of, whole_held}
 use Rattle.ssc.proofs.ListLemmas.{list_some, stands_some}
 
 -- ---- lists that gave room, on the flash

@@ -58,6 +58,10 @@ PendsWith old new own = (new ≡ old ++ own ∷ []) ⊎ (new ≡ own ∷ []) ⊎
 abbrev pub IsHeldIn : CacheList → ℕ → Type 0
 IsHeldIn s a = (h : Held) × (get s a ≡ Some h)
 
+-- the address is held, and dirty
+abbrev pub IsDirtyIn : CacheList → ℕ → Type 0
+IsDirtyIn s a = (h : Held) × (get s a ≡ Some h) × (h.dirty ≡ true)
+
 -- a read is true with the block exactly where the address is held
 abbrev pub ReadOf : Option Held → Bool → Block → Type 0
 ReadOf None found block = found ≡ false

@@ -8,7 +8,7 @@ use Rattle.ft_base.specs.declared.block.Page.TheVariants.{Whole}
 use Rattle.ft_base.specs.declared.geometry.Geometry.{Geometry}
 use Rattle.cache_model.specs.declared.entry.Entry.{Entry}
 use Rattle.cache_model.specs.Records.{Entries}
-use Rattle.log_blocks.specs.Logs.{data_spare}
+use Rattle.cache_model.specs.Spelling.{data_spare}
 use Rattle.mapping.specs.Counts.{held_count}
 use Rattle.mapping.specs.Numbers.{number_of}
 use Rattle.ssc.specs.declared.scrubbing.Scrub.{Scrub}

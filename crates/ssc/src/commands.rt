@@ -1,4 +1,4 @@
-ghost use Rattle.std.specs.Prelude.{◌≡◌, ◌≢◌, ◌≤◌, ◌<◌, ◌+◌, ◌-◌, ◌/◌, ◌++◌, ◌∷◌, [], ℕ, length, true, false, Some, None, OnOk, OnErr, IfOk, IsOk, IsErrOf, ◌⊎◌};
+ghost use Rattle.std.specs.Prelude.{◌≡◌, ◌≢◌, ◌≤◌, ◌<◌, ◌+◌, ◌-◌, ◌/◌, ◌++◌, ◌∷◌, [], ℕ, length, true, false, Some, None, OnOk, OnErr, IfOk, IsOk, IsErrOf};
 ghost use Rattle.std.specs.FinMap.{get, insert};
 ghost use Rattle.ft_base.specs.Contents.{Contents};
 ghost use Rattle.ft_base.specs.Count.{Rose};
@@ -8,14 +8,14 @@ ghost use Rattle.ft_media.specs.Drives.{DrivesFlash};
 ghost use Rattle.ft_media.specs.Reads.{ReadsFlash};
 ghost use Rattle.ft_media.specs.Passes.{Spends};
 ghost use Rattle.ft_media.specs.Media.{program_counted};
-ghost use Rattle.cache_model.specs.Cache.{CacheList, Inserted, Cleaned, written_dirty, written_clean, evicted, made_clean, dirty_between, held};
+ghost use Rattle.cache_model.specs.Cache.{CacheList, Inserted, Cleaned, written_dirty, written_clean, evicted, made_clean, dirty_between, written_block};
 ghost use Rattle.cache_model.specs.declared.entry.Entry.{Entry};
 ghost use Rattle.merge_engine.specs.Agreement.{Agree, Lists};
 ghost use Rattle.merge_engine.specs.Steps.{HasLogRoom};
 ghost use Rattle.ssc.specs.Errors.{ssc_failed, ssc_lost, stops};
 ghost use Rattle.ssc.specs.CacheState.{HasMemory, Holds, IsAsBefore, IsUp, entries_of, geometry_of, log_room, open_room, pending};
 ghost use Rattle.ssc.specs.Steps.{IsPushed, PutsBlock, FlashStandsForStep};
-ghost use Rattle.ssc.specs.Commands.{ImagesOf, ImagesOfWrite, FullExactly, HoldsWritten, PendsWith, IsHeldIn, ReadOf, FlashStandsForOne, UnlessFound};
+ghost use Rattle.ssc.specs.Commands.{ImagesOf, ImagesOfWrite, FullExactly, HoldsWritten, PendsWith, IsDirtyIn, IsHeldIn, ReadOf, FlashStandsForOne, UnlessFound};
 
 use crate::error::of_media;
 use crate::putting::{mark_clean, take_out, write_buffered, write_committed};
@@ -149,15 +149,16 @@ impl Ssc {
         ensures agree { OnOk result (Agree self.new.parts (M.state media.new).contents) }
         ensures few { OnOk result (length self.new.parts.log.buffered < page_records self.new.parts.log.geometry) }
         ensures lists { OnOk result ((list durable : CacheList) → Lists self.old.parts (M.state media.old).contents.flash.page list durable
-            → PutsBlock self.old.parts lba (held block.now false) self.new.parts (M.state media.new).contents.flash.page durable list) }
+            → PutsBlock self.old.parts lba (written_block lba block.now false) self.new.parts (M.state media.new).contents.flash.page
+            durable list) }
         ensures over_held { OnOk result ((e : Entry) → get (entries_of self.old) lba ≡ Some e → self.new.parts.log.buffered ≡ []) }
         ensures stands { (list durable : CacheList) → Lists self.old.parts (M.state media.old).contents.flash.page list durable
             → FlashStandsForStep (geometry_of self.old) (M.state media.new).contents.flash.page durable list
-            (λ s. insert s lba (held block.now false)) }
+            (λ s. insert s lba (written_block lba block.now false)) }
         ensures kept { HasLogRoom self.old.parts → (list durable : CacheList)
             → Lists self.old.parts (M.state media.old).contents.flash.page list durable
             → FlashStandsForOne (geometry_of self.old) (M.state media.new).contents.flash.page durable list
-            (insert list lba (held block.now false)) }
+            (insert list lba (written_block lba block.now false)) }
         ensures one_program { OnOk result (get (entries_of self.old) lba ≡ None → 1 ≤ open_room self.old
             → length self.old.parts.log.buffered + 2 ≤ page_records self.old.parts.log.geometry
             → IsPushed self.old.parts lba false self.new.parts
@@ -243,10 +244,10 @@ impl Ssc {
         ensures stopped { self.new.stopped ≡ stops result }
         ensures done { OnOk result ((s : CacheList) → Holds self.old (M.state media.old).contents s
             → Holds self.new (M.state media.new).contents (made_clean lba s)) }
-        ensures of_dirty { OnOk result ((s : CacheList) (b : Block) → Holds self.old (M.state media.old).contents s
-            → get s lba ≡ Some (held b true) → PendsWith (pending self.old) (pending self.new) (Cleaned lba)) }
-        ensures of_other { OnOk result ((s : CacheList) → Holds self.old (M.state media.old).contents s
-            → ((b : Block) → get s lba ≡ Some (held b true) → ⊥) → (self.new ≡ self.old) × (M.state media.new ≡ M.state media.old)) }
+        ensures of_dirty { OnOk result ((s : CacheList) → Holds self.old (M.state media.old).contents s → IsDirtyIn s lba
+            → PendsWith (pending self.old) (pending self.new) (Cleaned lba)) }
+        ensures of_other { OnOk result ((s : CacheList) → Holds self.old (M.state media.old).contents s → (IsDirtyIn s lba → ⊥)
+            → (self.new ≡ self.old) × (M.state media.new ≡ M.state media.old)) }
         ensures no_write { OnOk result (length (pending self.old) + 2 ≤ page_records (geometry_of self.old)
             → M.state media.new ≡ M.state media.old) }
         ensures images { (s : CacheList) → Holds self.old (M.state media.old).contents s

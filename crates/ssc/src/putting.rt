@@ -7,7 +7,7 @@ ghost use Rattle.ft_media.specs.State.{failed, lost};
 ghost use Rattle.ft_media.specs.Drives.{DrivesFlash};
 ghost use Rattle.ft_media.specs.Media.{program_counted};
 ghost use Rattle.ft_media.specs.Passes.{Spends};
-ghost use Rattle.cache_model.specs.Cache.{CacheList, evicted, held, made_clean};
+ghost use Rattle.cache_model.specs.Cache.{CacheList, evicted, written_block, made_clean};
 ghost use Rattle.cache_model.specs.declared.entry.Entry.{Entry};
 ghost use Rattle.merge_engine.specs.Agreement.{Agree, Lists};
 ghost use Rattle.merge_engine.specs.Room.{FlashStandsForGiven};
@@ -83,15 +83,15 @@ pub(crate) fn write_committed<M: Media>(
     ensures nothing_waits { OnOk result (parts.new.log.buffered ≡ []) }
     ensures lists { OnOk result ((list durable : CacheList) → Lists parts.old (M.state media.old).contents.flash.page list durable
         → (v : CacheList) × LeftOf parts.old list v × Lists parts.new (M.state media.new).contents.flash.page
-        (insert v lba (held block.now dirty)) (insert v lba (held block.now dirty))) }
+        (insert v lba (written_block lba block.now dirty)) (insert v lba (written_block lba block.now dirty))) }
     // Whatever is answered, and wherever power went off.
     ensures stands { (list durable : CacheList) → Lists parts.old (M.state media.old).contents.flash.page list durable
         → FlashStandsForStep parts.old.geometry (M.state media.new).contents.flash.page durable list
-        (λ s. insert s lba (held block.now dirty)) }
+        (λ s. insert s lba (written_block lba block.now dirty)) }
     // Where a log block can be had without a merge nothing gives way, whatever is answered.
     ensures kept { HasLogRoom parts.old → (list durable : CacheList) → Lists parts.old (M.state media.old).contents.flash.page list durable
         → FlashStandsForOne parts.old.geometry (M.state media.new).contents.flash.page durable list
-        (insert list lba (held block.now dirty)) }
+        (insert list lba (written_block lba block.now dirty)) }
     ensures two_programs { OnOk result (1 ≤ parts.old.logs.room → parts.old.log.next < log_pages parts.old.geometry
         → (M.state media.new).counts ≡ program_counted (program_counted (M.state media.old).counts)) }
     ensures programs { OnOk result (Rose (M.state media.old).counts.programs (M.state media.new).counts.programs) }
@@ -118,15 +118,15 @@ pub(crate) fn write_buffered<M: Media>(
     ensures agree { OnOk result (Agree parts.new (M.state media.new).contents) }
     ensures few { OnOk result (length parts.new.log.buffered < page_records parts.new.log.geometry) }
     ensures lists { OnOk result ((list durable : CacheList) → Lists parts.old (M.state media.old).contents.flash.page list durable
-        → PutsBlock parts.old lba (held block.now false) parts.new (M.state media.new).contents.flash.page durable list) }
+        → PutsBlock parts.old lba (written_block lba block.now false) parts.new (M.state media.new).contents.flash.page durable list) }
     // Whatever is answered, and wherever power went off.
     ensures stands { (list durable : CacheList) → Lists parts.old (M.state media.old).contents.flash.page list durable
         → FlashStandsForStep parts.old.geometry (M.state media.new).contents.flash.page durable list
-        (λ s. insert s lba (held block.now false)) }
+        (λ s. insert s lba (written_block lba block.now false)) }
     // Where a log block can be had without a merge nothing gives way, whatever is answered.
     ensures kept { HasLogRoom parts.old → (list durable : CacheList) → Lists parts.old (M.state media.old).contents.flash.page list durable
         → FlashStandsForOne parts.old.geometry (M.state media.new).contents.flash.page durable list
-        (insert list lba (held block.now false)) }
+        (insert list lba (written_block lba block.now false)) }
     ensures one_program { OnOk result (1 ≤ parts.old.logs.room → length parts.old.log.buffered + 2 ≤ page_records parts.old.log.geometry
         → IsPushed parts.old lba false parts.new × ((M.state media.new).counts ≡ program_counted (M.state media.old).counts)) }
     ensures programs { OnOk result (Rose (M.state media.old).counts.programs (M.state media.new).counts.programs) }
@@ -155,7 +155,7 @@ fn write_page<M: Media>(
     ensures agree { OnOk result (Agree parts.new (M.state media.new).contents) }
     ensures waits { OnOk result (parts.new.log.buffered ≢ []) }
     ensures lists { OnOk result ((list durable : CacheList) → Lists parts.old (M.state media.old).contents.flash.page list durable
-        → PutsBlock parts.old lba (held block.now dirty) parts.new (M.state media.new).contents.flash.page durable list) }
+        → PutsBlock parts.old lba (written_block lba block.now dirty) parts.new (M.state media.new).contents.flash.page durable list) }
     ensures stands { (list durable : CacheList) → Lists parts.old (M.state media.old).contents.flash.page list durable
         → FlashStandsForGiven parts.old.geometry (M.state media.new).contents.flash.page durable list }
     ensures list_stands { HasLogRoom parts.old → (list durable : CacheList)

@@ -1,8 +1,9 @@
 //! Reading every page that is held, and its spare bytes.
-ghost use Rattle.std.specs.Prelude.{◌≡◌, ◌+◌, ◌<◌, ◌^◌, ◌↔◌, ℕ, IfOk, IsErrOf, IsTrue};
+ghost use Rattle.std.specs.Prelude.{◌≡◌, None, ◌+◌, ◌<◌, ◌^◌, ◌↔◌, ℕ, IfOk, IsErrOf, IsTrue};
 ghost use Rattle.ft_media.specs.Reads.{ReadsFlash};
 ghost use Rattle.ssc.specs.Errors.{ssc_failed, ssc_lost};
-ghost use Rattle.ssc.specs.CacheState.{IsUp, entries_of, geometry_of};
+ghost use Rattle.cache_model.specs.Cache.{AreOwn, CacheList};
+ghost use Rattle.ssc.specs.CacheState.{Holds, IsUp, entries_of, geometry_of};
 ghost use Rattle.ssc.specs.Scrubbed.{IsDataPage, IsScrub, IsScrubBelow, lowest_with};
 
 use crate::error::of_media;
@@ -27,6 +28,9 @@ impl Ssc {
         requires up { IsUp self.old (M.state media.old).contents }
         ensures same { self.new ≡ self.old }
         ensures found { IfOk result (IsScrub (geometry_of self.old) (M.state media.old).contents.flash.page (entries_of self.old)) }
+        // Nothing is strange exactly where each block that is held was written for its address.
+        ensures own { IfOk result (λ scrub. (s : CacheList) → Holds self.old (M.state media.old).contents s
+            → (scrub.strange ≡ None) ↔ AreOwn s) }
         ensures full { (n l : ℕ) → IsErrOf result (SscError.Full n l) → ⊥ }
         ensures memory { IsErrOf result SscError.OutOfMemory → ⊥ }
         ensures reads { ReadsFlash (M.state media.old) (M.state media.new) (ssc_failed result) (ssc_lost result) }

@@ -8,7 +8,7 @@ use Rattle.ft_base.specs.Contents.{Contents, Values, HasValue}
 use Rattle.ft_volume.specs.declared.options.Options.{Options}
 use Rattle.ft_volume.specs.Opening.{MayOpen, nothing_held}
 use Rattle.ft_volume.specs.Volume.{told_for}
-use Rattle.cache_model.specs.Cache.{Agrees, Buffered, CacheList, Held, held, undo, written_clean}
+use Rattle.cache_model.specs.Cache.{Agrees, Buffered, CacheList, Held, undo, written_block, written_clean}
 use Rattle.cache_model.specs.Stands.{FlashStandsFor}
 use Rattle.cache_model.proofs.MapLemmas.{get_insert}
 use Rattle.ssc.specs.declared.cache.Ssc.{Ssc}
@@ -20,11 +20,11 @@ use Rattle.cached_disk.proofs.DiskLemmas.{one_value, same_list}
 
 -- it holds this block alone, clean
 abbrev pub HoldsAlone : Geometry → Contents → ℕ → Block → Type 0
-HoldsAlone g contents lba block = (s : CacheList) → FlashStandsFor g contents.flash.page s → (a : ℕ) (h : Held) → get s a ≡ Some h → (a ≡ lba) × (h ≡ held block false)
+HoldsAlone g contents lba block = (s : CacheList) → FlashStandsFor g contents.flash.page s → (a : ℕ) (h : Held) → get s a ≡ Some h → (a ≡ lba) × (h ≡ written_block lba block false)
 
 pub written_alone : (g : Geometry) (k c : Ssc) (mid contents : Contents) (lba : ℕ) (block : Block) (written : HoldsWritten k mid empty lba (written_clean lba block)) → geometry_of c ≡ g → Holds c contents (written_clean lba block written.left) → pending c ≡ [] → HoldsAlone g contents lba block
 written_alone g k c mid contents lba block written own holds nothing s stands a h at =
-    by_choice (a == lba) refl (sym (get_insert written.left lba (held block false) a) ∙ ap (λ (t : CacheList). get t a) (sym same) ∙ at)
+    by_choice (a == lba) refl (sym (get_insert written.left lba (written_block lba block false) a) ∙ ap (λ (t : CacheList). get t a) (sym same) ∙ at)
   where
     now : FlashStandsFor g contents.flash.page (written_clean lba block written.left)
     now = subst (λ (x : Geometry). FlashStandsFor x contents.flash.page (written_clean lba block written.left)) own (subst (λ (q : List Buffered). FlashStandsFor (geometry_of c) contents.flash.page (undo q (written_clean lba block written.left))) nothing holds.lists.stands)
@@ -36,8 +36,8 @@ written_alone g k c mid contents lba block written own holds nothing s stands a 
     nothing_left true is = is
     nothing_left false is = is ∙ get-empty nat_cmp a
 
-    by_choice : (b : Bool) → (a == lba) ≡ b → cond b (Some (held block false)) (get written.left a) ≡ Some h → (a ≡ lba) × (h ≡ held block false)
-    by_choice true here is = (eqb-true a lba here, let k : held block false ≡ h = cc in sym k)
+    by_choice : (b : Bool) → (a == lba) ≡ b → cond b (Some (written_block lba block false)) (get written.left a) ≡ Some h → (a ≡ lba) × (h ≡ written_block lba block false)
+    by_choice true here is = (eqb-true a lba here, let k : written_block lba block false ≡ h = cc in sym k)
     by_choice false other is = absurd (let no : None ≡ Some h = sym (nothing_left (written.vanish.gone (a / (geometry_of k).p)) (written.vanish.stays a)) ∙ is in cc)
 
 pub alone_may_open : (o : Options) (contents : Contents) (lba : ℕ) (block : Block) → HoldsAlone o.geometry contents lba block → contents.disk lba ≡ record { newest = block; earlier = [] } → MayOpen (told_for Back o) contents

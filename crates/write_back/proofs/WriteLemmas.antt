@@ -29,7 +29,7 @@ use Rattle.ft_volume.specs.Volume.{Call, Costs, FaultDowns, Goes, HasCause, Prog
 use Rattle.ft_volume.specs.Volume as volume
 use Rattle.cache_model.specs.Records.{Entries}
 use Rattle.cache_model.specs.Entries.{IsMap, each_once}
-use Rattle.cache_model.specs.Cache.{Agrees, Buffered, CacheList, Held, IsFull, Vanish, held, undo, written_dirty}
+use Rattle.cache_model.specs.Cache.{Agrees, Buffered, CacheList, Held, IsFull, Vanish, undo, written_block, written_dirty}
 use Rattle.cache_model.specs.Stands.{FlashStandsFor}
 use Rattle.cache_model.proofs.CountLemmas.{same_number}
 use Rattle.merge_engine.proofs.TakeLemmas.{agree_map}
@@ -230,7 +230,7 @@ module _ (v : CachedDisk) (old : Contents) (s : CacheList) (own : geometry_of v.
       pub has_block : HasBlock after
       has_block = record {
         agrees = written_agrees w lba block old.disk gave_agrees;
-        here = (held block true, written_here w lba block, refl);
+        here = (written_block lba block true, written_here w lba block, refl);
         keeps = λ a dirty. written_dirty-keeps w lba block a (vanish_dirty v.options.geometry s w lba own_vanish a dirty);
         only = λ a dirty. elim (written_was w lba block a dirty.0 dirty.1) [
           | inl new ↦ inl new.0
@@ -280,7 +280,7 @@ module _ (v : CachedDisk) (old new : Contents) (s : CacheList) (own : geometry_o
         let now : (λ (a : ℕ). is_some (get (written_dirty lba block h.left) a)) ≡ (λ (a : ℕ). is_some (get (entries_of c) a)) = fun_ext (λ a. sym (holds_held c new (written_dirty lba block h.left) h.holds a)) in
         subst (λ (f : ℕ → Bool). volume.HoldsAfter (told_of v) (Writes lba block) f (λ a. is_some (get (entries_of c) a))) was
         (subst (λ (f : ℕ → Bool). volume.HoldsAfter (told_of v) (Writes lba block) (λ a. is_some (get s a)) f) now
-        (written_held (told_of v) (Writes lba block) s h.left lba (held block true) (own_vanish v old s own is lba block h.left vanish_now) refl (λ a is. is)))
+        (written_held (told_of v) (Writes lba block) s h.left lba (written_block lba block true) (own_vanish v old s own is lba block h.left vanish_now) refl (λ a is. is)))
 
   -- it was refused or cut
   module _ (stands : FlashStandsForWrite (geometry_of v.cache) new.flash.page (undo (pending v.cache) s) s lba (written_dirty lba block)) where

@@ -2,7 +2,7 @@ ghost use Rattle.std.specs.Prelude.{◌≡◌, ◌<◌, [], ℕ, false, OnOk, If
 ghost use Rattle.std.specs.FinMap.{get};
 ghost use Rattle.ft_base.specs.declared.told.Mode.TheVariants.{Back};
 ghost use Rattle.ft_volume.specs.Volume.{told_for};
-ghost use Rattle.cache_model.specs.Cache.{CacheList, Held, held};
+ghost use Rattle.cache_model.specs.Cache.{CacheList, Held, written_block};
 ghost use Rattle.cache_model.specs.Stands.{FlashStandsFor};
 ghost use Rattle.mem_rig.specs.Rig.{state_of};
 ghost use Rattle.op_log.specs.Log.{FitsOn};
@@ -117,7 +117,7 @@ fn hold_clean(
     ensures shape { (state_of rig.new).contents.shape ≡ (state_of rig.old).contents.shape }
     ensures disk { OnOk result ((state_of rig.new).contents.disk ≡ (state_of rig.old).contents.disk) }
     ensures alone { OnOk result ((s : CacheList) → FlashStandsFor geometry.now (state_of rig.new).contents.flash.page s
-        → (a : ℕ) (h : Held) → get s a ≡ Some h → (a ≡ lba) × (h ≡ held block.now false)) }
+        → (a : ℕ) (h : Held) → get s a ≡ Some h → (a ≡ lba) × (h ≡ written_block lba block.now false)) }
 {
     Ssc::format(rig, geometry)?;
     let mut cache = Ssc::open(alloc, rig, geometry)?;

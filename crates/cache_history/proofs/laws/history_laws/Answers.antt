@@ -2,6 +2,7 @@ use Rattle.std.specs.FinMap.{get}
 use Rattle.cache_history.proofs.MightLemmas.{mights, mights_from, mights_none}
 use Rattle.cache_history.proofs.LawLemmas.{evicted_none, still_none, dirty_some, dirty_still, newest}
 use Rattle.cache_history.proofs.ListedLemmas.{dirty_listed}
+use Rattle.cache_history.proofs.OwnLemmas.{own_lived}
 use Rattle.cache_history.proofs.laws.history_laws.Goals as goal
 
 pub returns-clause-evicted_stays_absent : goal.returns-clause-evicted_stays_absent
@@ -20,4 +21,7 @@ returns-clause-newest_is_held c = λ g events l a h lived is. newest a events (g
 pub returns-clause-dirty_is_listed : goal.returns-clause-dirty_is_listed
 returns-clause-dirty_is_listed c = λ g later before l a b from count lived none low high.
     let d = dirty_still a b later before (get l.now a) (mights g _ l lived a).now none in
-    dirty_listed l.now a d.0 from count d.1 low high
+    dirty_listed l.now a d.0 from count d.1 d.2 low high
+
+pub returns-clause-own_stays : goal.returns-clause-own_stays
+returns-clause-own_stays c = λ g start l events lived now durable. own_lived g start events l lived now durable

@@ -1,6 +1,7 @@
 use Rattle.std.proofs.Common.{◌≡◌, refl, sym, subst}
 use Rattle.ft_base.specs.declared.block.Place.{Place}
-use Rattle.log_blocks.specs.Logs.{LogBlocksValue, next_place, data_spare}
+use Rattle.cache_model.specs.Spelling.{data_spare}
+use Rattle.log_blocks.specs.Logs.{LogBlocksValue, next_place}
 use Rattle.merge_engine.specs.Agreement.{Agree}
 use Rattle.merge_engine.specs.Steps.{IsNewPage}
 use Rattle.merge_engine.proofs.ResultLemmas.{on_ok_from, if_ok_from, ok_at, if_ok_at}

@@ -1,8 +1,7 @@
-use Rattle.std.proofs.Common.{sym, ap, subst, arith}
+use Rattle.std.proofs.Common.{sym, subst, arith}
 use Rattle.std.proofs.lemmas.Bool.Decides.{nat_tests}
 use Rattle.ft_base.specs.declared.record.Record.TheVariants.{SetPage}
-use Rattle.cache_model.specs.Cache.{held}
-use Rattle.cache_model.specs.Stands.{block_in}
+use Rattle.cache_model.specs.Cache.{written_block}
 use Rattle.std.specs.FinMap.{insert}
 use Rattle.merge_engine.specs.declared.parts.Parts.{Parts}
 use Rattle.merge_engine.specs.Agreement.{Agree, Lists, AreOfOne}
@@ -26,6 +25,6 @@ pub returns-clause-lists : goal.returns-clause-lists
 returns-clause-lists c = λ contents block list durable page lists.
     let old = c.args.cache.now in
     let new = c.note.new.cache in
-    subst (λ (p : Parts). Lists p contents.flash.page (insert list c.args.lba (held block c.args.dirty)) durable) (sym c.note.ensures.cache)
-    (lists_noted old new.map new.log new.pool (SetPage c.args.lba c.args.place c.args.dirty) contents c.note.ensures.entries c.note.ensures.log list (insert list c.args.lba (held block c.args.dirty)) durable
-    (placed_held old.geometry old.map.entries c.args.lba c.args.place c.args.dirty contents.flash.page list block (ap block_in page.whole) lists.held) lists)
+    subst (λ (p : Parts). Lists p contents.flash.page (insert list c.args.lba (written_block c.args.lba block c.args.dirty)) durable) (sym c.note.ensures.cache)
+    (lists_noted old new.map new.log new.pool (SetPage c.args.lba c.args.place c.args.dirty) contents c.note.ensures.entries c.note.ensures.log list (insert list c.args.lba (written_block c.args.lba block c.args.dirty)) durable
+    (placed_held old.geometry old.map.entries c.args.lba c.args.place c.args.dirty contents.flash.page list block page.whole lists.held) lists)

@@ -1,5 +1,5 @@
 use Rattle.std.proofs.Common.{false}
-use Rattle.cache_model.specs.Cache.{held}
+use Rattle.cache_model.specs.Cache.{written_block}
 use Rattle.ft_media.proofs.DrivesLemmas.{drives_then}
 use Rattle.merge_engine.proofs.ResultLemmas.{on_ok_from, ok_at}
 use Rattle.ssc.proofs.SpendLemmas.{spends_on, passes_ok}
@@ -11,12 +11,12 @@ returns-in_err-write_page-clause-stands g c = λ list durable lists. given_step 
 
 pub returns-clause-lists : goal.returns-clause-lists
 returns-clause-lists g c = on_ok_from c.commit_if_full.result (λ v is. λ list durable lists.
-    put_waits c.args.parts.now c.write_page.new.parts c.commit_if_full.new.parts (g.M.Media.state c.write_page.new.media).contents.flash.page (g.M.Media.state c.commit_if_full.new.media).contents.flash.page c.args.lba (held c.args.block.now false) list durable
+    put_waits c.args.parts.now c.write_page.new.parts c.commit_if_full.new.parts (g.M.Media.state c.write_page.new.media).contents.flash.page (g.M.Media.state c.commit_if_full.new.media).contents.flash.page c.args.lba (written_block c.args.lba c.args.block.now false) list durable
     (ok_at c.commit_if_full.result v is c.commit_if_full.ensures.lists) (c.in_ok-write_page.ensures.lists list durable lists))
 
 pub returns-clause-stands : goal.returns-clause-stands
 returns-clause-stands g c = λ list durable lists.
-    step_then c.args.parts.now c.write_page.new.parts (g.M.Media.state c.write_page.new.media).contents.flash.page (g.M.Media.state c.commit_if_full.new.media).contents.flash.page c.args.lba (held c.args.block.now false) c.write_page.ensures.geometry list durable
+    step_then c.args.parts.now c.write_page.new.parts (g.M.Media.state c.write_page.new.media).contents.flash.page (g.M.Media.state c.commit_if_full.new.media).contents.flash.page c.args.lba (written_block c.args.lba c.args.block.now false) c.write_page.ensures.geometry list durable
     c.commit_if_full.ensures.stands (c.in_ok-write_page.ensures.lists list durable lists)
 
 pub returns-clause-one_program : goal.returns-clause-one_program
@@ -36,5 +36,5 @@ returns-in_err-write_page-clause-kept g c = λ room list durable lists. kept_bef
 
 pub returns-clause-kept : goal.returns-clause-kept
 returns-clause-kept g c = λ room list durable lists.
-    kept_then c.args.parts.now c.write_page.new.parts (g.M.Media.state c.write_page.new.media).contents.flash.page (g.M.Media.state c.commit_if_full.new.media).contents.flash.page c.args.lba (held c.args.block.now false) c.write_page.ensures.geometry list durable
+    kept_then c.args.parts.now c.write_page.new.parts (g.M.Media.state c.write_page.new.media).contents.flash.page (g.M.Media.state c.commit_if_full.new.media).contents.flash.page c.args.lba (written_block c.args.lba c.args.block.now false) c.write_page.ensures.geometry list durable
     c.commit_if_full.ensures.stands room (c.in_ok-write_page.ensures.lists list durable lists)

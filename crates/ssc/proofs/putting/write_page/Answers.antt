@@ -1,6 +1,6 @@
 use Rattle.std.proofs.Common.{◌<◌, sym, subst}
 use Rattle.ft_base.specs.declared.geometry.Geometry.{Geometry}
-use Rattle.cache_model.specs.Cache.{held}
+use Rattle.cache_model.specs.Cache.{written_block}
 use Rattle.merge_engine.proofs.TakeLemmas.{agree_map}
 use Rattle.ssc.proofs.PlaceLemmas.{new_page_fits}
 use Rattle.ssc.proofs.WrittenLemmas.{room_after, puts_block, inside_entries, inside_pushed, pushed_some}
@@ -27,7 +27,7 @@ pub returns-clause-lists : goal.returns-clause-lists
 returns-clause-lists g c =
     let old = (g.M.Media.state c.args.media.now).contents in
     let new = (g.M.Media.state c.append.new.media).contents in
-    puts_block c.args.parts.now c.append.new.cache old new c.requires.agree c.in_ok-place.ensures.agree c.append.ensures.geometry c.put_page.new.cache c.args.lba c.in_ok-place.place (held c.args.block.now c.args.dirty)
+    puts_block c.args.parts.now c.append.new.cache old new c.requires.agree c.in_ok-place.ensures.agree c.append.ensures.geometry c.put_page.new.cache c.args.lba c.in_ok-place.place (written_block c.args.lba c.args.block.now c.args.dirty)
     (inside_entries c.args.parts.now c.append.new.cache c.append.ensures.map_stays) c.put_page.ensures.log
     (λ list durable. c.put_page.ensures.lists new c.args.block.now list durable c.in_ok-place.ensures.place)
     c.in_ok-place.ensures.lists

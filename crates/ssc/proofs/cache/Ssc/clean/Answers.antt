@@ -20,18 +20,18 @@ pub returns-in-Ok-clause-done : goal.returns-in-Ok-clause-done
 returns-in-Ok-clause-done g c = λ s holds.
     let old = (g.M.Media.state c.args.media.now).contents in
     let h = dirty_entry c.args.self.now old s c.args.lba holds (c.if-not-is_dirty.ensures.0 refl) in
-    holds_cleaned s c.args.lba h.0 h.1 c.args.self.now _ old (g.M.Media.state c.mark_clean.new.media).contents holds
+    holds_cleaned s c.args.lba h.0 h.1 h.2 c.args.self.now _ old (g.M.Media.state c.mark_clean.new.media).contents holds
     (record { agree = c.in-Ok.ensures.agree; memory = λ ready. c.mark_clean.ensures.reserved (holds.memory ready) }) c.in-Ok.ensures.room
     (c.in-Ok.ensures.lists s (undo (pending c.args.self.now) s) holds.lists)
 
 pub returns-in-Ok-clause-of_dirty : goal.returns-in-Ok-clause-of_dirty
-returns-in-Ok-clause-of_dirty g c = λ s b holds dirty.
+returns-in-Ok-clause-of_dirty g c = λ s holds dirty.
     pends_after (Clean c.args.lba) c.args.self.now (record c.args.self.now { parts = c.mark_clean.new.parts }) (g.M.Media.state c.mark_clean.new.media).contents (undo (pending c.args.self.now) s) s (made_clean c.args.lba s) (c.in-Ok.ensures.lists s (undo (pending c.args.self.now) s) holds.lists)
 
 pub returns-in-Ok-clause-of_other : goal.returns-in-Ok-clause-of_other
 returns-in-Ok-clause-of_other g c = λ s holds never.
     let h = dirty_entry c.args.self.now (g.M.Media.state c.args.media.now).contents s c.args.lba holds (c.if-not-is_dirty.ensures.0 refl) in
-    absurd (never h.0 h.1)
+    absurd (never h)
 
 pub returns-in-Ok-clause-no_write : goal.returns-in-Ok-clause-no_write
 returns-in-Ok-clause-no_write g c = λ few. c.mark_clean.ensures.no_write (omega (arith, few, length_waiting c.args.self.now.parts.log.buffered))

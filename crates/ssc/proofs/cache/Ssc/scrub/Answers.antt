@@ -5,7 +5,7 @@ use Rattle.ft_media.proofs.DrivesLemmas.{reads_none, reads_then}
 use Rattle.mapping.specs.Numbers.{AreNumbered}
 use Rattle.ssc.specs.CacheState.{IsUp, entries_of, geometry_of}
 use Rattle.ssc.specs.Scrubbed.{IsScrubBelow}
-use Rattle.ssc.proofs.ScrubLemmas.{reads_refused, scrub_all, scrub_none}
+use Rattle.ssc.proofs.ScrubLemmas.{own_scrub, reads_refused, scrub_all, scrub_none}
 use Rattle.ssc.proofs.cache.Ssc.scrub.Goals as goal
 
 pub loop-i-init : goal.loop-i-init
@@ -34,6 +34,10 @@ pub returns-clause-found : goal.returns-clause-found
 returns-clause-found g c =
     scrub_all (geometry_of c.args.self.now) (g.M.Media.state c.args.media.now).contents.flash.page (entries_of c.args.self.now) c.loop-i.i c.loop-i.found
     (subst (λ (h : Geometry). AreNumbered h (entries_of c.args.self.now) c.loop-i.i) c.requires.up.holds.agree.sound.of_one.map (λ a e is. let low = c.numbers-i-end.ensures.each a e is in let past = c.loop-i-test.false in omega arith)) c.loop-i.invariant.so_far
+
+pub returns-clause-own : goal.returns-clause-own
+returns-clause-own g c = λ s holds.
+    own_scrub (geometry_of c.args.self.now) (g.M.Media.state c.args.media.now).contents.flash.page (entries_of c.args.self.now) c.loop-i.found s (returns-clause-found g c) holds.lists.held holds.agree.sound.whole
 
 pub returns-clause-reads : goal.returns-clause-reads
 returns-clause-reads g c = c.loop-i.invariant.reads

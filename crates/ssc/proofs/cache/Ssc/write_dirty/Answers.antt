@@ -1,6 +1,6 @@
 use Rattle.std.proofs.Common.{◌<◌, true, inl, refl, sym, subst}
 use Rattle.ft_base.specs.declared.geometry.Geometry.{Geometry}
-use Rattle.cache_model.specs.Cache.{held, undo, written_dirty}
+use Rattle.cache_model.specs.Cache.{written_block, undo, written_dirty}
 use Rattle.ssc.specs.CacheState.{pending}
 use Rattle.ssc.proofs.CommandLemmas.{not_refused, drives_given_up}
 use Rattle.ssc.proofs.HoldsLemmas.{few_buffered}
@@ -40,12 +40,12 @@ returns-in-Err-clause-full g c = λ s holds. not_full_from c.args.self.now (g.M.
 
 pub returns-in-Ok-clause-done : goal.returns-in-Ok-clause-done
 returns-in-Ok-clause-done g c = λ s holds. written_from c.reserve.new.self.parts _ (g.M.Media.state c.write_committed.new.media).contents s c.args.lba (written_dirty c.args.lba c.args.block.now) c.write_committed.ensures.geometry
-    (left_committed c.reserve.new.self.parts _ (g.M.Media.state c.write_committed.new.media).contents s c.args.lba (held c.args.block.now true) (settled_unready _ (g.M.Media.state c.write_committed.new.media).contents refl c.in-Ok.ensures.agree) c.in-Ok.ensures.nothing_waits
+    (left_committed c.reserve.new.self.parts _ (g.M.Media.state c.write_committed.new.media).contents s c.args.lba (written_block c.args.lba c.args.block.now true) (settled_unready _ (g.M.Media.state c.write_committed.new.media).contents refl c.in-Ok.ensures.agree) c.in-Ok.ensures.nothing_waits
     (c.in-Ok.ensures.lists s (undo (pending c.reserve.new.self) s) (c.reserve.ensures.holds (g.M.Media.state c.args.media.now).contents s holds).lists))
 
 pub returns-in-Ok-clause-inside : goal.returns-in-Ok-clause-inside
 returns-in-Ok-clause-inside g c = λ room s holds. inside_from c.reserve.new.self.parts _ (g.M.Media.state c.write_committed.new.media).contents s (written_dirty c.args.lba c.args.block.now) (inl (room_left c.args.self.now c.reserve.new.self c.reserve.ensures.parts room))
-    (left_committed c.reserve.new.self.parts _ (g.M.Media.state c.write_committed.new.media).contents s c.args.lba (held c.args.block.now true) (settled_unready _ (g.M.Media.state c.write_committed.new.media).contents refl c.in-Ok.ensures.agree) c.in-Ok.ensures.nothing_waits
+    (left_committed c.reserve.new.self.parts _ (g.M.Media.state c.write_committed.new.media).contents s c.args.lba (written_block c.args.lba c.args.block.now true) (settled_unready _ (g.M.Media.state c.write_committed.new.media).contents refl c.in-Ok.ensures.agree) c.in-Ok.ensures.nothing_waits
     (c.in-Ok.ensures.lists s (undo (pending c.reserve.new.self) s) (c.reserve.ensures.holds (g.M.Media.state c.args.media.now).contents s holds).lists))
 
 pub returns-in-Ok-clause-images : goal.returns-in-Ok-clause-images
@@ -66,7 +66,7 @@ returns-in-Err-clause-drives g c = drives_given_up (Unit {0}) (g.M.Media.state c
 
 pub returns-in-Ok-clause-kept : goal.returns-in-Ok-clause-kept
 returns-in-Ok-clause-kept g c = λ room s holds. inside_from c.reserve.new.self.parts _ (g.M.Media.state c.write_committed.new.media).contents s (written_dirty c.args.lba c.args.block.now) (log_room_left c.args.self.now c.reserve.new.self c.reserve.ensures.parts c.reserve.ensures.entries room)
-    (left_committed c.reserve.new.self.parts _ (g.M.Media.state c.write_committed.new.media).contents s c.args.lba (held c.args.block.now true) (settled_unready _ (g.M.Media.state c.write_committed.new.media).contents refl c.in-Ok.ensures.agree) c.in-Ok.ensures.nothing_waits
+    (left_committed c.reserve.new.self.parts _ (g.M.Media.state c.write_committed.new.media).contents s c.args.lba (written_block c.args.lba c.args.block.now true) (settled_unready _ (g.M.Media.state c.write_committed.new.media).contents refl c.in-Ok.ensures.agree) c.in-Ok.ensures.nothing_waits
     (c.in-Ok.ensures.lists s (undo (pending c.reserve.new.self) s) (c.reserve.ensures.holds (g.M.Media.state c.args.media.now).contents s holds).lists))
 
 pub returns-in-Ok-clause-kept_images : goal.returns-in-Ok-clause-kept_images

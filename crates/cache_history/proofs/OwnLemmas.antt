@@ -1,0 +1,87 @@
+-- What was written for its address stays so.
+use Rattle.std.proofs.Common.{◌≡◌, ℕ, ◌==◌, Bool, true, false, List, [], ◌∷◌, Option, Some, None, refl, sym, ◌∙◌, ap, subst, inl, inr, eqb-true}
+use Rattle.std.specs.Option.{option_map}
+use Rattle.std.specs.FinMap.{get}
+use Rattle.ft_base.specs.declared.block.Block.{Block}
+use Rattle.ft_base.specs.declared.geometry.Geometry.{Geometry}
+use Rattle.cache_model.specs.Spelling.{data_spare}
+use Rattle.cache_model.specs.Cache.{AreOwn, CacheList, Held, marked_as, written_block}
+use Rattle.cache_history.specs.declared.kind.Kind.{Kind}
+use Rattle.cache_history.specs.declared.kind.Kind.TheVariants.{WriteDirty, WriteClean, Evict, Clean, Commit, Checkpoint}
+use Rattle.cache_history.specs.History.{Given, CacheEvent, Answered, Refused, Crashed, TwoLists, AfterAnswer, AfterRefusal, LeftBy, LivedFrom, stepped, unless_gone}
+use Rattle.cache_history.proofs.GoneLemmas.{left_at}
+use Rattle.cache_history.proofs.StepLemmas.{get_stepped, step_at}
+
+-- what is held at an address has the spare bytes of a data page of the address
+abbrev IsOwnAt : ℕ → Option Held → Type 0
+IsOwnAt a o = (h : Held) → o ≡ Some h → h.spare ≡ data_spare a
+
+own_none : (a : ℕ) (o : Option Held) → o ≡ None → IsOwnAt a o
+own_none a o none h is = absurd (let both : None ≡ Some h = sym none ∙ is in cc)
+
+own_as : (a : ℕ) (o p : Option Held) → o ≡ p → IsOwnAt a p → IsOwnAt a o
+own_as a o p same own h is = own h (sym same ∙ is)
+
+cleaned_spare : (o : Option Held) (h : Held) → option_map (marked_as false) o ≡ Some h → (k : Held) × (o ≡ Some k) × (k.spare ≡ h.spare)
+cleaned_spare None h is = absurd (cc)
+cleaned_spare (Some k) h is = let same : marked_as false k ≡ h = cc in (k, refl, ap (λ (x : Held). x.spare) same)
+
+-- a write has spare bytes of its address, and no other command has new ones
+step_own : (a lba : ℕ) (here : Bool) (kind : Kind) (block : Block) (o : Option Held) → (here ≡ true → a ≡ lba) → IsOwnAt a o → IsOwnAt a (step_at here kind lba block o)
+step_own a lba false kind block o at own = own
+step_own a lba true WriteDirty block o at own = λ h is. let same : written_block lba block true ≡ h = cc in sym (ap (λ (x : Held). x.spare) same) ∙ ap data_spare (sym (at refl))
+step_own a lba true WriteClean block o at own = λ h is. let same : written_block lba block false ≡ h = cc in sym (ap (λ (x : Held). x.spare) same) ∙ ap data_spare (sym (at refl))
+step_own a lba true Evict block o at own = own_none a None refl
+step_own a lba true Clean block o at own = λ h is. let k = cleaned_spare o h is in sym k.2 ∙ own k.0 k.1
+step_own a lba true Commit block o at own = own
+step_own a lba true Checkpoint block o at own = own
+
+own_unless : (a : ℕ) (o left before : Option Held) → IsOwnAt a before → IsOwnAt a (unless_gone o left before)
+own_unless a None left before own = own
+own_unless a (Some h) None before own = own_none a None refl
+own_unless a (Some h) (Some k) before own = own
+
+-- ---- lists
+
+list_as : (s t : CacheList) → s ≡ t → AreOwn t → AreOwn s
+list_as s t same own = subst AreOwn (sym same) own
+
+left_own : (g : Geometry) (x : Given) (s v : CacheList) → LeftBy g x s v → AreOwn s → AreOwn v
+left_own g x s v left own a = elim (left_at g x.kind x.address s v left a) [
+  | inl same ↦ own_as a (get v a) (get s a) same (own a)
+  | inr gave ↦ own_none a (get v a) gave.1
+]
+
+stepped_own : (x : Given) (s : CacheList) → AreOwn s → AreOwn (stepped x s)
+stepped_own x s own a =
+    own_as a (get (stepped x s) a) (step_at (a == x.address) x.kind x.address x.block (get s a)) (get_stepped x.kind x.address x.block s a)
+    (step_own a x.address (a == x.address) x.kind x.block (get s a) (eqb-true a x.address) (own a))
+
+abbrev BothOwn : TwoLists → Type 0
+BothOwn l = AreOwn l.now × AreOwn l.durable
+
+own_answered : (g : Geometry) (x : Given) (old new : TwoLists) → AfterAnswer g x old new → BothOwn old → BothOwn new
+own_answered g x old new after own =
+    let left = left_own g x old.now after.left after.left_by own.0 in
+    let now = list_as new.now (stepped x after.left) after.now (stepped_own x after.left left) in (
+      now,
+      elim after.durable [
+        | inl loses ↦ λ a. own_as a (get new.durable a) (unless_gone (get old.now a) (get after.left a) (get old.durable a)) (loses a) (own_unless a (get old.now a) (get after.left a) (get old.durable a) (own.1 a))
+        | inr d ↦ elim d [ inl is ↦ list_as new.durable after.left is left | inr is ↦ list_as new.durable new.now is now ]
+      ],
+    )
+
+own_refused : (g : Geometry) (x : Given) (old new : TwoLists) → AfterRefusal g x old new → BothOwn old → BothOwn new
+own_refused g x old new after own =
+    let left = left_own g x old.now after.left after.left_by own.0 in
+    let now : AreOwn new.now = elim after.now [
+      | inl is ↦ list_as new.now old.durable is own.1
+      | inr d ↦ elim d [ inl is ↦ list_as new.now after.left is left | inr is ↦ list_as new.now (stepped x after.left) is (stepped_own x after.left left) ]
+    ] in
+    (now, list_as new.durable new.now after.durable now)
+
+pub own_lived : (g : Geometry) (start : TwoLists) (es : List CacheEvent) (l : TwoLists) → LivedFrom g start es l → AreOwn start.now → AreOwn start.durable → AreOwn l.now × AreOwn l.durable
+own_lived g start [] l is now durable = subst (λ (k : TwoLists). AreOwn k.now × AreOwn k.durable) (sym is) (now, durable)
+own_lived g start (Answered x ∷ es) l lived now durable = own_answered g x lived.0 l lived.2 (own_lived g start es lived.0 lived.1 now durable)
+own_lived g start (Refused x ∷ es) l lived now durable = own_refused g x lived.0 l lived.2 (own_lived g start es lived.0 lived.1 now durable)
+own_lived g start (Crashed ∷ es) l lived now durable = let own = own_lived g start es lived.0 lived.1 now durable in (list_as l.now lived.0.durable lived.2.now own.1, list_as l.durable lived.0.durable lived.2.durable own.1)
