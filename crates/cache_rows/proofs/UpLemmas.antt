@@ -1,16 +1,18 @@
--- A command that did not stop the cache leaves it up.
-use Rattle.std.proofs.Common.{◌≡◌, ℕ, Bool, true, false, Result, Ok, Err, OnOk, sym, refl, subst, ◌∙◌}
+-- A command leaves a cache that fits its flash.
+use Rattle.std.proofs.Common.{◌≡◌, ◌<◌, ℕ, Bool, true, false, Result, Ok, Err, OnOk, sym, refl, ap, subst, ◌∙◌}
 use Rattle.std.specs.Prelude.{IsErrOf}
 use Rattle.std.proofs.lemmas.Bool.{false≢true}
 use Rattle.ft_base.specs.Contents.{Contents}
+use Rattle.ft_base.specs.declared.geometry.Geometry.{Geometry}
 use Rattle.ft_media.specs.State.{State}
 use Rattle.cache_model.specs.Cache.{CacheList}
 use Rattle.ssc.specs.declared.cache.Ssc.{Ssc}
 use Rattle.ssc.specs.declared.error.SscError.{SscError}
 use Rattle.ssc.specs.declared.error.SscError.TheVariants.{Full, FlashFault, PowerLost, OutOfMemory}
 use Rattle.ssc.specs.Errors.{stops}
-use Rattle.ssc.specs.CacheState.{Holds, IsUp}
+use Rattle.ssc.specs.CacheState.{Holds, IsUp, geometry_of}
 use Rattle.ssc.specs.Commands.{HoldsWritten}
+use Rattle.cache_rows.specs.Fits.{FitTogether}
 
 up_same : (c d : Ssc) (a b : State) → (d ≡ c) × (b ≡ a) → IsUp c a.contents → IsUp d b.contents
 up_same c d a b is up = subst (λ (v : Ssc). IsUp v b.contents) (sym is.0) (subst (λ (k : State). IsUp c k.contents) (sym is.1) up)
@@ -37,13 +39,33 @@ on_ok : {P Q : Type 0} (r : Result (Unit {0}) SscError) → (P → Q) → OnOk r
 on_ok (Ok done) f p = f p
 on_ok (Err e) f p = tt
 
+-- before a command: the cache was not stopped
+pub up_of : (c : Ssc) (contents : Contents) → FitTogether c contents → c.stopped ≡ false → IsUp c contents
+up_of c contents fit going = fit.up going
+
+pub in_size : (c : Ssc) (contents : Contents) (lba : ℕ) → FitTogether c contents → lba < 64 → lba < (geometry_of c).size
+in_size c contents lba fit below = subst (λ (n : ℕ). lba < n) (sym fit.size) below
+
+same_size : (c d : Ssc) → geometry_of d ≡ geometry_of c → (geometry_of c).size ≡ 64 → (geometry_of d).size ≡ 64
+same_size c d same is = ap (λ (g : Geometry). g.size) same ∙ is
+
 -- a write, from which clean groups may have given way
-pub up_written : (r : Result (Unit {0}) SscError) (c d : Ssc) (a b : State) (lba : ℕ) (f : CacheList → CacheList) → IsUp c a.contents → d.stopped ≡ stops r
+pub fit_written : (r : Result (Unit {0}) SscError) (c d : Ssc) (a b : State) (lba : ℕ) (f : CacheList → CacheList) → FitTogether c a.contents → c.stopped ≡ false → geometry_of d ≡ geometry_of c → d.stopped ≡ stops r
     → OnOk r ((s : CacheList) → Holds c a.contents s → HoldsWritten d b.contents s lba f) → ((n l : ℕ) → IsErrOf r (Full n l) → (d ≡ c) × (b ≡ a)) → (IsErrOf r OutOfMemory → StillHolds c d a b)
-    → d.stopped ≡ false → IsUp d b.contents
-up_written r c d a b lba f up stopped holds = up_some r c d a b up stopped (on_ok r (λ (k : (s : CacheList) → Holds c a.contents s → HoldsWritten d b.contents s lba f). let w = k up.list up.holds in (f w.left, w.holds)) holds)
+    → FitTogether d b.contents
+fit_written r c d a b lba f fit going same stopped holds full memory =
+    let up = fit.up going in
+    record {
+      size = same_size c d same fit.size;
+      up = up_some r c d a b up stopped (on_ok r (λ (k : (s : CacheList) → Holds c a.contents s → HoldsWritten d b.contents s lba f). let w = k up.list up.holds in (f w.left, w.holds)) holds) full memory;
+    }
 
 -- any other command
-pub up_after : (r : Result (Unit {0}) SscError) (c d : Ssc) (a b : State) (f : CacheList → CacheList) → IsUp c a.contents → d.stopped ≡ stops r
-    → OnOk r ((s : CacheList) → Holds c a.contents s → Holds d b.contents (f s)) → ((n l : ℕ) → IsErrOf r (Full n l) → ⊥) → (IsErrOf r OutOfMemory → ⊥) → d.stopped ≡ false → IsUp d b.contents
-up_after r c d a b f up stopped holds full memory = up_some r c d a b up stopped (on_ok r (λ (k : (s : CacheList) → Holds c a.contents s → Holds d b.contents (f s)). (f up.list, k up.list up.holds)) holds) (λ n l is. absurd (full n l is)) (λ is. absurd (memory is))
+pub fit_after : (r : Result (Unit {0}) SscError) (c d : Ssc) (a b : State) (f : CacheList → CacheList) → FitTogether c a.contents → c.stopped ≡ false → geometry_of d ≡ geometry_of c → d.stopped ≡ stops r
+    → OnOk r ((s : CacheList) → Holds c a.contents s → Holds d b.contents (f s)) → ((n l : ℕ) → IsErrOf r (Full n l) → ⊥) → (IsErrOf r OutOfMemory → ⊥) → FitTogether d b.contents
+fit_after r c d a b f fit going same stopped holds full memory =
+    let up = fit.up going in
+    record {
+      size = same_size c d same fit.size;
+      up = up_some r c d a b up stopped (on_ok r (λ (k : (s : CacheList) → Holds c a.contents s → Holds d b.contents (f s)). (f up.list, k up.list up.holds)) holds) (λ n l is. absurd (full n l is)) (λ is. absurd (memory is));
+    }

@@ -5,8 +5,12 @@
 #![tactic(auto)]
 
 #[cfg(test)]
+mod bench;
+#[cfg(test)]
 mod device;
 #[cfg(test)]
 mod lists;
 #[cfg(test)]
 mod merges;
+#[cfg(test)]
+mod stops;

@@ -23,6 +23,9 @@ use std::test::Fail;
 /// What stands at a page that was programmed: its kind, its address, and its block's tag.
 type Seen = (SpareKind, u64, Option<u64>);
 
+/// The block and the page of a place.
+type At = (u32, u32);
+
 /// One step on a cache.
 #[derive(Clone, Copy)]
 enum Step {
@@ -44,10 +47,7 @@ enum Step {
 #[derive(Clone, Copy)]
 enum Fact {
     /// What a block of the pool is used for.
-    Role {
-        block: u32,
-        role: Role,
-    },
+    Used(u32, Role),
     /// The data block of a group, the pages that are present in it, and the dirty ones.
     DataBlock {
         group: u64,
@@ -61,17 +61,16 @@ enum Fact {
         held: u64,
         dirty: u64,
     },
-    /// Where an address lies, and whether it is dirty.
-    At {
-        lba: u64,
-        at: Place,
-        dirty: bool,
-    },
-    /// What stands at a page; none where it isn't whole.
-    Stands {
-        at: Place,
-        seen: Option<Seen>,
-    },
+    /// An address lies there, dirty.
+    Lies(u64, At),
+    /// A pattern of an address with a tag stands there, as a data page of the address.
+    Data(At, u64, u64),
+    /// A filler page stands there, whose block is zero.
+    Filler(At),
+    /// No whole page is there.
+    Blank(At),
+    /// All of the first group lies in this block, in order, dirty, each page with the tag 1.
+    FirstGroup(u32),
     /// How many log blocks are in use, and how many pages the open one has left.
     LogBlocks {
         used: u32,
@@ -84,6 +83,19 @@ enum Fact {
     },
     /// How many changes wait for a log page.
     Buffered(u32),
+}
+
+/// A line of an example.
+#[derive(Clone, Copy)]
+enum Line {
+    /// A step that is made.
+    Do(Step),
+    /// What is seen then.
+    See(Fact),
+    /// From here on device writes are counted anew.
+    Count,
+    /// So many blocks were erased since, and so many pages programmed.
+    Wrote(u64, u64),
 }
 
 // ---- the start
@@ -251,20 +263,14 @@ impl Bench {
 
     // ---- what is seen
 
-    /// The first of the facts that doesn't hold.
-    fn first_wrong(&mut self, facts: &[Fact]) -> Result<Option<usize>, Fail> {
-        for i in 0..facts.len() {
-            if !self.holds(&facts[i])? {
-                return Ok(Some(i));
+    fn holds(&mut self, fact: Fact) -> Result<bool, Fail> {
+        match fact {
+            Fact::Data(at, lba, tag) => {
+                Ok(self.seen_at(at)? == Some((SpareKind::Page, lba, Some(tag))))
             }
-        }
-        Ok(None)
-    }
-
-    fn holds(&mut self, fact: &Fact) -> Result<bool, Fail> {
-        match *fact {
-            Fact::Stands { at, seen } => Ok(self.seen_at(at)? == seen),
-            Fact::Role { block, role } => Ok(self.role(block) == Some(role)),
+            Fact::Filler(at) => Ok(self.seen_at(at)? == Some((SpareKind::Filler, 0, Some(0)))),
+            Fact::Blank(at) => Ok(self.seen_at(at)? == None),
+            Fact::FirstGroup(block) => self.is_first_group_in(block),
             other => Ok(self.map_holds(other)),
         }
     }
@@ -272,6 +278,7 @@ impl Bench {
     /// The same of a fact that the parts tell by themselves.
     fn map_holds(&self, fact: Fact) -> bool {
         match fact {
+            Fact::Used(block, role) => self.role(block) == Some(role),
             Fact::DataBlock {
                 group,
                 block,
@@ -279,7 +286,7 @@ impl Bench {
                 dirty,
             } => { self.data_block(group) == Some((block, present, dirty)) }
             Fact::Pages { group, held, dirty } => self.bits(group) == (held, dirty),
-            Fact::At { lba, at, dirty } => self.parts.map.place(lba) == Some((at, dirty)),
+            Fact::Lies(lba, at) => self.lies(lba) == Some((at, true)),
             Fact::LogBlocks { used, room } => {
                 self.parts.logs.used() == used && self.parts.logs.room() == room
             }
@@ -288,8 +295,28 @@ impl Bench {
                     && self.parts.map.dirty_groups() == dirty
             }
             Fact::Buffered(count) => self.parts.log.buffered() == count,
-            Fact::Stands { .. } | Fact::Role { .. } => false,
+            _ => false,
         }
+    }
+
+    /// Whether all of the first group lies in this block, in order, dirty, each page with the tag 1.
+    fn is_first_group_in(&mut self, block: u32) -> Result<bool, Fail> {
+        for page in 0..4 {
+            let lba = page as u64;
+            let seen = self.seen_at((block, page))?;
+            if self.lies(lba) != Some(((block, page), true))
+                || seen != Some((SpareKind::Page, lba, Some(1)))
+            {
+                return Ok(false);
+            }
+        }
+        Ok(self.data_block(0) == Some((block, 15, 15)))
+    }
+
+    /// Where an address lies, and whether it is dirty.
+    fn lies(&self, lba: u64) -> Option<(At, bool)> {
+        let (at, dirty) = self.parts.map.place(lba)?;
+        Some(((at.block, at.page), dirty))
     }
 
     /// What a block of the pool is used for.
@@ -321,7 +348,11 @@ impl Bench {
     }
 
     /// What stands at a page. None where it isn't whole.
-    fn seen_at(&mut self, at: Place) -> Result<Option<Seen>, Fail> {
+    fn seen_at(&mut self, at: At) -> Result<Option<Seen>, Fail> {
+        let at = Place {
+            block: at.0,
+            page: at.1,
+        };
         if at.block >= self.rig.flash_blocks() || at.page >= self.rig.flash_pages() {
             return Err(Fail::from("there is no such page"));
         }
@@ -338,42 +369,45 @@ impl Bench {
     }
 }
 
-/// A place.
-fn at(block: u32, page: u32) -> Place {
-    Place { block, page }
-}
-
-/// An address lies there, dirty.
-fn lies(lba: u64, block: u32, page: u32) -> Fact {
-    Fact::At {
-        lba,
-        at: at(block, page),
-        dirty: true,
-    }
-}
-
-/// A page with a pattern of an address stands there.
-fn data(block: u32, page: u32, lba: u64, tag: u64) -> Fact {
-    Fact::Stands {
-        at: at(block, page),
-        seen: Some((SpareKind::Page, lba, Some(tag))),
-    }
-}
-
-/// A filler page stands there, whose block is zero.
-fn filler(block: u32, page: u32) -> Fact {
-    Fact::Stands {
-        at: at(block, page),
-        seen: Some((SpareKind::Filler, 0, Some(0))),
-    }
-}
-
 /// So many more erases and programs.
 fn more(before: (u64, u64), erases: u64, programs: u64) -> (u64, u64) {
     (
         before.0.wrapping_add(erases),
         before.1.wrapping_add(programs),
     )
+}
+
+/// Goes through the lines. Says which is the first that tells what isn't so.
+fn first_wrong(start: Bench, lines: &[Line]) -> Result<Option<usize>, Fail> {
+    let mut bench = start;
+    let mut from = bench.writes();
+    for i in 0..lines.len() {
+        match lines[i] {
+            Line::Do(step) => bench = bench.step(step)?,
+            Line::Count => from = bench.writes(),
+            Line::Wrote(erases, programs) => {
+                if bench.writes() != more(from, erases, programs) {
+                    return Ok(Some(i));
+                }
+            }
+            Line::See(fact) => {
+                if !bench.holds(fact)? {
+                    return Ok(Some(i));
+                }
+            }
+        }
+    }
+    Ok(None)
+}
+
+/// The same from a cache of nothing on.
+fn first_wrong_anew(alloc: Global, lines: &[Line]) -> Result<Option<usize>, Fail> {
+    first_wrong(begin(alloc)?, lines)
+}
+
+/// The same where the four addresses of the first group were put one after another.
+fn first_wrong_in_order(alloc: Global, lines: &[Line]) -> Result<Option<usize>, Fail> {
+    first_wrong(begin(alloc)?.run(&FOUR_IN_ORDER)?, lines)
 }
 
 /// Four addresses are put one after another, each committed, and a checkpoint is made.
@@ -389,261 +423,241 @@ const FOUR_IN_ORDER: [Step; 9] = [
     Step::Checkpoint,
 ];
 
+const APPENDED: [Line; 13] = [
+    Line::Do(Step::Put(5, 1, true)),
+    Line::Do(Step::Put(6, 1, true)),
+    Line::Do(Step::Put(7, 1, true)),
+    Line::Do(Step::Put(8, 1, true)),
+    Line::See(Fact::Lies(5, (4, 0))),
+    Line::See(Fact::Lies(6, (4, 1))),
+    Line::See(Fact::Lies(7, (4, 2))),
+    Line::See(Fact::Lies(8, (4, 3))),
+    Line::See(Fact::LogBlocks { used: 1, room: 0 }),
+    Line::See(Fact::Used(4, Role::Log)),
+    // The next block is opened.
+    Line::Do(Step::Put(6, 2, true)),
+    Line::See(Fact::Lies(6, (5, 0))),
+    Line::See(Fact::Data((5, 0), 6, 2)),
+];
+
 #[test]
 fn pages_are_appended_in_order(rt: HostRuntime) -> Result<(), Fail> {
-    let steps = [5, 6, 7, 8].map(|lba| Step::Put(lba, 1, true));
-    let mut bench = begin(rt.alloc())?.run(&steps)?;
-    let facts = [
-        lies(5, 4, 0),
-        lies(6, 4, 1),
-        lies(7, 4, 2),
-        lies(8, 4, 3),
-        Fact::LogBlocks { used: 1, room: 0 },
-        Fact::Role {
-            block: 4,
-            role: Role::Log,
-        },
-    ];
-    assert_eq!(rt; bench.first_wrong(&facts)?, None);
-    let mut bench = bench.put(6, 2, true)?;
-    let facts = [lies(6, 5, 0), data(5, 0, 6, 2)];
-    assert_eq!(rt;
-        bench.first_wrong(&facts)?,
-        None,
-        "the next block is opened"
-    );
+    assert_eq!(rt; first_wrong_anew(rt.alloc(), &APPENDED)?, None);
     Ok(())
 }
+
+const GATHERED: [Line; 8] = [
+    Line::Do(Step::Put(4, 1, true)),
+    Line::Do(Step::Put(7, 1, false)),
+    Line::Do(Step::Merge(1)),
+    Line::See(Fact::DataBlock {
+        group: 1,
+        block: 5,
+        present: 0b1001,
+        dirty: 0b0001,
+    }),
+    Line::See(Fact::Pages {
+        group: 1,
+        held: 0b1001,
+        dirty: 0b0001,
+    }),
+    Line::See(Fact::Data((5, 0), 4, 1)),
+    Line::See(Fact::Filler((5, 2))),
+    Line::See(Fact::Data((5, 3), 7, 1)),
+];
 
 #[test]
 fn the_pages_of_a_group_are_gathered(rt: HostRuntime) -> Result<(), Fail> {
-    let steps = [
-        Step::Put(4, 1, true),
-        Step::Put(7, 1, false),
-        Step::Merge(1),
-    ];
-    let mut bench = begin(rt.alloc())?.run(&steps)?;
-    let facts = [
-        Fact::DataBlock {
-            group: 1,
-            block: 5,
-            present: 0b1001,
-            dirty: 0b0001,
-        },
-        Fact::Pages {
-            group: 1,
-            held: 0b1001,
-            dirty: 0b0001,
-        },
-        data(5, 0, 4, 1),
-        filler(5, 2),
-        data(5, 3, 7, 1),
-    ];
-    assert_eq!(rt; bench.first_wrong(&facts)?, None);
+    assert_eq!(rt; first_wrong_anew(rt.alloc(), &GATHERED)?, None);
     Ok(())
 }
+
+const OLDER: [Line; 8] = [
+    Line::Do(Step::Put(5, 1, false)),
+    Line::Do(Step::Merge(1)),
+    Line::Do(Step::Put(5, 2, true)),
+    Line::Do(Step::Merge(1)),
+    Line::See(Fact::DataBlock {
+        group: 1,
+        block: 6,
+        present: 0b0010,
+        dirty: 0b0010,
+    }),
+    Line::See(Fact::Data((6, 1), 5, 2)),
+    Line::See(Fact::Used(5, Role::Free)),
+    Line::See(Fact::Used(6, Role::Data)),
+];
 
 #[test]
 fn an_older_page_stays_behind(rt: HostRuntime) -> Result<(), Fail> {
-    let steps = [
-        Step::Put(5, 1, false),
-        Step::Merge(1),
-        Step::Put(5, 2, true),
-        Step::Merge(1),
-    ];
-    let mut bench = begin(rt.alloc())?.run(&steps)?;
-    let facts = [
-        Fact::DataBlock {
-            group: 1,
-            block: 6,
-            present: 0b0010,
-            dirty: 0b0010,
-        },
-        data(6, 1, 5, 2),
-        Fact::Role {
-            block: 5,
-            role: Role::Free,
-        },
-        Fact::Role {
-            block: 6,
-            role: Role::Data,
-        },
-    ];
-    assert_eq!(rt; bench.first_wrong(&facts)?, None, "the newer page alone");
+    assert_eq!(rt; first_wrong_anew(rt.alloc(), &OLDER)?, None);
     Ok(())
 }
+
+const HOLES: [Line; 7] = [
+    Line::Do(Step::Put(6, 1, true)),
+    Line::Count,
+    Line::Do(Step::Merge(1)),
+    // Three pages, and a log page before them and one after.
+    Line::Wrote(1, 5),
+    Line::See(Fact::Filler((5, 1))),
+    Line::See(Fact::Data((5, 2), 6, 1)),
+    Line::See(Fact::Blank((5, 3))),
+];
 
 #[test]
 fn holes_are_filled_up_to_the_last_page(rt: HostRuntime) -> Result<(), Fail> {
-    let bench = begin(rt.alloc())?.put(6, 1, true)?;
-    let before = bench.writes();
-    let mut bench = bench.merge(1)?;
-    assert_eq!(rt;
-        bench.writes(),
-        more(before, 1, 5),
-        "three pages, and a log page before them and one after"
-    );
-    let facts = [
-        filler(5, 1),
-        data(5, 2, 6, 1),
-        Fact::Stands {
-            at: at(5, 3),
-            seen: None,
-        },
-    ];
-    assert_eq!(rt; bench.first_wrong(&facts)?, None);
+    assert_eq!(rt; first_wrong_anew(rt.alloc(), &HOLES)?, None);
     Ok(())
 }
+
+const TAKEN_AGAIN: [Line; 14] = [
+    Line::Do(Step::Put(4, 1, true)),
+    Line::Do(Step::Merge(1)),
+    Line::See(Fact::DataBlock {
+        group: 1,
+        block: 5,
+        present: 1,
+        dirty: 1,
+    }),
+    Line::Do(Step::Merge(1)),
+    Line::See(Fact::DataBlock {
+        group: 1,
+        block: 6,
+        present: 1,
+        dirty: 1,
+    }),
+    Line::Do(Step::Merge(1)),
+    Line::See(Fact::DataBlock {
+        group: 1,
+        block: 7,
+        present: 1,
+        dirty: 1,
+    }),
+    Line::Do(Step::Merge(1)),
+    Line::See(Fact::DataBlock {
+        group: 1,
+        block: 8,
+        present: 1,
+        dirty: 1,
+    }),
+    Line::Do(Step::Merge(1)),
+    Line::See(Fact::DataBlock {
+        group: 1,
+        block: 5,
+        present: 1,
+        dirty: 1,
+    }),
+    Line::See(Fact::Data((5, 0), 4, 1)),
+    Line::See(Fact::Used(8, Role::Free)),
+    Line::See(Fact::Groups {
+        data_blocks: 1,
+        dirty: 1,
+    }),
+];
 
 #[test]
 fn an_old_data_block_is_taken_again_last(rt: HostRuntime) -> Result<(), Fail> {
-    let mut bench = begin(rt.alloc())?.put(4, 1, true)?;
-    for block in [5, 6, 7, 8, 5] {
-        bench = bench.merge(1)?;
-        assert_eq!(rt; bench.data_block(1), Some((block, 1, 1)));
-    }
-    let facts = [
-        data(5, 0, 4, 1),
-        Fact::Role {
-            block: 8,
-            role: Role::Free,
-        },
-        Fact::Groups {
-            data_blocks: 1,
-            dirty: 1,
-        },
-    ];
-    assert_eq!(rt; bench.first_wrong(&facts)?, None);
+    assert_eq!(rt; first_wrong_anew(rt.alloc(), &TAKEN_AGAIN)?, None);
     Ok(())
 }
 
-#[test]
-fn a_data_block_with_a_page_stays(rt: HostRuntime) -> Result<(), Fail> {
-    let steps = [
-        Step::Put(4, 1, true),
-        Step::Put(5, 1, true),
-        Step::Merge(1),
-        Step::MarkClean(4),
-    ];
-    let mut bench = begin(rt.alloc())?.run(&steps)?;
-    let facts = [Fact::Pages {
+const STAYS: [Line; 8] = [
+    Line::Do(Step::Put(4, 1, true)),
+    Line::Do(Step::Put(5, 1, true)),
+    Line::Do(Step::Merge(1)),
+    Line::Do(Step::MarkClean(4)),
+    Line::See(Fact::Pages {
         group: 1,
         held: 0b0011,
         dirty: 0b0010,
-    }];
-    assert_eq!(rt; bench.first_wrong(&facts)?, None);
-    let mut bench = bench.take_out(5)?;
-    let facts = [
-        Fact::Role {
-            block: 5,
-            role: Role::Data,
-        },
-        Fact::Groups {
-            data_blocks: 1,
-            dirty: 0,
-        },
-    ];
-    assert_eq!(rt; bench.first_wrong(&facts)?, None, "one page is held");
+    }),
+    Line::Do(Step::TakeOut(5)),
+    // One page is held.
+    Line::See(Fact::Used(5, Role::Data)),
+    Line::See(Fact::Groups {
+        data_blocks: 1,
+        dirty: 0,
+    }),
+];
+
+#[test]
+fn a_data_block_with_a_page_stays(rt: HostRuntime) -> Result<(), Fail> {
+    assert_eq!(rt; first_wrong_anew(rt.alloc(), &STAYS)?, None);
     Ok(())
 }
+
+const EMPTY: [Line; 9] = [
+    Line::Do(Step::Put(4, 1, true)),
+    Line::Do(Step::Merge(1)),
+    Line::Do(Step::TakeOut(4)),
+    Line::See(Fact::Used(5, Role::Free)),
+    Line::See(Fact::Buffered(1)),
+    Line::Count,
+    Line::Do(Step::Commit),
+    Line::Wrote(0, 1),
+    Line::See(Fact::Buffered(0)),
+];
 
 #[test]
 fn an_empty_data_block_is_free(rt: HostRuntime) -> Result<(), Fail> {
-    let steps = [Step::Put(4, 1, true), Step::Merge(1), Step::TakeOut(4)];
-    let mut bench = begin(rt.alloc())?.run(&steps)?;
-    let facts = [
-        Fact::Role {
-            block: 5,
-            role: Role::Free,
-        },
-        Fact::Buffered(1),
-    ];
-    assert_eq!(rt; bench.first_wrong(&facts)?, None);
-    let before = bench.writes();
-    let mut bench = bench.commit()?;
-    assert_eq!(rt; bench.writes(), more(before, 0, 1));
-    assert_eq!(rt; bench.first_wrong(&[Fact::Buffered(0)])?, None);
+    assert_eq!(rt; first_wrong_anew(rt.alloc(), &EMPTY)?, None);
     Ok(())
 }
 
-/// What holds where the first group stands in a block, each page with the tag 1.
-fn first_group_in(block: u32) -> [Fact; 9] {
-    [
-        Fact::DataBlock {
-            group: 0,
-            block,
-            present: 15,
-            dirty: 15,
-        },
-        lies(0, block, 0),
-        data(block, 0, 0, 1),
-        lies(1, block, 1),
-        data(block, 1, 1, 1),
-        lies(2, block, 2),
-        data(block, 2, 2, 1),
-        lies(3, block, 3),
-        data(block, 3, 3, 1),
-    ]
-}
+const SWITCHED: [Line; 6] = [
+    Line::Count,
+    Line::Do(Step::Merge(0)),
+    // One log page.
+    Line::Wrote(0, 1),
+    Line::See(Fact::FirstGroup(4)),
+    Line::See(Fact::Used(4, Role::Data)),
+    Line::See(Fact::LogBlocks { used: 0, room: 0 }),
+];
 
 #[test]
 fn a_group_in_order_is_not_copied(rt: HostRuntime) -> Result<(), Fail> {
-    let bench = begin(rt.alloc())?.run(&FOUR_IN_ORDER)?;
-    let before = bench.writes();
-    let mut bench = bench.merge(0)?;
-    assert_eq!(rt; bench.writes(), more(before, 0, 1), "one log page");
-    assert_eq!(rt; bench.first_wrong(&first_group_in(4))?, None);
-    let facts = [
-        Fact::Role {
-            block: 4,
-            role: Role::Data,
-        },
-        Fact::LogBlocks { used: 0, room: 0 },
-    ];
-    assert_eq!(rt; bench.first_wrong(&facts)?, None);
+    assert_eq!(rt; first_wrong_in_order(rt.alloc(), &SWITCHED)?, None);
     Ok(())
 }
+
+const COPIED: [Line; 10] = [
+    Line::Do(Step::Put(0, 1, true)),
+    Line::Do(Step::Put(2, 1, true)),
+    Line::Do(Step::Put(1, 1, true)),
+    Line::Do(Step::Put(3, 1, true)),
+    Line::Do(Step::Checkpoint),
+    Line::Count,
+    Line::Do(Step::Merge(0)),
+    // Four pages and a log page.
+    Line::Wrote(1, 5),
+    Line::See(Fact::FirstGroup(5)),
+    Line::See(Fact::Used(4, Role::Log)),
+];
 
 #[test]
 fn a_group_out_of_order_is_copied(rt: HostRuntime) -> Result<(), Fail> {
-    let steps = [0, 2, 1, 3].map(|lba| Step::Put(lba, 1, true));
-    let bench = begin(rt.alloc())?.run(&steps)?.checkpoint()?;
-    let before = bench.writes();
-    let mut bench = bench.merge(0)?;
-    assert_eq!(rt;
-        bench.writes(),
-        more(before, 1, 5),
-        "four pages and a log page"
-    );
-    assert_eq!(rt; bench.first_wrong(&first_group_in(5))?, None);
-    let facts = [Fact::Role {
-        block: 4,
-        role: Role::Log,
-    }];
-    assert_eq!(rt; bench.first_wrong(&facts)?, None);
+    assert_eq!(rt; first_wrong_anew(rt.alloc(), &COPIED)?, None);
     Ok(())
 }
 
+const OLDEST_SWITCHED: [Line; 11] = [
+    Line::Do(Step::Put(4, 1, true)),
+    Line::Do(Step::Put(5, 1, true)),
+    Line::Do(Step::Put(4, 1, true)),
+    Line::Do(Step::Put(5, 1, true)),
+    Line::Do(Step::Checkpoint),
+    Line::Count,
+    Line::Do(Step::Put(6, 1, true)),
+    // A block is taken; one log page, and the page.
+    Line::Wrote(1, 2),
+    Line::See(Fact::FirstGroup(4)),
+    Line::See(Fact::Lies(6, (6, 0))),
+    Line::See(Fact::Used(4, Role::Data)),
+];
+
 #[test]
 fn the_oldest_log_block_becomes_a_data_block(rt: HostRuntime) -> Result<(), Fail> {
-    let bench = begin(rt.alloc())?.run(&FOUR_IN_ORDER)?;
-    let steps = [4, 5, 4, 5].map(|lba| Step::Put(lba, 1, true));
-    let bench = bench.run(&steps)?.checkpoint()?;
-    let before = bench.writes();
-    let mut bench = bench.put(6, 1, true)?;
-    assert_eq!(rt;
-        bench.writes(),
-        more(before, 1, 2),
-        "a block is taken; one log page, and the page"
-    );
-    assert_eq!(rt; bench.first_wrong(&first_group_in(4))?, None);
-    let facts = [
-        lies(6, 6, 0),
-        Fact::Role {
-            block: 4,
-            role: Role::Data,
-        },
-    ];
-    assert_eq!(rt; bench.first_wrong(&facts)?, None);
+    assert_eq!(rt; first_wrong_in_order(rt.alloc(), &OLDEST_SWITCHED)?, None);
     Ok(())
 }

@@ -1,9 +1,11 @@
-use Rattle.std.proofs.Common.{◌≡◌, sym, ap₂, refl, subst}
+use Rattle.std.proofs.Common.{◌≡◌, false, sym, ap₂, refl, subst}
 use Rattle.ft_base.specs.Contents.{Contents, Flash, Shape}
 use Rattle.cache_model.specs.Cache.{CacheList}
+use Rattle.mem_rig.specs.Rig.{state_of}
 use Rattle.ssc.specs.declared.cache.Ssc.{Ssc}
 use Rattle.ssc.specs.CacheState.{Holds, IsUp}
-use Rattle.cache_rows.proofs.device.write_disk.Goals as goal
+use Rattle.cache_rows.specs.Fits.{FitTogether}
+use Rattle.cache_rows.proofs.bench.Bench.write_disk.Goals as goal
 
 holds_beside : (c : Ssc) (a b : Contents) (s : CacheList) → Holds c a s → Holds c (record b { shape = a.shape; flash = a.flash }) s
 holds_beside c a b s k =
@@ -29,12 +31,13 @@ up_beside c a b shape flash up =
       up = up.up;
     })
 
-pub returns : goal.returns
-returns g c =
-    let old = (g.M.Media.state c.args.media.now).contents in
-    let mid = (g.M.Media.state c.write_block.new.self).contents in
-    let new = (g.M.Media.state c.flush_disk.new.self).contents in
-    record {
-      up = up_beside c.args.cache.now mid new c.flush_disk.ensures.device.shape (c.in_ok-flush_disk.ensures.flash.stays refl)
-          (up_beside c.args.cache.now old mid c.write_block.ensures.device.shape (c.in_ok-write_block.ensures.flash.stays refl) c.requires.up);
-    }
+fit_beside : (c : Ssc) (a b : Contents) → b.shape ≡ a.shape → b.flash ≡ a.flash → FitTogether c a → FitTogether c b
+fit_beside c a b shape flash fit = record { size = fit.size; up = λ going. up_beside c a b shape flash (fit.up going) }
+
+pub invariant_of-result : goal.invariant_of-result
+invariant_of-result c =
+    let old = (state_of c.self.inside.rig).contents in
+    let mid = (state_of c.write_block.new.self).contents in
+    let new = (state_of c.flush_disk.new.self).contents in
+    fit_beside c.self.inside.cache mid new c.flush_disk.ensures.device.shape (c.in_ok-flush_disk.ensures.flash.stays refl)
+    (fit_beside c.self.inside.cache old mid c.write_block.ensures.device.shape (c.in_ok-write_block.ensures.flash.stays refl) c.self.invariant)

@@ -1,0 +1,23 @@
+use Rattle.std.proofs.Common.{◌≡◌, sym, ap, ◌∙◌}
+use Rattle.ft_base.specs.Contents.{Contents}
+use Rattle.ft_base.specs.declared.geometry.Geometry.{Geometry}
+use Rattle.cache_model.specs.Cache.{CacheList}
+use Rattle.mem_rig.specs.Rig.{state_of}
+use Rattle.ssc.specs.declared.cache.Ssc.{Ssc}
+use Rattle.ssc.specs.CacheState.{Holds, geometry_of}
+use Rattle.cache_rows.specs.Fits.{FitTogether}
+use Rattle.cache_rows.proofs.bench.Bench.reserve.Goals as goal
+
+fit_reserved : (c d : Ssc) (contents : Contents) → FitTogether c contents → geometry_of d ≡ geometry_of c → d.stopped ≡ c.stopped → ((k : Contents) (s : CacheList) → Holds c k s → Holds d k s) → FitTogether d contents
+fit_reserved c d contents fit same stopped holds = record {
+  size = ap (λ (g : Geometry). g.size) same ∙ fit.size;
+  up = λ going.
+      let up = fit.up (sym stopped ∙ going) in
+      record { list = up.list; holds = holds contents up.list up.holds; up = going };
+}
+
+pub invariant_of-self : goal.invariant_of-self
+invariant_of-self c = fit_reserved c.self.inside.cache c.reserve.new.self (state_of c.self.inside.rig).contents c.self.invariant c.reserve.ensures.same c.reserve.ensures.stopped c.reserve.ensures.holds
+
+pub invariant_of-self-2 : goal.invariant_of-self-2
+invariant_of-self-2 c = fit_reserved c.self.inside.cache c.reserve.new.self (state_of c.self.inside.rig).contents c.self.invariant c.reserve.ensures.same c.reserve.ensures.stopped c.reserve.ensures.holds
