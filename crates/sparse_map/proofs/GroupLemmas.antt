@@ -1,7 +1,7 @@
 -- What one changed bit and one changed place of the list do to the 32 buckets of a group.
-use Rattle.std.proofs.Common.{◌≡◌, ◌≢◌, ℕ, ◌+◌, ◌*◌, ◌/◌, ◌%◌, ◌^◌, ◌<◌, ◌≤◌, List, [], ◌∷◌, Option, Some, None, length, get_or, set, eqb, true, bit_and, bit_or, count_ones, sym, ap, ◌∙◌, subst, inl, inr, arith}
+use Rattle.std.proofs.Common.{◌≡◌, ◌≢◌, ℕ, zero, suc, ◌+◌, ◌-◌, ◌*◌, ◌/◌, ◌%◌, ◌^◌, ◌<◌, ◌≤◌, List, [], ◌∷◌, Option, Some, None, length, get_or, set, eqb, true, bit_and, bit_or, count_ones, sym, ap, ◌∙◌, subst, inl, inr, arith}
 use Rattle.std.specs.Prelude.{slice_get, insert, remove, is_some, IsSome}
-use Rattle.std.specs.Int.{bit_at, bit_not, w32}
+use Rattle.std.specs.Int.{bit_at, bit_not, trailing_zeros, w32}
 use Rattle.std.proofs.lemmas.List.{ext_get_or, length-set, get_or_default, get_or-set_same, get_or-set_other, get_or_past}
 use Rattle.std.proofs.lemmas.List.Edits.{length-insert, get_or-insert_below, get_or-insert_at, get_or-insert_above, length-remove, get_or-remove_below, get_or-remove_above}
 use Rattle.std.proofs.lemmas.List.FromFn.{length-map-range_with_len, get_or-map-range_with_len}
@@ -17,7 +17,7 @@ use Rattle.std.specs.Vec.{vec_len}
 use Rattle.sparse_map.specs.declared.group.Group.{Group}
 use Rattle.sparse_map.specs.Slots.{rank, unpacked, group_slots, slot_at}
 use Rattle.sparse_map.specs.Groups.{slots_in}
-use Rattle.sparse_map.proofs.RankLemmas.{rank_same, rank_one_more, rank_below, rank_grows, rank_of_all, rank_within, rank_at_most, ones_at_most_32}
+use Rattle.sparse_map.proofs.RankLemmas.{rank_suc, rank_same, rank_one_more, rank_below, rank_grows, rank_of_all, rank_within, rank_at_most, ones_at_most_32, free_bits, none_free, first_within, first_clear, first_passed}
 
 module _ {X : Type 0} where
   pub length-group_slots : (n : ℕ) (xs : List X) → length (group_slots n xs) ≡ 32
@@ -265,6 +265,45 @@ module _ {V : Type 0} (u : Group V) (k : ℕ) (lt : k < 32) where
   free_below_32 free =
       let more = count-with_bit u.occupied k u.fits lt (untaken free) in
       omega (arith, more, ones_at_most_32 (with_bit u.occupied k) (with_bit-fits u.occupied k u.fits lt), u.counted, u.items.ok.0)
+
+-- the free buckets of a group from one on
+module _ {V : Type 0} (u : Group V) (from : ℕ) where
+  pub all_taken : free_bits u.occupied from ≡ 0 → (j : ℕ) → from ≤ j → j < 32 → IsSome (slot_at (slots_in u) j)
+  all_taken none j le lt = some_of_bit u.occupied u.items.items j u.fits u.counted lt (none_free u.occupied from u.fits none j le lt)
+
+  pub first_free_is : (some : 0 < free_bits u.occupied from) → slot_at (slots_in u) (from + trailing_zeros w32 (free_bits u.occupied from)) ≡ None
+  first_free_is some =
+      let clear = first_clear u.occupied from u.fits some in
+      slot_free u.occupied u.items.items (from + trailing_zeros w32 (free_bits u.occupied from)) u.fits u.counted (first_within u.occupied from u.fits some)
+      (λ e. let wrong : 0 ≡ 1 = sym clear ∙ e in omega arith)
+
+  pub taken_before : (some : 0 < free_bits u.occupied from) → (j : ℕ) → from ≤ j → j < from + trailing_zeros w32 (free_bits u.occupied from) → IsSome (slot_at (slots_in u) j)
+  taken_before some j le lt =
+      some_of_bit u.occupied u.items.items j u.fits u.counted (omega (arith, lt, first_within u.occupied from u.fits some)) (first_passed u.occupied from u.fits some j le lt)
+
+-- in a run of occupied buckets each counts one more
+pub rank_in_run : {V : Type 0} (u : Group V) (from end : ℕ) → end ≤ 32 → ((j : ℕ) → from ≤ j → j < end → IsSome (slot_at (slots_in u) j))
+    → (d : ℕ) → from + d ≤ end → rank u.occupied (from + d) ≡ rank u.occupied from + d
+rank_in_run u from end le some zero to =
+    let same : from + 0 ≡ from = omega arith in
+    ap (rank u.occupied) same ∙ omega arith
+rank_in_run u from end le some (suc d) to =
+    let one : from + suc d ≡ from + d + 1 = omega arith in
+    let before = rank_in_run u from end le some d (omega arith) in
+    let bit = taken u (from + d) (omega arith) (some (from + d) (omega arith) (omega arith)) in
+    ap (rank u.occupied) one ∙ omega (arith, rank_suc u.occupied (from + d), before, bit)
+
+-- the same, from a bucket on to another
+pub rank_on_run : {V : Type 0} (u : Group V) (from end place k : ℕ) → end ≤ 32 → ((j : ℕ) → from ≤ j → j < end → IsSome (slot_at (slots_in u) j))
+    → place ≡ rank u.occupied from → from ≤ k → k ≤ end → place + (k - from) ≡ rank u.occupied k
+rank_on_run u from end place k le some at start to =
+    let whole : from + (k - from) ≡ k = omega arith in
+    ap (λ x. x + (k - from)) at ∙ sym (rank_in_run u from end le some (k - from) (omega arith)) ∙ ap (rank u.occupied) whole
+
+pub rank_on_run_few : {V : Type 0} (u : Group V) (from end place k : ℕ) → end ≤ 32 → ((j : ℕ) → from ≤ j → j < end → IsSome (slot_at (slots_in u) j))
+    → place ≡ rank u.occupied from → from ≤ k → k ≤ end → k < 32 → place + (k - from) ≤ 32
+rank_on_run_few u from end place k le some at start to lt =
+    omega (arith, rank_on_run u from end place k le some at start to, rank_at_most u.occupied k u.fits lt, ones_at_most_32 u.occupied u.fits)
 
 -- two groups with the same number and the same list are the same
 abbrev GroupFacts : {V : Type 0} → ℕ × Vec (ℕ × V) Global → Type 0

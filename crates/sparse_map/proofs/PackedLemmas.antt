@@ -1,12 +1,12 @@
 -- The packed law through a change of the table, and the two walks round it.
-use Rattle.std.proofs.Common.{◌≡◌, ◌≢◌, ℕ, ◌+◌, ◌<◌, ◌≤◌, List, Option, Some, None, length, set, refl, sym, ap, ◌∙◌, subst, inl, inr, arith}
+use Rattle.std.proofs.Common.{◌≡◌, ◌≢◌, ℕ, ◌+◌, ◌-◌, ◌<◌, ◌≤◌, List, Option, Some, None, false, length, set, sym, ap, ◌∙◌, subst, inl, inr, arith}
 use Rattle.std.specs.Prelude.{is_some, IsSome, option_map}
 use Rattle.std.proofs.lemmas.Bool.{cases_lt, cases_eq, false≢true}
 use Rattle.sparse_map.specs.Home.{home, steps}
 use Rattle.sparse_map.specs.Slots.{slot_at, key_at, items_of}
 use Rattle.sparse_map.specs.Packed.{IsPacked}
-use Rattle.sparse_map.specs.Probe.{IsFreeFor}
-use Rattle.sparse_map.proofs.RoundLemmas.{next, next_below, steps_self, steps_below, steps_same, steps-next, steps_one_more}
+use Rattle.sparse_map.specs.Probe.{IsFreeFor, IsFirstFree}
+use Rattle.sparse_map.proofs.RoundLemmas.{next, next_below, steps_self, steps_below, steps_same, steps_near, steps_at_most, steps_past}
 use Rattle.sparse_map.proofs.SlotLemmas.{Once, Once-set, slot_at-set_same, slot_at-set_other, is_some-key_at, inside_of_some, length-items_of-full}
 
 module _ {V : Type 0} where
@@ -75,57 +75,84 @@ module _ {V : Type 0} where
         reached = λ c key q has inside on. ap is_some (same q) ∙ packed.reached c key q (sym (same c) ∙ has) inside on;
       }
 
-  -- ---- the walk of a look-up: `step` buckets from the key's home on are occupied by other keys, and `bucket` is next
-  pub record Probing (n : ℕ) (s : List (Option (ℕ × V))) (key bucket step : ℕ) : Type 0 where
-    pub inside : bucket < n
-    pub walked : step < n → steps n (home n key) bucket ≡ step
-    pub passed : (q : ℕ) → q < n → steps n (home n key) q < step → IsSome (key_at s q) × (key_at s q ≢ Some key)
+-- ---- a walk round the table: `passed` buckets from `from` on are as P says, and `bucket` is next
+pub record Passing (n : ℕ) (P : ℕ → Type 0) (from bucket passed : ℕ) : Type 0 where
+  pub inside : bucket < n
+  pub walked : passed < n → steps n from bucket ≡ passed
+  pub all : (q : ℕ) → q < n → steps n from q < passed → P q
 
-  pub probing_start : (n : ℕ) (s : List (Option (ℕ × V))) (key bucket : ℕ) → bucket ≡ home n key → bucket < n → Probing n s key bucket 0
-  probing_start n s key bucket is inside =
-      record { inside = inside; walked = λ _. ap (steps n (home n key)) is ∙ steps_self n (home n key); passed = λ q lq less. absurd (omega arith) }
+pub passing_start : (n : ℕ) (P : ℕ → Type 0) (from : ℕ) → from < n → Passing n P from from 0
+passing_start n P from inside =
+    record { inside = inside; walked = λ _. steps_self n from; all = λ q lq less. absurd (omega arith) }
 
-  pub probing_more : (n : ℕ) (s : List (Option (ℕ × V))) (key bucket step found : ℕ) → home n key < n → Probing n s key bucket step → step < n
-      → key_at s bucket ≡ Some found → found ≢ key → Probing n s key (next n bucket) (step + 1)
-  probing_more n s key bucket step found home_in walk more is other =
+module _ (n : ℕ) (P : ℕ → Type 0) (from bucket passed : ℕ) (start : from < n) (walk : Passing n P from bucket passed) (more : passed < n) where
+  -- the buckets up to r, but without r
+  up_to : (r : ℕ) → bucket ≤ r → r ≤ n → ((q : ℕ) → bucket ≤ q → q < r → P q) → (q : ℕ) → q < n → steps n from q < passed + (r - bucket) → P q
+  up_to r le lr here q lq less = elim (cases_lt (steps n from q) passed) [
+    | inl before ↦ walk.all q lq before
+    | inr later ↦
+        let at = walk.walked more in
+        let near = steps_near n from bucket (r - bucket) q start (omega arith) lq (omega (arith, at, later)) (omega (arith, at, less)) in
+        here q near.0 (omega (arith, near.1))
+  ]
+
+  on_way : (r : ℕ) → bucket ≤ r → r < n → ((q : ℕ) → bucket ≤ q → q < r → P q) → (q : ℕ) → q < n → steps n from q < steps n from r → P q
+  on_way r le lr here q lq less =
+      let at = walk.walked more in
+      let far = steps_at_most n from bucket r start le in
+      up_to r le (omega arith) here q lq (omega (arith, at, far, less))
+
+  pub passing_more : (l : ℕ) → bucket ≤ l → l < n → ((q : ℕ) → bucket ≤ q → q < l + 1 → P q) → Passing n P from (next n l) (passed + (l + 1 - bucket))
+  passing_more l le ll here =
+      let at = walk.walked more in
       record {
-        inside = next_below n bucket walk.inside;
-        walked = λ short.
-            let at = walk.walked more in
-            steps-next n (home n key) bucket home_in walk.inside (omega (arith, at)) ∙ ap (λ x. x + 1) at;
-        passed = λ q lq less.
-            let at = walk.walked more in
-            elim (steps_one_more n (home n key) bucket q home_in walk.inside lq (omega (arith, at))) [
-              | inl before ↦ walk.passed q lq (omega (arith, at))
-              | inr here ↦
-                  let has : key_at s q ≡ Some found = ap (key_at s) here ∙ is in
-                  (ap is_some has, λ same. let both : Some found ≡ Some key = sym has ∙ same in other cc)
+        inside = next_below n l ll;
+        walked = λ short. let on = steps_past n from bucket l start le ll (omega (arith, at, short)) in omega (arith, on, at);
+        all = up_to (l + 1) (omega arith) (omega arith) here;
+      }
+
+module _ {V : Type 0} where
+  -- the bucket is occupied, and by another key
+  abbrev pub HasOther : List (Option (ℕ × V)) → ℕ → ℕ → Type 0
+  HasOther s key q = IsSome (key_at s q) × (key_at s q ≢ Some key)
+
+  pub passing_free : (n : ℕ) (s : List (Option (ℕ × V))) (from bucket passed : ℕ) → from < n → Passing n (λ q. IsSome (key_at s q)) from bucket passed → passed < n
+      → (r : ℕ) → length s ≡ n → bucket ≤ r → r < n → slot_at s r ≡ None → ((q : ℕ) → bucket ≤ q → q < r → IsSome (key_at s q)) → IsFirstFree s from r
+  passing_free n s from bucket passed start walk more r long le lr free here =
+      record {
+        inside = subst (λ m. r < m) (sym long) lr;
+        free = free;
+        passed = subst (λ m. (q : ℕ) → q < m → steps m from q < steps m from r → IsSome (key_at s q)) (sym long)
+            (on_way n (λ q. IsSome (key_at s q)) from bucket passed start walk more r le lr here);
+      }
+
+  -- a look-up that comes to a free bucket
+  pub probing_free : (n : ℕ) (s : List (Option (ℕ × V))) (key bucket passed : ℕ) → home n key < n → Passing n (HasOther s key) (home n key) bucket passed → passed < n
+      → (r : ℕ) → length s ≡ n → PackedAt n s → bucket ≤ r → r < n → slot_at s r ≡ None → ((q : ℕ) → bucket ≤ q → q < r → HasOther s key q) → IsFreeFor s key r
+  probing_free n s key bucket passed start walk more r long packed le lr free here =
+      let others = on_way n (HasOther s key) (home n key) bucket passed start walk more r le lr here in
+      record {
+        inside = subst (λ m. r < m) (sym long) lr;
+        free = free;
+        reached = subst (λ m. (q : ℕ) → q < m → steps m (home m key) q < steps m (home m key) r → IsSome (key_at s q)) (sym long) (λ q lq less. (others q lq less).0);
+        absent = λ q has.
+            let lq : q < n = subst (λ m. q < m) long (key_inside s q key has) in
+            elim (cases_lt (steps n (home n key) q) (steps n (home n key) r)) [
+              | inl less ↦ (others q lq less).1 has
+              | inr later ↦
+                  let none : is_some (key_at s r) ≡ false = is_some-key_at s r ∙ ap is_some free in
+                  false≢true (sym none ∙ packed.reached q key r has lr later)
             ];
       }
 
-  pub probing_free : (n : ℕ) (s : List (Option (ℕ × V))) (key bucket step : ℕ) → length s ≡ n → home n key < n → PackedAt n s → Probing n s key bucket step → step < n
-      → key_at s bucket ≡ None → IsFreeFor s key bucket
-  probing_free n s key bucket step long home_in packed walk more is =
-      let at = walk.walked more in
-      record {
-        inside = subst (λ m. bucket < m) (sym long) walk.inside;
-        free = nothing (slot_at s bucket) is;
-        reached = subst (λ m. (q : ℕ) → q < m → steps m (home m key) q < steps m (home m key) bucket → IsSome (key_at s q)) (sym long)
-            (λ q lq less. (walk.passed q lq (omega (arith, at))).0);
-        absent = λ q has.
-            let lq : q < n = subst (λ m. q < m) long (key_inside s q key has) in
-            elim (cases_lt (steps n (home n key) q) step) [
-              | inl before ↦ (walk.passed q lq before).1 has
-              | inr later ↦ false≢true (sym (ap is_some is) ∙ packed.reached q key bucket has walk.inside (omega (arith, at)))
-            ];
-      } where
-        nothing : (o : Option (ℕ × V)) → option_map (λ e. e.0) o ≡ None → o ≡ None
-        nothing None e = refl
-        nothing (Some x) e = absurd (let wrong : Some x.0 ≡ None = e in cc)
-
-  pub probing_full : (n : ℕ) (s : List (Option (ℕ × V))) (key bucket : ℕ) → length s ≡ n → home n key < n → length (items_of s) < n → Probing n s key bucket n → ⊥
-  probing_full n s key bucket long home_in room walk =
+  pub passing_full : (n : ℕ) (P : ℕ → Type 0) (s : List (Option (ℕ × V))) (from bucket passed : ℕ) → ((q : ℕ) → P q → IsSome (key_at s q)) → length s ≡ n → from < n → n ≤ passed → length (items_of s) < n → Passing n P from bucket passed → ⊥
+  passing_full n P s from bucket passed some long start end room walk =
       let full = length-items_of-full s (λ b lb.
       let inside : b < n = subst (λ m. b < m) long lb in
-      sym (is_some-key_at s b) ∙ (walk.passed b inside (steps_below n (home n key) b home_in inside)).0) in
+      let below = steps_below n from b start inside in
+      sym (is_some-key_at s b) ∙ some b (walk.all b inside (omega (arith, below, end)))) in
       omega arith
+
+  -- no bucket has the key: the first free one from its home on is where it would go
+  pub free_for_new : (s : List (Option (ℕ × V))) (key b : ℕ) → IsFirstFree s (home (length s) key) b → ((q : ℕ) → key_at s q ≢ Some key) → IsFreeFor s key b
+  free_for_new s key b first absent = record { inside = first.inside; free = first.free; reached = first.passed; absent = absent }

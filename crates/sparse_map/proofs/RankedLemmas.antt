@@ -1,6 +1,6 @@
 -- The rank of a bucket: as a look-up goes on, and as items change.
-use Rattle.std.proofs.Common.{◌≡◌, ◌≢◌, ℕ, zero, suc, ◌+◌, ◌-◌, ◌*◌, ◌++◌, count_ones, ◌/◌, ◌%◌, ◌<◌, ◌≤◌, List, [], ◌∷◌, Option, Some, None, length, get_or, set, cond, eqb, true, false, refl, sym, ap, ◌∙◌, subst, inl, inr, arith}
-use Rattle.std.specs.Prelude.{is_some, IsSome}
+use Rattle.std.proofs.Common.{◌≡◌, ◌≢◌, ℕ, zero, suc, ◌+◌, ◌-◌, ◌*◌, ◌++◌, count_ones, ◌/◌, ◌%◌, ◌<◌, ◌≤◌, List, [], ◌∷◌, Option, Some, None, length, get_or, set, cond, eqb, refl, sym, ap, ◌∙◌, subst, inl, inr, arith}
+use Rattle.std.specs.Prelude.{is_some, IsSome, option_map}
 use Rattle.std.specs.Int.{bit_at}
 use Rattle.std.specs.List.{flat_map, SwappedAt}
 use Rattle.std.proofs.lemmas.List.{get_or_default, get_or_past, get_or-set_same, get_or-set_other, length-set, set-append_left, set-append_right}
@@ -15,6 +15,7 @@ use Rattle.sparse_map.specs.declared.table.Place.TheVariants.{Found, Free}
 use Rattle.sparse_map.proofs.RankLemmas.{rank_zero, rank_suc, rank_same, rank_at_most, ones_at_most_32}
 use Rattle.sparse_map.proofs.GroupLemmas.{taken, untaken, length-group_slots, get_or-group_slots, unpacked_item, slots-replace}
 use Rattle.sparse_map.proofs.RoundLemmas.{next, next_cases}
+use Rattle.sparse_map.proofs.SlotLemmas.{is_some-key_at}
 use Rattle.sparse_map.proofs.TableLemmas.{length-slots_of, slot_in_group, slot_of_bucket}
 
 module _ {V : Type 0} where
@@ -211,3 +212,36 @@ module _ {V : Type 0} where
         let total : length (slots_of ws) ≡ length s = ap length is ∙ length-set (set s a (slot_at s b)) b (slot_at s a) ∙ length-set s a (slot_at s b) in
         let long : length ws ≡ length us = omega (arith, total, length-slots_of ws, length-slots_of us) in
         ranks_same us ws long some_exchanged
+
+  -- ---- the buckets of one group from b on, which an index read
+  module _ (us : List (Group V)) (b k : ℕ) (u d : Group V) (inside : b < 32 * length us) (is : u ≡ get_or us (b / 32) d) where
+    here : (q : ℕ) → q / 32 ≡ b / 32 → slot_at (slots_of us) q ≡ slot_at (slots_in u) (q % 32)
+    here q same = slot_of_bucket us q u d (omega (arith, same)) (is ∙ ap (λ i. get_or us i d) (sym same))
+
+    pub run_taken : k ≤ 32 → ((j : ℕ) → b % 32 ≤ j → j < k → IsSome (slot_at (slots_in u) j)) → (q : ℕ) → b ≤ q → q < b - b % 32 + k → IsSome (key_at (slots_of us) q)
+    run_taken le some q from to =
+        let same : q / 32 ≡ b / 32 = omega (arith, from, to, le) in
+        is_some-key_at (slots_of us) q ∙ ap is_some (here q same) ∙ some (q % 32) (omega (arith, from, to, le)) (omega (arith, from, to, le))
+
+    pub run_free : k < 32 → slot_at (slots_in u) k ≡ None → slot_at (slots_of us) (b - b % 32 + k) ≡ None
+    run_free lt free =
+        let same : (b - b % 32 + k) / 32 ≡ b / 32 = omega (arith, lt) in
+        let at : (b - b % 32 + k) % 32 ≡ k = omega (arith, lt) in
+        here (b - b % 32 + k) same ∙ ap (slot_at (slots_in u)) at ∙ free
+
+    pub run_other : (key : ℕ) → k ≤ 32 → ((j : ℕ) → b % 32 ≤ j → j < k → key_at (slots_in u) j ≢ Some key) → (q : ℕ) → b ≤ q → q < b - b % 32 + k → key_at (slots_of us) q ≢ Some key
+    run_other key le other q from to is =
+        let same : q / 32 ≡ b / 32 = omega (arith, from, to, le) in
+        other (q % 32) (omega (arith, from, to, le)) (omega (arith, from, to, le)) (ap (option_map (λ e. e.0)) (sym (here q same)) ∙ is)
+
+    pub run_key : (key : ℕ) → k < 32 → key_at (slots_in u) k ≡ Some key → key_at (slots_of us) (b - b % 32 + k) ≡ Some key
+    run_key key lt has =
+        let same : (b - b % 32 + k) / 32 ≡ b / 32 = omega (arith, lt) in
+        let at : (b - b % 32 + k) % 32 ≡ k = omega (arith, lt) in
+        ap (option_map (λ e. e.0)) (here (b - b % 32 + k) same) ∙ ap (key_at (slots_in u)) at ∙ has
+
+    pub run_rank : (place : ℕ) → k < 32 → place ≡ rank u.occupied k → IsRankOf us (b - b % 32 + k) place
+    run_rank place lt counted =
+        let same : (b - b % 32 + k) / 32 ≡ b / 32 = omega (arith, lt) in
+        let at : (b - b % 32 + k) % 32 ≡ k = omega (arith, lt) in
+        rank_read us (b - b % 32 + k) place u d (omega (arith, lt)) (is ∙ ap (λ i. get_or us i d) (sym same)) (counted ∙ ap (rank u.occupied) (sym at))

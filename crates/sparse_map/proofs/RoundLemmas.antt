@@ -84,3 +84,39 @@ steps_one_more n a b q la lb lq lt =
       | inl less ↦ inl less
       | inr more ↦ let e : steps n a q ≡ steps n a b = omega arith in inr (steps_same n a q b la lq lb e)
     ]
+
+-- ---- the buckets from b on that are reached without going round
+-- what lies on the way from b and fewer than d steps on is one of the d buckets from b on
+pub steps_near : (n a b d q : ℕ) → a < n → b + d ≤ n → q < n → steps n a b ≤ steps n a q → steps n a q < steps n a b + d → (b ≤ q) × (q < b + d)
+steps_near n a b d q la ld lq le lt =
+    elim (steps_cases n a b) [
+      | inl x ↦ elim (steps_cases n a q) [
+        | inl y ↦ (omega (arith, x.0, x.1, y.0, y.1), omega (arith, x.0, x.1, y.0, y.1))
+        | inr y ↦ absurd (omega (arith, x.0, x.1, y.0, y.1))
+      ]
+      | inr x ↦ elim (steps_cases n a q) [
+        | inl y ↦ absurd (omega (arith, x.0, x.1, y.0, y.1))
+        | inr y ↦ (omega (arith, x.0, x.1, y.0, y.1), omega (arith, x.0, x.1, y.0, y.1))
+      ]
+    ]
+
+pub steps_at_most : (n a b r : ℕ) → a < n → b ≤ r → steps n a r ≤ steps n a b + (r - b)
+steps_at_most n a b r la le =
+    elim (steps_cases n a b) [
+      | inl x ↦ elim (steps_cases n a r) [ inl y ↦ omega (arith, x.0, x.1, y.0, y.1) | inr y ↦ omega (arith, x.0, x.1, y.0, y.1) ]
+      | inr x ↦ elim (steps_cases n a r) [ inl y ↦ omega (arith, x.0, x.1, y.0, y.1) | inr y ↦ omega (arith, x.0, x.1, y.0, y.1) ]
+    ]
+
+steps_far : (n a b l : ℕ) → a < n → b ≤ l → l < n → steps n a b + (l - b) < n → steps n a l ≡ steps n a b + (l - b)
+steps_far n a b l la le ll short =
+    elim (steps_cases n a b) [
+      | inl x ↦ elim (steps_cases n a l) [ inl y ↦ omega (arith, x.0, x.1, y.0, y.1) | inr y ↦ omega (arith, x.0, x.1, y.0, y.1) ]
+      | inr x ↦ elim (steps_cases n a l) [ inl y ↦ omega (arith, x.0, x.1, y.0, y.1) | inr y ↦ omega (arith, x.0, x.1, y.0, y.1) ]
+    ]
+
+-- the bucket after the last one of them
+pub steps_past : (n a b l : ℕ) → a < n → b ≤ l → l < n → steps n a b + (l - b) + 1 < n → steps n a (next n l) ≡ steps n a b + (l - b) + 1
+steps_past n a b l la le ll short =
+    let far = steps_far n a b l la le ll (omega (arith, short)) in
+    let on = steps-next n a l la ll (omega (arith, far, short)) in
+    omega (arith, far, on)

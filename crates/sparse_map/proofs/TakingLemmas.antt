@@ -10,10 +10,11 @@ use Rattle.sparse_map.specs.Home.{home}
 use Rattle.sparse_map.specs.Slots.{slot_at, key_at, items_of}
 use Rattle.sparse_map.specs.Groups.{slots_of}
 use Rattle.sparse_map.specs.Packed.{IsPacked}
-use Rattle.sparse_map.specs.Probe.{IsFreeFor}
+use Rattle.sparse_map.specs.Probe.{IsFreeFor, IsFirstFree}
 use Rattle.sparse_map.specs.Plan.{Plan, planned, with_key, with_items, places_for, RoomsFit, lens_of, rooms_of, plan_of}
 use Rattle.sparse_map.specs.Moved.{after_items, items_in, CanTake, HasTaken}
 use Rattle.sparse_map.proofs.SlotLemmas.{find_here, find_later, slot_of_key, found_of_bucket}
+use Rattle.sparse_map.proofs.PackedLemmas.{free_for_new}
 use Rattle.sparse_map.proofs.TableLemmas.{length-slots_of}
 use Rattle.sparse_map.proofs.ItemLemmas.{items_of-slots_of}
 use Rattle.sparse_map.proofs.ChangeLemmas.{new_packed, new_count, new_found}
@@ -76,11 +77,16 @@ module _ {V : Type 0} where
       }
 
   -- ---- one item
-  pub not_there : (n : ℕ) (us : List (Group V)) (e : ℕ × V) → CanTake n us (e ∷ []) → (b : ℕ) → key_at (slots_of us) b ≡ Some e.0 → ⊥
+  not_there : (n : ℕ) (us : List (Group V)) (e : ℕ × V) → CanTake n us (e ∷ []) → (b : ℕ) → key_at (slots_of us) b ≡ Some e.0 → ⊥
   not_there n us e ready b is =
       let at = slot_of_key (slots_of us) b e.0 is in
       let here : is_some (find nat_cmp e.0 (e ∷ [])) ≡ true = ap is_some (find_here e.0 e.0 e.1 [] refl) in
       false≢true (sym (ap is_some (ready.fresh e.0 here)) ∙ found_of_bucket (slots_of us) b e.0 at.0 at.1)
+
+  -- the first free bucket from its home on is where it goes
+  pub new_place : (n : ℕ) (us : List (Group V)) (e : ℕ × V) (at b : ℕ) → CanTake n us (e ∷ []) → at ≡ home n e.0 → IsFirstFree (slots_of us) at b → IsFreeFor (slots_of us) e.0 b
+  new_place n us e at b ready is first =
+      free_for_new (slots_of us) e.0 b (subst (λ h. IsFirstFree (slots_of us) h b) (is ∙ ap (λ m. home m e.0) (sym ready.buckets)) first) (not_there n us e ready)
 
   module _ (n : ℕ) (us ws : List (Group V)) (b : ℕ) (e : ℕ × V) (ready : CanTake n us (e ∷ [])) (home_in : home n e.0 < n) (place : IsFreeFor (slots_of us) e.0 b) where
     pub goes_here : with_key n (plan_of us) e.0 ≡ planned (set (map is_some (slots_of us)) b true) (set (lens_of us) (b / 32) (get_or (lens_of us) (b / 32) 0 + 1))

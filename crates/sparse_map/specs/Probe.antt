@@ -17,6 +17,12 @@ pub record IsFreeFor {V : Type 0} (slots : List (Option (ℕ × V))) (key b : �
       → IsSome (key_at slots q)
   pub absent : (q : ℕ) → key_at slots q ≢ Some key
 
+-- bucket b is the first free one from bucket `from` on, going round
+pub record IsFirstFree {V : Type 0} (slots : List (Option (ℕ × V))) (from b : ℕ) : Type 0 where
+  pub inside : b < length slots
+  pub free : slot_at slots b ≡ None
+  pub passed : (q : ℕ) → q < length slots → steps (length slots) from q < steps (length slots) from b → IsSome (key_at slots q)
+
 -- a new key went into the first free bucket from its home on, and no other bucket changed
 pub record IsPut {V : Type 0} (old new : List (Option (ℕ × V))) (key : ℕ) (value : V) : Type 0 where
   pub bucket : ℕ

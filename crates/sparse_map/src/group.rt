@@ -66,7 +66,7 @@ fn insert_item<V: Drop>(items: &mut Vec<(u64, V)>, place: usize, item: (u64, V))
 }
 
 impl<V: Drop> Group<V> {
-    ghost use Rattle.std.specs.Prelude.{◌≡◌, ◌<◌, ◌≤◌, ◌↔◌, ℕ, vec_len, Some, None, IsSome, IfSome, IfNone, IsTrue, OnOk, OnErr, is_some, option_map, slice_set};
+    ghost use Rattle.std.specs.Prelude.{◌≡◌, ◌≢◌, ◌<◌, ◌≤◌, ◌↔◌, ℕ, vec_len, Some, None, IsSome, IfSome, IfNone, IsTrue, OnOk, OnErr, is_some, option_map, slice_set};
     ghost use Rattle.std.specs.Vec.{vec_capacity};
     ghost use Rattle.sparse_map.specs.Slots.{slot_at, key_at, rank, exchanged};
     ghost use Rattle.sparse_map.specs.Groups.{slots_in};
@@ -111,6 +111,54 @@ impl<V: Drop> Group<V> {
         ensures { result ≡ rank self.now.occupied k }
     {
         (self.occupied & ((1 << k) - 1)).count_ones()
+    }
+
+    /// The first free bucket from bucket `from` on.
+    pub fn first_free(&self, from: u32) -> Option<u32>
+        requires { from < 32 }
+        ensures within { IfSome result (λ k. (from ≤ k) × (k < 32)) }
+        ensures free { IfSome result (λ k. slot_at (slots_in self.now) k ≡ None) }
+        ensures passed { IfSome result (λ k. (j : ℕ) → from ≤ j → j < k → IsSome (slot_at (slots_in self.now) j)) }
+        ensures none { IfNone result ((j : ℕ) → from ≤ j → j < 32 → IsSome (slot_at (slots_in self.now) j)) }
+    {
+        let free = !self.occupied >> from;
+        if free == 0 {
+            return None;
+        }
+        Some(from + free.trailing_zeros())
+    }
+
+    /// Where the run of occupied buckets from bucket `from` on ends.
+    pub fn run_end(&self, from: u32) -> u32
+        requires { from < 32 }
+        ensures from { from ≤ result }
+        ensures within { result ≤ 32 }
+        ensures occupied { (j : ℕ) → from ≤ j → j < result → IsSome (slot_at (slots_in self.now) j) }
+        ensures free { result < 32 → slot_at (slots_in self.now) result ≡ None }
+    {
+        if let Some(k) = self.first_free(from) {
+            return k;
+        }
+        32
+    }
+
+    /// The bucket that has a key, in a run of occupied buckets that starts at `from` and has this end. As no bucket of a
+    /// run is free, its items stand one after another.
+    pub fn find_in_run(&self, from: u32, end: u32, place: u32, key: u64) -> Option<u32>
+        requires from { from < 32 }
+        requires end { end ≤ 32 }
+        requires place { place ≡ rank self.now.occupied from }
+        requires occupied { (j : ℕ) → from ≤ j → j < end → IsSome (slot_at (slots_in self.now) j) }
+        ensures within { IfSome result (λ k. (from ≤ k) × (k < end)) }
+        ensures found { IfSome result (λ k. key_at (slots_in self.now) k ≡ Some key) }
+        ensures none { IfNone result ((j : ℕ) → from ≤ j → j < end → key_at (slots_in self.now) j ≢ Some key) }
+    {
+        for k in from..end {
+            if self.items[(place + (k - from)) as usize].0 == key {
+                return Some(k);
+            }
+        }
+        None
     }
 
     /// The key in bucket `k`.

@@ -7,8 +7,9 @@ ghost use Rattle.sparse_map.specs.Moved.{items_in, CanTake, HasTaken};
 ghost use Rattle.sparse_map.specs.Plan.{places_for, plan_of, with_items, lens_of, rooms_of};
 
 use crate::group::Group;
+use crate::home::home_of;
 use crate::plan::count_ahead;
-use crate::table::{Place, probe};
+use crate::table::first_free;
 use std::alloc::{AllocError, Global};
 
 /// How many places a list gets for so many items: one more, and none for none.
@@ -66,18 +67,15 @@ fn put_ready<V: Drop>(groups: &mut [Group<V>], bucket: u64, rank: u32, item: (u6
     groups[(bucket / 32) as usize].insert((bucket % 32) as u32, rank, item);
 }
 
-/// Puts an item with a new key into the first free bucket from its home on.
+/// Puts an item with a new key into the first free bucket from its home on. As no key comes twice, none is compared.
 fn place<V: Drop>(groups: &mut [Group<V>], bits: u32, item: (u64, V))
     requires many { 5 ≤ bits }
     requires few { bits ≤ 31 }
     requires ready { CanTake (2 ^ bits) groups.old (item ∷ []) }
     ensures { HasTaken (2 ^ bits) groups.old groups.new (item ∷ []) }
 {
-    let spot = probe(groups, bits, item.0);
-    match spot.at {
-        Place::Found(_) => unreachable!(),
-        Place::Free(bucket) => put_ready(groups, bucket, spot.rank, item),
-    }
+    let seat = first_free(groups, home_of(bits, item.0));
+    put_ready(groups, seat.bucket, seat.rank, item);
 }
 
 /// Puts in the items of a list, one after another.

@@ -8,7 +8,7 @@ ghost use Rattle.sparse_map.specs.Slots.{slot_at, key_at, items_of, exchanged};
 ghost use Rattle.sparse_map.specs.Groups.{slots_in, slots_of, small_groups};
 ghost use Rattle.sparse_map.specs.Packed.{IsPacked};
 ghost use Rattle.sparse_map.specs.Ranks.{IsRankOf, IsRankAt};
-ghost use Rattle.sparse_map.specs.Probe.{IsPlaceOf, IsShifted};
+ghost use Rattle.sparse_map.specs.Probe.{IsPlaceOf, IsFirstFree, IsShifted};
 ghost use Rattle.sparse_map.specs.Removal.{shifted_back};
 ghost use Rattle.sparse_map.specs.Trimmed.{IsTrimmed, AreTrimmed, MayHaveGrown};
 ghost use Rattle.sparse_map.specs.Places.{sizes_of, places_of, loose_of};
@@ -36,7 +36,7 @@ pub struct Spot {
     pub rank: u32,
 }
 
-/// The bucket of a key that is there, and its rank.
+/// A bucket, and its rank.
 #[derive(Clone, Copy)]
 pub struct Seat {
     pub bucket: u64,
@@ -71,14 +71,6 @@ impl Grown {
             _ => Grown::Anywhere,
         }
     }
-}
-
-/// The rank of a bucket.
-fn rank_at<V: Drop>(groups: &[Group<V>], bucket: u64) -> u32
-    requires { bucket < 32 * length groups.now }
-    ensures { IsRankOf groups.now bucket result }
-{
-    groups[(bucket / 32) as usize].rank_at((bucket % 32) as u32)
 }
 
 /// The rank of a bucket after an occupied one, of which this is the rank.
@@ -243,6 +235,32 @@ fn exchange<V: Drop>(groups: &mut [Group<V>], a: u64, a_rank: u32, b: u64, b_ran
     }
 }
 
+/// The first free bucket from a bucket on, going round. No key is read: the groups' numbers say which are occupied.
+pub fn first_free<V: Drop>(groups: &[Group<V>], from: u64) -> Seat
+    requires few { 32 * length groups.now ≤ 2 ^ 31 }
+    requires within { from < 32 * length groups.now }
+    requires room { length (items_of (slots_of groups.now)) < 32 * length groups.now }
+    ensures first { IsFirstFree (slots_of groups.now) from result.bucket }
+    ensures rank { IsRankOf groups.now result.bucket result.rank }
+{
+    let buckets = 32 * groups.len() as u64;
+    let mut bucket = from;
+    let mut passed = 0;
+    while passed < buckets {
+        let group = &groups[(bucket / 32) as usize];
+        let start = bucket - bucket % 32;
+        if let Some(k) = group.first_free((bucket % 32) as u32) {
+            return Seat {
+                bucket: start + u64::from(k),
+                rank: group.rank_at(k),
+            };
+        }
+        passed += 32 - bucket % 32;
+        bucket = next_bucket(buckets, start + 31);
+    }
+    unreachable!()
+}
+
 /// Looks for a key from its home on, going round.
 pub fn probe<V: Drop>(groups: &[Group<V>], bits: u32, key: u64) -> Spot
     requires many { 5 ≤ bits }
@@ -255,24 +273,27 @@ pub fn probe<V: Drop>(groups: &[Group<V>], bits: u32, key: u64) -> Spot
 {
     let buckets = bucket_count(bits);
     let mut bucket = home_of(bits, key);
-    let mut rank = rank_at(groups, bucket);
-    for _step in 0..buckets {
-        match key_at(groups, bucket, rank) {
-            None => return Spot {
-                at: Place::Free(bucket),
-                rank,
-            },
-            Some(found) => {
-                if found == key {
-                    return Spot {
-                        at: Place::Found(bucket),
-                        rank,
-                    };
-                }
-            }
+    let mut passed = 0;
+    while passed < buckets {
+        let group = &groups[(bucket / 32) as usize];
+        let start = bucket - bucket % 32;
+        let first = (bucket % 32) as u32;
+        let place = group.rank_at(first);
+        let end = group.run_end(first);
+        if let Some(k) = group.find_in_run(first, end, place, key) {
+            return Spot {
+                at: Place::Found(start + u64::from(k)),
+                rank: place + (k - first),
+            };
         }
-        bucket = next_bucket(buckets, bucket);
-        rank = next_rank(rank, bucket);
+        if end < 32 {
+            return Spot {
+                at: Place::Free(start + u64::from(end)),
+                rank: place + (end - first),
+            };
+        }
+        passed += 32 - bucket % 32;
+        bucket = next_bucket(buckets, start + 31);
     }
     unreachable!()
 }

@@ -1,5 +1,4 @@
 use Rattle.std.proofs.Common.{ap, sym, ◌∙◌, option_map}
-use Rattle.sparse_map.specs.Slots.{rank}
 use Rattle.sparse_map.proofs.TableLemmas.{slot_of_bucket}
 use Rattle.sparse_map.proofs.RankedLemmas.{rank_here}
 use Rattle.sparse_map.proofs.table.key_at.Goals as goal

@@ -1,67 +1,139 @@
-use Rattle.std.proofs.Common.{◌≡◌, ◌+◌, ◌*◌, ◌<◌, ◌^◌, length, sym, ap, ◌∙◌, subst, arith}
-use Rattle.std.specs.Prelude.{is_some, IsSome}
+use Rattle.std.proofs.Common.{◌≡◌, ◌+◌, ◌-◌, ◌*◌, ◌%◌, ◌<◌, length, sym, ap, ◌∙◌, subst, Some, arith}
 use Rattle.sparse_map.specs.Home.{home}
-use Rattle.sparse_map.specs.Slots.{slot_at}
+use Rattle.sparse_map.specs.Slots.{key_at}
 use Rattle.sparse_map.specs.Groups.{slots_of}
+use Rattle.sparse_map.specs.Ranks.{IsRankOf}
+use Rattle.sparse_map.specs.Probe.{IsFreeFor}
+use Rattle.sparse_map.proofs.GroupLemmas.{rank_on_run, rank_on_run_few}
 use Rattle.sparse_map.proofs.TableLemmas.{length-slots_of}
-use Rattle.sparse_map.proofs.PackedLemmas.{Probing, PackedAt-from, probing_start, probing_more, probing_free, probing_full}
-use Rattle.sparse_map.proofs.SlotLemmas.{is_some-key_at}
-use Rattle.sparse_map.proofs.RankedLemmas.{rank_few, rank_on}
+use Rattle.sparse_map.proofs.PackedLemmas.{Passing, PackedAt-from, HasOther, passing_start, passing_more, passing_full, probing_free}
+use Rattle.sparse_map.proofs.RankedLemmas.{run_taken, run_other, run_free, run_key, run_rank}
 use Rattle.sparse_map.proofs.table.probe.Goals as goal
 
-pub loop-step-init : goal.loop-step-init
-loop-step-init g c =
+pub loop-passed-init : goal.loop-passed-init
+loop-passed-init g c =
     let n = c.bucket_count-buckets.result in
     let e = c.bucket_count-buckets.ensures.count in
-    let walk = probing_start n (slots_of c.args.groups.now) c.args.key c.home_of-bucket.result
-    (c.home_of-bucket.ensures.home ∙ ap (λ m. home m c.args.key) (sym e))
-    (subst (λ m. c.home_of-bucket.result < m) (sym e) c.home_of-bucket.ensures.within) in
-    record { walk = walk; rank = c.rank_at-rank.ensures }
+    let P = HasOther (slots_of c.args.groups.now) c.args.key in
+    let home_is : c.home_of-bucket.result ≡ home n c.args.key = c.home_of-bucket.ensures.home ∙ ap (λ m. home m c.args.key) (sym e) in
+    let home_in : home n c.args.key < n = omega (arith, home_is, c.home_of-bucket.ensures.within, e) in
+    subst (λ x. Passing n P (home n c.args.key) x 0) (sym home_is) (passing_start n P (home n c.args.key) home_in)
 
-pub rank_at-rank-requires : goal.rank_at-rank-requires
-rank_at-rank-requires g c = omega (arith, c.home_of-bucket.ensures.within, length-slots_of c.args.groups.now, c.requires.buckets)
+pub bounds-groups-bucket : goal.bounds-groups-bucket
+bounds-groups-bucket g c =
+    omega (arith, c.loop-passed.invariant.inside, length-slots_of c.args.groups.now, c.requires.buckets, c.bucket_count-buckets.ensures.count)
 
-pub next_rank-rank-requires : goal.next_rank-rank-requires
-next_rank-rank-requires g c =
-    let e = c.bucket_count-buckets.ensures.count in
-    let inside : c.loop-step.bucket < 32 * length c.args.groups.now = omega (arith, c.loop-step.invariant.walk.inside, length-slots_of c.args.groups.now, c.requires.buckets, e) in
-    rank_few c.args.groups.now c.loop-step.bucket c.loop-step.rank inside c.loop-step.invariant.rank
+pub overflow_add-result-in-Some : goal.overflow_add-result-in-Some
+overflow_add-result-in-Some g c =
+    let within = c.in-Some.ensures.within in
+    let end = c.run_end-end.ensures in
+    omega (arith, rank_on_run_few c.index-groups-bucket.result (c.loop-passed.bucket % 32) c.run_end-end.result c.rank_at-place.result c.in-Some.k end.within end.occupied c.rank_at-place.ensures within.0 (omega (arith, within.1)) (omega (arith, within.1, end.within)))
 
-pub key_at-requires-clause-within : goal.key_at-requires-clause-within
-key_at-requires-clause-within g c =
-    let e = c.bucket_count-buckets.ensures.count in
-    omega (arith, c.loop-step.invariant.walk.inside, length-slots_of c.args.groups.now, c.requires.buckets, e)
+pub returns-in-Some-clause-place : goal.returns-in-Some-clause-place
+returns-in-Some-clause-place g c =
+    let us = c.args.groups.now in
+    let b = c.loop-passed.bucket in
+    let read = c.index-groups-bucket.result in
+    let inside : b < 32 * length us = omega (arith, c.loop-passed.invariant.inside, length-slots_of us, c.requires.buckets, c.bucket_count-buckets.ensures.count) in
+    let low : c.in-Some.k < 32 = omega (arith, c.in-Some.ensures.within.1, c.run_end-end.ensures.within) in
+    subst (λ x. key_at (slots_of us) (b - b % 32 + x) ≡ Some c.args.key) (sym c.from.ensures)
+    (run_key us b c.in-Some.k read read inside c.index-groups-bucket.is c.args.key low c.in-Some.ensures.found)
 
-pub returns-in-None-clause-place : goal.returns-in-None-clause-place
-returns-in-None-clause-place g c =
+pub returns-in-Some-clause-rank : goal.returns-in-Some-clause-rank
+returns-in-Some-clause-rank g c =
+    let us = c.args.groups.now in
+    let b = c.loop-passed.bucket in
+    let k = c.in-Some.k in
+    let read = c.index-groups-bucket.result in
+    let inside : b < 32 * length us = omega (arith, c.loop-passed.invariant.inside, length-slots_of us, c.requires.buckets, c.bucket_count-buckets.ensures.count) in
+    let within = c.in-Some.ensures.within in
+    let end = c.run_end-end.ensures in
+    let at = rank_on_run read (b % 32) c.run_end-end.result c.rank_at-place.result k end.within end.occupied c.rank_at-place.ensures within.0 (omega (arith, within.1)) in
+    subst (λ x. IsRankOf us (b - b % 32 + x) (c.rank_at-place.result + (k - b % 32))) (sym c.from.ensures)
+    (run_rank us b k read read inside c.index-groups-bucket.is (c.rank_at-place.result + (k - b % 32)) (omega (arith, within.1, end.within)) at)
+
+pub overflow_add-result-then-end-lt32-2 : goal.overflow_add-result-then-end-lt32-2
+overflow_add-result-then-end-lt32-2 g c =
+    let end = c.run_end-end.ensures in
+    omega (arith, rank_on_run_few c.index-groups-bucket.result (c.loop-passed.bucket % 32) c.run_end-end.result c.rank_at-place.result c.run_end-end.result end.within end.occupied c.rank_at-place.ensures end.from (omega arith) c.if-end-lt32.true)
+
+pub returns-then-end-lt32-clause-place : goal.returns-then-end-lt32-clause-place
+returns-then-end-lt32-clause-place g c =
+    let us = c.args.groups.now in
+    let s = slots_of us in
+    let key = c.args.key in
     let n = c.bucket_count-buckets.result in
-    let s = slots_of c.args.groups.now in
     let e = c.bucket_count-buckets.ensures.count in
-    let long = c.requires.buckets ∙ sym e in
-    let home_in : home n c.args.key < n = subst (λ m. home m c.args.key < m) (sym e) (subst (λ h. h < 2 ^ c.args.bits) c.home_of-bucket.ensures.home c.home_of-bucket.ensures.within) in
-    probing_free n s c.args.key c.loop-step.bucket c.loop-step._step long home_in (PackedAt-from n s long c.requires.packed) c.loop-step.invariant.walk c.loop-step-test.true (sym c.key_at.ensures ∙ c.in-None.is)
+    let b = c.loop-passed.bucket in
+    let k = c.run_end-end.result in
+    let end = c.run_end-end.ensures in
+    let lt = c.if-end-lt32.true in
+    let read = c.index-groups-bucket.result in
+    let is = c.index-groups-bucket.is in
+    let walk = c.loop-passed.invariant in
+    let long : length s ≡ n = c.requires.buckets ∙ sym e in
+    let inside : b < 32 * length us = omega (arith, walk.inside, length-slots_of us, long) in
+    let home_is : c.home_of-bucket.result ≡ home n key = c.home_of-bucket.ensures.home ∙ ap (λ m. home m key) (sym e) in
+    let home_in : home n key < n = omega (arith, home_is, c.home_of-bucket.ensures.within, e) in
+    let free = run_free us b k read read inside is lt (end.free lt) in
+    let place : IsFreeFor s key (b - b % 32 + k) =
+    probing_free n s key b c.loop-passed.passed home_in walk c.loop-passed-test.true (b - b % 32 + k) long (PackedAt-from n s long c.requires.packed)
+    (omega (arith, end.from)) (omega (arith, inside, lt, length-slots_of us, long)) free
+    (λ q le to. (run_taken us b k read read inside is end.within end.occupied q le to, run_other us b k read read inside is key end.within c.in_default.ensures.none q le to)) in
+    subst (λ x. IsFreeFor s key (b - b % 32 + x)) (sym c.from-then-end-lt32.ensures) place
 
-pub loop-step-preserved : goal.loop-step-preserved
-loop-step-preserved g c =
+pub returns-then-end-lt32-clause-rank : goal.returns-then-end-lt32-clause-rank
+returns-then-end-lt32-clause-rank g c =
+    let us = c.args.groups.now in
+    let b = c.loop-passed.bucket in
+    let k = c.run_end-end.result in
+    let read = c.index-groups-bucket.result in
+    let inside : b < 32 * length us = omega (arith, c.loop-passed.invariant.inside, length-slots_of us, c.requires.buckets, c.bucket_count-buckets.ensures.count) in
+    let end = c.run_end-end.ensures in
+    let at = rank_on_run read (b % 32) k c.rank_at-place.result k end.within end.occupied c.rank_at-place.ensures end.from (omega arith) in
+    subst (λ x. IsRankOf us (b - b % 32 + x) (c.rank_at-place.result + (k - b % 32))) (sym c.from-then-end-lt32.ensures)
+    (run_rank us b k read read inside c.index-groups-bucket.is (c.rank_at-place.result + (k - b % 32)) c.if-end-lt32.true at)
+
+pub next_bucket-bucket-requires-clause-within : goal.next_bucket-bucket-requires-clause-within
+next_bucket-bucket-requires-clause-within g c =
+    omega (arith, c.loop-passed.invariant.inside, length-slots_of c.args.groups.now, c.requires.buckets, c.bucket_count-buckets.ensures.count)
+
+pub loop-passed-preserved : goal.loop-passed-preserved
+loop-passed-preserved g c =
+    let us = c.args.groups.now in
+    let s = slots_of us in
+    let key = c.args.key in
     let n = c.bucket_count-buckets.result in
-    let s = slots_of c.args.groups.now in
     let e = c.bucket_count-buckets.ensures.count in
-    let home_in : home n c.args.key < n = subst (λ m. home m c.args.key < m) (sym e) (subst (λ h. h < 2 ^ c.args.bits) c.home_of-bucket.ensures.home c.home_of-bucket.ensures.within) in
-    let more = probing_more n s c.args.key c.loop-step.bucket c.loop-step._step c.in-Some.found home_in c.loop-step.invariant.walk c.loop-step-test.true (sym c.key_at.ensures ∙ c.in-Some.is) c.if-found-key.false in
-    let some : IsSome (slot_at s c.loop-step.bucket) = sym (is_some-key_at s c.loop-step.bucket) ∙ ap is_some (sym c.key_at.ensures ∙ c.in-Some.is) in
-    let long : 32 * length c.args.groups.now ≡ n = sym (length-slots_of c.args.groups.now) ∙ c.requires.buckets ∙ sym e in
-    record {
-      walk = subst (λ b. Probing n s c.args.key b (c.loop-step._step + 1)) (sym c.next_bucket-bucket.ensures) more;
-      rank = rank_on c.args.groups.now n c.loop-step.bucket c.loop-step.rank c.next_bucket-bucket.result c.next_rank-rank.result long c.loop-step.invariant.walk.inside c.loop-step.invariant.rank some
-          c.next_bucket-bucket.ensures c.next_rank-rank.ensures;
-    }
+    let P = HasOther s key in
+    let b = c.loop-passed.bucket in
+    let p = c.loop-passed.passed in
+    let k = c.run_end-end.result in
+    let l = b - b % 32 + 31 in
+    let end = c.run_end-end.ensures in
+    let whole = c.if-end-lt32.false in
+    let read = c.index-groups-bucket.result in
+    let is = c.index-groups-bucket.is in
+    let walk = c.loop-passed.invariant in
+    let long : length s ≡ n = c.requires.buckets ∙ sym e in
+    let inside : b < 32 * length us = omega (arith, walk.inside, length-slots_of us, long) in
+    let home_is : c.home_of-bucket.result ≡ home n key = c.home_of-bucket.ensures.home ∙ ap (λ m. home m key) (sym e) in
+    let home_in : home n key < n = omega (arith, home_is, c.home_of-bucket.ensures.within, e) in
+    let more = passing_more n P (home n key) b p home_in walk c.loop-passed-test.true l (omega arith) (omega (arith, inside, length-slots_of us, long))
+    (λ q le lt.
+    let to : q < b - b % 32 + k = omega (arith, lt, whole) in
+    (run_taken us b k read read inside is end.within end.occupied q le to, run_other us b k read read inside is key end.within c.in_default.ensures.none q le to)) in
+    let far : p + (l + 1 - b) ≡ p + (32 - b % 32) = omega arith in
+    subst (λ x. Passing n P (home n key) c.next_bucket-bucket.result x) far
+    (subst (λ x. Passing n P (home n key) x (p + (l + 1 - b))) (sym c.next_bucket-bucket.ensures) more)
 
 pub unreachable-requires : goal.unreachable-requires
 unreachable-requires g c =
-    let n = c.bucket_count-buckets.result in
     let s = slots_of c.args.groups.now in
+    let key = c.args.key in
+    let n = c.bucket_count-buckets.result in
     let e = c.bucket_count-buckets.ensures.count in
-    let home_in : home n c.args.key < n = subst (λ m. home m c.args.key < m) (sym e) (subst (λ h. h < 2 ^ c.args.bits) c.home_of-bucket.ensures.home c.home_of-bucket.ensures.within) in
-    let end : c.loop-step._step ≡ n = omega arith in
-    let long = c.requires.buckets ∙ sym e in
-    probing_full n s c.args.key c.loop-step.bucket long home_in (omega (arith, c.requires.room, e)) (subst (λ m. Probing n s c.args.key c.loop-step.bucket m) end c.loop-step.invariant.walk)
+    let home_is : c.home_of-bucket.result ≡ home n key = c.home_of-bucket.ensures.home ∙ ap (λ m. home m key) (sym e) in
+    let home_in : home n key < n = omega (arith, home_is, c.home_of-bucket.ensures.within, e) in
+    passing_full n (HasOther s key) s (home n key) c.loop-passed.bucket c.loop-passed.passed (λ q other. other.0) (c.requires.buckets ∙ sym e) home_in
+    c.loop-passed-test.false (omega (arith, c.requires.room, e)) c.loop-passed.invariant
