@@ -77,10 +77,10 @@ module _ (v : CachedDisk) (contents : Contents) (s : CacheList) (own : geometry_
   }
 
   pub undone_over : (d : PlainDisk) → IsOver v.options.geometry s contents.disk d → IsOver v.options.geometry undone contents.disk d
-  undone_over d over = over_same v.options.geometry contents.disk s undone d (undo_same contents.disk s is.agrees (pending v.cache) is.holds.waits) over
+  undone_over d over = over_same v.options.geometry contents.disk s undone d (undo_same contents.disk s is.agrees (geometry_of v.cache) (pending v.cache) is.holds.waits) over
 
   undone_dirty : (a : ℕ) → IsDirtyIn s a → IsDirtyIn undone a
-  undone_dirty = undo_dirty (pending v.cache) s is.holds.waits
+  undone_dirty = undo_dirty (geometry_of v.cache) (pending v.cache) s is.holds.waits
 
   pub held_left : FitsOn v.options.geometry contents.shape → IsLeft v contents
   held_left shape = record { own = own; shape = shape; list = undone; beneath = held_beneath; held = s; up = λ up. is }
@@ -88,7 +88,7 @@ module _ (v : CachedDisk) (contents : Contents) (s : CacheList) (own : geometry_
   -- what it holds is the plain disk that the media stand for
   pub held_over : (d : PlainDisk) → StandFor (ImageIs (told_of v)) contents d → IsOver v.options.geometry s contents.disk d
   held_over d stand =
-      over_same v.options.geometry contents.disk undone s d (same_back contents.disk s undone (undo_same contents.disk s is.agrees (pending v.cache) is.holds.waits))
+      over_same v.options.geometry contents.disk undone s d (same_back contents.disk s undone (undo_same contents.disk s is.agrees (geometry_of v.cache) (pending v.cache) is.holds.waits))
       (stands_over (told_of v) contents undone undone_stands d stand)
 
   pub held_stands : (d : PlainDisk) → IsOver v.options.geometry s contents.disk d → StandFor (ImageIs (told_of v)) contents d

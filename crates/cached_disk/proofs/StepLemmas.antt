@@ -66,8 +66,8 @@ module _ (disk : ℕ → Values) (s : CacheList) (agrees : Agrees s disk) where
     | inr other ↦ ap (λ (o : Option Held). held_or (undone_at q a o) b) (back_other x a (get s a) other) ∙ undone_same q all.1 a b has
   ]
 
-  pub undo_same : (q : List Buffered) → MayWait q s → IsSameOver disk s (undo q s)
-  undo_same q may a b has = ap (λ (o : Option Held). held_or o b) (get_undo q s a) ∙ undone_same q may.clean a b has
+  pub undo_same : (g : Geometry) (q : List Buffered) → MayWait g q s → IsSameOver disk s (undo q s)
+  undo_same g q may a b has = ap (λ (o : Option Held). held_or o b) (get_undo q s a) ∙ undone_same q may.clean a b has
 
   -- what is clean without it, was clean
   pub undo_agrees : (q : List Buffered) → Agrees (undo q s) disk
@@ -91,8 +91,8 @@ module _ (disk : ℕ → Values) (s : CacheList) (agrees : Agrees s disk) where
       undone_clean (x ∷ q) o is = back_clean x o (undone_clean q (back_at x a o) is)
 
 -- what is dirty stays so
-pub undo_dirty : (q : List Buffered) (s : CacheList) → MayWait q s → (a : ℕ) → IsDirtyIn s a → IsDirtyIn (undo q s) a
-undo_dirty q s may a dirty = (dirty.0, get_undo q s a ∙ undone q may.clean ∙ dirty.1, dirty.2)
+pub undo_dirty : (g : Geometry) (q : List Buffered) (s : CacheList) → MayWait g q s → (a : ℕ) → IsDirtyIn s a → IsDirtyIn (undo q s) a
+undo_dirty g q s may a dirty = (dirty.0, get_undo q s a ∙ undone q may.clean ∙ dirty.1, dirty.2)
   where
     undone : (q : List Buffered) → AllByRecursion (λ x. (h : Held) × (get s (address_of x) ≡ Some h) × (h.dirty ≡ false)) q → undone_at q a (get s a) ≡ get s a
     undone [] all = refl

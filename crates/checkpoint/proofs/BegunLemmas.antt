@@ -1,6 +1,6 @@
--- A cache of nothing, and a page put into it.
-use Rattle.std.proofs.Common.{◌≡◌, ◌⊎◌, ℕ, ◌+◌, ◌*◌, ◌/◌, ◌<◌, ◌==◌, Bool, true, false, cond, Option, List, [], ◌∷◌, ◌++◌, length, map, filter, Some, None, refl, sym, ◌∙◌, ap, subst, arith, inl, inr, nat_cmp}
-use Rattle.std.specs.FinMap.{get, get-empty}
+-- A seal alone on blank media, and a page put into a cache.
+use Rattle.std.proofs.Common.{◌≡◌, ℕ, ◌+◌, ◌*◌, ◌<◌, ◌==◌, Bool, true, false, cond, Option, List, [], ◌∷◌, ◌++◌, Some, None, sym, ◌∙◌, ap, subst, arith}
+use Rattle.std.specs.FinMap.{get}
 use Rattle.ft_base.specs.declared.geometry.Geometry.{Geometry}
 use Rattle.ft_base.specs.declared.block.Place.{Place}
 use Rattle.ft_base.specs.declared.block.Page.{Page}
@@ -11,61 +11,14 @@ use Rattle.ft_base.specs.Contents.{Contents, Flash}
 use Rattle.ft_base.specs.Layout.{k, first_pool, checkpoint_at}
 use Rattle.cache_model.specs.declared.entry.Entry.{Entry}
 use Rattle.cache_model.specs.Records.{Entries, after, no_entries, in_log_block}
-use Rattle.cache_model.specs.Entries.{IsMap, Fits, fits, each_once, page_mapped}
+use Rattle.cache_model.specs.Entries.{IsMap, Fits, fits}
 use Rattle.cache_model.specs.Loading.{after_all, is_whole}
 use Rattle.cache_model.proofs.StepLemmas.{get-after}
-use Rattle.cache_model.proofs.FitsLemmas.{fits-from, no_entries-map, no_entries-nil}
-use Rattle.cache_model.proofs.LoadLemmas.{checkpoint_below}
-use Rattle.mapping.specs.Checkpoint.{IsCheckpointOf}
+use Rattle.cache_model.proofs.FitsLemmas.{fits-from}
 use Rattle.op_log.specs.Log.{LogValue, pushed}
-use Rattle.checkpoint.specs.Current.{IsCurrent, AreWhole, IsOpenLog, IsCommitted, PoolStays}
-use Rattle.checkpoint.specs.Regions.{InCheckpoint, IsBare, IsPrepared, IsSealPage, IsWritten, MapsWritten, Programmed}
-use Rattle.checkpoint.proofs.PlacesLemmas.{checkpoint_low, log_between}
-use Rattle.checkpoint.proofs.ErasingLemmas.{map_or_lost}
-use Rattle.checkpoint.proofs.WrittenLemmas.{seal_done}
-use Rattle.checkpoint.proofs.SealedLemmas.{formatted}
-use Rattle.checkpoint.proofs.FormatLemmas.{some_pages}
-
--- ---- nothing
-
-pub empty_map : (g : Geometry) (m : Entries) → m ≡ no_entries → IsMap g m
-empty_map g m none = subst (λ (n : Entries). IsMap g n) (sym none) (no_entries-map g)
-
-pub empty_whole : (page : Place → Page) (m : Entries) → m ≡ no_entries → AreWhole page m
-empty_whole page m none = record { whole = λ a e at. absurd (none_some e (sym (ap (λ (n : Entries). get n a) none ∙ get-empty nat_cmp a) ∙ at)) }
-  where
-    none_some : (e : Entry) → None ≡ Some e → ⊥
-    none_some e s = absurd (cc)
-
-no_true : false ≡ true → ⊥
-no_true e = absurd (cc)
-
--- a map of nothing has a checkpoint of no records
-pub nothing_listed : (g : Geometry) (m : Entries) → m ≡ no_entries → IsCheckpointOf g m []
-nothing_listed g m none = subst (λ (n : Entries). IsCheckpointOf g n []) (sym none) (record {
-  groups = [];
-  pages = [];
-  are = refl;
-  of_groups = record {
-    each = λ k there. absurd (no_true there);
-    all = λ a e at mapped. absurd (not_there a e at);
-    once = subst (λ (es : List (ℕ × Entry)). 0 ≡ length (each_once (map (λ x. x.0 / g.p) (filter (λ x. x.1.block_mapped) es)))) (sym no_entries-nil) refl;
-  };
-  of_pages = record {
-    each = tt;
-    all = λ a e at mapped. absurd (not_there a e at);
-    once = subst (λ (es : List (ℕ × Entry)). 0 ≡ length (filter (λ x. page_mapped x.1) es)) (sym no_entries-nil) refl;
-  };
-})
-  where
-    not_there : (a : ℕ) (e : Entry) → get no_entries a ≡ Some e → ⊥
-    not_there a e at = let here : None ≡ Some e = sym (get-empty nat_cmp a) ∙ at in absurd (cc)
-
-blank_bare : (g : Geometry) (page : Place → Page) → ((at : Place) → at.block < first_pool g → page at ≡ Blank) → IsBare g 1 page
-blank_bare g page blank = record { pages = λ i within. map_or_lost _ (blank (checkpoint_at g 1 i) (checkpoint_below g 1 i (omega arith) within)) }
-
-pub begun : (g : Geometry) (m : Entries) (log : LogValue) (old new : Flash) → m ≡ no_entries → log ≡ record { geometry = g; region = 0; era = 0; next = 0; buffered = [] } → ((at : Place) → at.block < first_pool g → old.page at ≡ Blank) → IsWritten g 0 0 [] old new → IsCommitted new log m
-begun g m log old new none is blank written = subst (λ (l : LogValue). IsCommitted new l m) (sym is) (formatted g 0 m [] old new (empty_map g m none) (nothing_listed g m none) written (blank_bare g old.page blank) (empty_whole old.page m none))
+use Rattle.checkpoint.specs.Current.{IsCurrent, AreWhole, IsOpenLog, IsCommitted, PoolStays, log_formatted}
+use Rattle.checkpoint.specs.Regions.{IsBlockWithin, IsSealPage, Programmed}
+use Rattle.checkpoint.proofs.FormatLemmas.{seal_begins}
 
 -- ---- a seal alone on blank media
 
@@ -76,36 +29,14 @@ first_page g =
     let page : 0 ≡ (checkpoint_at g 0 0).page = omega (arith, g.in_range.p_low) in
     λ i. record { block = block i; page = page i }
 
-module _ (g : Geometry) (old new : Flash) (blank : (at : Place) → at.block < first_pool g → old.page at ≡ Blank) (fresh : (b : ℕ) → b < first_pool g → old.next b ≡ Some 0) where
-  in_first : (b : ℕ) → InCheckpoint g 0 b → b < first_pool g
-  in_first b within = by_number (k g) (checkpoint_low g 0 b (omega arith) within)
-    where
-      by_number : (n : ℕ) → b < 2 * n → b < 2 * n + 2 * g.j
-      by_number n low = omega arith
-
-  first_of : (i : ℕ) → (i ≡ 0) ⊎ ((checkpoint_at g 0 i).page ≡ 0) → (checkpoint_at g 0 i).page ≡ 0
-  first_of i (inr start) = start
-  first_of i (inl start) = subst (λ j. (checkpoint_at g 0 j).page ≡ 0) (sym start) (omega (arith, g.in_range.p_low))
-
-  prepared : IsPrepared g 0 old old
-  prepared = record {
-    checkpoint = record { page = λ at within. blank at (in_first at.block within); next = λ b within. fresh b (in_first b within) };
-    log = record { page = λ at within. blank at (log_between g 0 at.block (omega arith) within).1; next = λ b within. fresh b (log_between g 0 b (omega arith) within).1 };
-    beside = λ at out out'. refl;
-    ready = λ b out out'. refl;
-  }
-
-  no_maps : MapsWritten g 0 0 [] 0 old old
-  no_maps = record {
-    maps = λ i low. absurd (omega arith);
-    blank = λ i from within. blank (checkpoint_at g 0 i) (checkpoint_below g 0 i (omega arith) within);
-    ready = λ i from within which. fresh (checkpoint_at g 0 i).block (checkpoint_below g 0 i (omega arith) within) ∙ ap Some (sym (first_of i which));
-    beside = λ at out. refl;
-    next = λ b out. refl;
-  }
-
-  pub sealed_alone : Programmed (IsSealPage g 0 0 0) (checkpoint_at g 0 0) old new → IsWritten g 0 0 [] old new
-  sealed_alone = seal_done g 0 0 [] (omega arith) 0 0 refl refl (some_pages g) old old old new prepared no_maps
+pub begun : (g : Geometry) (m : Entries) (log : LogValue) (old new : Flash) → m ≡ no_entries → log ≡ log_formatted g → ((at : Place) → at.block < first_pool g → old.page at ≡ Blank) → ((b : ℕ) → b < first_pool g → old.next b ≡ Some 0)
+    → Programmed (IsSealPage g 0 0 0) (checkpoint_at g 0 0) old new → IsCommitted new log m
+begun g m log old new none is blank fresh done =
+    subst (λ (l : LogValue). IsCommitted new l m) (sym is) (subst (λ (n : Entries). IsCommitted new (log_formatted g) n) (sym none)
+    (seal_begins g old (record { page = λ at within. blank at (below (k g) at.block within); next = λ b within. fresh b (below (k g) b within) }) new done))
+  where
+    below : (n b : ℕ) → IsBlockWithin 0 (2 * n + g.j) b → b < 2 * n + 2 * g.j
+    below n b within = omega (arith, within.1)
 
 -- ---- a page more
 

@@ -190,7 +190,7 @@ module _ (g : Geometry) (m : Entries) (is_map : IsMap g m) where
       omega (arith, g.in_range.c_high, g.in_range.p_high)
 
   -- the map pages and the seal fit the region
-  pub maps_fit : (records : List Record) → IsCheckpointOf g m records → map_pages records < checkpoint_pages g
+  pub maps_fit : (records : List Record) → IsCheckpointOf g m records → map_pages g records < checkpoint_pages g
   maps_fit records listed = by_number (length records) (most_records g) (records_few records listed) (checkpoint_fits g)
     where
       by_number : (a b : ℕ) → a ≤ b → pages_for b ≤ checkpoint_pages g → up a 127 < checkpoint_pages g

@@ -1,73 +1,57 @@
--- An empty checkpoint alone on the flash.
-use Rattle.std.proofs.Common.{◌≡◌, ℕ, zero, suc, ◌+◌, ◌-◌, ◌*◌, ◌/◌, ◌<◌, ◌≤◌, cond, List, [], ◌∷◌, take, Option, Some, None, ok_or, Ok, Err, refl, sym, ◌∙◌, ap, ap₂, subst, arith}
-use Rattle.std.specs.List.{AllByRecursion}
-use Rattle.std.specs.FinMap.{entries}
+-- An empty checkpoint, sealed where the regions are erased.
+use Rattle.std.proofs.Common.{◌≡◌, ℕ, ◌+◌, ◌-◌, ◌*◌, ◌/◌, ◌<◌, false, true, List, [], length, map, filter, None, Some, refl, sym, ◌∙◌, ap, subst, arith, nat_cmp}
+use Rattle.std.specs.FinMap.{get, get-empty}
 use Rattle.std.proofs.lemmas.Nat.{mul-le, le-div}
 use Rattle.ft_base.specs.declared.geometry.Geometry.{Geometry}
 use Rattle.ft_base.specs.declared.block.Place.{Place}
 use Rattle.ft_base.specs.declared.block.Page.{Page}
-use Rattle.ft_base.specs.declared.block.Page.TheVariants.{Blank}
 use Rattle.ft_base.specs.Contents.{Flash}
-use Rattle.ft_base.specs.Layout.{up, k, checkpoint_at, log_at, checkpoint_pages, log_pages}
-use Rattle.cache_model.specs.declared.format.PageKind.TheVariants.{Map}
-use Rattle.cache_model.specs.Records.{no_entries}
-use Rattle.cache_model.specs.Loading.{Complete, complete, ◌>>=◌, pages_from, checkpoint_region, checkpoint_in, chosen, checkpoint_of, wanted, after_pages, load, entries_of, all_whole}
-use Rattle.cache_model.specs.Loading.Refusal.{NotFormatted, OtherGeometry}
-use Rattle.cache_model.specs.Laws.{IsMapOrLost}
-use Rattle.cache_model.proofs.LoadLemmas.{set_page-other}
-use Rattle.cache_model.proofs.FitsLemmas.{no_entries-nil}
-use Rattle.cache_model.proofs.RegionLemmas.{maps_alone}
-use Rattle.cache_model.proofs.CheckpointLemmas.{checkpoint_from, sealed_entries}
-use Rattle.op_log.specs.Refusals.{seal_of}
-use Rattle.checkpoint.specs.Regions.{AreBlank, IsSealPage, Programmed}
-use Rattle.checkpoint.proofs.ErasingLemmas.{map_or_lost}
-use Rattle.checkpoint.proofs.ListsLemmas.{pages_split}
-use Rattle.checkpoint.proofs.MapsLemmas.{set_page-here}
-use Rattle.checkpoint.proofs.PlacesLemmas.{checkpoint_within, log_within}
-use Rattle.checkpoint.proofs.SealedLemmas.{own_numbers}
+use Rattle.ft_base.specs.Layout.{up, k, checkpoint_at, checkpoint_pages}
+use Rattle.cache_model.specs.declared.entry.Entry.{Entry}
+use Rattle.cache_model.specs.Records.{Entries, no_entries}
+use Rattle.cache_model.specs.Entries.{each_once, page_mapped}
+use Rattle.cache_model.proofs.FitsLemmas.{no_entries-map, no_entries-nil}
+use Rattle.mapping.specs.Checkpoint.{IsCheckpointOf}
+use Rattle.checkpoint.specs.Current.{AreWhole, IsCommitted, log_formatted}
+use Rattle.checkpoint.specs.Regions.{IsBlockWithin, InCheckpoint, InLog, AreBlank, IsPrepared, IsSealPage, Programmed}
+use Rattle.checkpoint.proofs.PlacesLemmas.{checkpoint_low}
+use Rattle.checkpoint.proofs.MapsLemmas.{maps_none, maps_bare}
+use Rattle.checkpoint.proofs.WrittenLemmas.{seal_done}
+use Rattle.checkpoint.proofs.SealedLemmas.{formatted}
 
-none_of : {A : Type 0} (o : Option A) → ((x : A) → o ≡ Some x → ⊥) → o ≡ None
-none_of None never = refl
-none_of (Some x) never = absurd (never x refl)
+-- ---- a map of nothing
 
-blank_pages : (page : Place → Page) (at : ℕ → Place) (i n : ℕ) → ((j : ℕ) → i ≤ j → j < i + n → page (at j) ≡ Blank) → AllByRecursion IsMapOrLost (pages_from page at i n)
-blank_pages page at i zero blank = tt
-blank_pages page at i (suc n) blank = (map_or_lost (page (at i)) (blank i (omega arith) (omega arith)), blank_pages page at (i + 1) n (λ j low high. blank j (omega arith) (omega arith)))
+none_some : (e : Entry) → None ≡ Some e → ⊥
+none_some e s = absurd (cc)
 
-module _ (g : Geometry) (page : Place → Page) (sealed : IsSealPage g 0 0 0 (page (checkpoint_at g 0 0))) (other : (i : ℕ) → i < checkpoint_pages g → page (checkpoint_at g 1 i) ≡ Blank) (log : page (log_at g 0 0) ≡ Blank) (some : 0 < checkpoint_pages g) where
-  abbrev empty : Complete
-  empty = complete 0 0 (seal_of g)
+no_entry : (a : ℕ) (e : Entry) → get no_entries a ≡ Some e → ⊥
+no_entry a e at = none_some e (sym (get-empty nat_cmp a) ∙ at)
 
-  first : checkpoint_in (checkpoint_region g page 0) ≡ Some empty
-  first = checkpoint_from empty (checkpoint_region g page 0) (record {
-    maps = [];
-    seal = page (checkpoint_at g 0 (0 + 0));
-    rest = pages_from page (checkpoint_at g 0) (0 + 0 + 1) (checkpoint_pages g - (0 + 1));
-    total = 0;
-    parts = pages_split page (checkpoint_at g 0) 0 0 (checkpoint_pages g) some;
-    are_maps = refl;
-    number = refl;
-    is_seal = sealed.seal;
-  })
+pub empty_whole : (page : Place → Page) (m : Entries) → m ≡ no_entries → AreWhole page m
+empty_whole page m none = record { whole = λ a e at. absurd (no_entry a e (sym (ap (λ (n : Entries). get n a) none) ∙ at)) }
 
-  second : checkpoint_in (checkpoint_region g page 1) ≡ None
-  second = none_of _ (λ c is. maps_alone (checkpoint_region g page 1) c (blank_pages page (checkpoint_at g 1) 0 (checkpoint_pages g) (λ j low high. other j (omega arith))) is)
+-- it has a checkpoint of no records
+nothing_listed : (g : Geometry) → IsCheckpointOf g no_entries []
+nothing_listed g = record {
+  groups = [];
+  pages = [];
+  are = refl;
+  of_groups = record {
+    each = λ k there. absurd (no_true there);
+    all = λ a e at mapped. absurd (no_entry a e at);
+    once = subst (λ (es : List (ℕ × Entry)). 0 ≡ length (each_once (map (λ x. x.0 / g.p) (filter (λ x. x.1.block_mapped) es)))) (sym no_entries-nil) refl;
+  };
+  of_pages = record {
+    each = tt;
+    all = λ a e at mapped. absurd (no_entry a e at);
+    once = subst (λ (es : List (ℕ × Entry)). 0 ≡ length (filter (λ x. page_mapped x.1) es)) (sym no_entries-nil) refl;
+  };
+}
+  where
+    no_true : false ≡ true → ⊥
+    no_true e = absurd (cc)
 
-  chosen_is : checkpoint_of g page ≡ Ok (0, empty)
-  chosen_is =
-      ap (λ o. ok_or o NotFormatted >>= wanted g) (ap₂ chosen first second)
-      ∙ ap (λ b. cond b (Ok (0, empty)) (Err (OtherGeometry (seal_of g)))) (own_numbers g)
-
-  found : entries_of g page ≡ Ok no_entries
-  found = sealed_entries g page (0, empty) no_entries chosen_is (nothing (checkpoint_region g page 0)) (λ any. log)
-    where
-      nothing : (pages : List Page) → after_pages g Map 0 (checkpoint_at g 0) 0 (take 0 pages) no_entries ≡ Ok no_entries
-      nothing [] = refl
-      nothing (p ∷ ps) = refl
-
-  pub formatted : load g page ≡ Ok no_entries
-  unfolding load
-  formatted = ap (λ r. r >>= λ m. all_whole page (entries m) m) found ∙ ap (λ es. all_whole page es no_entries) no_entries-nil
+-- ---- its seal
 
 some_blocks : (g : Geometry) → 0 < k g
 some_blocks g = at_least (up (g.c + g.l * g.p) 127) g.p (omega (arith, g.in_range.p_low))
@@ -75,31 +59,42 @@ some_blocks g = at_least (up (g.c + g.l * g.p) 127) g.p (omega (arith, g.in_rang
     at_least : (n p : ℕ) → 0 < p → 0 < (n + 1 + p - 1) / p
     at_least n p some = le-div 1 (n + 1 + p - 1) p some (omega arith)
 
-some_log : (g : Geometry) → 0 < log_pages g
-some_log g = let some = mul-le 1 4 g.j g.p g.in_range.j_low g.in_range.p_low in omega arith
-
-pub some_pages : (g : Geometry) → 0 < checkpoint_pages g
+some_pages : (g : Geometry) → 0 < checkpoint_pages g
 some_pages g = let some = mul-le 1 4 (k g) g.p (some_blocks g) g.in_range.p_low in omega arith
 
--- the regions were erased, and the seal programmed
-pub format_loads : (g : Geometry) (old new : Flash) (blocks : ℕ) → blocks ≡ 2 * k g + g.j → AreBlank 0 blocks old → Programmed (IsSealPage g 0 0 0) (checkpoint_at g 0 0) old new → load g new.page ≡ Ok no_entries
-format_loads g old new blocks count blank done = formatted g new.page
-    (subst (λ p. IsSealPage g 0 0 0 p) (sym (ap (λ (f : Place → Page). f (checkpoint_at g 0 0)) done.pages ∙ set_page-here old.page (checkpoint_at g 0 0) done.page)) done.is_kind)
-    (λ i within.
-    let place = checkpoint_within g 1 i within in
-    let low = place.0 in
-    let high = place.1 in
-    apart (checkpoint_at g 1 i) (λ same. let e : (checkpoint_at g 1 i).block ≡ (checkpoint_at g 0 0).block = ap (λ (p : Place). p.block) same in let zero_block = first_block g in absurd (omega arith))
-    ∙ blank.page (checkpoint_at g 1 i) (omega arith, omega (arith, count)))
-    (let place = log_within g 0 0 (some_log g) in
-    let low = place.0 in
-    let high = place.1 in
-    apart (log_at g 0 0) (λ same. let e : (log_at g 0 0).block ≡ (checkpoint_at g 0 0).block = ap (λ (p : Place). p.block) same in let zero_block = first_block g in let any = some_blocks g in absurd (omega arith))
-    ∙ blank.page (log_at g 0 0) (omega arith, omega (arith, count)))
-    (some_pages g)
-  where
-    apart : (at : Place) → (at ≡ checkpoint_at g 0 0 → ⊥) → new.page at ≡ old.page at
-    apart at never = ap (λ (f : Place → Page). f at) done.pages ∙ set_page-other old.page (checkpoint_at g 0 0) at done.page never
+module _ (g : Geometry) (old : Flash) (blank : AreBlank 0 (2 * k g + g.j) old) where
+  in_checkpoint : (region b : ℕ) → region < 2 → InCheckpoint g region b → IsBlockWithin 0 (2 * k g + g.j) b
+  in_checkpoint region b low within = by_number (k g) (checkpoint_low g region b low within)
+    where
+      by_number : (n : ℕ) → b < 2 * n → IsBlockWithin 0 (2 * n + g.j) b
+      by_number n below = (omega arith, omega arith)
 
-    first_block : (g : Geometry) → (checkpoint_at g 0 0).block ≡ 0
-    first_block g = omega (arith, g.in_range.p_low)
+  in_log : (b : ℕ) → InLog g 0 b → IsBlockWithin 0 (2 * k g + g.j) b
+  in_log b within = by_number (2 * k g) within
+    where
+      by_number : (n : ℕ) → IsBlockWithin (n + 0 * g.j) g.j b → IsBlockWithin 0 (n + g.j) b
+      by_number n within = (omega arith, omega (arith, within.1))
+
+  of_checkpoint : (region : ℕ) → region < 2 → AreBlank (region * k g) (k g) old
+  of_checkpoint region low = record {
+    page = λ at within. blank.page at (in_checkpoint region at.block low within);
+    next = λ b within. blank.next b (in_checkpoint region b low within);
+  }
+
+  prepared : IsPrepared g 0 old old
+  prepared = record {
+    checkpoint = of_checkpoint 0 (omega arith);
+    log = record { page = λ at within. blank.page at (in_log at.block within); next = λ b within. blank.next b (in_log b within) };
+    beside = λ at out out'. refl;
+    ready = λ b out out'. refl;
+  }
+
+  pub seal_begins : (new : Flash) → Programmed (IsSealPage g 0 0 0) (checkpoint_at g 0 0) old new → IsCommitted new (log_formatted g) no_entries
+  seal_begins new done = formatted g 0 no_entries [] old new (no_entries-map g) (nothing_listed g)
+      (seal_done g 0 0 [] (omega arith) 0 0 refl refl (some_pages g) old old old new prepared (maps_none g 0 0 [] old (of_checkpoint 0 (omega arith))) done)
+      (maps_bare g 1 0 [] 0 old old (maps_none g 1 0 [] old (of_checkpoint 1 (omega arith)))).bare
+      (empty_whole old.page no_entries refl)
+
+-- the regions were erased, and the seal programmed
+pub format_begins : (g : Geometry) (old new : Flash) (blocks : ℕ) → blocks ≡ 2 * k g + g.j → AreBlank 0 blocks old → Programmed (IsSealPage g 0 0 0) (checkpoint_at g 0 0) old new → IsCommitted new (log_formatted g) no_entries
+format_begins g old new blocks count blank done = seal_begins g old (subst (λ n. AreBlank 0 n old) count blank) new done

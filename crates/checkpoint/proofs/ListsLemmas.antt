@@ -5,6 +5,7 @@ use Rattle.std.proofs.lemmas.Bool.{and_parts, and_from, cases_eq, cases_lt}
 use Rattle.std.proofs.lemmas.List.{length-take, length-drop, take_all, drop_all}
 use Rattle.ft_base.specs.declared.block.Place.{Place}
 use Rattle.ft_base.specs.declared.block.Page.{Page}
+use Rattle.ft_base.specs.declared.geometry.Geometry.{Geometry}
 use Rattle.ft_base.specs.declared.record.Record.{Record}
 use Rattle.cache_model.specs.declared.format.PageKind.{PageKind}
 use Rattle.cache_model.specs.declared.format.Header.{Header}
@@ -55,16 +56,16 @@ any_part n rs i =
     sym (take-append-drop n (drop (n * i) rs))
     ∙ ap (λ qs. take n (drop (n * i) rs) ++ qs) (drop-more (n * i) n rs ∙ ap (λ k. drop k rs) (let e : n * i + n ≡ n * (i + 1) = omega arith in e))
 
-pub part_and_rest : (rs : List Record) (i : ℕ) → drop (127 * i) rs ≡ part rs i ++ drop (127 * (i + 1)) rs
+pub part_and_rest : (g : Geometry) (rs : List Record) (i : ℕ) → drop (127 * i) rs ≡ part g rs i ++ drop (127 * (i + 1)) rs
 unfolding part
-part_and_rest rs i = any_part 127 rs i
+part_and_rest g rs i = any_part 127 rs i
 
 any_length : (n : ℕ) (rs : List Record) (i : ℕ) → length (take n (drop (n * i) rs)) ≡ min n (length rs - n * i)
 any_length n rs i = length-take n (drop (n * i) rs) ∙ ap (min n) (length-drop (n * i) rs)
 
-pub length-part : (rs : List Record) (i : ℕ) → length (part rs i) ≡ min 127 (length rs - 127 * i)
+pub length-part : (g : Geometry) (rs : List Record) (i : ℕ) → length (part g rs i) ≡ min 127 (length rs - 127 * i)
 unfolding part
-length-part rs i = any_length 127 rs i
+length-part g rs i = any_length 127 rs i
 
 -- as many as there are, and no more
 take-least : (n : ℕ) (rs : List Record) → take (min n (length rs)) rs ≡ take n rs
@@ -77,9 +78,9 @@ least_is : (rs out : List Record) (most from count : ℕ) → count ≡ min most
 least_is rs out most from count few same =
     same ∙ ap (λ k. take k (drop from rs)) (few ∙ ap (min most) (sym (length-drop from rs))) ∙ take-least most (drop from rs)
 
-pub part_is : (rs out : List Record) (count i : ℕ) → count ≡ min 127 (length rs - 127 * i) → take count out ≡ take count (drop (127 * i) rs) → take count out ≡ part rs i
+pub part_is : (g : Geometry) (rs out : List Record) (count i : ℕ) → count ≡ min 127 (length rs - 127 * i) → take count out ≡ take count (drop (127 * i) rs) → take count out ≡ part g rs i
 unfolding part
-part_is rs out count i few same = least_is rs out 127 (127 * i) count few same
+part_is g rs out count i few same = least_is rs out 127 (127 * i) count few same
 
 -- ---- what holds of each
 
@@ -100,6 +101,6 @@ all-append test (x ∷ xs) ys all all' = let p = and_parts (test x) (list_all te
 any_all : {A : Type 0} (test : A → Bool) (n k : ℕ) (xs : List A) → list_all test xs ≡ true → list_all test (take n (drop k xs)) ≡ true
 any_all test n k xs all = all-take test n (drop k xs) (all-drop test k xs all)
 
-pub all-part : (test : Record → Bool) (rs : List Record) (i : ℕ) → list_all test rs ≡ true → list_all test (part rs i) ≡ true
+pub all-part : (g : Geometry) (test : Record → Bool) (rs : List Record) (i : ℕ) → list_all test rs ≡ true → list_all test (part g rs i) ≡ true
 unfolding part
-all-part test rs i all = any_all test 127 (127 * i) rs all
+all-part g test rs i all = any_all test 127 (127 * i) rs all

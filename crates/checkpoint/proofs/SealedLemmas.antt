@@ -50,15 +50,15 @@ after_all_split g (r ∷ rs) qs m n is = elim (cases_Bool (fits g r m)) [
     none_some x s = absurd (cc)
 
 module _ (g : Geometry) (era : ℕ) (rs : List Record) (page : Place → Page) (at : ℕ → Place) where
-  maps_counted : (i n before : ℕ) → ((j : ℕ) → i ≤ j → j < i + n → IsMapPage era j (part rs j) (page (at j))) → before ≡ min (length rs) (127 * i) → length rs ≤ 127 * (i + n) → AreMaps era i before (length rs) (pages_from page at i n)
+  maps_counted : (i n before : ℕ) → ((j : ℕ) → i ≤ j → j < i + n → IsMapPage era j (part g rs j) (page (at j))) → before ≡ min (length rs) (127 * i) → length rs ≤ 127 * (i + n) → AreMaps era i before (length rs) (pages_from page at i n)
   maps_counted i zero before each is all = omega arith
   maps_counted i (suc n) before each is all =
       let here = each i (omega arith) (omega arith) in
       let count = here.count in
-      let long = length-part rs i in
+      let long = length-part g rs i in
       (here.header, here.head, maps_counted (i + 1) n (before + here.header.count) (λ j low high. each j (omega arith) (omega arith)) (omega arith) (omega arith))
 
-  maps_applied : (i n : ℕ) (m m' : Entries) → ((j : ℕ) → i ≤ j → j < i + n → IsMapPage era j (part rs j) (page (at j))) → length rs ≤ 127 * (i + n) → after_all g (drop (127 * i) rs) m ≡ Some m' → after_pages g Map era at i (pages_from page at i n) m ≡ Ok m'
+  maps_applied : (i n : ℕ) (m m' : Entries) → ((j : ℕ) → i ≤ j → j < i + n → IsMapPage era j (part g rs j) (page (at j))) → length rs ≤ 127 * (i + n) → after_all g (drop (127 * i) rs) m ≡ Some m' → after_pages g Map era at i (pages_from page at i n) m ≡ Ok m'
   maps_applied i zero m m' each all is =
       let none : drop (127 * i) rs ≡ [] = drop_all (127 * i) rs (omega arith) in
       let same : Some m ≡ Some m' = sym (ap (λ qs. after_all g qs m) none) ∙ is in
@@ -68,8 +68,8 @@ module _ (g : Geometry) (era : ℕ) (rs : List Record) (page : Place → Page) (
       same_some x y s = cc
   maps_applied i (suc n) m m' each all is =
       let here = each i (omega arith) (omega arith) in
-      let split = after_all_split g (part rs i) (drop (127 * (i + 1)) rs) m m' (ap (λ qs. after_all g qs m) (sym (part_and_rest rs i)) ∙ is) in
-      after_pages-one g Map era at i (page (at i)) (pages_from page at (i + 1) n) m split.0 here.header (part rs i) here.head here.records split.1
+      let split = after_all_split g (part g rs i) (drop (127 * (i + 1)) rs) m m' (ap (λ qs. after_all g qs m) (sym (part_and_rest g rs i)) ∙ is) in
+      after_pages-one g Map era at i (page (at i)) (pages_from page at (i + 1) n) m split.0 here.header (part g rs i) here.head here.records split.1
       ∙ maps_applied (i + 1) n split.0 m' (λ j low high. each j (omega arith) (omega arith)) (omega arith) split.2
 
 -- ---- the checkpoint that counts
@@ -110,15 +110,15 @@ current_low log page m current = newest_below log.geometry page (log.region, cur
 -- a sealed region is complete, and where it is the newest, flash stands for its map
 module _ (g : Geometry) (region era : ℕ) (m : Entries) (records : List Record) (old new : Place → Page) (low : region < 2) (is_map : IsMap g m) (listed : IsListing g m records) (sealed : IsSealed g region era records old new) where
   abbrev pages : ℕ
-  pages = map_pages records
+  pages = map_pages g records
 
   abbrev pub sealed_checkpoint : Complete
   sealed_checkpoint = complete era pages (seal_of g)
 
-  within : map_pages records < checkpoint_pages g
+  within : map_pages g records < checkpoint_pages g
   within = maps_fit g m is_map records listed
 
-  enough : length records ≤ 127 * (0 + map_pages records)
+  enough : length records ≤ 127 * (0 + map_pages g records)
   enough = by_number (length records)
     where
       by_number : (n : ℕ) → n ≤ 127 * (0 + (n + 127 - 1) / 127)
@@ -140,7 +140,7 @@ module _ (g : Geometry) (region era : ℕ) (m : Entries) (records : List Record)
   pub sealed_complete : checkpoint_in (checkpoint_region g new region) ≡ Some sealed_checkpoint
   sealed_complete = checkpoint_from sealed_checkpoint (checkpoint_region g new region) is_checkpoint
 
-  module _ (counts : newest g new ≡ Some (region, complete era (map_pages records) (seal_of g))) where
+  module _ (counts : newest g new ≡ Some (region, complete era (map_pages g records) (seal_of g))) where
     pub sealed_of : checkpoint_of g new ≡ Ok (region, sealed_checkpoint)
     sealed_of =
         ap (λ o. ok_or o NotFormatted >>= wanted g) counts
@@ -157,7 +157,7 @@ module _ (g : Geometry) (region era : ℕ) (m : Entries) (records : List Record)
 
 -- and its log is empty
 pub written_stands : (g : Geometry) (region era : ℕ) (m : Entries) (records : List Record) (old new : Flash) → region < 2 → IsMap g m → IsListing g m records → IsWritten g region era records old new
-    → newest g new.page ≡ Some (region, complete era (map_pages records) (seal_of g)) → AreWhole old.page m
+    → newest g new.page ≡ Some (region, complete era (map_pages g records) (seal_of g)) → AreWhole old.page m
     → IsCommitted new (record { geometry = g; region = region; era = era; next = 0; buffered = [] }) m
 written_stands g region era m records old new low is_map listed written counts whole = record {
   loads = sealed_loads g region era m records old.page new.page low is_map listed written.sealed counts whole;
@@ -166,7 +166,7 @@ written_stands g region era m records old new low is_map listed written counts w
     durable = m;
     loads = sealed_loads g region era m records old.page new.page low is_map listed written.sealed counts whole;
     buffered = refl;
-    newest = complete era (map_pages records) (seal_of g);
+    newest = complete era (map_pages g records) (seal_of g);
     chosen = sealed_of g region era m records old.page new.page low is_map listed written.sealed counts;
     era = refl;
   };
@@ -184,11 +184,11 @@ written_stands g region era m records old new low is_map listed written counts w
 
 pub sealed_newest : (log : LogValue) (m : Entries) (records : List Record) (old new : Place → Page) → IsCurrent old log m → IsListing log.geometry m records
     → IsSealed log.geometry (1 - log.region) ((log.era + 1) % 3) records old new
-    → newest log.geometry new ≡ Some (1 - log.region, complete ((log.era + 1) % 3) (map_pages records) (seal_of log.geometry))
+    → newest log.geometry new ≡ Some (1 - log.region, complete ((log.era + 1) % 3) (map_pages log.geometry records) (seal_of log.geometry))
 sealed_newest log m records old new current listed sealed =
     let low = current_low log old m current in
     let was = newest_was log.geometry old (log.region, current.newest) (newest_is log.geometry old (log.region, current.newest) current.chosen) in
-    sealed_chosen log.geometry new current.newest (complete ((log.era + 1) % 3) (map_pages records) (seal_of log.geometry)) log.region low
+    sealed_chosen log.geometry new current.newest (complete ((log.era + 1) % 3) (map_pages log.geometry records) (seal_of log.geometry)) log.region low
     (ap checkpoint_in (checkpoint_stays log.geometry log.region old new low sealed.beside) ∙ was)
     (sealed_complete log.geometry (1 - log.region) ((log.era + 1) % 3) m records old new (other_low log.region) (current_map log old m current) listed sealed)
     (ap (λ n. (n + 1) % 3) (sym current.era))
@@ -216,7 +216,7 @@ loads_one_of log m records old new current whole listed (inr sealed) = inl (seal
 pub log_goes_last : (log : LogValue) (m : Entries) (records : List Record) (old new : Place → Page) → IsCurrent old log m → IsListing log.geometry m records
     → IsUnsealed log.geometry (1 - log.region) old new ⊎ IsSealed log.geometry (1 - log.region) ((log.era + 1) % 3) records old new → LogGoesLast log old new
 log_goes_last log m records old new current listed (inl unsealed) = inr (unsealed_log log.geometry (1 - log.region) old new (other_low log.region) unsealed)
-log_goes_last log m records old new current listed (inr sealed) = inl (complete ((log.era + 1) % 3) (map_pages records) (seal_of log.geometry), sealed_newest log m records old new current listed sealed)
+log_goes_last log m records old new current listed (inr sealed) = inl (complete ((log.era + 1) % 3) (map_pages log.geometry records) (seal_of log.geometry), sealed_newest log m records old new current listed sealed)
 
 pub pool_left : (log : LogValue) (records : List Record) (old new : Place → Page) → IsUnsealed log.geometry (1 - log.region) old new ⊎ IsSealed log.geometry (1 - log.region) ((log.era + 1) % 3) records old new → (at : Place) → first_pool log.geometry ≤ at.block → new at ≡ old at
 pool_left log records old new (inl unsealed) = pool_stays log.geometry (1 - log.region) old new (other_low log.region) (unsealed_stays log.geometry (1 - log.region) old new unsealed)

@@ -68,5 +68,5 @@ module _ (g : Geometry) (m : Entries) (is_map : IsMap g m) where
       ap (list_all (may_stand_in Map)) listed.are
       ∙ all-append (may_stand_in Map) (map (set_group_of g m) listed.groups) (map set_page_of listed.pages) (groups_sound listed.groups listed.of_groups.each) (pages_sound listed.pages listed.of_pages.each)
 
-  pub part_sound : (records : List Record) → IsCheckpointOf g m records → (i : ℕ) → list_all (may_stand_in Map) (part records i) ≡ true
-  part_sound records listed i = all-part (may_stand_in Map) records i (records_sound records listed)
+  pub part_sound : (records : List Record) → IsCheckpointOf g m records → (i : ℕ) → list_all (may_stand_in Map) (part g records i) ≡ true
+  part_sound records listed i = all-part g (may_stand_in Map) records i (records_sound records listed)

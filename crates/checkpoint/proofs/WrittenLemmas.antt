@@ -17,7 +17,7 @@ use Rattle.checkpoint.proofs.MapsLemmas.{set_page-here, set-other, maps_bare, ba
 pub maps_unsealed : (g : Geometry) (region : ℕ) (old mid new : Flash) → IsPrepared g region old mid → LeavesMaps g region mid.page new.page → IsUnsealed g region old.page new.page
 maps_unsealed g region old mid new prepared left = inr (left.bare, λ at out out'. left.beside at out ∙ prepared.beside at out out')
 
-module _ (g : Geometry) (region era : ℕ) (records : List Record) (low : region < 2) (n count : ℕ) (all : n ≡ map_pages records) (is_count : count ≡ length records) (within : n < checkpoint_pages g)
+module _ (g : Geometry) (region era : ℕ) (records : List Record) (low : region < 2) (n count : ℕ) (all : n ≡ map_pages g records) (is_count : count ≡ length records) (within : n < checkpoint_pages g)
     (old mid now new : Flash) (prepared : IsPrepared g region old mid) (maps : MapsWritten g region era records n mid now) where
   module _ (v : Page) (pages : new.page ≡ set_page now.page (checkpoint_at g region n) v) where
     out_of : (at : Place) → (InCheckpoint g region at.block → ⊥) → new.page at ≡ now.page at
@@ -30,7 +30,7 @@ module _ (g : Geometry) (region era : ℕ) (records : List Record) (low : region
 
     sealed_here : IsSealPage g era n count v → IsSealed g region era records old.page new.page
     sealed_here is = record {
-      maps = λ i low'. subst (λ (q : Page). IsMapPage era i (part records i) q)
+      maps = λ i low'. subst (λ (q : Page). IsMapPage era i (part g records i) q)
           (sym (ap (λ (f : Place → Page). f (checkpoint_at g region i)) pages ∙ set_page-other now.page (checkpoint_at g region n) (checkpoint_at g region i) v (λ e. let same = checkpoint_apart g region i n e in absurd (omega arith))))
           (maps.maps i (omega arith));
       seal = subst (λ j. IsSealPage g era j (length records) (new.page (checkpoint_at g region j))) all
@@ -63,7 +63,7 @@ module _ (g : Geometry) (region era : ℕ) (records : List Record) (low : region
 
 -- ---- spare bytes
 
-pub sealed_spares : (g : Geometry) (region era : ℕ) (records : List Record) (old new : Place → Page) → IsSealed g region era records old new → HasSpares g region era (map_pages records) new
+pub sealed_spares : (g : Geometry) (region era : ℕ) (records : List Record) (old new : Place → Page) → IsSealed g region era records old new → HasSpares g region era (map_pages g records) new
 sealed_spares g region era records old new sealed = record { maps = λ i low. (sealed.maps i low).spare; seal = sealed.seal.spare }
 
 -- a seal alone

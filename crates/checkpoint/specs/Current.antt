@@ -57,6 +57,10 @@ LogGoesLast log old new = ((c : Complete) × (newest log.geometry new ≡ Some (
     ⊎ ((c : Complete) → checkpoint_in (checkpoint_region log.geometry new (1 - log.region)) ≡ Some c
     → log_region log.geometry new (1 - log.region) ≡ log_region log.geometry old (1 - log.region))
 
+-- the log of a flash that was formatted: empty, in region 0, of era 0
+abbrev pub log_formatted : Geometry → LogValue
+log_formatted g = record { geometry = g; region = 0; era = 0; next = 0; buffered = [] }
+
 -- the log after a checkpoint: empty, in the other region, of the next era
 abbrev pub log_checkpointed : LogValue → LogValue
 log_checkpointed log = restarted (1 - log.region) ((log.era + 1) % 3) log

@@ -7,7 +7,7 @@ use Rattle.ft_base.specs.declared.block.Page.{Page}
 use Rattle.ft_base.specs.declared.block.Page.TheVariants.{Blank, Torn}
 use Rattle.ft_base.specs.declared.record.Record.{Record}
 use Rattle.ft_base.specs.Contents.{Flash, set, set_page}
-use Rattle.ft_base.specs.Layout.{checkpoint_at, checkpoint_pages, first_log, k, most_page_records, up}
+use Rattle.ft_base.specs.Layout.{checkpoint_at, checkpoint_pages, first_log, k, page_records, up}
 use Rattle.cache_model.specs.declared.format.Header.{Header}
 use Rattle.cache_model.specs.declared.format.PageKind.TheVariants.{Map, Seal as SealPage}
 use Rattle.cache_model.specs.declared.format.SpareKind.TheVariants.{Map as MapSpare, Seal as SealSpare}
@@ -65,12 +65,12 @@ abbrev pub IsUnsealed : Geometry → ℕ → (Place → Page) → (Place → Pag
 IsUnsealed g region old new = AreLost (region * k g) (k g) old new ⊎ (IsBare g region new × StaysBeside g region old new)
 
 -- the records of a map page
-unfoldable pub part : List Record → ℕ → List Record
-part records i = take most_page_records (drop (most_page_records * i) records)
+unfoldable pub part : Geometry → List Record → ℕ → List Record
+part g records i = take (page_records g) (drop (page_records g * i) records)
 
 -- the map pages of so many records
-abbrev pub map_pages : List Record → ℕ
-map_pages records = up (length records) most_page_records
+abbrev pub map_pages : Geometry → List Record → ℕ
+map_pages g records = up (length records) (page_records g)
 
 -- the header of a map page with these records, and of a seal over so many pages with so many
 abbrev pub map_header : ℕ → ℕ → List Record → Header
@@ -117,7 +117,7 @@ IsReadyAt at flash = flash.next at.block ≡ Some at.page
 
 -- the first n map pages stand in the region, and the pages after them are blank and ready; nothing else changed
 pub record MapsWritten (g : Geometry) (region era : ℕ) (records : List Record) (n : ℕ) (old new : Flash) : Type 0 where
-  pub maps : (i : ℕ) → i < n → IsMapPage era i (part records i) (new.page (checkpoint_at g region i))
+  pub maps : (i : ℕ) → i < n → IsMapPage era i (part g records i) (new.page (checkpoint_at g region i))
   pub blank : (i : ℕ) → n ≤ i → i < checkpoint_pages g → new.page (checkpoint_at g region i) ≡ Blank
   pub ready : (i : ℕ) → n ≤ i → i < checkpoint_pages g → (i ≡ n) ⊎ ((checkpoint_at g region i).page ≡ 0)
       → IsReadyAt (checkpoint_at g region i) new
@@ -131,8 +131,8 @@ pub record LeavesMaps (g : Geometry) (region : ℕ) (old new : Place → Page) :
 
 -- a checkpoint with these records stands in the region, its log is blank, and nothing else changed
 pub record IsSealed (g : Geometry) (region era : ℕ) (records : List Record) (old new : Place → Page) : Type 0 where
-  pub maps : (i : ℕ) → i < map_pages records → IsMapPage era i (part records i) (new (checkpoint_at g region i))
-  pub seal : IsSealPage g era (map_pages records) (length records) (new (checkpoint_at g region (map_pages records)))
+  pub maps : (i : ℕ) → i < map_pages g records → IsMapPage era i (part g records i) (new (checkpoint_at g region i))
+  pub seal : IsSealPage g era (map_pages g records) (length records) (new (checkpoint_at g region (map_pages g records)))
   pub log : (at : Place) → InLog g region at.block → new at ≡ Blank
   pub beside : StaysBeside g region old new
 

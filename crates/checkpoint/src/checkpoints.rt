@@ -75,12 +75,13 @@ impl Checkpoints {
         ensures spare { OnOk result (log.old.buffered ≢ [] → log.old.next < log_pages log.old.geometry
             → HasSpare (log_spare log.old.era log.old.next) ((M.state media.new).contents.flash.page (next_place log.old))) }
         ensures spares { OnOk result (log.old.buffered ≢ [] → log_pages log.old.geometry ≤ log.old.next
-            → HasSpares log.old.geometry (1 - log.old.region) ((log.old.era + 1) % 3) (map_pages map.now.records)
+            → HasSpares log.old.geometry (1 - log.old.region) ((log.old.era + 1) % 3) (map_pages log.old.geometry map.now.records)
             (M.state media.new).contents.flash.page) }
         ensures one_page { OnOk result (log.old.buffered ≢ [] → log.old.next < log_pages log.old.geometry
             → (M.state media.new).counts ≡ program_counted (M.state media.old).counts) }
         ensures whole_checkpoint { OnOk result (log.old.buffered ≢ [] → log_pages log.old.geometry ≤ log.old.next
-            → (M.state media.new).counts ≡ checkpoint_counted log.old.geometry (map_pages map.now.records) (M.state media.old).counts) }
+            → (M.state media.new).counts ≡ checkpoint_counted log.old.geometry (map_pages log.old.geometry map.now.records)
+            (M.state media.old).counts) }
         ensures programs { OnOk result (log.old.buffered ≢ []
             → Rose (M.state media.old).counts.programs (M.state media.new).counts.programs) }
         ensures spends { OnOk result (log.old.buffered ≢ [] → Spends 1 (M.state media.old) (M.state media.new)) }
@@ -120,10 +121,10 @@ impl Checkpoints {
         ensures pool { PoolStays log.old.geometry (M.state media.old).contents.flash.page (M.state media.new).contents.flash.page }
         ensures pool_ready { OnOk result (PoolReadyStays log.old.geometry (M.state media.old).contents.flash
             (M.state media.new).contents.flash) }
-        ensures spares { OnOk result (HasSpares log.old.geometry (1 - log.old.region) ((log.old.era + 1) % 3) (map_pages map.now.records)
-            (M.state media.new).contents.flash.page) }
-        ensures counts { OnOk result ((M.state media.new).counts ≡ checkpoint_counted log.old.geometry (map_pages map.now.records)
-            (M.state media.old).counts) }
+        ensures spares { OnOk result (HasSpares log.old.geometry (1 - log.old.region) ((log.old.era + 1) % 3)
+            (map_pages log.old.geometry map.now.records) (M.state media.new).contents.flash.page) }
+        ensures counts { OnOk result ((M.state media.new).counts ≡ checkpoint_counted log.old.geometry
+            (map_pages log.old.geometry map.now.records) (M.state media.old).counts) }
         ensures programs { OnOk result (Rose (M.state media.old).counts.programs (M.state media.new).counts.programs) }
         ensures spends { OnOk result (Spends 1 (M.state media.old) (M.state media.new)) }
         ensures memory { IsErrOf result MediaError.OutOfMemory → ⊥ }

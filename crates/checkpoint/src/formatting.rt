@@ -5,6 +5,7 @@ ghost use Rattle.cache_model.specs.Records.{no_entries};
 ghost use Rattle.cache_model.specs.Loading.{load};
 ghost use Rattle.op_log.specs.Log.{FitsOn};
 ghost use Rattle.checkpoint.specs.Counts.{format_counted};
+ghost use Rattle.checkpoint.specs.Current.{IsCommitted, log_formatted};
 ghost use Rattle.checkpoint.specs.Regions.{HasSpares};
 
 use crate::erasing::erase_blocks;
@@ -13,10 +14,12 @@ use ft_base::{Geometry, zero_block};
 use ft_media::{Media, MediaError};
 
 /// Makes the flash that of an empty map: both checkpoint regions and the first log region are erased,
-/// in this order, and an empty checkpoint is sealed in the first. It takes no memory.
+/// in this order, and an empty checkpoint of era 0 is sealed in the first. The log can go on at its first
+/// page. It takes no memory.
 pub fn format<M: Media>(media: &mut M, geometry: &Geometry) -> Result<(), MediaError>
     requires shape { FitsOn geometry.now (M.state media.old).contents.shape }
     ensures done { OnOk result (load geometry.now (M.state media.new).contents.flash.page ≡ Ok no_entries) }
+    ensures begins { OnOk result (IsCommitted (M.state media.new).contents.flash (log_formatted geometry.now) no_entries) }
     ensures spares { OnOk result (HasSpares geometry.now 0 0 0 (M.state media.new).contents.flash.page) }
     ensures counts { OnOk result ((M.state media.new).counts ≡ format_counted geometry.now (M.state media.old).counts) }
     ensures memory { IsErrOf result MediaError.OutOfMemory → ⊥ }

@@ -1,5 +1,5 @@
 ghost use Rattle.std.specs.Prelude.{◌<◌, ◌≤◌, ◌*◌, length};
-ghost use Rattle.ft_base.specs.Layout.{most_page_records};
+ghost use Rattle.ft_base.specs.Layout.{page_records};
 ghost use Rattle.cache_model.specs.Entries.{IsMap};
 ghost use Rattle.cache_model.specs.Spelling.{IsPage, IsSealOf};
 ghost use Rattle.mapping.specs.Checkpoint.{IsCheckpointOf};
@@ -19,8 +19,9 @@ pub(crate) fn write_map(out: &mut Block, map: &Map, era: u8, sequence: u32)
     requires is_map { IsMap map.now.geometry map.now.entries }
     requires listing { IsCheckpointOf map.now.geometry map.now.entries map.now.records }
     requires era { era ≤ 2 }
-    requires some { most_page_records * sequence < length map.now.records }
-    ensures { IsPage out.new.0 (map_header era sequence (part map.now.records sequence)) (part map.now.records sequence) }
+    requires some { page_records map.now.geometry * sequence < length map.now.records }
+    ensures { IsPage out.new.0 (map_header era sequence (part map.now.geometry map.now.records sequence))
+        (part map.now.geometry map.now.records sequence) }
 {
     let mut records = [Record::Remove { lba: 0 }; MOST as usize];
     let count = map.checkpoint_part(MOST * sequence, &mut records);

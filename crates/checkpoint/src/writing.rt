@@ -1,6 +1,6 @@
 ghost use Rattle.std.specs.Prelude.{◌≡◌, ◌⊎◌, ◌<◌, ◌≤◌, ◌+◌, ◌*◌, length, OnOk, IsErrOf};
 ghost use Rattle.ft_base.specs.Count.{Rose};
-ghost use Rattle.ft_base.specs.Layout.{checkpoint_at, checkpoint_pages, k, most_page_records};
+ghost use Rattle.ft_base.specs.Layout.{checkpoint_at, checkpoint_pages, k, page_records};
 ghost use Rattle.ft_media.specs.State.{failed, lost};
 ghost use Rattle.ft_media.specs.Media.{program_counted};
 ghost use Rattle.ft_media.specs.Passes.{Spends};
@@ -43,13 +43,13 @@ fn program_map<M: Media>(
     requires listing { IsCheckpointOf geometry.now map.now.entries map.now.records }
     requires region { target.now.region < 2 }
     requires era { target.now.era ≤ 2 }
-    requires some { most_page_records * sequence < length map.now.records }
+    requires some { page_records geometry.now * sequence < length map.now.records }
     requires room { sequence < checkpoint_pages geometry.now }
     requires ready { IsReadyAt (checkpoint_at geometry.now target.now.region sequence) (M.state media.old).contents.flash }
-    ensures done { OnOk result (Programmed (IsMapPage target.now.era sequence (part map.now.records sequence))
+    ensures done { OnOk result (Programmed (IsMapPage target.now.era sequence (part geometry.now map.now.records sequence))
         (checkpoint_at geometry.now target.now.region sequence) (M.state media.old).contents.flash (M.state media.new).contents.flash) }
     ensures counts { OnOk result ((M.state media.new).counts ≡ program_counted (M.state media.old).counts) }
-    ensures pages { LeavesOne (IsMapPage target.now.era sequence (part map.now.records sequence))
+    ensures pages { LeavesOne (IsMapPage target.now.era sequence (part geometry.now map.now.records sequence))
         (checkpoint_at geometry.now target.now.region sequence) (M.state media.old).contents.flash (M.state media.new).contents.flash }
     ensures programs { OnOk result (Rose (M.state media.old).counts.programs (M.state media.new).counts.programs) }
     ensures memory { IsErrOf result MediaError.OutOfMemory → ⊥ }
@@ -77,7 +77,7 @@ fn program_maps<M: Media>(
     requires listing { IsCheckpointOf geometry.now map.now.entries map.now.records }
     requires region { target.now.region < 2 }
     requires era { target.now.era ≤ 2 }
-    requires all { pages ≡ map_pages map.now.records }
+    requires all { pages ≡ map_pages geometry.now map.now.records }
     requires room { pages < checkpoint_pages geometry.now }
     requires blank { AreBlank (target.now.region * k geometry.now) (k geometry.now) (M.state media.old).contents.flash }
     ensures done { OnOk result (MapsWritten geometry.now target.now.region target.now.era map.now.records pages
@@ -141,7 +141,7 @@ pub(crate) fn write_checkpoint<M: Media>(
     ensures listing { IsCheckpointOf geometry.now map.now.entries map.now.records }
     ensures done { OnOk result (IsWritten geometry.now target.now.region target.now.era map.now.records (M.state media.old).contents.flash
         (M.state media.new).contents.flash) }
-    ensures counts { OnOk result ((M.state media.new).counts ≡ checkpoint_counted geometry.now (map_pages map.now.records)
+    ensures counts { OnOk result ((M.state media.new).counts ≡ checkpoint_counted geometry.now (map_pages geometry.now map.now.records)
         (M.state media.old).counts) }
     ensures pages { IsUnsealed geometry.now target.now.region (M.state media.old).contents.flash.page
         (M.state media.new).contents.flash.page

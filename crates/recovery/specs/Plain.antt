@@ -15,15 +15,15 @@ use Rattle.recovery.specs.declared.plain.PlainLoad.TheVariants.{Loaded, NotForma
 use Rattle.recovery.specs.declared.plain.regions.Sealed.{Sealed}
 
 -- the page at a place: the list has those of each erase block in turn, and behind its last all are blank
-abbrev pub page_in : Geometry → List Page → Place → Page
-page_in g pages at = slice_index_or pages (at.block * g.p + at.page) Blank
+abbrev pub page_listed : Geometry → List Page → Place → Page
+page_listed g pages at = slice_index_or pages (at.block * g.p + at.page) Blank
 
 -- a complete checkpoint, and a region with one
-abbrev pub told : Sealed → Complete
-told s = complete s.era s.pages s.seal
+abbrev pub complete_of : Sealed → Complete
+complete_of s = complete s.era s.pages s.seal
 
-abbrev pub told_in : ℕ × Sealed → ℕ × Complete
-told_in x = (x.0, told x.1)
+abbrev pub complete_in : ℕ × Sealed → ℕ × Complete
+complete_in x = (x.0, complete_of x.1)
 
 -- where the pages of a kind lie, and how many a region has
 abbrev pub place_of : PageKind → Geometry → ℕ → ℕ → Place

@@ -5,7 +5,7 @@
 
 ghost use Rattle.std.specs.Prelude.{IfOk};
 ghost use Rattle.cache_model.specs.Loading.{load};
-ghost use Rattle.recovery.specs.Plain.{page_in, IsPlainLoad};
+ghost use Rattle.recovery.specs.Plain.{page_listed, IsPlainLoad};
 
 mod applying;
 mod pages;
@@ -41,7 +41,7 @@ pub fn plain_load(
     geometry: &Geometry,
     pages: &[Page],
 ) -> Result<PlainLoad, AllocError>
-    ensures { IfOk result (λ loaded. IsPlainLoad geometry.now loaded (load geometry.now (page_in geometry.now pages.now))) }
+    ensures { IfOk result (λ loaded. IsPlainLoad geometry.now loaded (load geometry.now (page_listed geometry.now pages.now))) }
 {
     let Some((region, sealed)) = newest(pages, geometry) else {
         return Ok(PlainLoad::NotFormatted);

@@ -140,7 +140,7 @@ module _ (v : CachedDisk) (old new : Contents) (s : CacheList) (own : geometry_o
 
   pub stands_now : (d : PlainDisk) → StandFor (ImageIs (told_of v)) old d → StandFor (ImageIs (told_of v)) new d
   stands_now d stand = over_stands (told_of v) new without_buffered beneath_now d
-      (over_same v.options.geometry new.disk s without_buffered d (undo_same new.disk s agrees_now (pending v.cache) is.holds.waits) (over_now d (held_over v old s own is d stand)))
+      (over_same v.options.geometry new.disk s without_buffered d (undo_same new.disk s agrees_now (geometry_of v.cache) (pending v.cache) is.holds.waits) (over_now d (held_over v old s own is d stand)))
 
   -- refused, it is down
   pub left_down : (k : Ssc) → k ≡ v.cache → IsLeft (record v { cache = k; down = true }) new

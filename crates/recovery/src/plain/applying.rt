@@ -3,7 +3,7 @@ ghost use Rattle.ft_base.specs.Layout.{checkpoint_pages};
 ghost use Rattle.cache_model.specs.Reading.{read_records as records_read, read_page_header as header_read};
 ghost use Rattle.cache_model.specs.Records.{no_entries};
 ghost use Rattle.cache_model.specs.Loading as loading;
-ghost use Rattle.recovery.specs.Plain.{page_in, place_of, region_pages, told};
+ghost use Rattle.recovery.specs.Plain.{page_listed, place_of, region_pages, complete_of};
 
 use crate::plain::pages::{header_at, page_at};
 use crate::plain::regions::Sealed;
@@ -26,7 +26,7 @@ pub(crate) struct Part {
     pages: u32,
 }
 
-/// Applies a checkpoint and its log to an empty map, up to the first damaged page, which is told.
+/// Applies a checkpoint and its log to an empty map, up to the first damaged page, which is complete_of.
 pub(crate) fn replay(
     pages: &[Page],
     geometry: &Geometry,
@@ -40,8 +40,8 @@ pub(crate) fn replay(
     requires nothing { map.old.entries ≡ no_entries }
     ensures geometry { map.new.geometry ≡ map.old.geometry }
     ensures replayed { IfOk result (λ damaged. MatchOption damaged
-        (loading.replayed geometry.now (page_in geometry.now pages.now) (region, told sealed.now) ≡ Ok map.new.entries)
-        (λ at. loading.replayed geometry.now (page_in geometry.now pages.now) (region, told sealed.now) ≡ Err (loading.Damaged at))) }
+        (loading.replayed geometry.now (page_listed geometry.now pages.now) (region, complete_of sealed.now) ≡ Ok map.new.entries)
+        (λ at. loading.replayed geometry.now (page_listed geometry.now pages.now) (region, complete_of sealed.now) ≡ Err (loading.Damaged at))) }
 {
     let maps = Part {
         kind: PageKind::Map,
@@ -63,7 +63,7 @@ pub(crate) fn replay(
 }
 
 /// Applies pages in order, up to the first that is none of them, or the first damaged one, which is
-/// told.
+/// complete_of.
 fn apply_part(
     pages: &[Page],
     geometry: &Geometry,
@@ -76,10 +76,10 @@ fn apply_part(
     ensures geometry { map.new.geometry ≡ map.old.geometry }
     ensures applied { IfOk result (λ damaged. MatchOption damaged
         (loading.after_pages geometry.now part.now.kind part.now.era (place_of part.now.kind geometry.now part.now.region) 0
-        (loading.pages_from (page_in geometry.now pages.now) (place_of part.now.kind geometry.now part.now.region) 0 part.now.pages)
+        (loading.pages_from (page_listed geometry.now pages.now) (place_of part.now.kind geometry.now part.now.region) 0 part.now.pages)
         map.old.entries ≡ Ok map.new.entries)
         (λ at. loading.after_pages geometry.now part.now.kind part.now.era (place_of part.now.kind geometry.now part.now.region) 0
-        (loading.pages_from (page_in geometry.now pages.now) (place_of part.now.kind geometry.now part.now.region) 0 part.now.pages)
+        (loading.pages_from (page_listed geometry.now pages.now) (place_of part.now.kind geometry.now part.now.region) 0 part.now.pages)
         map.old.entries ≡ Err (loading.Damaged at))) }
 {
     for i in 0..part.pages {

@@ -9,7 +9,7 @@ use record_codec::{read_page_header, read_seal};
 
 /// The page at a place.
 pub(crate) fn page_at(pages: &[Page], geometry: &Geometry, at: Place) -> Page
-    ensures { result ≡ plain.page_in geometry.now pages.now at }
+    ensures { result ≡ plain.page_listed geometry.now pages.now at }
 {
     let number = at.block as usize * geometry.p as usize + at.page as usize;
     match pages.get(number) {

@@ -2,7 +2,7 @@ ghost use Rattle.std.specs.Prelude.{◌≡◌, Ok, Err, IfOk, MatchOption};
 ghost use Rattle.std.specs.FinMap.{entries};
 ghost use Rattle.cache_model.specs.Loading as loading;
 ghost use Rattle.recovery.specs.Addresses.{HasAddresses};
-ghost use Rattle.recovery.specs.Plain.{page_in};
+ghost use Rattle.recovery.specs.Plain.{page_listed};
 
 use crate::plain::pages::{is_whole, page_at};
 use ft_base::{Geometry, Page, Place};
@@ -17,8 +17,8 @@ pub(crate) fn first_not_whole(
     map: &Map,
 ) -> Result<Option<Place>, AllocError>
     ensures { IfOk result (λ damaged. MatchOption damaged
-        (loading.all_whole (page_in geometry.now pages.now) (entries map.now.entries) map.now.entries ≡ Ok map.now.entries)
-        (λ at. loading.all_whole (page_in geometry.now pages.now) (entries map.now.entries) map.now.entries ≡ Err (loading.Damaged at))) }
+        (loading.all_whole (page_listed geometry.now pages.now) (entries map.now.entries) map.now.entries ≡ Ok map.now.entries)
+        (λ at. loading.all_whole (page_listed geometry.now pages.now) (entries map.now.entries) map.now.entries ≡ Err (loading.Damaged at))) }
 {
     let mut addresses = addresses_in(alloc, map)?;
     addresses.sort()?;

@@ -1,6 +1,6 @@
 ghost use Rattle.std.specs.Prelude.{◌≡◌, ◌<◌, ◌≤◌, option_map};
 ghost use Rattle.cache_model.specs.Loading as loading;
-ghost use Rattle.recovery.specs.Plain.{page_in, told, told_in};
+ghost use Rattle.recovery.specs.Plain.{page_listed, complete_of, complete_in};
 
 use crate::plain::pages::{era_in, header_at, page_at, seal_at};
 use cache_model::{PageKind, Seal};
@@ -19,7 +19,7 @@ pub(crate) struct Sealed {
 
 /// The region that counts, and its checkpoint.
 pub(crate) fn newest(pages: &[Page], geometry: &Geometry) -> Option<(u32, Sealed)>
-    ensures { option_map told_in result ≡ loading.newest geometry.now (page_in geometry.now pages.now) }
+    ensures { option_map complete_in result ≡ loading.newest geometry.now (page_listed geometry.now pages.now) }
 {
     let first = checkpoint_in(pages, geometry, 0);
     let second = checkpoint_in(pages, geometry, 1);
@@ -28,7 +28,7 @@ pub(crate) fn newest(pages: &[Page], geometry: &Geometry) -> Option<(u32, Sealed
 
 /// The later of two checkpoints, or the one that there is.
 fn chosen(first: Option<Sealed>, second: Option<Sealed>) -> Option<(u32, Sealed)>
-    ensures { option_map told_in result ≡ loading.chosen (option_map told first) (option_map told second) }
+    ensures { option_map complete_in result ≡ loading.chosen (option_map complete_of first) (option_map complete_of second) }
 {
     let Some(zero) = first else {
         return second.map(|one| (1, one));
@@ -45,8 +45,8 @@ fn chosen(first: Option<Sealed>, second: Option<Sealed>) -> Option<(u32, Sealed)
 /// The checkpoint of a region, where it is complete.
 fn checkpoint_in(pages: &[Page], geometry: &Geometry, region: u32) -> Option<Sealed>
     requires { region < 2 }
-    ensures { option_map told result ≡ loading.checkpoint_in
-        (loading.checkpoint_region geometry.now (page_in geometry.now pages.now) region) }
+    ensures { option_map complete_of result ≡ loading.checkpoint_in
+        (loading.checkpoint_region geometry.now (page_listed geometry.now pages.now) region) }
 {
     let first = page_at(pages, geometry, geometry.checkpoint_at(region, 0));
     let era = era_in(&first)?;
@@ -56,8 +56,8 @@ fn checkpoint_in(pages: &[Page], geometry: &Geometry, region: u32) -> Option<Sea
 /// The checkpoint of this era in a region: map pages, and then their seal.
 fn sealed_from(pages: &[Page], geometry: &Geometry, region: u32, era: u8) -> Option<Sealed>
     requires { region < 2 }
-    ensures { option_map told result ≡ loading.sealed_from era 0 0
-        (loading.checkpoint_region geometry.now (page_in geometry.now pages.now) region) }
+    ensures { option_map complete_of result ≡ loading.sealed_from era 0 0
+        (loading.checkpoint_region geometry.now (page_listed geometry.now pages.now) region) }
 {
     let mut count = 0;
     for i in 0..geometry.k() * geometry.p {

@@ -15,13 +15,13 @@ overflow_mul-sequence c = omega (arith, records_bounded c.args.map.now.geometry 
 pub write_page-requires-clause-changes : goal.write_page-requires-clause-changes
 write_page-requires-clause-changes c =
     let rs = c.args.map.now.records in
-    ap (list_all (may_stand_in Map)) (part_is rs c.checkpoint_part-count.new.out c.checkpoint_part-count.result c.args.sequence c.checkpoint_part-count.ensures.count c.checkpoint_part-count.ensures.records)
+    ap (list_all (may_stand_in Map)) (part_is c.args.map.now.geometry rs c.checkpoint_part-count.new.out c.checkpoint_part-count.result c.args.sequence c.checkpoint_part-count.ensures.count c.checkpoint_part-count.ensures.records)
     ∙ part_sound c.args.map.now.geometry c.args.map.now.entries c.requires.is_map rs c.requires.listing c.args.sequence
 
 pub returns : goal.returns
 returns c =
     let rs = c.args.map.now.records in
-    let same = part_is rs c.checkpoint_part-count.new.out c.checkpoint_part-count.result c.args.sequence c.checkpoint_part-count.ensures.count c.checkpoint_part-count.ensures.records in
-    let count : c.checkpoint_part-count.result ≡ length (part rs c.args.sequence) = c.checkpoint_part-count.ensures.count ∙ sym (length-part rs c.args.sequence) in
-    subst (λ (qs : List Record). IsPage c.write_page.new.out.0 (map_header c.args.era c.args.sequence (part rs c.args.sequence)) qs) same
+    let same = part_is c.args.map.now.geometry rs c.checkpoint_part-count.new.out c.checkpoint_part-count.result c.args.sequence c.checkpoint_part-count.ensures.count c.checkpoint_part-count.ensures.records in
+    let count : c.checkpoint_part-count.result ≡ length (part c.args.map.now.geometry rs c.args.sequence) = c.checkpoint_part-count.ensures.count ∙ sym (length-part c.args.map.now.geometry rs c.args.sequence) in
+    subst (λ (qs : List Record). IsPage c.write_page.new.out.0 (map_header c.args.era c.args.sequence (part c.args.map.now.geometry rs c.args.sequence)) qs) same
     (subst (λ n. IsPage c.write_page.new.out.0 (record { kind = Map; era = c.args.era; sequence = c.args.sequence; count = n }) (take c.checkpoint_part-count.result c.checkpoint_part-count.new.out)) count c.write_page.ensures)

@@ -82,4 +82,4 @@ returns-clause-spares g c =
 
 pub returns-clause-counts : goal.returns-clause-counts
 returns-clause-counts g c =
-    subst (λ (x : Geometry). (g.M.Media.state c.write_checkpoint.new.media).counts ≡ checkpoint_counted x (map_pages c.args.map.now.records) (g.M.Media.state c.args.media.now).counts) (c.self.view_is ∙ c.requires.own) c.in_ok-write_checkpoint.ensures.counts
+    subst (λ (x : Geometry). (g.M.Media.state c.write_checkpoint.new.media).counts ≡ checkpoint_counted x (map_pages x c.args.map.now.records) (g.M.Media.state c.args.media.now).counts) (c.self.view_is ∙ c.requires.own) c.in_ok-write_checkpoint.ensures.counts

@@ -1,6 +1,6 @@
 use Rattle.std.proofs.Common.{refl, sym, ◌∙◌, ap}
 use Rattle.cache_model.specs.Loading.{is_whole}
-use Rattle.recovery.specs.Plain.{page_in}
+use Rattle.recovery.specs.Plain.{page_listed}
 use Rattle.recovery.proofs.PlaceLemmas.{looked_more, looked_past, looked_all, looked_damaged, has_sorted, rises}
 use Rattle.recovery.proofs.plain.places.first_not_whole.Goals as goal
 use Rattle.recovery.proofs.plain.places.first_not_whole.Goals.{in-Some+else-not-is_whole, in_default}
@@ -9,13 +9,13 @@ pub returns-then-not-is_whole : goal.returns-then-not-is_whole
 returns-then-not-is_whole c =
     let m = c.args.map.now.entries in
     let has = has_sorted m c.in_ok-addresses.addresses.items c.sort.new.self.items c.deref-lba-items.result.now c.in_ok-sort.ensures.permutation c.deref-lba-items.ensures.value c.in_ok-addresses.ensures in
-    looked_damaged (page_in c.args.geometry.now c.args.pages.now) m c.deref-lba-items.result.now has c.loop-lba.lba-index c.loop-lba.invariant
+    looked_damaged (page_listed c.args.geometry.now c.args.pages.now) m c.deref-lba-items.result.now has c.loop-lba.lba-index c.loop-lba.invariant
     (rises c.sort.new.self.items c.deref-lba-items.result.now c.deref-lba-items.ensures.value c.in_ok-sort.ensures.sorted) _ c.loop-lba-test.true c.in-Some.at c.in-Some.field-0-1
     (sym c.in-Some.is ∙ c.place.ensures.place) (ap is_whole (sym c.page_at.ensures) ∙ sym c.is_whole.ensures ∙ c.if-not-is_whole.true)
 
 pub loop-lba-preserved : goal.loop-lba-preserved
 loop-lba-preserved c =
-    let page = page_in c.args.geometry.now c.args.pages.now in
+    let page = page_listed c.args.geometry.now c.args.pages.now in
     let m = c.args.map.now.entries in
     elim c.match-place.branch [
       | in-Some+else-not-is_whole w ↦
@@ -28,4 +28,4 @@ pub returns : goal.returns
 returns c =
     let m = c.args.map.now.entries in
     let has = has_sorted m c.in_ok-addresses.addresses.items c.sort.new.self.items c.deref-lba-items.result.now c.in_ok-sort.ensures.permutation c.deref-lba-items.ensures.value c.in_ok-addresses.ensures in
-    looked_all (page_in c.args.geometry.now c.args.pages.now) m c.deref-lba-items.result.now has c.loop-lba.lba-index c.loop-lba.invariant c.loop-lba-test.false
+    looked_all (page_listed c.args.geometry.now c.args.pages.now) m c.deref-lba-items.result.now has c.loop-lba.lba-index c.loop-lba.invariant c.loop-lba-test.false

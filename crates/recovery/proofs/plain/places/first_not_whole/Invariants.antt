@@ -1,7 +1,7 @@
-use Rattle.recovery.specs.Plain.{page_in}
+use Rattle.recovery.specs.Plain.{page_listed}
 use Rattle.recovery.proofs.PlaceLemmas.{Looked}
 use Rattle.recovery.proofs.plain.places.first_not_whole.Given as goal
 
 -- the places so far are whole
 abbrev pub invariant-loop-lba : goal.invariant-loop-lba
-invariant-loop-lba l = Looked (page_in l.geometry l.pages) l.map.entries l.lba-items l.lba-index
+invariant-loop-lba l = Looked (page_listed l.geometry l.pages) l.map.entries l.lba-items l.lba-index
