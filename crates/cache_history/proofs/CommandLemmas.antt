@@ -21,7 +21,7 @@ use Rattle.ssc.specs.Commands.FlashStandsForWrite.{AsUndone, AsLeft, AsWritten}
 use Rattle.ssc.proofs.CommandLemmas.{evicted_absent}
 use Rattle.cache_history.specs.declared.kind.Kind.{Kind}
 use Rattle.cache_history.specs.declared.kind.Kind.TheVariants as kinds
-use Rattle.cache_history.specs.History.{Given, given, TwoLists, settled, stepped, LeftBy, IsAtOnce, unless_gone, AfterAnswer, AfterRefusal}
+use Rattle.cache_history.specs.History.{Given, given, TwoLists, both_alike, stepped, LeftBy, IsAtOnce, unless_gone, AfterAnswer, AfterRefusal}
 use Rattle.cache_history.specs.Moment.{IsMoment}
 use Rattle.ssc.proofs.HoldsLemmas.{not_waiting, undone_away}
 use Rattle.ssc.proofs.CommandLemmas.{cleaned_clean}
@@ -230,24 +230,24 @@ module _ (c d : Ssc) (contents contents' : Contents) (kind : Kind) (lba : ℕ) (
 abbrev pub IsRefusedTo : Geometry → (Place → Page) → Given → TwoLists → Type 0
 IsRefusedTo g page x l = (m : TwoLists) × AfterRefusal g x l m × FlashStandsFor g page m.now
 
-left_undone : (g : Geometry) (x : Given) (l : TwoLists) (undone : CacheList) → l.durable ≡ undone → AfterRefusal g x l (settled undone)
+left_undone : (g : Geometry) (x : Given) (l : TwoLists) (undone : CacheList) → l.durable ≡ undone → AfterRefusal g x l (both_alike undone)
 left_undone g x l undone is = record { left = l.now; left_by = left_whole g x.kind x.address l.now; now = inl (sym is); durable = refl }
 
-left_before : (g : Geometry) (x : Given) (l : TwoLists) (v : CacheList) → LeftBy g x l.now v → AfterRefusal g x l (settled v)
+left_before : (g : Geometry) (x : Given) (l : TwoLists) (v : CacheList) → LeftBy g x l.now v → AfterRefusal g x l (both_alike v)
 left_before g x l v left = record { left = v; left_by = left; now = inr (inl refl); durable = refl }
 
-left_after : (g : Geometry) (x : Given) (l : TwoLists) (v : CacheList) → LeftBy g x l.now v → AfterRefusal g x l (settled (stepped x v))
+left_after : (g : Geometry) (x : Given) (l : TwoLists) (v : CacheList) → LeftBy g x l.now v → AfterRefusal g x l (both_alike (stepped x v))
 left_after g x l v left = record { left = v; left_by = left; now = inr (inr refl); durable = refl }
 
 left_one : (g : Geometry) (page : Place → Page) (x : Given) (l : TwoLists) (undone : CacheList) → l.durable ≡ undone → FlashStandsForOne g page undone l.now (stepped x l.now) → IsRefusedTo g page x l
-left_one g page x l undone is (AsUndone stands) = (settled undone, left_undone g x l undone is, stands)
-left_one g page x l undone is (AsBefore stands) = (settled l.now, left_before g x l l.now (left_whole g x.kind x.address l.now), stands)
-left_one g page x l undone is (AsAfter stands) = (settled (stepped x l.now), left_after g x l l.now (left_whole g x.kind x.address l.now), stands)
+left_one g page x l undone is (AsUndone stands) = (both_alike undone, left_undone g x l undone is, stands)
+left_one g page x l undone is (AsBefore stands) = (both_alike l.now, left_before g x l l.now (left_whole g x.kind x.address l.now), stands)
+left_one g page x l undone is (AsAfter stands) = (both_alike (stepped x l.now), left_after g x l l.now (left_whole g x.kind x.address l.now), stands)
 
 left_write : (g : Geometry) (page : Place → Page) (x : Given) (l : TwoLists) (undone : CacheList) → ((v : CacheList) → Vanish g l.now x.address v → LeftBy g x l.now v) → l.durable ≡ undone → FlashStandsForWrite g page undone l.now x.address (stepped x) → IsRefusedTo g page x l
-left_write g page x l undone write is (AsUndone stands) = (settled undone, left_undone g x l undone is, stands)
-left_write g page x l undone write is (AsLeft v van stands) = (settled v, left_before g x l v (write v van), stands)
-left_write g page x l undone write is (AsWritten v van stands) = (settled (stepped x v), left_after g x l v (write v van), stands)
+left_write g page x l undone write is (AsUndone stands) = (both_alike undone, left_undone g x l undone is, stands)
+left_write g page x l undone write is (AsLeft v van stands) = (both_alike v, left_before g x l v (write v van), stands)
+left_write g page x l undone write is (AsWritten v van stands) = (both_alike (stepped x v), left_after g x l v (write v van), stands)
 
 module _ (c : Ssc) (contents contents' : Contents) (own : Kind) (lba : ℕ) (block : Block) where
   pub left_of : ((s : CacheList) → Holds c contents s → ImagesOf c contents' s (stepped (given own lba block) s)) → (kind : Kind) → kind ≡ own → (l : TwoLists) → IsMoment c contents l → (x : Image) → Now contents' x → IsRefusedTo (geometry_of c) x.page (given kind lba block) l
@@ -269,6 +269,6 @@ full_of {T = T} r g s a n k full is = let at = subst (λ (x : Result T SscError)
 -- ---- an opening
 
 pub moment_opened : {E : Type 0} (r : Result Ssc E) (g : Geometry) (page : Place → Page) (contents : Contents) → IfOk r (λ c. (s : CacheList) → FlashStandsFor g page s → Holds c contents s)
-    → IfOk r (λ c. pending c ≡ []) → IfOk r (λ c. (s : CacheList) → FlashStandsFor g page s → IsMoment c contents (settled s))
+    → IfOk r (λ c. pending c ≡ []) → IfOk r (λ c. (s : CacheList) → FlashStandsFor g page s → IsMoment c contents (both_alike s))
 moment_opened (Err e) g page contents holds none = tt
 moment_opened (Ok c) g page contents holds none = λ s stands. record { holds = holds s stands; durable = sym (none_undone c none s) }

@@ -7,7 +7,7 @@ use Rattle.ft_base.specs.declared.geometry.Geometry.{Geometry}
 use Rattle.cache_model.specs.Cache.{Held, CacheList, marked_as}
 use Rattle.cache_history.specs.declared.kind.Kind.{Kind}
 use Rattle.cache_history.specs.declared.kind.Kind.TheVariants.{WriteDirty, WriteClean, Evict, Clean, Commit, Checkpoint}
-use Rattle.cache_history.specs.History.{Given, CacheEvent, Answered, Refused, Crashed, TwoLists, settled, IsAtOnce, unless_gone, AfterAnswer, AfterRefusal, AfterCrash, LivedFrom, Lived, is_write}
+use Rattle.cache_history.specs.History.{Given, CacheEvent, Answered, Refused, Crashed, TwoLists, both_alike, IsAtOnce, unless_gone, AfterAnswer, AfterRefusal, AfterCrash, LivedFrom, Lived, is_write}
 use Rattle.cache_history.proofs.StepLemmas.{step_of, step_at, get_stepped}
 use Rattle.cache_history.proofs.GoneLemmas.{IsClean, left_at, unless_same, unless_lost}
 
@@ -218,7 +218,7 @@ none_held : (a : ℕ) → get {X = Held} {R = nat_cmp} empty a ≡ None
 none_held a = get-empty nat_cmp a
 
 pub mights : (g : Geometry) (es : List CacheEvent) (l : TwoLists) → Lived g es l → (a : ℕ) → Mights a es l
-mights g es l lived a = mights_from g (settled empty) es l lived a (record { now = none_held a; durable = none_held a; absent = λ n. n })
+mights g es l lived a = mights_from g (both_alike empty) es l lived a (record { now = none_held a; durable = none_held a; absent = λ n. n })
 
 -- an absent address is absent in both
 pub mights_none : (g : Geometry) (es : List CacheEvent) (l : TwoLists) → Lived g es l → (a : ℕ) → get l.now a ≡ None → Mights a [] l

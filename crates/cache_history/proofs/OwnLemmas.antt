@@ -1,44 +1,30 @@
 -- What was written for its address stays so.
 use Rattle.std.proofs.Common.{◌≡◌, ℕ, ◌==◌, Bool, true, false, List, [], ◌∷◌, Option, Some, None, refl, sym, ◌∙◌, ap, subst, inl, inr, eqb-true}
-use Rattle.std.specs.Option.{option_map}
 use Rattle.std.specs.FinMap.{get}
 use Rattle.ft_base.specs.declared.block.Block.{Block}
 use Rattle.ft_base.specs.declared.geometry.Geometry.{Geometry}
 use Rattle.cache_model.specs.Spelling.{data_spare}
-use Rattle.cache_model.specs.Cache.{AreOwn, CacheList, Held, marked_as, written_block}
+use Rattle.cache_model.specs.Cache.{AreOwn, CacheList, Held, written_block}
+use Rattle.ssc.proofs.OwnLemmas.{IsOwnAt, own_as, own_marked, own_none}
 use Rattle.cache_history.specs.declared.kind.Kind.{Kind}
 use Rattle.cache_history.specs.declared.kind.Kind.TheVariants.{WriteDirty, WriteClean, Evict, Clean, Commit, Checkpoint}
 use Rattle.cache_history.specs.History.{Given, CacheEvent, Answered, Refused, Crashed, TwoLists, AfterAnswer, AfterRefusal, LeftBy, LivedFrom, stepped, unless_gone}
 use Rattle.cache_history.proofs.GoneLemmas.{left_at}
 use Rattle.cache_history.proofs.StepLemmas.{get_stepped, step_at}
 
--- what is held at an address has the spare bytes of a data page of the address
-abbrev IsOwnAt : ℕ → Option Held → Type 0
-IsOwnAt a o = (h : Held) → o ≡ Some h → h.spare ≡ data_spare a
-
-own_none : (a : ℕ) (o : Option Held) → o ≡ None → IsOwnAt a o
-own_none a o none h is = absurd (let both : None ≡ Some h = sym none ∙ is in cc)
-
-own_as : (a : ℕ) (o p : Option Held) → o ≡ p → IsOwnAt a p → IsOwnAt a o
-own_as a o p same own h is = own h (sym same ∙ is)
-
-cleaned_spare : (o : Option Held) (h : Held) → option_map (marked_as false) o ≡ Some h → (k : Held) × (o ≡ Some k) × (k.spare ≡ h.spare)
-cleaned_spare None h is = absurd (cc)
-cleaned_spare (Some k) h is = let same : marked_as false k ≡ h = cc in (k, refl, ap (λ (x : Held). x.spare) same)
-
 -- a write has spare bytes of its address, and no other command has new ones
 step_own : (a lba : ℕ) (here : Bool) (kind : Kind) (block : Block) (o : Option Held) → (here ≡ true → a ≡ lba) → IsOwnAt a o → IsOwnAt a (step_at here kind lba block o)
 step_own a lba false kind block o at own = own
 step_own a lba true WriteDirty block o at own = λ h is. let same : written_block lba block true ≡ h = cc in sym (ap (λ (x : Held). x.spare) same) ∙ ap data_spare (sym (at refl))
 step_own a lba true WriteClean block o at own = λ h is. let same : written_block lba block false ≡ h = cc in sym (ap (λ (x : Held). x.spare) same) ∙ ap data_spare (sym (at refl))
-step_own a lba true Evict block o at own = own_none a None refl
-step_own a lba true Clean block o at own = λ h is. let k = cleaned_spare o h is in sym k.2 ∙ own k.0 k.1
+step_own a lba true Evict block o at own = own_none a
+step_own a lba true Clean block o at own = own_marked false a o own
 step_own a lba true Commit block o at own = own
 step_own a lba true Checkpoint block o at own = own
 
 own_unless : (a : ℕ) (o left before : Option Held) → IsOwnAt a before → IsOwnAt a (unless_gone o left before)
 own_unless a None left before own = own
-own_unless a (Some h) None before own = own_none a None refl
+own_unless a (Some h) None before own = own_none a
 own_unless a (Some h) (Some k) before own = own
 
 -- ---- lists
@@ -49,7 +35,7 @@ list_as s t same own = subst AreOwn (sym same) own
 left_own : (g : Geometry) (x : Given) (s v : CacheList) → LeftBy g x s v → AreOwn s → AreOwn v
 left_own g x s v left own a = elim (left_at g x.kind x.address s v left a) [
   | inl same ↦ own_as a (get v a) (get s a) same (own a)
-  | inr gave ↦ own_none a (get v a) gave.1
+  | inr gave ↦ own_as a (get v a) None gave.1 (own_none a)
 ]
 
 stepped_own : (x : Given) (s : CacheList) → AreOwn s → AreOwn (stepped x s)

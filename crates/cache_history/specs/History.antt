@@ -44,8 +44,8 @@ pub record TwoLists : Type 0 where
   pub durable : CacheList
 
 -- where nothing is buffered they are one
-abbrev pub settled : CacheList → TwoLists
-settled s = record { now = s; durable = s }
+abbrev pub both_alike : CacheList → TwoLists
+both_alike s = record { now = s; durable = s }
 
 -- a command of this kind is on the flash when it answers Ok, with all that was buffered: a clean write and an evict where the address was held
 abbrev pub IsAtOnce : Kind → ℕ → CacheList → Type 0
@@ -110,7 +110,7 @@ LivedFrom g start (event ∷ events) l = (before : TwoLists) × LivedFrom g star
 
 -- and from an empty cache on
 abbrev pub Lived : Geometry → List CacheEvent → TwoLists → Type 0
-Lived g events l = LivedFrom g (settled empty) events l
+Lived g events l = LivedFrom g (both_alike empty) events l
 
 -- ---- which events are of an address
 

@@ -9,7 +9,7 @@ ghost use Rattle.op_log.specs.Refusals.{open_failed, open_lost, IsRefusal};
 ghost use Rattle.ssc.specs.CacheState.{Holds, IsAsBefore, IsUp, geometry_of};
 ghost use Rattle.ssc.specs.Errors.{ssc_failed, ssc_lost, stops};
 ghost use Rattle.cache_history.specs.declared.kind.Kind.TheVariants.{WriteDirty};
-ghost use Rattle.cache_history.specs.History.{TwoLists, given, is_write, settled, AfterAnswer, AfterRefusal};
+ghost use Rattle.cache_history.specs.History.{TwoLists, given, is_write, both_alike, AfterAnswer, AfterRefusal};
 ghost use Rattle.cache_history.specs.Moment.{IsMoment};
 
 use crate::Kind;
@@ -62,7 +62,7 @@ pub fn reopen<M: Media>(alloc: Global, media: &mut M, geometry: &Geometry) -> Re
     requires { FitsOn geometry.now (M.state media.old).contents.shape }
     ensures geometry { IfOk result (λ c. geometry_of c ≡ geometry.now) }
     ensures moment { IfOk result (λ c. (s : CacheList) → FlashStandsFor geometry.now (M.state media.old).contents.flash.page s
-        → IsMoment c (M.state media.new).contents (settled s)) }
+        → IsMoment c (M.state media.new).contents (both_alike s)) }
     ensures images { (s : CacheList) → FlashStandsFor geometry.now (M.state media.old).contents.flash.page s → (x : Image)
         → Now (M.state media.new).contents x → FlashStandsFor geometry.now x.page s }
     ensures is_up { IfOk result (λ c. IsUp c (M.state media.new).contents) }

@@ -7,6 +7,7 @@ use Rattle.std.proofs.lemmas.Bool.{cases_Bool, and_parts, and_from, or_parts, fa
 use Rattle.std.proofs.lemmas.Bool.Decides.{nat_tests}
 use Rattle.ft_base.specs.declared.block.Block.{Block}
 use Rattle.ft_base.specs.declared.block.Place.{Place}
+use Rattle.ft_base.specs.declared.geometry.Geometry.{Geometry}
 use Rattle.ft_base.specs.declared.record.Record.{Record}
 use Rattle.ft_base.specs.declared.record.Record.TheVariants.{SetPage, Clean}
 use Rattle.ft_base.specs.Contents.{Contents}
@@ -22,7 +23,7 @@ use Rattle.mapping.specs.MapValue.{MapValue}
 use Rattle.merge_engine.specs.declared.parts.Parts.{Parts}
 use Rattle.merge_engine.specs.Agreement.{Agree, Lists}
 use Rattle.ssc.specs.declared.cache.Ssc.{Ssc}
-use Rattle.ssc.specs.CacheState.{HasMemory, Holds, IsAsBefore, entries_of, may_wait, waiting_as, waiting, pending}
+use Rattle.ssc.specs.CacheState.{HasMemory, Holds, IsAsBefore, entries_of, geometry_of, may_wait, waiting_as, waiting, pending}
 use Rattle.ssc.specs.Commands.{PendsWith}
 use Rattle.ssc.specs.Steps.{ListsAfter}
 
@@ -87,11 +88,11 @@ map_push : (q : List Buffered) (b : Buffered) → map address_of (q ++ b ∷ [])
 map_push [] b = refl
 map_push (x ∷ xs) b = ap (λ l. address_of x ∷ l) (map_push xs b)
 
-waits_none : (s : CacheList) → MayWait [] s
-waits_none s = record { apart = tt; clean = tt; few = omega arith }
+waits_none : (g : Geometry) (s : CacheList) → MayWait g [] s
+waits_none g s = record { apart = tt; clean = tt; few = omega arith }
 
-waits_push : (q : List Buffered) (own : Buffered) (s s' : CacheList) → ((h : Held) → get s (address_of own) ≡ Some h → h.dirty ≡ false → ⊥) → ((a : ℕ) → (a ≡ address_of own → ⊥) → get s' a ≡ get s a) → IsCleanIn s' own → length q + 1 < 127 → MayWait q s → MayWait (q ++ own ∷ []) s'
-waits_push q own s s' never same clean few waits =
+waits_push : (g g' : Geometry) (q : List Buffered) (own : Buffered) (s s' : CacheList) → ((h : Held) → get s (address_of own) ≡ Some h → h.dirty ≡ false → ⊥) → ((a : ℕ) → (a ≡ address_of own → ⊥) → get s' a ≡ get s a) → IsCleanIn s' own → length q + 1 < 127 → MayWait g q s → MayWait g' (q ++ own ∷ []) s'
+waits_push g g' q own s s' never same clean few waits =
     let absent = not_waiting q s (address_of own) never waits.clean in
     record {
       apart = subst AreApart (sym (map_push q own)) (apart_push (map address_of q) (address_of own) absent waits.apart);
@@ -111,17 +112,17 @@ pub memory_logged : (old new : Parts) → new ≡ record old { log = new.log } �
 memory_logged old new is memory = subst HasMemory (sym is) (record { pages = memory.pages; groups = memory.groups })
 
 holds_from : (c : Ssc) (contents : Contents) (s durable : CacheList) (buffered : List Record) → IsSettled c contents → c.parts.log.buffered ≡ buffered → undo (waiting buffered) s ≡ durable
-    → Lists c.parts contents.flash.page s durable → list_all may_wait buffered ≡ true → MayWait (waiting buffered) s → Holds c contents s
+    → Lists c.parts contents.flash.page s durable → list_all may_wait buffered ≡ true → MayWait (geometry_of c) (waiting buffered) s → Holds c contents s
 holds_from c contents s durable buffered settled is undone lists kinds waits = record {
   agree = settled.agree;
   lists = subst (λ (d : CacheList). Lists c.parts contents.flash.page s d) (sym undone ∙ ap (λ (l : List Record). undo (waiting l) s) (sym is)) lists;
   kinds = subst (λ (l : List Record). list_all may_wait l ≡ true) (sym is) kinds;
-  waits = subst (λ (l : List Record). MayWait (waiting l) s) (sym is) waits;
+  waits = subst (λ (l : List Record). MayWait (geometry_of c) (waiting l) s) (sym is) waits;
   memory = settled.memory;
 }
 
 pub holds_committed : (c : Ssc) (contents : Contents) (s : CacheList) → IsSettled c contents → c.parts.log.buffered ≡ [] → Lists c.parts contents.flash.page s s → Holds c contents s
-holds_committed c contents s settled is lists = holds_from c contents s s [] settled is refl lists refl (waits_none s)
+holds_committed c contents s settled is lists = holds_from c contents s s [] settled is refl lists refl (waits_none (geometry_of c) s)
 
 -- a step that waits, in a record of its own
 module _ (s s' : CacheList) (own : Record)
@@ -140,13 +141,13 @@ module _ (s s' : CacheList) (own : Record)
       let away = undone_away q (address_of (waiting_as own)) (not_waiting q s (address_of (waiting_as own)) never holds.waits.clean) in
       holds_from new contents' s' (undo q s) (old.parts.log.buffered ++ own ∷ []) settled is (ap (λ (l : List Buffered). undo l s') pushed ∙ undone q away) lists
       (kinds_push old.parts.log.buffered own may holds.kinds)
-      (subst (λ (l : List Buffered). MayWait l s') (sym pushed) (waits_push q (waiting_as own) s s' never same clean count holds.waits))
+      (subst (λ (l : List Buffered). MayWait (geometry_of new) l s') (sym pushed) (waits_push (geometry_of old) (geometry_of new) q (waiting_as own) s s' never same clean count holds.waits))
 
   -- alone
   holds_alone : (new : Ssc) (contents' : Contents) → IsSettled new contents' → new.parts.log.buffered ≡ own ∷ [] → Lists new.parts contents'.flash.page s' s → Holds new contents' s'
   holds_alone new contents' settled is lists =
       holds_from new contents' s' s (own ∷ []) settled is (undone [] (λ o. refl)) lists (and_from _ _ may refl)
-      (waits_push [] (waiting_as own) s s' never same clean (omega arith) (waits_none s))
+      (waits_push (geometry_of new) (geometry_of new) [] (waiting_as own) s s' never same clean (omega arith) (waits_none (geometry_of new) s))
 
   holds_after : (old new : Ssc) (contents contents' : Contents) → Holds old contents s → IsSettled new contents' → length new.parts.log.buffered < 127 → ListsAfter old.parts.log.buffered own new.parts contents'.flash.page (undo (pending old) s) s s' → Holds new contents' s'
   holds_after old new contents contents' holds settled few (inl k) = holds_behind old new contents contents' holds settled few k.0 k.1

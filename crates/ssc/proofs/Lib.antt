@@ -11,3 +11,4 @@ pub mod PlaceLemmas
 pub mod WrittenLemmas
 pub mod SpendLemmas
 pub mod WriteLemmas
+pub mod OwnLemmas

@@ -29,7 +29,7 @@ use Rattle.ssc.specs.declared.cache.Ssc.{Ssc}
 use Rattle.ssc.specs.CacheState.{Holds, entries_of}
 use Rattle.mapping.specs.declared.bits.Choice.TheVariants.{Dirty}
 use Rattle.mapping.specs.Bits.{chosen_of, is_chosen, set_of}
-use Rattle.ssc.specs.Listed.{dirty_pages, is_held_dirty, is_listed, listed, times_listed, AddsListed, AddsNumber, IsListedAt}
+use Rattle.ssc.specs.Listed.{dirty_pages, is_held_dirty, is_dirty_from, listed, times_listed, AddsListed, AddsNumber, IsListedAt}
 use Rattle.ssc.proofs.HoldsLemmas.{held_none, held_some}
 use Rattle.ssc.proofs.NumberLemmas.{less_key, one_address, one_if, sorted_entries, the_entry}
 
@@ -40,19 +40,19 @@ IsDirtyIn m a = (e : Entry) × (get m a ≡ Some e) × (e.dirty ≡ true)
 
 module _ (g : Geometry) (m : Entries) (is_map : IsMap g m) (i a from end : ℕ) (at : Place) (is : HasNumber g m i (a, at)) where
   pub not_dirty : (IsDirtyIn m a → ⊥) → IsListedAt g m from end i None
-  not_dirty never = the_entry g m is_map i a at is (λ x. is_listed from end x ≡ false) (elim (cases_Bool is.owns.0.dirty) [
+  not_dirty never = the_entry g m is_map i a at is (λ x. is_dirty_from from end x ≡ false) (elim (cases_Bool is.owns.0.dirty) [
     | inl t ↦ absurd (never (is.owns.0, is.owns.1, t))
     | inr f ↦ ap (λ b. b && nat_le from a && nat_lt a end) f
   ])
 
   pub not_low : a < from → IsListedAt g m from end i None
-  not_low low = the_entry g m is_map i a at is (λ x. is_listed from end x ≡ false) (outside is.owns.0.dirty)
+  not_low low = the_entry g m is_map i a at is (λ x. is_dirty_from from end x ≡ false) (outside is.owns.0.dirty)
     where
       outside : (dirty : Bool) → (dirty && nat_le from a && nat_lt a end) ≡ false
       outside dirty = grind (arith, nat_tests)
 
   pub not_high : end ≤ a → IsListedAt g m from end i None
-  not_high high = the_entry g m is_map i a at is (λ x. is_listed from end x ≡ false) (outside is.owns.0.dirty)
+  not_high high = the_entry g m is_map i a at is (λ x. is_dirty_from from end x ≡ false) (outside is.owns.0.dirty)
     where
       outside : (dirty : Bool) → (dirty && nat_le from a && nat_lt a end) ≡ false
       outside dirty = grind (arith, nat_tests)
@@ -62,7 +62,7 @@ module _ (g : Geometry) (m : Entries) (is_map : IsMap g m) (i a from end : ℕ) 
 -- how often an address is listed, whose page has a number below the end
 abbrev pub times_below : Geometry → ℕ → ℕ → ℕ → ℕ → Option Entry → ℕ
 times_below g from to end a None = 0
-times_below g from to end a (Some e) = one_if (is_listed from to (a, e) && nat_lt (number_of g e.place) end)
+times_below g from to end a (Some e) = one_if (is_dirty_from from to (a, e) && nat_lt (number_of g e.place) end)
 
 -- behind what was there comes each listed address once whose page has a number below the end
 pub record ListedSoFar (g : Geometry) (m : Entries) (from to end : ℕ) (old now : List ℕ) : Type 0 where
@@ -86,12 +86,12 @@ listed_none g m from to old = record { found = []; items = nothing old; each = �
 
     none : (a : ℕ) (o : Option Entry) → 0 ≡ times_below g from to 0 a o
     none a None = refl
-    none a (Some e) = never (is_listed from to (a, e)) (number_of g e.place)
+    none a (Some e) = never (is_dirty_from from to (a, e)) (number_of g e.place)
 
 -- an address whose page has another number, or that isn't listed
-times_same : (g : Geometry) (from to end a : ℕ) (o : Option Entry) → ((e : Entry) → o ≡ Some e → number_of g e.place ≡ end → is_listed from to (a, e) ≡ false) → times_below g from to (end + 1) a o ≡ times_below g from to end a o
+times_same : (g : Geometry) (from to end a : ℕ) (o : Option Entry) → ((e : Entry) → o ≡ Some e → number_of g e.place ≡ end → is_dirty_from from to (a, e) ≡ false) → times_below g from to (end + 1) a o ≡ times_below g from to end a o
 times_same g from to end a None other = refl
-times_same g from to end a (Some e) other = by (is_listed from to (a, e)) (number_of g e.place) (other e refl)
+times_same g from to end a (Some e) other = by (is_dirty_from from to (a, e)) (number_of g e.place) (other e refl)
   where
     apart : (n : ℕ) → (n ≡ end → ⊥) → nat_lt n (end + 1) ≡ nat_lt n end
     apart n other = grind (arith, nat_tests)
@@ -100,8 +100,8 @@ times_same g from to end a (Some e) other = by (is_listed from to (a, e)) (numbe
     by true n other = ap one_if (apart n (λ is. false≢true (sym (other is))))
     by false n other = refl
 
-times_one : (g : Geometry) (from to end a : ℕ) (e : Entry) → number_of g e.place ≡ end → is_listed from to (a, e) ≡ true → times_below g from to (end + 1) a (Some e) ≡ times_below g from to end a (Some e) + 1
-times_one g from to end a e number shows = by (is_listed from to (a, e)) (number_of g e.place) shows number
+times_one : (g : Geometry) (from to end a : ℕ) (e : Entry) → number_of g e.place ≡ end → is_dirty_from from to (a, e) ≡ true → times_below g from to (end + 1) a (Some e) ≡ times_below g from to end a (Some e) + 1
+times_one g from to end a e number shows = by (is_dirty_from from to (a, e)) (number_of g e.place) shows number
   where
     here : (n : ℕ) → n ≡ end → one_if (nat_lt n (end + 1)) ≡ one_if (nat_lt n end) + 1
     here n number = grind (arith, nat_tests)
@@ -130,7 +130,7 @@ listed_more g m from to end old now new is_map so_far (Some lba, (e, there, numb
         | inl t ↦
             let same : lba ≡ a = eqb-true lba a t in
             let here : get m a ≡ Some e = ap (get m) (sym same) ∙ there in
-            let one = times_one g from to end a e number (ap (λ n. is_listed from to (n, e)) (sym same) ∙ shows) in
+            let one = times_one g from to end a e number (ap (λ n. is_dirty_from from to (n, e)) (sym same) ∙ shows) in
             let added : one_if (lba == a) ≡ 1 = ap one_if t in
             let was : times_below g from to end a (get m a) ≡ times_below g from to end a (Some e) = ap (times_below g from to end a) here in
             let now : times_below g from to (end + 1) a (get m a) ≡ times_below g from to (end + 1) a (Some e) = ap (times_below g from to (end + 1) a) here in
@@ -156,7 +156,7 @@ listed_all g m from to end old now numbered so_far = record {
 
     whole : (a : ℕ) (o : Option Entry) → ((e : Entry) → o ≡ Some e → number_of g e.place < end) → times_below g from to end a o ≡ times_listed from to a o
     whole a None low = refl
-    whole a (Some e) low = drop_test (is_listed from to (a, e)) (nat_lt (number_of g e.place) end) (lt-ltb _ _ (low e refl))
+    whole a (Some e) low = drop_test (is_dirty_from from to (a, e)) (nat_lt (number_of g e.place) end) (lt-ltb _ _ (low e refl))
 
 -- what was there is still the front
 pub listed_front : (g : Geometry) (m : Entries) (from to end : ℕ) (old now : List ℕ) → ListedSoFar g m from to end old now → take (length old) now ≡ old
@@ -205,10 +205,10 @@ abbrev if_listed : Bool → ℕ → ℕ
 if_listed b n = cond b n 0
 
 module _ (from end : ℕ) where
-  split : (x : ℕ × Entry) (es : List (ℕ × Entry)) (a : ℕ) → count_by (λ n. n == a) (listed from end (x ∷ es)) ≡ if_listed (is_listed from end x) (one_if (x.0 == a)) + count_by (λ n. n == a) (listed from end es)
-  split x es a = by (is_listed from end x)
+  split : (x : ℕ × Entry) (es : List (ℕ × Entry)) (a : ℕ) → count_by (λ n. n == a) (listed from end (x ∷ es)) ≡ if_listed (is_dirty_from from end x) (one_if (x.0 == a)) + count_by (λ n. n == a) (listed from end es)
+  split x es a = by (is_dirty_from from end x)
     where
-      by : (b : Bool) → count_by (λ n. n == a) (map (λ (y : ℕ × Entry). y.0) (cond b (x ∷ filter (is_listed from end) es) (filter (is_listed from end) es))) ≡ if_listed b (one_if (x.0 == a)) + count_by (λ n. n == a) (listed from end es)
+      by : (b : Bool) → count_by (λ n. n == a) (map (λ (y : ℕ × Entry). y.0) (cond b (x ∷ filter (is_dirty_from from end) es) (filter (is_dirty_from from end) es))) ≡ if_listed b (one_if (x.0 == a)) + count_by (λ n. n == a) (listed from end es)
       by true = sum_by-cons (λ n. one_if (n == a)) x.0 (listed from end es)
       by false = omega arith
 
@@ -224,7 +224,7 @@ module _ (from end : ℕ) where
       let less = less_key k x.0 parts.0 in
       let rest = none_below es a k same parts.1 in
       let whole = split x es a in
-      let first : if_listed (is_listed from end x) (one_if (x.0 == a)) ≡ 0 = ap (λ b. if_listed (is_listed from end x) (one_if b)) (ne_eqb x.0 a (λ is. absurd (omega arith))) ∙ either_zero (is_listed from end x) in
+      let first : if_listed (is_dirty_from from end x) (one_if (x.0 == a)) ≡ 0 = ap (λ b. if_listed (is_dirty_from from end x) (one_if b)) (ne_eqb x.0 a (λ is. absurd (omega arith))) ∙ either_zero (is_dirty_from from end x) in
       omega arith
 
   times_there : (es : List (ℕ × Entry)) → is_sorted nat_cmp es ≡ true → (a : ℕ) → count_by (λ n. n == a) (listed from end es) ≡ times_listed from end a (find nat_cmp a es)
@@ -237,12 +237,12 @@ module _ (from end : ℕ) where
             let same : a ≡ x.0 = eqb-true a x.0 t in
             let rest = none_below es a x.0 same parts.0 in
             let found : times_listed from end a (find nat_cmp a (x ∷ es)) ≡ times_listed from end a (Some x.1) = ap (λ b. times_listed from end a (cond b (Some x.1) (find nat_cmp a es))) (eq_key a x.0 ∙ t) in
-            let first : if_listed (is_listed from end x) (one_if (x.0 == a)) ≡ times_listed from end a (Some x.1) = ap (λ b. if_listed (is_listed from end x) (one_if b)) (eq-eqb x.0 a (sym same)) ∙ ap (λ n. one_if (is_listed from end (n, x.1))) (sym same) in
+            let first : if_listed (is_dirty_from from end x) (one_if (x.0 == a)) ≡ times_listed from end a (Some x.1) = ap (λ b. if_listed (is_dirty_from from end x) (one_if b)) (eq-eqb x.0 a (sym same)) ∙ ap (λ n. one_if (is_dirty_from from end (n, x.1))) (sym same) in
             omega arith
         | inr f ↦
             let rest = times_there es parts.1 a in
             let found : times_listed from end a (find nat_cmp a (x ∷ es)) ≡ times_listed from end a (find nat_cmp a es) = ap (λ b. times_listed from end a (cond b (Some x.1) (find nat_cmp a es))) (eq_key a x.0 ∙ f) in
-            let first : if_listed (is_listed from end x) (one_if (x.0 == a)) ≡ 0 = ap (λ b. if_listed (is_listed from end x) (one_if b)) (ne_eqb x.0 a (λ is. both_ways (a == x.0) f (eq-eqb a x.0 (sym is)))) ∙ either_zero (is_listed from end x) in
+            let first : if_listed (is_dirty_from from end x) (one_if (x.0 == a)) ≡ 0 = ap (λ b. if_listed (is_dirty_from from end x) (one_if b)) (ne_eqb x.0 a (λ is. both_ways (a == x.0) f (eq-eqb a x.0 (sym is)))) ∙ either_zero (is_dirty_from from end x) in
             omega arith
       ]
 
@@ -250,9 +250,9 @@ module _ (from end : ℕ) where
   above_all [] k low = tt
   above_all (x ∷ es) k low =
       let parts = and_parts (is_lt (nat_cmp k x.0)) (below_all nat_cmp k es) low in
-      by (is_listed from end x) (less_key k x.0 parts.0) (above_all es k parts.1)
+      by (is_dirty_from from end x) (less_key k x.0 parts.0) (above_all es k parts.1)
     where
-      by : (b : Bool) → k < x.0 → AllByRecursion (λ n. k ≤ n) (listed from end es) → AllByRecursion (λ n. k ≤ n) (map (λ (y : ℕ × Entry). y.0) (cond b (x ∷ filter (is_listed from end) es) (filter (is_listed from end) es)))
+      by : (b : Bool) → k < x.0 → AllByRecursion (λ n. k ≤ n) (listed from end es) → AllByRecursion (λ n. k ≤ n) (map (λ (y : ℕ × Entry). y.0) (cond b (x ∷ filter (is_dirty_from from end) es) (filter (is_dirty_from from end) es)))
       by true less rest = (omega arith, rest)
       by false less rest = rest
 
@@ -260,9 +260,9 @@ module _ (from end : ℕ) where
   listed_rises [] sorted = tt
   listed_rises (x ∷ es) sorted =
       let parts = and_parts (below_all nat_cmp x.0 es) (is_sorted nat_cmp es) sorted in
-      by (is_listed from end x) (above_all es x.0 parts.0) (listed_rises es parts.1)
+      by (is_dirty_from from end x) (above_all es x.0 parts.0) (listed_rises es parts.1)
     where
-      by : (b : Bool) → AllByRecursion (λ n. x.0 ≤ n) (listed from end es) → Rises (listed from end es) → Rises (map (λ (y : ℕ × Entry). y.0) (cond b (x ∷ filter (is_listed from end) es) (filter (is_listed from end) es)))
+      by : (b : Bool) → AllByRecursion (λ n. x.0 ≤ n) (listed from end es) → Rises (listed from end es) → Rises (map (λ (y : ℕ × Entry). y.0) (cond b (x ∷ filter (is_dirty_from from end) es) (filter (is_dirty_from from end) es)))
       by true low rest = (low, rest)
       by false low rest = rest
 

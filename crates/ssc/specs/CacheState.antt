@@ -62,7 +62,7 @@ pub record Holds (c : Ssc) (contents : Contents) (s : CacheList) : Type 0 where
   pub agree : Agree c.parts contents
   pub lists : Lists c.parts contents.flash.page s (undo (pending c) s)
   pub kinds : IsTrue (list_all may_wait c.parts.log.buffered)
-  pub waits : MayWait (pending c) s
+  pub waits : MayWait (geometry_of c) (pending c) s
   pub memory : c.ready ≡ true → HasMemory c.parts
 
 -- it holds some list, and was not given up

@@ -4,3 +4,4 @@ pub mod Commands
 pub mod Steps
 pub mod Listed
 pub mod Scrubbed
+pub mod Own

@@ -9,18 +9,18 @@ use Rattle.mapping.specs.Bits.{set_of}
 use Rattle.mapping.specs.Numbers.{number_of}
 
 -- the entry is dirty, and its address is at least the first and below the end
-abbrev pub is_listed : ℕ → ℕ → ℕ × Entry → Bool
-is_listed from end x = x.1.dirty && nat_le from x.0 && nat_lt x.0 end
+abbrev pub is_dirty_from : ℕ → ℕ → ℕ × Entry → Bool
+is_dirty_from from end x = x.1.dirty && nat_le from x.0 && nat_lt x.0 end
 
 abbrev pub listed : ℕ → ℕ → List (ℕ × Entry) → List ℕ
-listed from end es = map (λ x. x.0) (filter (is_listed from end) es)
+listed from end es = map (λ x. x.0) (filter (is_dirty_from from end) es)
 
 -- the address of the entry of this number, where it is listed; none where no entry of the number is
 abbrev pub IsListedAt : Geometry → Entries → ℕ → ℕ → ℕ → Option ℕ → Type 0
 IsListedAt g m from end number None = (a : ℕ) (e : Entry) → get m a ≡ Some e → number_of g e.place ≡ number
-    → is_listed from end (a, e) ≡ false
+    → is_dirty_from from end (a, e) ≡ false
 IsListedAt g m from end number (Some a) = (e : Entry) × (get m a ≡ Some e) × (number_of g e.place ≡ number)
-    × (is_listed from end (a, e) ≡ true)
+    × (is_dirty_from from end (a, e) ≡ true)
 
 -- one address, or none
 abbrev pub shown : Option ℕ → List ℕ
@@ -34,7 +34,7 @@ AddsNumber g m from end number old new = (at : Option ℕ) × IsListedAt g m fro
 -- how often an address is listed, by its entry: once or not at all
 abbrev pub times_listed : ℕ → ℕ → ℕ → Option Entry → ℕ
 times_listed from end a None = 0
-times_listed from end a (Some e) = if is_listed from end (a, e) then 1 else 0
+times_listed from end a (Some e) = if is_dirty_from from end (a, e) then 1 else 0
 
 -- behind what was there comes each listed address once, and no other
 pub record AddsListed (from end : ℕ) (m : Entries) (old new : List ℕ) : Type 0 where

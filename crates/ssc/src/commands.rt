@@ -14,6 +14,7 @@ ghost use Rattle.merge_engine.specs.Agreement.{Agree, Lists};
 ghost use Rattle.merge_engine.specs.Steps.{HasLogRoom};
 ghost use Rattle.ssc.specs.Errors.{ssc_failed, ssc_lost, stops};
 ghost use Rattle.ssc.specs.CacheState.{HasMemory, Holds, IsAsBefore, IsUp, entries_of, geometry_of, log_room, open_room, pending};
+ghost use Rattle.ssc.specs.Own.{KeepsOwn};
 ghost use Rattle.ssc.specs.Steps.{IsPushed, PutsBlock, FlashStandsForStep};
 ghost use Rattle.ssc.specs.Commands.{ImagesOf, ImagesOfWrite, FullExactly, HoldsWritten, PendsWith, IsDirtyIn, IsHeldIn, ReadOf, FlashStandsForOne, UnlessFound};
 
@@ -51,6 +52,8 @@ impl Ssc {
         // Whatever is answered, and wherever power went off.
         ensures images { (s : CacheList) → Holds self.old (M.state media.old).contents s
             → ImagesOfWrite self.old (M.state media.new).contents s lba (written_dirty lba block.now) }
+        // Blocks that were each written for their own address stay so.
+        ensures own { KeepsOwn self.old (M.state media.old).contents self.new (M.state media.new).contents }
         // Where the open log block has a page left nothing gives way.
         ensures inside { OnOk result (1 ≤ open_room self.old → (s : CacheList) → Holds self.old (M.state media.old).contents s
             → Holds self.new (M.state media.new).contents (written_dirty lba block.now s)) }
@@ -106,6 +109,8 @@ impl Ssc {
         // Whatever is answered, and wherever power went off.
         ensures images { (s : CacheList) → Holds self.old (M.state media.old).contents s
             → ImagesOfWrite self.old (M.state media.new).contents s lba (written_clean lba block.now) }
+        // Blocks that were each written for their own address stay so.
+        ensures own { KeepsOwn self.old (M.state media.old).contents self.new (M.state media.new).contents }
         // Where the open log block has a page left nothing gives way.
         ensures inside { OnOk result (1 ≤ open_room self.old → (s : CacheList) → Holds self.old (M.state media.old).contents s
             → Holds self.new (M.state media.new).contents (written_clean lba block.now s)) }
@@ -220,6 +225,8 @@ impl Ssc {
             → (self.new ≡ self.old) × (M.state media.new ≡ M.state media.old)) }
         ensures images { (s : CacheList) → Holds self.old (M.state media.old).contents s
             → ImagesOf self.old (M.state media.new).contents s (evicted lba s) }
+        // Blocks that were each written for their own address stay so.
+        ensures own { KeepsOwn self.old (M.state media.old).contents self.new (M.state media.new).contents }
         ensures one_program { OnOk result ((s : CacheList) → Holds self.old (M.state media.old).contents s → IsHeldIn s lba
             → 1 ≤ log_room self.old → (M.state media.new).counts ≡ program_counted (M.state media.old).counts) }
         ensures ready { self.new.ready ≡ self.old.ready }
@@ -252,6 +259,8 @@ impl Ssc {
             → M.state media.new ≡ M.state media.old) }
         ensures images { (s : CacheList) → Holds self.old (M.state media.old).contents s
             → ImagesOf self.old (M.state media.new).contents s (made_clean lba s) }
+        // Blocks that were each written for their own address stay so.
+        ensures own { KeepsOwn self.old (M.state media.old).contents self.new (M.state media.new).contents }
         ensures ready { self.new.ready ≡ self.old.ready }
         ensures drives { DrivesFlash (M.state media.old) (M.state media.new) (ssc_failed result) (ssc_lost result) }
     {
@@ -295,6 +304,8 @@ impl Ssc {
         ensures nothing_waits { OnOk result (pending self.new ≡ []) }
         ensures images { (s : CacheList) → Holds self.old (M.state media.old).contents s
             → ImagesOf self.old (M.state media.new).contents s s }
+        // Blocks that were each written for their own address stay so.
+        ensures own { KeepsOwn self.old (M.state media.old).contents self.new (M.state media.new).contents }
         ensures one_program { OnOk result (pending self.old ≢ [] → 1 ≤ log_room self.old
             → (M.state media.new).counts ≡ program_counted (M.state media.old).counts) }
         ensures ready { self.new.ready ≡ self.old.ready }
@@ -319,6 +330,8 @@ impl Ssc {
         ensures log { OnOk result (self.new.parts.log.next ≡ 0) }
         ensures images { (s : CacheList) → Holds self.old (M.state media.old).contents s
             → ImagesOf self.old (M.state media.new).contents s s }
+        // Blocks that were each written for their own address stay so.
+        ensures own { KeepsOwn self.old (M.state media.old).contents self.new (M.state media.new).contents }
         ensures ready { self.new.ready ≡ self.old.ready }
         ensures drives { DrivesFlash (M.state media.old) (M.state media.new) (ssc_failed result) (ssc_lost result) }
     {

@@ -3,6 +3,7 @@ ghost use Rattle.std.specs.FinMap.{empty};
 ghost use Rattle.ft_media.specs.Drives.{DrivesFlash};
 ghost use Rattle.cache_model.specs.Stands.{FlashStandsFor};
 ghost use Rattle.op_log.specs.Log.{FitsOn};
+ghost use Rattle.ssc.specs.Own.{LoadsOwn};
 ghost use Rattle.ssc.specs.Errors.{ssc_failed, ssc_lost};
 
 use crate::error::of_media;
@@ -17,6 +18,7 @@ impl Ssc {
     pub fn format<M: Media>(media: &mut M, geometry: &Geometry) -> Result<(), SscError>
         requires shape { FitsOn geometry.now (M.state media.old).contents.shape }
         ensures done { OnOk result (FlashStandsFor geometry.now (M.state media.new).contents.flash.page empty) }
+        ensures own { OnOk result (LoadsOwn geometry.now (M.state media.new).contents.flash.page) }
         ensures full { (n l : ℕ) → IsErrOf result (SscError.Full n l) → ⊥ }
         ensures memory { IsErrOf result SscError.OutOfMemory → ⊥ }
         ensures drives { DrivesFlash (M.state media.old) (M.state media.new) (ssc_failed result) (ssc_lost result) }

@@ -10,6 +10,7 @@ ghost use Rattle.cache_model.specs.Stands.{FlashStandsFor};
 ghost use Rattle.op_log.specs.Log.{FitsOn};
 ghost use Rattle.op_log.specs.Refusals.{open_failed, open_lost, IsRefusal};
 ghost use Rattle.ssc.specs.CacheState.{Holds, IsUp, entries_of, geometry_of, log_room, open_room, pending};
+ghost use Rattle.ssc.specs.Own.{HoldsOwn, LoadsOwn};
 ghost use Rattle.ssc.specs.Steps.{IsLoadedAs};
 
 use crate::Ssc;
@@ -45,6 +46,9 @@ impl Ssc {
         // Whatever is answered, and wherever power went off, nothing is lost and nothing comes back.
         ensures images { (s : CacheList) → FlashStandsFor geometry.now (M.state media.old).contents.flash.page s → (x : Image)
             → Now (M.state media.new).contents x → FlashStandsFor geometry.now x.page s }
+        // Blocks that were each written for their own address stay so.
+        ensures own { IfOk result (λ c. LoadsOwn geometry.now (M.state media.old).contents.flash.page
+            → HoldsOwn c (M.state media.new).contents) }
         ensures same { load geometry.now (M.state media.new).contents.flash.page ≡ load geometry.now
             (M.state media.old).contents.flash.page }
         ensures programs { OnOk result (Rose (M.state media.old).counts.programs (M.state media.new).counts.programs) }

@@ -4,6 +4,8 @@ use Rattle.op_log.specs.Log.{LogValue}
 use Rattle.ssc.specs.CacheState.{pending, geometry_of}
 use Rattle.ssc.proofs.HoldsLemmas.{holds_committed, memory_logged}
 use Rattle.ssc.proofs.CommandLemmas.{images_before}
+use Rattle.ssc.proofs.OwnLemmas.{given_up_not, kept_step}
+use Rattle.ssc.specs.declared.cache.Ssc.{Ssc}
 use Rattle.ssc.proofs.cache.Ssc.checkpoint.Goals as goal
 
 pub returns-in-Ok-clause-done : goal.returns-in-Ok-clause-done
@@ -17,3 +19,9 @@ returns-in-Ok-clause-images g c = λ s holds. images_before (geometry_of c.args.
 
 pub returns-in-Err-clause-images : goal.returns-in-Err-clause-images
 returns-in-Err-clause-images g c = λ s holds. images_before (geometry_of c.args.self.now) (g.M.Media.state c.make_checkpoint.new.media).contents (undo (pending c.args.self.now) s) s s (c.make_checkpoint.ensures.stands s (undo (pending c.args.self.now) s) holds.lists)
+
+pub returns-in-Ok-clause-own : goal.returns-in-Ok-clause-own
+returns-in-Ok-clause-own g c = kept_step c.args.self.now _ (g.M.Media.state c.args.media.now).contents (g.M.Media.state c.make_checkpoint.new.media).contents (λ s. s) (λ s own. own) (λ up. returns-in-Ok-clause-done g c) (returns-in-Ok-clause-images g c)
+
+pub returns-in-Err-clause-own : goal.returns-in-Err-clause-own
+returns-in-Err-clause-own g c = kept_step c.args.self.now c.give_up.new.self (g.M.Media.state c.args.media.now).contents (g.M.Media.state c.make_checkpoint.new.media).contents (λ s. s) (λ s own. own) (λ up. given_up_not c.give_up.new.self (ap (λ (k : Ssc). k.stopped) c.give_up.ensures.cache) up) (returns-in-Err-clause-images g c)

@@ -1,10 +1,12 @@
-use Rattle.std.proofs.Common.{refl, sym, subst, arith}
+use Rattle.std.proofs.Common.{refl, sym, subst, arith, ap}
 use Rattle.std.proofs.lemmas.Bool.{false≢true}
 use Rattle.ft_base.specs.declared.record.Record.TheVariants.{Clean}
 use Rattle.cache_model.specs.Cache.{CacheList, undo, made_clean}
 use Rattle.ssc.specs.CacheState.{Holds, pending, geometry_of}
 use Rattle.ssc.proofs.HoldsLemmas.{few_buffered, length_waiting, holds_cleaned, pends_after}
 use Rattle.ssc.proofs.CommandLemmas.{images_after, dirty_entry, no_dirty_entry}
+use Rattle.ssc.proofs.OwnLemmas.{given_up_not, kept_step, kept_held, cleaned_own}
+use Rattle.ssc.specs.declared.cache.Ssc.{Ssc}
 use Rattle.ssc.proofs.cache.Ssc.clean.Goals as goal
 
 pub returns-then-not-is_dirty-clause-done : goal.returns-then-not-is_dirty-clause-done
@@ -41,3 +43,12 @@ returns-in-Ok-clause-images g c = λ s holds. images_after (geometry_of c.args.s
 
 pub returns-in-Err-clause-images : goal.returns-in-Err-clause-images
 returns-in-Err-clause-images g c = λ s holds. images_after (geometry_of c.args.self.now) (g.M.Media.state c.mark_clean.new.media).contents (undo (pending c.args.self.now) s) s (made_clean c.args.lba s) (c.mark_clean.ensures.stands s (undo (pending c.args.self.now) s) holds.lists)
+
+pub returns-then-not-is_dirty-clause-own : goal.returns-then-not-is_dirty-clause-own
+returns-then-not-is_dirty-clause-own g c = kept_held c.args.self.now c.args.self.now (g.M.Media.state c.args.media.now).contents (λ s holds. holds)
+
+pub returns-in-Ok-clause-own : goal.returns-in-Ok-clause-own
+returns-in-Ok-clause-own g c = kept_step c.args.self.now _ (g.M.Media.state c.args.media.now).contents (g.M.Media.state c.mark_clean.new.media).contents (made_clean c.args.lba) (cleaned_own c.args.lba) (λ up. returns-in-Ok-clause-done g c) (returns-in-Ok-clause-images g c)
+
+pub returns-in-Err-clause-own : goal.returns-in-Err-clause-own
+returns-in-Err-clause-own g c = kept_step c.args.self.now c.give_up.new.self (g.M.Media.state c.args.media.now).contents (g.M.Media.state c.mark_clean.new.media).contents (made_clean c.args.lba) (cleaned_own c.args.lba) (λ up. given_up_not c.give_up.new.self (ap (λ (k : Ssc). k.stopped) c.give_up.ensures.cache) up) (returns-in-Err-clause-images g c)

@@ -5,6 +5,8 @@ use Rattle.merge_engine.specs.declared.parts.Parts.{Parts}
 use Rattle.ssc.specs.CacheState.{pending, geometry_of, waiting}
 use Rattle.ssc.proofs.HoldsLemmas.{holds_committed, memory_logged, waiting-none}
 use Rattle.ssc.proofs.CommandLemmas.{images_before}
+use Rattle.ssc.proofs.OwnLemmas.{given_up_not, kept_step}
+use Rattle.ssc.specs.declared.cache.Ssc.{Ssc}
 use Rattle.ssc.proofs.cache.Ssc.commit.Goals as goal
 
 pub returns-in-Ok-clause-nothing : goal.returns-in-Ok-clause-nothing
@@ -29,3 +31,9 @@ returns-in-Err-clause-nothing g c = λ none. absurd (false≢true (c.in-Err.ensu
 
 pub returns-in-Ok-clause-one_program : goal.returns-in-Ok-clause-one_program
 returns-in-Ok-clause-one_program g c = λ some room. c.in-Ok.ensures.one_page (λ none. some (ap waiting none)) (omega arith)
+
+pub returns-in-Ok-clause-own : goal.returns-in-Ok-clause-own
+returns-in-Ok-clause-own g c = kept_step c.args.self.now _ (g.M.Media.state c.args.media.now).contents (g.M.Media.state c.commit.new.media).contents (λ s. s) (λ s own. own) (λ up. returns-in-Ok-clause-done g c) (returns-in-Ok-clause-images g c)
+
+pub returns-in-Err-clause-own : goal.returns-in-Err-clause-own
+returns-in-Err-clause-own g c = kept_step c.args.self.now c.give_up.new.self (g.M.Media.state c.args.media.now).contents (g.M.Media.state c.commit.new.media).contents (λ s. s) (λ s own. own) (λ up. given_up_not c.give_up.new.self (ap (λ (k : Ssc). k.stopped) c.give_up.ensures.cache) up) (returns-in-Err-clause-images g c)

@@ -1,9 +1,11 @@
-use Rattle.std.proofs.Common.{◌≡◌, ◌∙◌, None, Some, refl, sym, subst, arith}
+use Rattle.std.proofs.Common.{◌≡◌, ◌∙◌, None, Some, refl, sym, subst, arith, ap}
 use Rattle.std.proofs.lemmas.Bool.{false≢true}
 use Rattle.cache_model.specs.Cache.{CacheList, undo, evicted}
 use Rattle.ssc.specs.CacheState.{Holds, pending, geometry_of}
 use Rattle.ssc.proofs.HoldsLemmas.{holds_committed, few_buffered}
 use Rattle.ssc.proofs.CommandLemmas.{images_after, evicted_absent, no_entry, an_entry}
+use Rattle.ssc.proofs.OwnLemmas.{given_up_not, kept_step, kept_held, evicted_own}
+use Rattle.ssc.specs.declared.cache.Ssc.{Ssc}
 use Rattle.ssc.proofs.cache.Ssc.evict.Goals as goal
 
 pub returns-then-not-is_held-clause-done : goal.returns-then-not-is_held-clause-done
@@ -39,3 +41,12 @@ returns-then-not-is_held-clause-one_program g c = λ s holds there room.
 
 pub returns-in-Ok-clause-one_program : goal.returns-in-Ok-clause-one_program
 returns-in-Ok-clause-one_program g c = λ s holds there room. c.in-Ok.ensures.one_program (omega arith)
+
+pub returns-then-not-is_held-clause-own : goal.returns-then-not-is_held-clause-own
+returns-then-not-is_held-clause-own g c = kept_held c.args.self.now c.args.self.now (g.M.Media.state c.args.media.now).contents (λ s holds. holds)
+
+pub returns-in-Ok-clause-own : goal.returns-in-Ok-clause-own
+returns-in-Ok-clause-own g c = kept_step c.args.self.now _ (g.M.Media.state c.args.media.now).contents (g.M.Media.state c.take_out.new.media).contents (evicted c.args.lba) (evicted_own c.args.lba) (λ up. returns-in-Ok-clause-done g c) (returns-in-Ok-clause-images g c)
+
+pub returns-in-Err-clause-own : goal.returns-in-Err-clause-own
+returns-in-Err-clause-own g c = kept_step c.args.self.now c.give_up.new.self (g.M.Media.state c.args.media.now).contents (g.M.Media.state c.take_out.new.media).contents (evicted c.args.lba) (evicted_own c.args.lba) (λ up. given_up_not c.give_up.new.self (ap (λ (k : Ssc). k.stopped) c.give_up.ensures.cache) up) (returns-in-Err-clause-images g c)

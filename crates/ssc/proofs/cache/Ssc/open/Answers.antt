@@ -93,3 +93,6 @@ returns-in-Ok-clause-empty_log g c = full_room c.make_checkpoint.new.cache c.arg
 
 pub returns-in-Ok-clause-closed : goal.returns-in-Ok-clause-closed
 returns-in-Ok-clause-closed g c = ap (λ (p : Parts). p.logs.room) c.make_checkpoint.ensures.cache ∙ c.in_ok-parts.ensures.closed
+
+pub returns-in-Ok-clause-own : goal.returns-in-Ok-clause-own
+returns-in-Ok-clause-own g c = λ loads. record { list = loads.list; holds = returns-in-Ok-clause-holds g c loads.list loads.stands; own = loads.own }

@@ -1,4 +1,4 @@
-use Rattle.std.proofs.Common.{◌<◌, inl, sym, ap, subst}
+use Rattle.std.proofs.Common.{◌<◌, inl, sym, ap, subst, false}
 use Rattle.ft_base.specs.declared.geometry.Geometry.{Geometry}
 use Rattle.cache_model.specs.Cache.{Inserted, undo, written_clean}
 use Rattle.merge_engine.specs.declared.parts.Parts.{Parts}
@@ -8,6 +8,7 @@ use Rattle.ssc.specs.Commands.{PendsWith}
 use Rattle.ssc.proofs.CommandLemmas.{not_refused, drives_given_up}
 use Rattle.ssc.proofs.HoldsLemmas.{few_buffered, held_none}
 use Rattle.ssc.proofs.WriteLemmas.{images_kept, images_written, log_room_left, written_from, inside_from, settled_unready, left_clean, room_left, none_of_absent, few_left, one_pends, over_held, pends_written}
+use Rattle.ssc.proofs.OwnLemmas.{given_up_not, kept_held, kept_write}
 use Rattle.ssc.proofs.cache.Ssc.write_clean.Goals as goal
 
 pub put_clean-requires-clause-agree : goal.put_clean-requires-clause-agree
@@ -84,3 +85,12 @@ pub returns-in-Err-clause-kept_images : goal.returns-in-Err-clause-kept_images
 returns-in-Err-clause-kept_images g c = λ room s holds.
     images_kept c.args.self.now c.reserve.new.self (g.M.Media.state c.put_clean.new.media).contents s (written_clean c.args.lba c.args.block.now s) c.reserve.ensures.same c.reserve.ensures.pending
     (c.put_clean.ensures.kept (log_room_left c.args.self.now c.reserve.new.self c.reserve.ensures.parts c.reserve.ensures.entries room) s (undo (pending c.reserve.new.self) s) (c.reserve.ensures.holds (g.M.Media.state c.args.media.now).contents s holds).lists)
+
+pub returns-then-is_err-clause-own : goal.returns-then-is_err-clause-own
+returns-then-is_err-clause-own g c = kept_held c.args.self.now c.reserve.new.self (g.M.Media.state c.args.media.now).contents (c.reserve.ensures.holds (g.M.Media.state c.args.media.now).contents)
+
+pub returns-in-Ok-clause-own : goal.returns-in-Ok-clause-own
+returns-in-Ok-clause-own g c = kept_write c.args.self.now _ (g.M.Media.state c.args.media.now).contents (g.M.Media.state c.put_clean.new.media).contents c.args.lba c.args.block.now false (λ up. returns-in-Ok-clause-done g c) (returns-in-Ok-clause-images g c)
+
+pub returns-in-Err-clause-own : goal.returns-in-Err-clause-own
+returns-in-Err-clause-own g c = kept_write c.args.self.now c.give_up.new.self (g.M.Media.state c.args.media.now).contents (g.M.Media.state c.put_clean.new.media).contents c.args.lba c.args.block.now false (λ up. given_up_not c.give_up.new.self (ap (λ (k : Ssc). k.stopped) c.give_up.ensures.cache) up) (returns-in-Err-clause-images g c)

@@ -1,10 +1,12 @@
-use Rattle.std.proofs.Common.{◌<◌, true, inl, refl, sym, subst}
+use Rattle.std.proofs.Common.{◌<◌, true, inl, refl, sym, subst, ap}
 use Rattle.ft_base.specs.declared.geometry.Geometry.{Geometry}
 use Rattle.cache_model.specs.Cache.{written_block, undo, written_dirty}
 use Rattle.ssc.specs.CacheState.{pending}
 use Rattle.ssc.proofs.CommandLemmas.{not_refused, drives_given_up}
 use Rattle.ssc.proofs.HoldsLemmas.{few_buffered}
 use Rattle.ssc.proofs.WriteLemmas.{full_is, not_full, not_full_from, images_kept, images_written, log_room_left, written_from, inside_from, settled_unready, left_committed, log_left, room_left, room_for}
+use Rattle.ssc.proofs.OwnLemmas.{given_up_not, kept_held, kept_write}
+use Rattle.ssc.specs.declared.cache.Ssc.{Ssc}
 use Rattle.ssc.proofs.cache.Ssc.write_dirty.Goals as goal
 
 pub is_full-requires : goal.is_full-requires
@@ -78,3 +80,15 @@ pub returns-in-Err-clause-kept_images : goal.returns-in-Err-clause-kept_images
 returns-in-Err-clause-kept_images g c = λ room s holds.
     images_kept c.args.self.now c.reserve.new.self (g.M.Media.state c.write_committed.new.media).contents s (written_dirty c.args.lba c.args.block.now s) c.reserve.ensures.same c.reserve.ensures.pending
     (c.write_committed.ensures.kept (log_room_left c.args.self.now c.reserve.new.self c.reserve.ensures.parts c.reserve.ensures.entries room) s (undo (pending c.reserve.new.self) s) (c.reserve.ensures.holds (g.M.Media.state c.args.media.now).contents s holds).lists)
+
+pub returns-then-is_full-clause-own : goal.returns-then-is_full-clause-own
+returns-then-is_full-clause-own g c = kept_held c.args.self.now c.args.self.now (g.M.Media.state c.args.media.now).contents (λ s holds. holds)
+
+pub returns-then-is_err-clause-own : goal.returns-then-is_err-clause-own
+returns-then-is_err-clause-own g c = kept_held c.args.self.now c.reserve.new.self (g.M.Media.state c.args.media.now).contents (c.reserve.ensures.holds (g.M.Media.state c.args.media.now).contents)
+
+pub returns-in-Ok-clause-own : goal.returns-in-Ok-clause-own
+returns-in-Ok-clause-own g c = kept_write c.args.self.now _ (g.M.Media.state c.args.media.now).contents (g.M.Media.state c.write_committed.new.media).contents c.args.lba c.args.block.now true (λ up. returns-in-Ok-clause-done g c) (returns-in-Ok-clause-images g c)
+
+pub returns-in-Err-clause-own : goal.returns-in-Err-clause-own
+returns-in-Err-clause-own g c = kept_write c.args.self.now c.give_up.new.self (g.M.Media.state c.args.media.now).contents (g.M.Media.state c.write_committed.new.media).contents c.args.lba c.args.block.now true (λ up. given_up_not c.give_up.new.self (ap (λ (k : Ssc). k.stopped) c.give_up.ensures.cache) up) (returns-in-Err-clause-images g c)
