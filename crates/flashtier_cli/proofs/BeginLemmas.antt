@@ -1,10 +1,10 @@
 -- A run over a new volume, from a run over any volume.
-use Rattle.std.proofs.Common.{◌≡◌, ◌≤◌, ◌+◌, ◌&&◌, nat_le, nat_lt, ℕ, true, false, List, [], map, filter, Option, refl, sym, ap, ◌∙◌, subst}
+use Rattle.std.proofs.Common.{◌≡◌, ◌≢◌, ◌⊎◌, inl, inr, ◌≤◌, ◌+◌, ◌&&◌, nat_le, nat_lt, ℕ, true, false, List, [], map, filter, Option, Result, Err, IsErrOf, refl, sym, ap, ◌∙◌, subst}
 use Rattle.std.proofs.lemmas.List.{nil_from_length}
 use Rattle.std.specs.FinMap.{entries, get-empty, len-empty, len-entries}
 use Rattle.std.specs.Option.{is_some}
 use Rattle.std.specs.Ordering.{nat_cmp}
-use Rattle.ft_base.specs.Contents.{Contents}
+use Rattle.ft_base.specs.Contents.{Contents, Image}
 use Rattle.ft_base.specs.PlainDisk.{PlainDisk, empty}
 use Rattle.ft_base.specs.StreamState.{SinkState, SourceState}
 use Rattle.ft_base.specs.Table.{table_of}
@@ -24,11 +24,15 @@ use Rattle.trace_model.specs.declared.line.Line.{Line}
 use Rattle.trace_model.specs.Readings.{Reads}
 use Rattle.trace_replay.proofs.FromLemmas.{part_from, refused_from, unread_from, whole_from}
 use Rattle.trace_replay.specs.Before.{IsBefore}
+use Rattle.trace_replay.specs.Causes.{EndHasCause, EndHasCauseUntraced, KeepsLent, KeepsLentUntraced}
 use Rattle.trace_replay.specs.Commands.{Gives, TellsEnd, TellsEndPart}
+use Rattle.trace_replay.specs.AsMade.{IsAsMade}
 use Rattle.trace_replay.specs.Said.{Tells, TellsPart}
 use Rattle.trace_replay.specs.Theorem.{EndsPart, EndsRefused, EndsUnread, RunsWhole}
 use Rattle.trace_replay.specs.declared.ended.Ended.{Ended}
-use Rattle.flashtier_cli.specs.Begun.{IsNewVolume, fitted_for}
+use Rattle.trace_replay.specs.declared.ended.Ended.TheVariants.{Trace, Source, Sink, Flash, Disk, Memory}
+use Rattle.flashtier_cli.specs.Begun.{Begins, IsNewVolume, fitted_for}
+use Rattle.flashtier_cli.proofs.AskLemmas.{rose_later}
 
 -- ---- a new volume
 
@@ -73,6 +77,69 @@ new_from mode options owns v old made now fit left opened stands ready reads wri
 -- it is a disk of zero blocks, also as the volume tells it
 pub empty_new : {o : Told} {owns : Contents → Type 0} {v : VolumeState} {old now : State} → IsNewVolume o owns v old now → StandFor (ImageIs v.told) now.contents empty
 empty_new {now = now} new = subst (λ (k : Told). StandFor (ImageIs k) now.contents empty) (sym new.told) new.empty
+
+-- so a run can begin on it
+pub fresh_new : (mode : Mode) (options : Options) {owns : Contents → Type 0} {v : VolumeState} {old now : State} (stands : Told → Image → PlainDisk → Type 0) → IsNewVolume (told_for mode options) owns v old now → StandFor (stands v.told) now.contents empty
+    → IsAsMade stands v now
+fresh_new mode options stands new stood = record {
+  ack = ap (λ (k : Told). k.ack) new.told;
+  on = new.on;
+  unarmed = new.unarmed;
+  dirty = subst (λ (k : Told). k.dirty ≤ k.geometry.c) (sym new.told) options.dirty_high;
+  up = new.up;
+  table = new.table;
+  held = new.held;
+  empty = stood;
+}
+
+-- ---- why it ended, and what lies beneath
+
+-- making a volume ends at a device, or for want of memory
+not_begun : {V : Type 0} (e : Ended) → IsErrOf {T = V} (Err e) Flash ⊎ IsErrOf {T = V} (Err e) Disk ⊎ IsErrOf {T = V} (Err e) Memory → e ≢ Flash → e ≢ Disk → e ≢ Memory → ⊥
+not_begun e (inl flash) not_flash not_disk not_memory = not_flash (let same : e ≡ Flash = cc in same)
+not_begun e (inr (inl disk)) not_flash not_disk not_memory = not_disk (let same : e ≡ Disk = cc in same)
+not_begun e (inr (inr memory)) not_flash not_disk not_memory = not_memory (let same : e ≡ Memory = cc in same)
+
+-- no volume was made
+pub cause_begun : {V : Type 0} (e : Ended) (a : SourceState) (x : SinkState) (old now : State) → Begins {V = V} (Err e) old now → EndHasCause {T = Unit {0}} (Err e) a a x x old now
+cause_begun Flash a x old now begins = record { source = λ is. absurd (cc); sink = λ is. absurd (cc); flash = λ is. begins.flash refl; disk = λ is. absurd (cc) }
+cause_begun Disk a x old now begins = record { source = λ is. absurd (cc); sink = λ is. absurd (cc); flash = λ is. absurd (cc); disk = λ is. begins.disk refl }
+cause_begun Memory a x old now begins = record { source = λ is. absurd (cc); sink = λ is. absurd (cc); flash = λ is. absurd (cc); disk = λ is. absurd (cc) }
+cause_begun Trace a x old now begins = absurd (not_begun Trace begins.only (λ is. cc) (λ is. cc) (λ is. cc))
+cause_begun Source a x old now begins = absurd (not_begun Source begins.only (λ is. cc) (λ is. cc) (λ is. cc))
+cause_begun Sink a x old now begins = absurd (not_begun Sink begins.only (λ is. cc) (λ is. cc) (λ is. cc))
+
+pub untraced_begun : {V : Type 0} (e : Ended) (x : SinkState) (old now : State) → Begins {V = V} (Err e) old now → EndHasCauseUntraced {T = Unit {0}} (Err e) x x old now
+untraced_begun Flash x old now begins = record { not_trace = λ is. cc; not_source = λ is. cc; sink = λ is. absurd (cc); flash = λ is. begins.flash refl; disk = λ is. absurd (cc) }
+untraced_begun Disk x old now begins = record { not_trace = λ is. cc; not_source = λ is. cc; sink = λ is. absurd (cc); flash = λ is. absurd (cc); disk = λ is. begins.disk refl }
+untraced_begun Memory x old now begins = record { not_trace = λ is. cc; not_source = λ is. cc; sink = λ is. absurd (cc); flash = λ is. absurd (cc); disk = λ is. absurd (cc) }
+untraced_begun Trace x old now begins = absurd (not_begun Trace begins.only (λ is. cc) (λ is. cc) (λ is. cc))
+untraced_begun Source x old now begins = absurd (not_begun Source begins.only (λ is. cc) (λ is. cc) (λ is. cc))
+untraced_begun Sink x old now begins = absurd (not_begun Sink begins.only (λ is. cc) (λ is. cc) (λ is. cc))
+
+-- a volume was made, and a run over it ended
+pub cause_later : {T V : Type 0} {r : Result T Ended} {made : Result V Ended} {a b : SourceState} {x y : SinkState} {old begun now : State} → Begins made old begun → EndHasCause r a b x y begun now → EndHasCause r a b x y old now
+cause_later begins causes = record {
+  source = causes.source;
+  sink = causes.sink;
+  flash = λ is. rose_later _ _ _ begins.flash_later (causes.flash is);
+  disk = λ is. rose_later _ _ _ begins.disk_later (causes.disk is);
+}
+
+pub untraced_later : {T V : Type 0} {r : Result T Ended} {made : Result V Ended} {x y : SinkState} {old begun now : State} → Begins made old begun → EndHasCauseUntraced r x y begun now → EndHasCauseUntraced r x y old now
+untraced_later begins causes = record {
+  not_trace = causes.not_trace;
+  not_source = causes.not_source;
+  sink = causes.sink;
+  flash = λ is. rose_later _ _ _ begins.flash_later (causes.flash is);
+  disk = λ is. rose_later _ _ _ begins.disk_later (causes.disk is);
+}
+
+pub lent_later : {V : Type 0} {made : Result V Ended} {a b : SourceState} {x y : SinkState} {old begun now : State} → Begins made old begun → KeepsLent a b x y begun now → KeepsLent a b x y old now
+lent_later begins lent = record { source_lent = lent.source_lent; sink_lent = lent.sink_lent; rig_lent = lent.rig_lent ∙ begins.lent }
+
+pub lent_untraced : {V : Type 0} {made : Result V Ended} {x y : SinkState} {old begun now : State} → Begins made old begun → KeepsLentUntraced x y begun now → KeepsLentUntraced x y old now
+lent_untraced begins lent = record { sink_lent = lent.sink_lent; rig_lent = lent.rig_lent ∙ begins.lent }
 
 -- ---- the records of a run over it
 

@@ -1,9 +1,14 @@
 -- What holds at a status, from what a run answered.
-use Rattle.std.proofs.Common.{◌≡◌, ◌≢◌, ◌≤◌, ◌⊎◌, inl, inr, ℕ, Result, Ok, Err, OnOk, IfErr, IsErrOf, refl, arith}
+use Rattle.std.proofs.Common.{◌≡◌, ◌≢◌, ◌≤◌, ◌⊎◌, inl, inr, ℕ, List, Result, Ok, Err, OnOk, IfErr, IsErrOf, refl, sym, ◌∙◌, arith}
+use Rattle.ft_base.specs.StreamState.{SinkState, SourceState}
 use Rattle.ft_base.specs.Told.{Told}
+use Rattle.ft_media.specs.State.{State}
+use Rattle.command_line.specs.Command.{IsGen, Text}
+use Rattle.trace_replay.specs.Causes.{EndHasCause, EndHasCauseUntraced}
 use Rattle.trace_replay.specs.declared.ended.Ended.{Ended}
 use Rattle.trace_replay.specs.declared.ended.Ended.TheVariants.{Trace, Source, Sink, Flash, Disk, Memory}
-use Rattle.flashtier_cli.specs.Status.{status_of}
+use Rattle.flashtier_cli.specs.Status.{RunsEveryLine, StatusHasCause, status_of}
+use Rattle.flashtier_cli.specs.Words.{ReadsTrace}
 
 pub if_ok : {A B E : Type 0} (r : Result (Unit {0}) E) → (A → B) → OnOk r A → OnOk r B
 if_ok (Ok done) f a = f a
@@ -39,6 +44,96 @@ at_source (Err Sink) a is = absurd (omega (arith, is))
 at_source (Err Flash) a is = absurd (omega (arith, is))
 at_source (Err Disk) a is = absurd (omega (arith, is))
 at_source (Err Memory) a is = absurd (omega (arith, is))
+
+pub at_sink : {A : Type 0} (r : Result (Unit {0}) Ended) → (IsErrOf r Sink → A) → status_of r ≡ 4 → A
+at_sink (Ok done) a is = absurd (omega (arith, is))
+at_sink (Err Trace) a is = absurd (omega (arith, is))
+at_sink (Err Source) a is = absurd (omega (arith, is))
+at_sink (Err Sink) a is = a refl
+at_sink (Err Flash) a is = absurd (omega (arith, is))
+at_sink (Err Disk) a is = absurd (omega (arith, is))
+at_sink (Err Memory) a is = absurd (omega (arith, is))
+
+pub at_flash : {A : Type 0} (r : Result (Unit {0}) Ended) → (IsErrOf r Flash → A) → status_of r ≡ 5 → A
+at_flash (Ok done) a is = absurd (omega (arith, is))
+at_flash (Err Trace) a is = absurd (omega (arith, is))
+at_flash (Err Source) a is = absurd (omega (arith, is))
+at_flash (Err Sink) a is = absurd (omega (arith, is))
+at_flash (Err Flash) a is = a refl
+at_flash (Err Disk) a is = absurd (omega (arith, is))
+at_flash (Err Memory) a is = absurd (omega (arith, is))
+
+pub at_disk : {A : Type 0} (r : Result (Unit {0}) Ended) → (IsErrOf r Disk → A) → status_of r ≡ 6 → A
+at_disk (Ok done) a is = absurd (omega (arith, is))
+at_disk (Err Trace) a is = absurd (omega (arith, is))
+at_disk (Err Source) a is = absurd (omega (arith, is))
+at_disk (Err Sink) a is = absurd (omega (arith, is))
+at_disk (Err Flash) a is = absurd (omega (arith, is))
+at_disk (Err Disk) a is = a refl
+at_disk (Err Memory) a is = absurd (omega (arith, is))
+
+-- no run ends with the status of words that are no command
+pub not_one : (r : Result (Unit {0}) Ended) (n : ℕ) → n ≡ status_of r → n ≡ 1 → ⊥
+not_one (Ok done) n is one = omega (arith, is, one)
+not_one (Err Trace) n is one = omega (arith, is, one)
+not_one (Err Source) n is one = omega (arith, is, one)
+not_one (Err Sink) n is one = omega (arith, is, one)
+not_one (Err Flash) n is one = omega (arith, is, one)
+not_one (Err Disk) n is one = omega (arith, is, one)
+not_one (Err Memory) n is one = omega (arith, is, one)
+
+-- ---- why it ended so, and that it ran every line where nothing failed
+
+module _ (r : Result (Unit {0}) Ended) (n : ℕ) (is : n ≡ status_of r) (a b : SourceState) (x y : SinkState) (old new : State) where
+  -- a trace was read
+  pub status_cause : EndHasCause r a b x y old new → StatusHasCause n a b x y old new
+  status_cause causes = record {
+    source = λ so. at_source r causes.source (sym is ∙ so);
+    sink = λ so. at_sink r causes.sink (sym is ∙ so);
+    flash = λ so. at_flash r causes.flash (sym is ∙ so);
+    disk = λ so. at_disk r causes.disk (sym is ∙ so);
+  }
+
+  -- no trace was
+  pub status_untraced : EndHasCauseUntraced r x y old new → StatusHasCause n a b x y old new
+  status_untraced causes = record {
+    source = λ so. absurd (at_source r causes.not_source (sym is ∙ so));
+    sink = λ so. at_sink r causes.sink (sym is ∙ so);
+    flash = λ so. at_flash r causes.flash (sym is ∙ so);
+    disk = λ so. at_disk r causes.disk (sym is ∙ so);
+  }
+
+-- the status of a run in which nothing failed
+pub unfailed : (r : Result (Unit {0}) Ended) (n : ℕ) → n ≡ status_of r → (IsErrOf r Source → ⊥) → (IsErrOf r Sink → ⊥) → (IsErrOf r Flash → ⊥) → (IsErrOf r Disk → ⊥) → (n ≡ 0) ⊎ (n ≡ 2) ⊎ (n ≡ 7)
+unfailed (Ok done) n is source sink flash disk = inl is
+unfailed (Err Trace) n is source sink flash disk = inr (inl is)
+unfailed (Err Source) n is source sink flash disk = absurd (source refl)
+unfailed (Err Sink) n is source sink flash disk = absurd (sink refl)
+unfailed (Err Flash) n is source sink flash disk = absurd (flash refl)
+unfailed (Err Disk) n is source sink flash disk = absurd (disk refl)
+unfailed (Err Memory) n is source sink flash disk = inr (inr is)
+
+untold : (r : Result (Unit {0}) Ended) (n : ℕ) → n ≡ status_of r → (IsErrOf r Trace → ⊥) → (n ≡ 0) ⊎ (n ≡ 2) ⊎ (n ≡ 7) → (n ≡ 0) ⊎ (n ≡ 7)
+untold r n is not_trace (inl done) = inl done
+untold r n is not_trace (inr (inl refused)) = absurd (at_trace r not_trace (sym is ∙ refused))
+untold r n is not_trace (inr (inr memory)) = inr memory
+
+module _ (words : List Text) (r : Result (Unit {0}) Ended) (n : ℕ) (is : n ≡ status_of r) (a b : SourceState) (x y : SinkState) (old new : State) where
+  -- the words say that a trace is read
+  pub runs_read : ((o : Told) (number count : ℕ) → IsGen words o number count → ⊥) → EndHasCause r a b x y old new → RunsEveryLine words n a b x y old new
+  runs_read other causes = record {
+    complete = λ o says source sink flash disk. unfailed r n is (λ so. source (causes.source so)) (λ so. sink (causes.sink so)) (λ so. flash (causes.flash so)) (λ so. disk (causes.disk so));
+    complete_inspected = λ o says source sink flash disk. unfailed r n is (λ so. source (causes.source so)) (λ so. sink (causes.sink so)) (λ so. flash (causes.flash so)) (λ so. disk (causes.disk so));
+    complete_made = λ o number count says sink flash disk. absurd (other o number count says);
+  }
+
+  -- they say that one is made
+  pub runs_made : ((o : Told) → ReadsTrace words o → ⊥) → EndHasCauseUntraced r x y old new → RunsEveryLine words n a b x y old new
+  runs_made other causes = record {
+    complete = λ o says source sink flash disk. absurd (other o (inl says));
+    complete_inspected = λ o says source sink flash disk. absurd (other o (inr says));
+    complete_made = λ o number count says sink flash disk. untold r n is causes.not_trace (unfailed r n is causes.not_source (λ so. sink (causes.sink so)) (λ so. flash (causes.flash so)) (λ so. disk (causes.disk so)));
+  }
 
 -- ---- any other end
 

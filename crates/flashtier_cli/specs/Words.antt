@@ -1,5 +1,5 @@
 -- Whether words are a command.
-use Rattle.std.specs.Prelude.{◌⊎◌, ℕ, List}
+use Rattle.std.specs.Prelude.{◌≡◌, ◌⊎◌, ℕ, List}
 use Rattle.ft_base.specs.Told.{Told}
 use Rattle.command_line.specs.Command.{IsCommand, IsGen, IsInspect, Text}
 
@@ -7,3 +7,13 @@ use Rattle.command_line.specs.Command.{IsCommand, IsGen, IsInspect, Text}
 abbrev pub AreCommand : List Text → Type 0
 AreCommand words = ((o : Told) × IsCommand words o)
     ⊎ (((o : Told) × (number : ℕ) × (count : ℕ) × IsGen words o number count) ⊎ ((o : Told) × IsInspect words o))
+
+-- the words are a command that reads a trace
+abbrev pub ReadsTrace : List Text → Told → Type 0
+ReadsTrace words o = IsCommand words o ⊎ IsInspect words o
+
+-- words that are no command are told so, unless memory for reading them is refused, and touch nothing; and no command is told so
+pub record RefusesWords {I O R : Type 0} (said : List Text) (status : ℕ) (a b : I) (x y : O) (old new : R) : Type 0 where
+  pub words : status ≡ 1 → AreCommand said → ⊥
+  pub no_command : (AreCommand said → ⊥) → (status ≡ 1) ⊎ (status ≡ 7)
+  pub nothing : (AreCommand said → ⊥) → (b ≡ a) × (y ≡ x) × (new ≡ old)

@@ -1,13 +1,12 @@
 //! A trace that is run without printing, and what it leaves in the cache.
-ghost use Rattle.std.specs.Prelude.{◌≡◌, ◌≢◌, ◌⊎◌, ◌≤◌, ℕ, [], true, false, OnOk, IfErr, IsErrOf};
+ghost use Rattle.std.specs.Prelude.{◌≡◌, ◌≢◌, ◌⊎◌, [], true, OnOk, IfErr, IsErrOf};
 ghost use Rattle.std.specs.Io.KnownBytes.{IsAtEnd};
-ghost use Rattle.ft_base.specs.Count.{Rose};
-ghost use Rattle.ft_base.specs.PlainDisk.{empty};
-ghost use Rattle.ft_base.specs.declared.told.Ack.TheVariants as ack;
-ghost use Rattle.ft_volume.specs.Volume.{StandFor, told_for};
+ghost use Rattle.ft_volume.specs.Volume.{told_for};
 ghost use Rattle.cache_model.specs.Stands.{ImageStandsFor};
 ghost use Rattle.trace_model.specs.Readings.{Reads};
+ghost use Rattle.trace_replay.specs.Causes.{EndHasCause, KeepsLent};
 ghost use Rattle.trace_replay.specs.Commands.{TellsRefusal};
+ghost use Rattle.trace_replay.specs.AsMade.{IsAsMade};
 ghost use Rattle.trace_replay.specs.Theorem.{EndsRefused, EndsUnread};
 ghost use Rattle.flashtier_cli.specs.Begun.{fitted_for};
 ghost use Rattle.flashtier_cli.specs.Inspected.{EndsInspecting, Inspects, Loads};
@@ -29,14 +28,7 @@ fn inspect<I: Source, O: Sink, R: Rig, V: Volume<R>>(
     volume: &mut V,
 ) -> Result<(), Ended>
     requires owns { V.owns volume.old (R.state rig.old).contents }
-    requires ack { (V.state volume.old).told.ack ≡ ack.Write }
-    requires on { (R.state rig.old).power.on ≡ true }
-    requires unarmed { (R.state rig.old).power.stops ≡ [] }
-    requires dirty { (V.state volume.old).told.dirty ≤ (V.state volume.old).told.geometry.c }
-    requires up { (V.state volume.old).down ≡ false }
-    requires table { (V.state volume.old).table ≡ [] }
-    requires held { (a : ℕ) → (V.state volume.old).held a ≡ false }
-    requires empty { StandFor (V.stands (V.state volume.old).told) (R.state rig.old).contents empty }
+    requires fresh { IsAsMade V.stands (V.state volume.old) (R.state rig.old) }
     ensures told { (V.state volume.new).told ≡ (V.state volume.old).told }
     ensures whole { OnOk result (Inspects (V.state volume.old).told
         (Reads (V.state volume.old).told.geometry.size (I.state source.old) (I.state source.new)) (V.loads (V.state volume.old).told)
@@ -51,14 +43,11 @@ fn inspect<I: Source, O: Sink, R: Rig, V: Volume<R>>(
         → EndsInspecting (V.state volume.old).told (Reads (V.state volume.old).told.geometry.size (I.state source.old) (I.state source.new))
         (V.loads (V.state volume.old).told)
         (O.state sink.old) (O.state sink.new) (V.stands (V.state volume.new).told) (R.state rig.old) (R.state rig.new) e) }
-    ensures source { IsErrOf result Ended.Source → Rose (I.state source.old).faults (I.state source.new).faults }
-    ensures sink { IsErrOf result Ended.Sink → Rose (O.state sink.old).faults (O.state sink.new).faults }
-    ensures flash { IsErrOf result Ended.Flash → Rose (R.state rig.old).faults.flash (R.state rig.new).faults.flash }
-    ensures disk { IsErrOf result Ended.Disk → Rose (R.state rig.old).faults.disk (R.state rig.new).faults.disk }
+    ensures causes { EndHasCause result (I.state source.old) (I.state source.new) (O.state sink.old) (O.state sink.new) (R.state rig.old)
+        (R.state rig.new) }
     ensures on { (R.state rig.new).power.on ≡ true }
-    ensures source_lent { (I.state source.new).lent ≡ (I.state source.old).lent }
-    ensures sink_lent { (O.state sink.new).lent ≡ (O.state sink.old).lent }
-    ensures rig_lent { (R.state rig.new).lent ≡ (R.state rig.old).lent }
+    ensures lent { KeepsLent (I.state source.old) (I.state source.new) (O.state sink.old) (O.state sink.new) (R.state rig.old)
+        (R.state rig.new) }
 {
     match replay_quiet(alloc, source, sink, rig, volume) {
         Ok(()) => tell_report(alloc, sink, rig, volume),
@@ -102,14 +91,11 @@ pub fn inspect_with<I: Source, O: Sink, R: Rig>(
         (Loads options.now.geometry)
         (O.state sink.old) (O.state sink.new) (ImageStandsFor options.now.geometry) (fitted_for options.now.geometry (R.state rig.old))
         (R.state rig.new) e) }
-    ensures source { IsErrOf result Ended.Source → Rose (I.state source.old).faults (I.state source.new).faults }
-    ensures sink { IsErrOf result Ended.Sink → Rose (O.state sink.old).faults (O.state sink.new).faults }
-    ensures flash { IsErrOf result Ended.Flash → Rose (R.state rig.old).faults.flash (R.state rig.new).faults.flash }
-    ensures disk { IsErrOf result Ended.Disk → Rose (R.state rig.old).faults.disk (R.state rig.new).faults.disk }
+    ensures causes { EndHasCause result (I.state source.old) (I.state source.new) (O.state sink.old) (O.state sink.new) (R.state rig.old)
+        (R.state rig.new) }
     ensures on { (IsErrOf result Ended.Memory → ⊥) → (R.state rig.new).power.on ≡ true }
-    ensures source_lent { (I.state source.new).lent ≡ (I.state source.old).lent }
-    ensures sink_lent { (O.state sink.new).lent ≡ (O.state sink.old).lent }
-    ensures rig_lent { (R.state rig.new).lent ≡ (R.state rig.old).lent }
+    ensures lent { KeepsLent (I.state source.old) (I.state source.new) (O.state sink.old) (O.state sink.new) (R.state rig.old)
+        (R.state rig.new) }
 {
     match mode {
         Mode::Back => match begin_back(alloc, rig, options) {

@@ -1,8 +1,8 @@
 ghost use Rattle.std.specs.Prelude.{◌≡◌, ◌⊎◌, [], true, OnOk, IfErr, IsErrOf};
-ghost use Rattle.ft_base.specs.Count.{Rose};
 ghost use Rattle.ft_volume.specs.Volume.{told_for};
 ghost use Rattle.cache_model.specs.Stands.{ImageStandsFor};
 ghost use Rattle.trace_gen.specs.Made.{made_trace};
+ghost use Rattle.trace_replay.specs.Causes.{EndHasCauseUntraced, KeepsLentUntraced};
 ghost use Rattle.trace_replay.specs.Commands.{Gives, TellsEnd, TellsEndPart};
 ghost use Rattle.trace_replay.specs.Theorem.{EndsPart, RunsWhole};
 ghost use Rattle.flashtier_cli.specs.Begun.{fitted_for};
@@ -30,10 +30,6 @@ pub fn gen_with<O: Sink, R: Rig>(
         (TellsEnd (O.state sink.old) (O.state sink.new))
         (ImageStandsFor options.now.geometry) (fitted_for options.now.geometry (R.state rig.old)) (R.state rig.new)) }
 
-    // No line of a made trace is refused, and no source is read.
-    ensures not_trace { IsErrOf result Ended.Trace → ⊥ }
-    ensures not_source { IsErrOf result Ended.Source → ⊥ }
-
     // Another end comes before anything was printed, with no call of the disk that reads or writes, and with
     // nothing armed where a device failed; or within the answers of a line.
     ensures part { IfErr result (λ e. ((sink.new ≡ sink.old)
@@ -43,12 +39,10 @@ pub fn gen_with<O: Sink, R: Rig>(
         ⊎ EndsPart (told_for mode options.now) (Gives (made_trace number count options.now.geometry))
         (TellsEnd (O.state sink.old) (O.state sink.new)) (TellsEndPart (O.state sink.old) (O.state sink.new))
         (ImageStandsFor options.now.geometry) (fitted_for options.now.geometry (R.state rig.old)) (R.state rig.new) e) }
-    ensures sink { IsErrOf result Ended.Sink → Rose (O.state sink.old).faults (O.state sink.new).faults }
-    ensures flash { IsErrOf result Ended.Flash → Rose (R.state rig.old).faults.flash (R.state rig.new).faults.flash }
-    ensures disk { IsErrOf result Ended.Disk → Rose (R.state rig.old).faults.disk (R.state rig.new).faults.disk }
+    // No line of a made trace is refused, and no source is read.
+    ensures causes { EndHasCauseUntraced result (O.state sink.old) (O.state sink.new) (R.state rig.old) (R.state rig.new) }
     ensures on { (IsErrOf result Ended.Memory → ⊥) → (R.state rig.new).power.on ≡ true }
-    ensures sink_lent { (O.state sink.new).lent ≡ (O.state sink.old).lent }
-    ensures rig_lent { (R.state rig.new).lent ≡ (R.state rig.old).lent }
+    ensures lent { KeepsLentUntraced (O.state sink.old) (O.state sink.new) (R.state rig.old) (R.state rig.new) }
 {
     let made = TraceGen::new(number, count, &options.geometry);
     match mode {

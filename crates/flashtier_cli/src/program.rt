@@ -1,12 +1,12 @@
 ghost use Rattle.std.specs.Prelude.{◌≡◌, ◌≢◌, ◌⊎◌, ◌≤◌, ℕ, [], true, Err, map};
 ghost use Rattle.std.specs.String.{string_bytes};
 ghost use Rattle.std.specs.Io.KnownBytes.{IsAtEnd};
-ghost use Rattle.ft_base.specs.Count.{Rose};
 ghost use Rattle.ft_base.specs.Told.{Told};
 ghost use Rattle.cache_model.specs.Stands.{ImageStandsFor};
 ghost use Rattle.trace_model.specs.Readings.{Reads};
 ghost use Rattle.trace_gen.specs.Made.{made_trace};
 ghost use Rattle.trace_replay.specs.declared.ended.Ended as ended;
+ghost use Rattle.trace_replay.specs.Causes.{KeepsLent};
 ghost use Rattle.trace_replay.specs.Commands.{Gives, TellsEnd, TellsEndPart, TellsRefusal};
 ghost use Rattle.trace_replay.specs.Said.{Tells, TellsPart};
 ghost use Rattle.trace_replay.specs.Theorem.{EndsPart, EndsRefused, EndsUnread, RunsWhole};
@@ -14,7 +14,8 @@ ghost use Rattle.command_line.specs.Command.{IsCommand, IsGen, IsInspect};
 ghost use Rattle.flashtier_cli.specs.Begun.{fitted_for};
 ghost use Rattle.flashtier_cli.specs.Inspected.{EndsInspecting, Inspects, Loads};
 ghost use Rattle.flashtier_cli.specs.Status as status;
-ghost use Rattle.flashtier_cli.specs.Words.{AreCommand};
+ghost use Rattle.flashtier_cli.specs.Status.{RunsEveryLine, StatusHasCause};
+ghost use Rattle.flashtier_cli.specs.Words.{ReadsTrace, RefusesWords};
 
 use crate::ending::status_of;
 use crate::inspecting::inspect_with;
@@ -82,17 +83,13 @@ pub fn run<I: Source, O: Sink, R: Rig>(
         × Inspects o (Reads o.geometry.size (I.state source.old) (I.state source.new)) (Loads o.geometry) (O.state sink.old)
         (O.state sink.new)
         (ImageStandsFor o.geometry) (fitted_for o.geometry (R.state rig.old)) (R.state rig.new))) }
-    ensures end { result ≡ 0 → (o : Told) → IsCommand (map string_bytes words.now) o → IsAtEnd (I.state source.new).left }
-    ensures end_inspected { result ≡ 0 → (o : Told) → IsInspect (map string_bytes words.now) o → IsAtEnd (I.state source.new).left }
+    ensures end { result ≡ 0 → (o : Told) → ReadsTrace (map string_bytes words.now) o → IsAtEnd (I.state source.new).left }
 
     // A made trace takes nothing from the source, however it ends.
     ensures unused { (o : Told) (number count : ℕ) → IsGen (map string_bytes words.now) o number count → source.new ≡ source.old }
 
     // Words that are no command touch nothing, also where memory for reading them is refused.
-    ensures words { result ≡ 1 → AreCommand (map string_bytes words.now) → ⊥ }
-    ensures no_command { (AreCommand (map string_bytes words.now) → ⊥) → (result ≡ 1) ⊎ (result ≡ 7) }
-    ensures nothing { (AreCommand (map string_bytes words.now) → ⊥) → (source.new ≡ source.old) × (sink.new ≡ sink.old)
-        × (rig.new ≡ rig.old) }
+    ensures words { RefusesWords (map string_bytes words.now) result source.old source.new sink.old sink.new rig.old rig.new }
 
     // A made trace has no line that is refused and no source that fails, so these come with a trace that is read.
     ensures refused { result ≡ 2 → ((o : Told) × IsCommand (map string_bytes words.now) o
@@ -130,35 +127,17 @@ pub fn run<I: Source, O: Sink, R: Rig>(
         (ImageStandsFor o.geometry) (fitted_for o.geometry (R.state rig.old)) (R.state rig.new) e))) }
     ensures known { result ≤ 7 }
 
-    ensures source { result ≡ 3 → Rose (I.state source.old).faults (I.state source.new).faults }
-    ensures sink { result ≡ 4 → Rose (O.state sink.old).faults (O.state sink.new).faults }
-    ensures flash { result ≡ 5 → Rose (R.state rig.old).faults.flash (R.state rig.new).faults.flash }
-    ensures disk { result ≡ 6 → Rose (R.state rig.old).faults.disk (R.state rig.new).faults.disk }
+    ensures causes { StatusHasCause result (I.state source.old) (I.state source.new) (O.state sink.old) (O.state sink.new)
+        (R.state rig.old) (R.state rig.new) }
 
     // Also where power was off before.
     ensures on { result ≢ 1 → result ≢ 7 → (R.state rig.new).power.on ≡ true }
-    ensures source_lent { (I.state source.new).lent ≡ (I.state source.old).lent }
-    ensures sink_lent { (O.state sink.new).lent ≡ (O.state sink.old).lent }
-    ensures rig_lent { (R.state rig.new).lent ≡ (R.state rig.old).lent }
+    ensures lent { KeepsLent (I.state source.old) (I.state source.new) (O.state sink.old) (O.state sink.new) (R.state rig.old)
+        (R.state rig.new) }
 
     // Where nothing failed, memory was there and no line is refused, every line is run.
-    ensures complete { (o : Told) → IsCommand (map string_bytes words.now) o
-        → (Rose (I.state source.old).faults (I.state source.new).faults → ⊥)
-        → (Rose (O.state sink.old).faults (O.state sink.new).faults → ⊥)
-        → (Rose (R.state rig.old).faults.flash (R.state rig.new).faults.flash → ⊥)
-        → (Rose (R.state rig.old).faults.disk (R.state rig.new).faults.disk → ⊥)
-        → (result ≡ 0) ⊎ (result ≡ 2) ⊎ (result ≡ 7) }
-    ensures complete_inspected { (o : Told) → IsInspect (map string_bytes words.now) o
-        → (Rose (I.state source.old).faults (I.state source.new).faults → ⊥)
-        → (Rose (O.state sink.old).faults (O.state sink.new).faults → ⊥)
-        → (Rose (R.state rig.old).faults.flash (R.state rig.new).faults.flash → ⊥)
-        → (Rose (R.state rig.old).faults.disk (R.state rig.new).faults.disk → ⊥)
-        → (result ≡ 0) ⊎ (result ≡ 2) ⊎ (result ≡ 7) }
-    ensures complete_made { (o : Told) (number count : ℕ) → IsGen (map string_bytes words.now) o number count
-        → (Rose (O.state sink.old).faults (O.state sink.new).faults → ⊥)
-        → (Rose (R.state rig.old).faults.flash (R.state rig.new).faults.flash → ⊥)
-        → (Rose (R.state rig.old).faults.disk (R.state rig.new).faults.disk → ⊥)
-        → (result ≡ 0) ⊎ (result ≡ 7) }
+    ensures complete { RunsEveryLine (map string_bytes words.now) result (I.state source.old) (I.state source.new) (O.state sink.old)
+        (O.state sink.new) (R.state rig.old) (R.state rig.new) }
 {
     let Ok(command) = command_of(alloc, words) else {
         return 7;

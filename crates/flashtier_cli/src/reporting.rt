@@ -1,5 +1,5 @@
 //! A report of what is in the cache, asked for again after each cut, and its text.
-ghost use Rattle.std.specs.Prelude.{◌≡◌, ◌≢◌, ◌⊎◌, ◌<◌, ℕ, [], length, take, true, OnOk, OnErr, IfOk, IfErr, IfSome, IsErrOf};
+ghost use Rattle.std.specs.Prelude.{◌≡◌, ◌≢◌, ◌⊎◌, ◌<◌, ℕ, length, take, true, OnOk, OnErr, IfOk, IfErr, IfSome, IsErrOf};
 ghost use Rattle.std.specs.Io.KnownBytes.{Appends};
 ghost use Rattle.std.specs.Option.{OnSome};
 ghost use Rattle.std.specs.String.{string_bytes};
@@ -8,6 +8,7 @@ ghost use Rattle.ft_base.specs.declared.told.Ack.TheVariants as ack;
 ghost use Rattle.ft_media.specs.Media.{KeepsReady};
 ghost use Rattle.ft_media.specs.Rig.{powered};
 ghost use Rattle.ft_volume.specs.declared.volume.VolumeError.TheVariants as volume_error;
+ghost use Rattle.trace_replay.specs.Causes.{EndHasCauseUntraced};
 ghost use Rattle.trace_replay.specs.Said.{ended_of};
 ghost use Rattle.trace_replay.specs.Went.{Keeps};
 ghost use Rattle.flashtier_cli.specs.Inspected.{Asks, IsReportOf, Prints, PrintsFront, PrintsReport, cuts_by, report_text};
@@ -144,11 +145,7 @@ pub(crate) fn tell_report<O: Sink, R: Rig, V: Volume<R>>(
     ensures short { IsErrOf result Ended.Sink → PrintsFront (V.state volume.old).told.geometry (V.loads (V.state volume.old).told)
         (R.state rig.new) (O.state sink.old) (O.state sink.new) }
     ensures silent { IfErr result (λ e. e ≢ Ended.Sink → sink.new ≡ sink.old) }
-    ensures sink { IsErrOf result Ended.Sink → Rose (O.state sink.old).faults (O.state sink.new).faults }
-    ensures flash { IsErrOf result Ended.Flash → Rose (R.state rig.old).faults.flash (R.state rig.new).faults.flash }
-    ensures disk { IsErrOf result Ended.Disk → Rose (R.state rig.old).faults.disk (R.state rig.new).faults.disk }
-    ensures not_trace { IsErrOf result Ended.Trace → ⊥ }
-    ensures not_source { IsErrOf result Ended.Source → ⊥ }
+    ensures causes { EndHasCauseUntraced result (O.state sink.old) (O.state sink.new) (R.state rig.old) (R.state rig.new) }
     ensures lent { (O.state sink.new).lent ≡ (O.state sink.old).lent }
 {
     match report_through(rig, volume) {

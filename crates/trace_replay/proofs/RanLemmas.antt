@@ -5,6 +5,7 @@ use Rattle.std.proofs.lemmas.Bool.Decides.{nat_tests}
 use Rattle.std.proofs.lemmas.List.{length-append}
 use Rattle.ft_base.specs.Contents.{Image}
 use Rattle.ft_base.specs.PlainDisk.{PlainDisk, empty}
+use Rattle.ft_base.specs.StreamState.{SinkState, SourceState}
 use Rattle.ft_base.specs.Told.{Told}
 use Rattle.ft_base.specs.declared.power.Stop.{Stop}
 use Rattle.ft_base.specs.declared.told.Ack.{Ack}
@@ -17,15 +18,17 @@ use Rattle.trace_model.specs.declared.line.LineError.TheVariants.{TooManyStops}
 use Rattle.trace_model.specs.declared.ran.Ran.{Ran}
 use Rattle.trace_model.specs.Backs.{IsUncut}
 use Rattle.trace_model.specs.Fits.{FitsLine, FitsNext, FitsWrite, IsAtMost, armed_after, arming, block_count, may_still, may_write}
+use Rattle.trace_model.specs.Readings.{Reading}
 use Rattle.trace_model.specs.Run.{after_line, cut_count, cuts_in, disk_after, disk_without, lines_of, read_count, reads_in, touching, write_count, writes_in}
 use Rattle.trace_model.specs.SoFar.{as_ran, is_stop, refusal_of, refusal_when}
 use Rattle.trace_model.proofs.RunLemmas.{disk_after-line, disk_without-none}
 use Rattle.trace_replay.specs.declared.tally.Tally.{Tally}
 use Rattle.trace_replay.specs.Ends.{BeginsRest, CanBecome, RunsLine}
-use Rattle.trace_replay.specs.Events.{ScriptState}
+use Rattle.trace_replay.specs.Events.{Event, ScriptState}
 use Rattle.trace_replay.specs.Ran.{RunKeepsFrame, IsTallied, IsTallyOf, RanSoFar, RestWithin}
 use Rattle.trace_replay.specs.Said.{RoseAtLeast}
 use Rattle.trace_replay.specs.Spends.{IsQuiet, Spent, steps_of}
+use Rattle.trace_replay.specs.Went.{KeepsFrame}
 use Rattle.trace_replay.proofs.SpendsLemmas.{run_more, spent_fresh}
 
 -- ---- how many device writes may still be made
@@ -247,6 +250,22 @@ module _ {P : Type 0} (tells : P → ScriptState) where
   -- a call of the script alone
   pub on_script : (x y : P) (a : State) → a.power.on ≡ true → (tells x).source_faults ≤ (tells y).source_faults → (tells x).sink_faults ≤ (tells y).sink_faults → (tells y).lent ≡ (tells x).lent → (tells y).size ≡ (tells x).size → (tells y).turns ≤ (tells x).turns → RunKeepsFrame tells x y a a
   on_script x y a on source sink lent size turns = record { on = on; shape = refl; lent = refl; flash = omega arith; disk = omega arith; source = source; sink = sink; script_lent = lent; size = size; turns = turns }
+
+-- and then a call of the volume and the script
+pub on_frame : {P : Type 0} (tells : P → ScriptState) (came : SourceState → SinkState → List Event → P → Type 0) (broke : SourceState → SinkState → List Event → Event → P → Type 0) (knows : SourceState → P → List Reading → Bool → Type 0)
+    (x y z : P) (a b c : State) → RunKeepsFrame tells x y a b → KeepsFrame tells came broke knows y z b c → RunKeepsFrame tells x z a c
+on_frame tells came broke knows x y z a b c first next = on_then tells x y z a b c first (record {
+  on = next.on;
+  shape = next.shape;
+  lent = next.lent;
+  flash = next.flash;
+  disk = next.disk;
+  source = next.source;
+  sink = next.sink;
+  script_lent = next.script_lent;
+  size = next.size;
+  turns = next.turns;
+})
 
 -- ---- what may become of the next line
 

@@ -1,5 +1,5 @@
 -- What a script gave and took, in order.
-use Rattle.std.specs.Prelude.{◌≡◌, ℕ, ◌+◌, Bool, List, [], ◌∷◌, ◌++◌, length, map, Option, Some, None, Ok, Err}
+use Rattle.std.specs.Prelude.{◌≡◌, ◌≤◌, ℕ, ◌+◌, Bool, List, [], ◌∷◌, ◌++◌, length, map, Option, Some, None, Ok, Err}
 use Rattle.std.specs.Int.{w64, to_be_bytes}
 use Rattle.ft_base.specs.StreamState.{SinkState, SourceState}
 use Rattle.ft_base.specs.PlainDisk.{PlainDisk}
@@ -27,6 +27,15 @@ pub record ScriptState : Type 0 where
   pub source_faults : ℕ
   pub sink_faults : ℕ
   pub lent : List ℕ
+
+-- whatever a call of a script does: no count of its faults falls, it gives no more lines than before, and its size, whether it is spare and what lies beneath stay
+pub record ScriptGoesOn (old new : ScriptState) : Type 0 where
+  pub later : old.sink_faults ≤ new.sink_faults
+  pub source_later : old.source_faults ≤ new.source_faults
+  pub turns : new.turns ≤ old.turns
+  pub size : new.size ≡ old.size
+  pub spare : new.spare ≡ old.spare
+  pub lent : new.lent ≡ old.lent
 
 abbrev pub taking : List Answer → List Event
 taking answers = map (λ answer. Took answer) answers

@@ -5,6 +5,9 @@ pub mod Ends
 pub mod Theorem
 pub mod Spends
 pub mod Before
+pub mod AsMade
+pub mod Causes
+pub mod MayRun
 pub mod Ran
 pub mod Saying
 pub mod Commands

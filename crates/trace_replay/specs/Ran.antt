@@ -1,5 +1,5 @@
 -- What was counted of the lines that were run, and what they left.
-use Rattle.std.specs.Prelude.{◌≡◌, ◌≢◌, ◌≤◌, ◌+◌, ℕ, Bool, true, List, [], length, Option, Some, None, ⊤}
+use Rattle.std.specs.Prelude.{◌≡◌, ◌≢◌, ◌≤◌, ◌<◌, ◌+◌, ◌^◌, ℕ, Bool, true, List, [], length, All, Option, Some, None, ⊤}
 use Rattle.ft_base.specs.Contents.{Image}
 use Rattle.ft_base.specs.Count.{Rose}
 use Rattle.ft_base.specs.PlainDisk.{PlainDisk}
@@ -29,6 +29,11 @@ pub record IsTallied (line : Line) (old new : Tally) : Type 0 where
   pub writes : new.writes ≡ old.writes + write_count line
   pub reads : new.reads ≡ old.reads + read_count line
   pub touched : new.touched.keys ≡ touching line old.touched.keys
+
+-- one more line of a volume of this size can be counted: few were so far, and the volume has the addresses that they name
+pub record MayCount (size : ℕ) (tally : Tally) : Type 0 where
+  pub lines : tally.lines + 1 < 2 ^ 64
+  pub within : All (λ a. a < size) tally.touched.keys
 
 -- the lines of a run were counted
 pub record IsTallyOf (run : List Ran) (tally : Tally) : Type 0 where
@@ -71,8 +76,16 @@ pub record EndsRun (o : Told) (reads : List Reading → Bool → Type 0) (says :
 
 -- over a script's state
 module _ {P : Type 0} (tells : P → ScriptState) where
-  -- the sink and the devices are blamed only where their counts of faults rose
+  -- the source, the sink and the devices are blamed only where their counts of faults rose
   pub record BlamesRun (e : Ended) (x y : P) (old new : State) : Type 0 where
+    pub source : e ≡ ended.Source → Rose (tells x).source_faults (tells y).source_faults
+    pub sink : e ≡ ended.Sink → Rose (tells x).sink_faults (tells y).sink_faults
+    pub flash : e ≡ ended.Flash → Rose old.faults.flash new.faults.flash
+    pub disk : e ≡ ended.Disk → Rose old.faults.disk new.faults.disk
+
+  -- within a line the source is not blamed, and the sink and the devices only where their counts of faults rose
+  pub record BlamesLine (e : Ended) (x y : P) (old new : State) : Type 0 where
+    pub not_source : e ≡ ended.Source → ⊥
     pub sink : e ≡ ended.Sink → Rose (tells x).sink_faults (tells y).sink_faults
     pub flash : e ≡ ended.Flash → Rose old.faults.flash new.faults.flash
     pub disk : e ≡ ended.Disk → Rose old.faults.disk new.faults.disk

@@ -1,15 +1,15 @@
 //! Each kind of line, run.
-ghost use Rattle.std.specs.Prelude.{◌≡◌, ◌+◌, ◌≤◌, ◌<◌, true, length, IfOk, IfErr};
+ghost use Rattle.std.specs.Prelude.{◌≡◌, ◌≤◌, true, IfOk, IfErr};
 ghost use Rattle.ft_base.specs.PlainDisk.{PlainDisk};
 ghost use Rattle.ft_base.specs.declared.told.Ack.TheVariants as ack;
 ghost use Rattle.ft_volume.specs.Volume.{StandFor};
 ghost use Rattle.trace_model.specs.declared.line.Line.TheVariants as line_kind;
 ghost use Rattle.trace_model.specs.Fits.{FitsLine};
-ghost use Rattle.trace_model.specs.Lines.{IsRunnable};
 ghost use Rattle.trace_model.specs.Run.{after_line, answers_of};
-ghost use Rattle.trace_model.specs.SoFar.{as_ran, is_stop};
+ghost use Rattle.trace_model.specs.SoFar.{as_ran};
 ghost use Rattle.trace_replay.specs.Ends.{EndsWithin, RunsLine, StandForPart};
 ghost use Rattle.trace_replay.specs.Events.{Says};
+ghost use Rattle.trace_replay.specs.MayRun.{MayRun};
 ghost use Rattle.trace_replay.specs.Spends.{SpendsLine};
 ghost use Rattle.trace_replay.specs.Went.{KeepsFrame, Keeps};
 
@@ -113,10 +113,7 @@ pub(crate) fn run_line<P: Script, R: Rig, V: Volume<R>>(
     scratch: &mut Scratch,
 ) -> Result<Became, Ended>
     requires owns { V.owns volume.old (R.state rig.old).contents }
-    requires on { (R.state rig.old).power.on ≡ true }
-    requires ack { (V.state volume.old).told.ack ≡ ack.Write }
-    requires runnable { IsRunnable (V.state volume.old).told.geometry.size line.now }
-    requires stops { is_stop line.now ≡ true → length (R.state rig.old).power.stops < 16 }
+    requires may_run { MayRun line.now (V.state volume.old).told (R.state rig.old) }
     ensures owns { V.owns volume.new (R.state rig.new).contents }
     ensures told { (V.state volume.new).told ≡ (V.state volume.old).told }
     ensures fits { IfOk result (λ b. (d : PlainDisk) → StandFor (V.stands (V.state volume.old).told) (R.state rig.old).contents d

@@ -1,12 +1,11 @@
 //! A made trace: no source is read, and nothing is printed but the end line.
-ghost use Rattle.std.specs.Prelude.{◌≡◌, ◌≤◌, ◌<◌, ◌^◌, ◌∷◌, [], ℕ, true, false, length, OnOk, IfErr, IsErrOf};
+ghost use Rattle.std.specs.Prelude.{◌≡◌, ◌≤◌, ◌<◌, ◌^◌, ◌∷◌, [], true, false, length, OnOk, IfErr, IsErrOf};
 ghost use Rattle.ft_base.specs.Count.{Rose};
-ghost use Rattle.ft_base.specs.PlainDisk.{empty};
-ghost use Rattle.ft_base.specs.declared.told.Ack.TheVariants as ack;
-ghost use Rattle.ft_volume.specs.Volume.{StandFor};
 ghost use Rattle.trace_gen.specs.Left.{lines_left, volume_size};
+ghost use Rattle.trace_replay.specs.Causes.{EndHasCauseUntraced, KeepsLentUntraced};
 ghost use Rattle.trace_replay.specs.Commands as commands;
 ghost use Rattle.trace_replay.specs.Commands.{Gives, TellsEnd, TellsEndPart};
+ghost use Rattle.trace_replay.specs.AsMade.{IsAsMade};
 ghost use Rattle.trace_replay.specs.Theorem.{EndsPart, RunsWhole};
 
 use crate::Ended;
@@ -66,7 +65,7 @@ impl<'a, O: Sink> Script for MadeScript<'a, O> {
     ghost use Rattle.trace_model.specs.declared.line.LineError.{LineError};
     ghost use Rattle.trace_model.specs.Lines.{IsRunnable};
     ghost use Rattle.trace_model.specs.SoFar.{is_stop};
-    ghost use Rattle.trace_replay.specs.Events.{Came, Event, KnowsLines, NextRefused, refusal_after, taking, told_bytes};
+    ghost use Rattle.trace_replay.specs.Events.{Came, Event, ScriptGoesOn, KnowsLines, NextRefused, refusal_after, taking, told_bytes};
     ghost use Rattle.trace_replay.specs.Events.Event.{Gave, Took};
     ghost use Rattle.trace_replay.specs.Made.{BrokeMade, CameMade, KnowsMade};
 
@@ -117,14 +116,7 @@ impl<'a, O: Sink> Script for MadeScript<'a, O> {
             → ⟦<MadeScript<'a, O> as Script>⟧.came s b e self.old
             → (cause : LineError) × NextRefused ⟦<MadeScript<'a, O> as Script>⟧.knows s self.new e armed cause) }
         ensures only { (IsErrOf result Ended.Flash → ⊥) × (IsErrOf result Ended.Disk → ⊥) }
-        ensures later { (⟦<MadeScript<'a, O> as Script>⟧.state self.old).sink_faults
-            ≤ (⟦<MadeScript<'a, O> as Script>⟧.state self.new).sink_faults }
-        ensures source_later { (⟦<MadeScript<'a, O> as Script>⟧.state self.old).source_faults
-            ≤ (⟦<MadeScript<'a, O> as Script>⟧.state self.new).source_faults }
-        ensures turns { (⟦<MadeScript<'a, O> as Script>⟧.state self.new).turns ≤ (⟦<MadeScript<'a, O> as Script>⟧.state self.old).turns }
-        ensures size { (⟦<MadeScript<'a, O> as Script>⟧.state self.new).size ≡ (⟦<MadeScript<'a, O> as Script>⟧.state self.old).size }
-        ensures spare { (⟦<MadeScript<'a, O> as Script>⟧.state self.new).spare ≡ (⟦<MadeScript<'a, O> as Script>⟧.state self.old).spare }
-        ensures lent { (⟦<MadeScript<'a, O> as Script>⟧.state self.new).lent ≡ (⟦<MadeScript<'a, O> as Script>⟧.state self.old).lent }
+        ensures goes { ScriptGoesOn (⟦<MadeScript<'a, O> as Script>⟧.state self.old) (⟦<MadeScript<'a, O> as Script>⟧.state self.new) }
         // No line of a made trace is refused, and nothing is read or said:
         ensures ok { IsOk result }
     {
@@ -177,29 +169,17 @@ pub fn replay_made<O: Sink, R: Rig, V: Volume<R>>(
 ) -> Result<(), Ended>
     requires size { volume_size made ≡ (V.state volume.old).told.geometry.size }
     requires owns { V.owns volume.old (R.state rig.old).contents }
-    requires ack { (V.state volume.old).told.ack ≡ ack.Write }
-    requires on { (R.state rig.old).power.on ≡ true }
-    requires unarmed { (R.state rig.old).power.stops ≡ [] }
-    requires dirty { (V.state volume.old).told.dirty ≤ (V.state volume.old).told.geometry.c }
-    requires up { (V.state volume.old).down ≡ false }
-    requires table { (V.state volume.old).table ≡ [] }
-    requires held { (a : ℕ) → (V.state volume.old).held a ≡ false }
-    requires empty { StandFor (V.stands (V.state volume.old).told) (R.state rig.old).contents empty }
+    requires fresh { IsAsMade V.stands (V.state volume.old) (R.state rig.old) }
     ensures owns { V.owns volume.new (R.state rig.new).contents }
     ensures told { (V.state volume.new).told ≡ (V.state volume.old).told }
     ensures whole { OnOk result (RunsWhole (V.state volume.old).told (Gives (lines_left made))
         (TellsEnd (O.state sink.old) (O.state sink.new))
         (V.stands (V.state volume.new).told) (R.state rig.old) (R.state rig.new)) }
-    ensures not_trace { IsErrOf result Ended.Trace → ⊥ }
-    ensures not_source { IsErrOf result Ended.Source → ⊥ }
     ensures part { IfErr result (EndsPart (V.state volume.old).told (Gives (lines_left made))
         (TellsEnd (O.state sink.old) (O.state sink.new)) (TellsEndPart (O.state sink.old) (O.state sink.new))
         (V.stands (V.state volume.new).told) (R.state rig.old) (R.state rig.new)) }
-    ensures sink { IsErrOf result Ended.Sink → Rose (O.state sink.old).faults (O.state sink.new).faults }
-    ensures flash { IsErrOf result Ended.Flash → Rose (R.state rig.old).faults.flash (R.state rig.new).faults.flash }
-    ensures disk { IsErrOf result Ended.Disk → Rose (R.state rig.old).faults.disk (R.state rig.new).faults.disk }
-    ensures sink_lent { (O.state sink.new).lent ≡ (O.state sink.old).lent }
-    ensures rig_lent { (R.state rig.new).lent ≡ (R.state rig.old).lent }
+    ensures causes { EndHasCauseUntraced result (O.state sink.old) (O.state sink.new) (R.state rig.old) (R.state rig.new) }
+    ensures lent { KeepsLentUntraced (O.state sink.old) (O.state sink.new) (R.state rig.old) (R.state rig.new) }
 {
     let mut script = MadeScript::new(alloc, made, sink);
     replay_script(alloc, &mut script, rig, volume)

@@ -1,13 +1,11 @@
 //! A quiet run: of all that becomes of a trace a refused line alone is printed.
-ghost use Rattle.std.specs.Prelude.{◌≡◌, ◌≢◌, ◌≤◌, ◌∷◌, ◌++◌, [], ℕ, length, true, false, OnOk, IfErr, IsErrOf};
+ghost use Rattle.std.specs.Prelude.{◌≡◌, ◌≢◌, ◌∷◌, ◌++◌, [], length, true, OnOk, IfErr, IsErrOf};
 ghost use Rattle.std.specs.Io.KnownBytes as known;
-ghost use Rattle.ft_base.specs.Count.{Rose};
-ghost use Rattle.ft_base.specs.PlainDisk.{empty};
-ghost use Rattle.ft_base.specs.declared.told.Ack.TheVariants as ack;
-ghost use Rattle.ft_volume.specs.Volume.{StandFor};
 ghost use Rattle.trace_model.specs.Readings.{Reads};
+ghost use Rattle.trace_replay.specs.Causes.{EndHasCause, KeepsStreams};
 ghost use Rattle.trace_replay.specs.Commands as commands;
 ghost use Rattle.trace_replay.specs.Commands.{TellsRefusal, TellsRefusalPart};
+ghost use Rattle.trace_replay.specs.AsMade.{IsAsMade};
 ghost use Rattle.trace_replay.specs.Theorem.{EndsPart, EndsRefused, EndsUnread, RunsWhole};
 
 use crate::Ended;
@@ -146,14 +144,7 @@ pub fn replay_quiet<I: Source, O: Sink, R: Rig, V: Volume<R>>(
     volume: &mut V,
 ) -> Result<(), Ended>
     requires owns { V.owns volume.old (R.state rig.old).contents }
-    requires ack { (V.state volume.old).told.ack ≡ ack.Write }
-    requires on { (R.state rig.old).power.on ≡ true }
-    requires unarmed { (R.state rig.old).power.stops ≡ [] }
-    requires dirty { (V.state volume.old).told.dirty ≤ (V.state volume.old).told.geometry.c }
-    requires up { (V.state volume.old).down ≡ false }
-    requires table { (V.state volume.old).table ≡ [] }
-    requires held { (a : ℕ) → (V.state volume.old).held a ≡ false }
-    requires empty { StandFor (V.stands (V.state volume.old).told) (R.state rig.old).contents empty }
+    requires fresh { IsAsMade V.stands (V.state volume.old) (R.state rig.old) }
     ensures owns { V.owns volume.new (R.state rig.new).contents }
     ensures told { (V.state volume.new).told ≡ (V.state volume.old).told }
     ensures whole { OnOk result (RunsWhole (V.state volume.old).told
@@ -173,16 +164,10 @@ pub fn replay_quiet<I: Source, O: Sink, R: Rig, V: Volume<R>>(
         → EndsPart (V.state volume.old).told (Reads (V.state volume.old).told.geometry.size (I.state source.old) (I.state source.new))
         (TellsRefusal (O.state sink.old) (O.state sink.new)) (TellsRefusalPart (O.state sink.old) (O.state sink.new))
         (V.stands (V.state volume.new).told) (R.state rig.old) (R.state rig.new) e) }
-    ensures source { IsErrOf result Ended.Source → Rose (I.state source.old).faults (I.state source.new).faults }
-    ensures sink { IsErrOf result Ended.Sink → Rose (O.state sink.old).faults (O.state sink.new).faults }
-    ensures flash { IsErrOf result Ended.Flash → Rose (R.state rig.old).faults.flash (R.state rig.new).faults.flash }
-    ensures disk { IsErrOf result Ended.Disk → Rose (R.state rig.old).faults.disk (R.state rig.new).faults.disk }
-    ensures sink_later { (O.state sink.old).faults ≤ (O.state sink.new).faults }
-    ensures flash_later { (R.state rig.old).faults.flash ≤ (R.state rig.new).faults.flash }
-    ensures disk_later { (R.state rig.old).faults.disk ≤ (R.state rig.new).faults.disk }
-    ensures source_lent { (I.state source.new).lent ≡ (I.state source.old).lent }
-    ensures sink_lent { (O.state sink.new).lent ≡ (O.state sink.old).lent }
-    ensures rig_lent { (R.state rig.new).lent ≡ (R.state rig.old).lent }
+    ensures causes { EndHasCause result (I.state source.old) (I.state source.new) (O.state sink.old) (O.state sink.new) (R.state rig.old)
+        (R.state rig.new) }
+    ensures goes { KeepsStreams (I.state source.old) (I.state source.new) (O.state sink.old) (O.state sink.new) (R.state rig.old)
+        (R.state rig.new) }
 {
     let mut script = QuietScript::new(alloc, source, sink, volume.size());
     replay_script(alloc, &mut script, rig, volume)

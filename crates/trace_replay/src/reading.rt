@@ -8,6 +8,7 @@ ghost use Rattle.trace_model.specs.Run.{answers_of, read_backs};
 ghost use Rattle.trace_model.specs.SoFar.{as_ran};
 ghost use Rattle.trace_replay.specs.Ends.{EndsWithin, RunsLine};
 ghost use Rattle.trace_replay.specs.Events.{Says};
+ghost use Rattle.trace_replay.specs.MayRun.{MayRun};
 ghost use Rattle.trace_replay.specs.Spends.{SpendsSteps, SpendsLine, touches_of};
 ghost use Rattle.trace_replay.specs.Went.{KeepsFrame, Keeps, Went};
 
@@ -71,10 +72,7 @@ pub(crate) fn run_read<P: Script, R: Rig, V: Volume<R>>(
     scratch: &mut Scratch,
 ) -> Result<Became, Ended>
     requires owns { V.owns volume.old (R.state rig.old).contents }
-    requires on { (R.state rig.old).power.on ≡ true }
-    requires ack { (V.state volume.old).told.ack ≡ ack.Write }
-    requires some { 1 ≤ count }
-    requires within { lba + count ≤ (V.state volume.old).told.geometry.size }
+    requires may_run { MayRun (line_kind.Read lba count) (V.state volume.old).told (R.state rig.old) }
     ensures owns { V.owns volume.new (R.state rig.new).contents }
     ensures told { (V.state volume.new).told ≡ (V.state volume.old).told }
     ensures kept { Keeps (V.stands (V.state volume.old).told) (V.stands (V.state volume.new).told) (R.state rig.old).contents

@@ -1,18 +1,14 @@
 //! The lines of a script, run one after the other.
-ghost use Rattle.std.specs.Prelude.{◌≡◌, ◌≢◌, ◌+◌, ◌≤◌, ◌<◌, ◌^◌, ◌++◌, ◌∷◌, [], ℕ, List, true, false, length, All, OnOk, IfErr, IsErrOf};
-ghost use Rattle.ft_base.specs.Count.{Rose};
-ghost use Rattle.ft_base.specs.PlainDisk.{empty};
+ghost use Rattle.std.specs.Prelude.{◌≡◌, ◌≢◌, ◌<◌, ◌++◌, ◌∷◌, [], List, true, All, OnOk, IfErr, IsErrOf};
 ghost use Rattle.ft_base.specs.StreamState.{SinkState, SourceState};
-ghost use Rattle.ft_base.specs.declared.told.Ack.TheVariants as ack;
 ghost use Rattle.ft_media.specs.State.{State};
-ghost use Rattle.ft_volume.specs.Volume.{StandFor};
 ghost use Rattle.trace_model.specs.declared.ran.Ran.{Ran};
-ghost use Rattle.trace_model.specs.Lines.{IsRunnable};
-ghost use Rattle.trace_model.specs.SoFar.{is_stop};
 ghost use Rattle.trace_replay.specs.Ends.{CutLeaves};
 ghost use Rattle.trace_replay.specs.Events.{BreaksBy, CameBy, KnowsLines, events_of};
 ghost use Rattle.trace_replay.specs.Events.Event.{Gave};
-ghost use Rattle.trace_replay.specs.Ran.{BlamesRun, EndsRun, RunKeepsFrame, IsTallyOf, RanSoFar};
+ghost use Rattle.trace_replay.specs.AsMade.{IsAsMade};
+ghost use Rattle.trace_replay.specs.MayRun.{MayRun};
+ghost use Rattle.trace_replay.specs.Ran.{BlamesLine, BlamesRun, EndsRun, RunKeepsFrame, IsTallyOf, MayCount, RanSoFar};
 ghost use Rattle.trace_replay.specs.Theorem.{EndsPart, EndsRefused, EndsUnread, RunsWhole};
 
 use crate::lines::run_line;
@@ -34,15 +30,8 @@ pub fn replay_script<P: Script, R: Rig, V: Volume<R>>(
     volume: &mut V,
 ) -> Result<(), Ended>
     requires owns { V.owns volume.old (R.state rig.old).contents }
-    requires ack { (V.state volume.old).told.ack ≡ ack.Write }
     requires size { (P.state script.old).size ≡ (V.state volume.old).told.geometry.size }
-    requires on { (R.state rig.old).power.on ≡ true }
-    requires unarmed { (R.state rig.old).power.stops ≡ [] }
-    requires dirty { (V.state volume.old).told.dirty ≤ (V.state volume.old).told.geometry.c }
-    requires up { (V.state volume.old).down ≡ false }
-    requires table { (V.state volume.old).table ≡ [] }
-    requires held { (a : ℕ) → (V.state volume.old).held a ≡ false }
-    requires empty { StandFor (V.stands (V.state volume.old).told) (R.state rig.old).contents empty }
+    requires fresh { IsAsMade V.stands (V.state volume.old) (R.state rig.old) }
     ensures owns { V.owns volume.new (R.state rig.new).contents }
     ensures told { (V.state volume.new).told ≡ (V.state volume.old).told }
     ensures whole { OnOk result ((s : SourceState) → (b : SinkState) → P.came s b [] script.old → RunsWhole (V.state volume.old).told
@@ -56,16 +45,8 @@ pub fn replay_script<P: Script, R: Rig, V: Volume<R>>(
     ensures part { IfErr result (λ e. e ≢ Ended.Trace → e ≢ Ended.Source → (s : SourceState) → (b : SinkState) → P.came s b [] script.old
         → EndsPart (V.state volume.old).told (P.knows s script.new) (CameBy P.came s b script.new) (BreaksBy P.broke s b script.new)
         (V.stands (V.state volume.new).told) (R.state rig.old) (R.state rig.new) e) }
-    ensures source { IsErrOf result Ended.Source → Rose (P.state script.old).source_faults (P.state script.new).source_faults }
-    ensures sink { IsErrOf result Ended.Sink → Rose (P.state script.old).sink_faults (P.state script.new).sink_faults }
-    ensures flash { IsErrOf result Ended.Flash → Rose (R.state rig.old).faults.flash (R.state rig.new).faults.flash }
-    ensures disk { IsErrOf result Ended.Disk → Rose (R.state rig.old).faults.disk (R.state rig.new).faults.disk }
-    ensures lent { (R.state rig.new).lent ≡ (R.state rig.old).lent }
-    ensures script_lent { (P.state script.new).lent ≡ (P.state script.old).lent }
-    ensures script_size { (P.state script.new).size ≡ (P.state script.old).size }
-    ensures sink_later { (P.state script.old).sink_faults ≤ (P.state script.new).sink_faults }
-    ensures flash_later { (R.state rig.old).faults.flash ≤ (R.state rig.new).faults.flash }
-    ensures disk_later { (R.state rig.old).faults.disk ≤ (R.state rig.new).faults.disk }
+    ensures causes { IfErr result (λ e. BlamesRun P.state e script.old script.new (R.state rig.old) (R.state rig.new)) }
+    ensures goes { RunKeepsFrame P.state script.old script.new (R.state rig.old) (R.state rig.new) }
 {
     let mut tally = Tally::new(alloc);
     run_lines(alloc, script, rig, volume, &mut tally)?;
@@ -82,15 +63,8 @@ fn run_lines<P: Script, R: Rig, V: Volume<R>>(
     tally: &mut Tally,
 ) -> Result<(), Ended>
     requires owns { V.owns volume.old (R.state rig.old).contents }
-    requires ack { (V.state volume.old).told.ack ≡ ack.Write }
     requires size { (P.state script.old).size ≡ (V.state volume.old).told.geometry.size }
-    requires on { (R.state rig.old).power.on ≡ true }
-    requires unarmed { (R.state rig.old).power.stops ≡ [] }
-    requires dirty { (V.state volume.old).told.dirty ≤ (V.state volume.old).told.geometry.c }
-    requires up { (V.state volume.old).down ≡ false }
-    requires table { (V.state volume.old).table ≡ [] }
-    requires held { (a : ℕ) → (V.state volume.old).held a ≡ false }
-    requires empty { StandFor (V.stands (V.state volume.old).told) (R.state rig.old).contents empty }
+    requires fresh { IsAsMade V.stands (V.state volume.old) (R.state rig.old) }
     requires tally { IsTallyOf [] tally.old }
     ensures owns { V.owns volume.new (R.state rig.new).contents }
     ensures told { (V.state volume.new).told ≡ (V.state volume.old).told }
@@ -103,8 +77,7 @@ fn run_lines<P: Script, R: Rig, V: Volume<R>>(
     ensures ends { IfErr result (λ e. (s : SourceState) → (b : SinkState) → P.came s b [] script.old
         → EndsRun (V.state volume.old).told (P.knows s script.new) (CameBy P.came s b script.new) (BreaksBy P.broke s b script.new)
         (V.stands (V.state volume.new).told) (R.state rig.old) (R.state rig.new) e) }
-    ensures source { IsErrOf result Ended.Source → Rose (P.state script.old).source_faults (P.state script.new).source_faults }
-    ensures blames { IfErr result (λ e. BlamesRun P.state e script.old script.new (R.state rig.old) (R.state rig.new)) }
+    ensures causes { IfErr result (λ e. BlamesRun P.state e script.old script.new (R.state rig.old) (R.state rig.new)) }
     ensures goes { RunKeepsFrame P.state script.old script.new (R.state rig.old) (R.state rig.new) }
 {
     let mut scratch = Scratch::new(alloc);
@@ -124,15 +97,11 @@ fn run_given<P: Script, R: Rig, V: Volume<R>>(
     scratch: &mut Scratch,
 ) -> Result<(), Ended>
     requires owns { V.owns volume.old (R.state rig.old).contents }
-    requires on { (R.state rig.old).power.on ≡ true }
-    requires ack { (V.state volume.old).told.ack ≡ ack.Write }
-    requires runnable { IsRunnable (V.state volume.old).told.geometry.size line.now }
-    requires stops { is_stop line.now ≡ true → length (R.state rig.old).power.stops < 16 }
-    requires lines { tally.old.lines + 1 < 2 ^ 64 }
+    requires may_run { MayRun line.now (V.state volume.old).told (R.state rig.old) }
+    requires may_count { MayCount (V.state volume.old).told.geometry.size tally.old }
     requires so_far { (first : State) × (run : List Ran)
         × RanSoFar (V.state volume.old).told (V.stands (V.state volume.old).told) first (R.state rig.old) tally.old (V.state volume.old)
         run }
-    requires within { All (λ a. a < (V.state volume.old).told.geometry.size) tally.old.touched.keys }
     ensures owns { V.owns volume.new (R.state rig.new).contents }
     ensures told { (V.state volume.new).told ≡ (V.state volume.old).told }
     ensures ran { OnOk result ((first : State) → (run : List Ran)
@@ -148,8 +117,7 @@ fn run_given<P: Script, R: Rig, V: Volume<R>>(
         → (s : SourceState) → (b : SinkState) → P.came s b (events_of run ++ Gave line.now ∷ []) script.old
         → EndsRun (V.state volume.old).told (P.knows s script.new) (CameBy P.came s b script.new) (BreaksBy P.broke s b script.new)
         (V.stands (V.state volume.new).told) first (R.state rig.new) e) }
-    ensures not_source { IsErrOf result Ended.Source → ⊥ }
-    ensures blames { IfErr result (λ e. BlamesRun P.state e script.old script.new (R.state rig.old) (R.state rig.new)) }
+    ensures causes { IfErr result (λ e. BlamesLine P.state e script.old script.new (R.state rig.old) (R.state rig.new)) }
     ensures goes { RunKeepsFrame P.state script.old script.new (R.state rig.old) (R.state rig.new) }
 {
     let Ok(()) = count(tally, line, volume.size()) else {

@@ -47,20 +47,24 @@ returns-in-Ok-clause-part g c =
     (λ other. ap g.O.Sink.state (silent other)))
     c.tell_report.ensures.silent
 
-pub returns-in-Ok-clause-sink : goal.returns-in-Ok-clause-sink
-returns-in-Ok-clause-sink g c = λ is. rose_later _ _ _ c.replay_quiet.ensures.sink_later (c.tell_report.ensures.sink is)
-
-pub returns-in-Ok-clause-flash : goal.returns-in-Ok-clause-flash
-returns-in-Ok-clause-flash g c = λ is. rose_later _ _ _ c.replay_quiet.ensures.flash_later (c.tell_report.ensures.flash is)
-
-pub returns-in-Ok-clause-disk : goal.returns-in-Ok-clause-disk
-returns-in-Ok-clause-disk g c = λ is. rose_later _ _ _ c.replay_quiet.ensures.disk_later (c.tell_report.ensures.disk is)
+pub returns-in-Ok-clause-causes : goal.returns-in-Ok-clause-causes
+returns-in-Ok-clause-causes g c =
+    let goes = c.replay_quiet.ensures.goes in
+    let causes = c.tell_report.ensures.causes in
+    record {
+      source = λ is. absurd (causes.not_source is);
+      sink = λ is. rose_later _ _ _ goes.sink_later (causes.sink is);
+      flash = λ is. rose_later _ _ _ goes.flash_later (causes.flash is);
+      disk = λ is. rose_later _ _ _ goes.disk_later (causes.disk is);
+    }
 
 pub returns-in-Ok-clause-on : goal.returns-in-Ok-clause-on
 returns-in-Ok-clause-on g c = c.tell_report.ensures.asks.1.on
 
-pub returns-in-Ok-clause-rig_lent : goal.returns-in-Ok-clause-rig_lent
-returns-in-Ok-clause-rig_lent g c = c.tell_report.ensures.asks.1.lent ∙ c.replay_quiet.ensures.rig_lent
+pub returns-in-Ok-clause-lent : goal.returns-in-Ok-clause-lent
+returns-in-Ok-clause-lent g c =
+    let lent = c.replay_quiet.ensures.goes.lent in
+    record { source_lent = lent.source_lent; sink_lent = c.tell_report.ensures.lent ∙ lent.sink_lent; rig_lent = c.tell_report.ensures.asks.1.lent ∙ lent.rig_lent }
 
 -- ---- it ended before that
 
@@ -69,3 +73,9 @@ returns-in-Err-clause-part g c = λ not_trace not_source. inspecting_line _ _ _ 
 
 pub returns-in-Err-clause-on : goal.returns-in-Err-clause-on
 returns-in-Err-clause-on g c = at_end c.in-Err.ended (λ is. (c.in-Err.ensures.refused is).leaves.rig.on) (λ is. (c.in-Err.ensures.unread is).leaves.rig.on) (λ not_trace not_source. (c.in-Err.ensures.part not_trace not_source).rig.on)
+
+pub returns-in-Err-clause-causes : goal.returns-in-Err-clause-causes
+returns-in-Err-clause-causes g c = c.in-Err.ensures.causes
+
+pub returns-in-Err-clause-lent : goal.returns-in-Err-clause-lent
+returns-in-Err-clause-lent g c = c.replay_quiet.ensures.goes.lent

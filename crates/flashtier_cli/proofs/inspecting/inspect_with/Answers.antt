@@ -1,14 +1,14 @@
 use Rattle.std.proofs.Common.{inr}
 use Rattle.ft_base.specs.declared.told.Mode.TheVariants.{Back, Through}
-use Rattle.flashtier_cli.proofs.BeginLemmas.{empty_new}
+use Rattle.flashtier_cli.proofs.BeginLemmas.{cause_begun, cause_later, empty_new, fresh_new, lent_later}
 use Rattle.flashtier_cli.proofs.InspectLemmas.{inspecting_new, inspects_new, refused_quiet, unread_quiet}
 use Rattle.flashtier_cli.proofs.StatusLemmas.{if_err, if_ok}
 use Rattle.flashtier_cli.proofs.inspecting.inspect_with.Goals as goal
 
 -- ---- a volume that writes back
 
-pub inspect-requires-clause-empty : goal.inspect-requires-clause-empty
-inspect-requires-clause-empty g c = empty_new c.in-Ok.ensures.new
+pub inspect-requires-clause-fresh : goal.inspect-requires-clause-fresh
+inspect-requires-clause-fresh g c = fresh_new Back c.args.options.now _ c.in-Ok.ensures.new (empty_new c.in-Ok.ensures.new)
 
 pub returns-in-Ok-clause-whole : goal.returns-in-Ok-clause-whole
 returns-in-Ok-clause-whole g c =
@@ -36,10 +36,19 @@ returns-in-Ok-clause-part g c =
     e (part not_trace not_source)))
     c.inspect.ensures.part
 
+pub returns-in-Ok-clause-causes : goal.returns-in-Ok-clause-causes
+returns-in-Ok-clause-causes g c = cause_later c.in-Ok.ensures.begins c.inspect.ensures.causes
+
+pub returns-in-Ok-clause-lent : goal.returns-in-Ok-clause-lent
+returns-in-Ok-clause-lent g c = lent_later c.in-Ok.ensures.begins c.inspect.ensures.lent
+
+pub returns-in-Err-clause-causes : goal.returns-in-Err-clause-causes
+returns-in-Err-clause-causes g c = cause_begun c.in-Err.ended _ _ _ _ c.in-Err.ensures.begins
+
 -- ---- a volume that writes through
 
-pub inspect-requires-in-Ok-begin_through-clause-empty : goal.inspect-requires-in-Ok-begin_through-clause-empty
-inspect-requires-in-Ok-begin_through-clause-empty g c = empty_new c.in-Ok-begin_through.ensures.new
+pub inspect-requires-in-Ok-begin_through-clause-fresh : goal.inspect-requires-in-Ok-begin_through-clause-fresh
+inspect-requires-in-Ok-begin_through-clause-fresh g c = fresh_new Through c.args.options.now _ c.in-Ok-begin_through.ensures.new (empty_new c.in-Ok-begin_through.ensures.new)
 
 pub returns-in-Ok-begin_through-clause-whole : goal.returns-in-Ok-begin_through-clause-whole
 returns-in-Ok-begin_through-clause-whole g c =
@@ -66,3 +75,12 @@ returns-in-Ok-begin_through-clause-part g c =
     (g.I.Source.state c.args.source.now) (g.I.Source.state c.inspect-in-Ok-begin_through.new.source) (g.O.Sink.state c.args.sink.now) (g.O.Sink.state c.inspect-in-Ok-begin_through.new.sink) (g.R.Media.state c.inspect-in-Ok-begin_through.new.rig)
     e (part not_trace not_source)))
     c.inspect-in-Ok-begin_through.ensures.part
+
+pub returns-in-Ok-begin_through-clause-causes : goal.returns-in-Ok-begin_through-clause-causes
+returns-in-Ok-begin_through-clause-causes g c = cause_later c.in-Ok-begin_through.ensures.begins c.inspect-in-Ok-begin_through.ensures.causes
+
+pub returns-in-Ok-begin_through-clause-lent : goal.returns-in-Ok-begin_through-clause-lent
+returns-in-Ok-begin_through-clause-lent g c = lent_later c.in-Ok-begin_through.ensures.begins c.inspect-in-Ok-begin_through.ensures.lent
+
+pub returns-in-Err-begin_through-clause-causes : goal.returns-in-Err-begin_through-clause-causes
+returns-in-Err-begin_through-clause-causes g c = cause_begun c.in-Err-begin_through.ended _ _ _ _ c.in-Err-begin_through.ensures.begins

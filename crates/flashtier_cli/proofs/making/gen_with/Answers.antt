@@ -1,13 +1,13 @@
 use Rattle.std.proofs.Common.{inr}
 use Rattle.ft_base.specs.declared.told.Mode.TheVariants.{Back, Through}
-use Rattle.flashtier_cli.proofs.BeginLemmas.{empty_new, part_made, whole_made}
+use Rattle.flashtier_cli.proofs.BeginLemmas.{empty_new, fresh_new, lent_untraced, part_made, untraced_begun, untraced_later, whole_made}
 use Rattle.flashtier_cli.proofs.StatusLemmas.{if_err, if_ok}
 use Rattle.flashtier_cli.proofs.making.gen_with.Goals as goal
 
 -- ---- a volume that writes back
 
-pub replay_made-requires-clause-empty : goal.replay_made-requires-clause-empty
-replay_made-requires-clause-empty g c = empty_new c.in-Ok.ensures.new
+pub replay_made-requires-clause-fresh : goal.replay_made-requires-clause-fresh
+replay_made-requires-clause-fresh g c = fresh_new Back c.args.options.now _ c.in-Ok.ensures.new (empty_new c.in-Ok.ensures.new)
 
 pub returns-in-Ok-clause-whole : goal.returns-in-Ok-clause-whole
 returns-in-Ok-clause-whole g c =
@@ -23,10 +23,19 @@ returns-in-Ok-clause-part g c =
     e part))
     c.replay_made.ensures.part
 
+pub returns-in-Ok-clause-causes : goal.returns-in-Ok-clause-causes
+returns-in-Ok-clause-causes g c = untraced_later c.in-Ok.ensures.begins c.replay_made.ensures.causes
+
+pub returns-in-Ok-clause-lent : goal.returns-in-Ok-clause-lent
+returns-in-Ok-clause-lent g c = lent_untraced c.in-Ok.ensures.begins c.replay_made.ensures.lent
+
+pub returns-in-Err-clause-causes : goal.returns-in-Err-clause-causes
+returns-in-Err-clause-causes g c = untraced_begun c.in-Err.ended _ _ _ c.in-Err.ensures.begins
+
 -- ---- a volume that writes through
 
-pub replay_made-requires-in-Ok-begin_through-clause-empty : goal.replay_made-requires-in-Ok-begin_through-clause-empty
-replay_made-requires-in-Ok-begin_through-clause-empty g c = empty_new c.in-Ok-begin_through.ensures.new
+pub replay_made-requires-in-Ok-begin_through-clause-fresh : goal.replay_made-requires-in-Ok-begin_through-clause-fresh
+replay_made-requires-in-Ok-begin_through-clause-fresh g c = fresh_new Through c.args.options.now _ c.in-Ok-begin_through.ensures.new (empty_new c.in-Ok-begin_through.ensures.new)
 
 pub returns-in-Ok-begin_through-clause-whole : goal.returns-in-Ok-begin_through-clause-whole
 returns-in-Ok-begin_through-clause-whole g c =
@@ -41,3 +50,12 @@ returns-in-Ok-begin_through-clause-part g c =
     (g.O.Sink.state c.args.sink.now) (g.O.Sink.state c.replay_made-in-Ok-begin_through.new.sink) (g.R.Media.state c.replay_made-in-Ok-begin_through.new.rig)
     e part))
     c.replay_made-in-Ok-begin_through.ensures.part
+
+pub returns-in-Ok-begin_through-clause-causes : goal.returns-in-Ok-begin_through-clause-causes
+returns-in-Ok-begin_through-clause-causes g c = untraced_later c.in-Ok-begin_through.ensures.begins c.replay_made-in-Ok-begin_through.ensures.causes
+
+pub returns-in-Ok-begin_through-clause-lent : goal.returns-in-Ok-begin_through-clause-lent
+returns-in-Ok-begin_through-clause-lent g c = lent_untraced c.in-Ok-begin_through.ensures.begins c.replay_made-in-Ok-begin_through.ensures.lent
+
+pub returns-in-Err-begin_through-clause-causes : goal.returns-in-Err-begin_through-clause-causes
+returns-in-Err-begin_through-clause-causes g c = untraced_begun c.in-Err-begin_through.ended _ _ _ c.in-Err-begin_through.ensures.begins

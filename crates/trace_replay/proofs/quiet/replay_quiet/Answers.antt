@@ -1,4 +1,5 @@
-use Rattle.std.proofs.Common.{◌≡◌, ◌∙◌, rules}
+use Rattle.std.proofs.Common.{◌≡◌, refl, ◌∙◌, rules}
+use Rattle.trace_replay.proofs.ExitLemmas.{blamed_at}
 use Rattle.trace_replay.proofs.FromLemmas.{before_itself, part_from, refused_from, unread_from, whole_from}
 use Rattle.trace_replay.proofs.StreamLemmas.{known_to, lent_apart, on_err, on_ok}
 use Rattle.trace_replay.proofs.QuietLemmas.{shown_refusal, told_nothing, told_refusal}
@@ -10,10 +11,10 @@ returns-clause-whole g c =
     let a = g.I.Source.state c.args.source.now in
     let x = g.O.Sink.state c.args.sink.now in
     let script = c.replay_script.new.script in
-    let apart = lent_apart _ _ _ _ _ _ _ _ c.replay_script.ensures.script_lent in
+    let apart = lent_apart _ _ _ _ _ _ _ _ c.replay_script.ensures.goes.script_lent in
     let same_source : script.source.ghost_name ≡ c.new-script.result.source.ghost_name = apart.0 in
     let same_sink : script.sink.ghost_name ≡ c.new-script.result.sink.ghost_name = apart.1 in
-    let size : script.reader.size ≡ told.geometry.size = c.replay_script.ensures.script_size ∙ c.new-script.ensures.size ∙ c.size.ensures in
+    let size : script.reader.size ≡ told.geometry.size = c.replay_script.ensures.goes.size ∙ c.new-script.ensures.size ∙ c.size.ensures in
     on_ok c.replay_script.result _ _ c.replay_script.ensures.whole (λ whole.
     whole_from told _ _ _ _ _ _ _ _ _
     (known_to script.reader.size told.geometry.size a (g.I.Source.state script.source.now) _ size (search (rules, same_source)))
@@ -27,7 +28,7 @@ returns-clause-silent g c =
     let a = g.I.Source.state c.args.source.now in
     let x = g.O.Sink.state c.args.sink.now in
     let script = c.replay_script.new.script in
-    let apart = lent_apart _ _ _ _ _ _ _ _ c.replay_script.ensures.script_lent in
+    let apart = lent_apart _ _ _ _ _ _ _ _ c.replay_script.ensures.goes.script_lent in
     let same_sink : script.sink.ghost_name ≡ c.new-script.result.sink.ghost_name = apart.1 in
     on_ok c.replay_script.result _ _ c.replay_script.ensures.whole (λ whole.
     let ran = whole a x c.new-script.ensures.came in
@@ -39,10 +40,10 @@ returns-clause-refused g c = λ is.
     let a = g.I.Source.state c.args.source.now in
     let x = g.O.Sink.state c.args.sink.now in
     let script = c.replay_script.new.script in
-    let apart = lent_apart _ _ _ _ _ _ _ _ c.replay_script.ensures.script_lent in
+    let apart = lent_apart _ _ _ _ _ _ _ _ c.replay_script.ensures.goes.script_lent in
     let same_source : script.source.ghost_name ≡ c.new-script.result.source.ghost_name = apart.0 in
     let same_sink : script.sink.ghost_name ≡ c.new-script.result.sink.ghost_name = apart.1 in
-    let size : script.reader.size ≡ told.geometry.size = c.replay_script.ensures.script_size ∙ c.new-script.ensures.size ∙ c.size.ensures in
+    let size : script.reader.size ≡ told.geometry.size = c.replay_script.ensures.goes.size ∙ c.new-script.ensures.size ∙ c.size.ensures in
     refused_from told _ _ _ _ _ _ _ _ _
     (known_to script.reader.size told.geometry.size a (g.I.Source.state script.source.now) _ size (search (rules, same_source)))
     (λ run answers says. told_refusal x (g.O.Sink.state script.sink.now) _ (search (rules, same_sink)) run answers says.0 says.1 says.2.said)
@@ -56,10 +57,10 @@ returns-clause-unread g c = λ is.
     let a = g.I.Source.state c.args.source.now in
     let x = g.O.Sink.state c.args.sink.now in
     let script = c.replay_script.new.script in
-    let apart = lent_apart _ _ _ _ _ _ _ _ c.replay_script.ensures.script_lent in
+    let apart = lent_apart _ _ _ _ _ _ _ _ c.replay_script.ensures.goes.script_lent in
     let same_source : script.source.ghost_name ≡ c.new-script.result.source.ghost_name = apart.0 in
     let same_sink : script.sink.ghost_name ≡ c.new-script.result.sink.ghost_name = apart.1 in
-    let size : script.reader.size ≡ told.geometry.size = c.replay_script.ensures.script_size ∙ c.new-script.ensures.size ∙ c.size.ensures in
+    let size : script.reader.size ≡ told.geometry.size = c.replay_script.ensures.goes.size ∙ c.new-script.ensures.size ∙ c.size.ensures in
     unread_from told _ _ _ _ _ _ _ _ _
     (known_to script.reader.size told.geometry.size a (g.I.Source.state script.source.now) _ size (search (rules, same_source)))
     (λ run answers says. told_refusal x (g.O.Sink.state script.sink.now) _ (search (rules, same_sink)) run answers says.0 says.1 says.2.said)
@@ -73,10 +74,10 @@ returns-clause-part g c =
     let a = g.I.Source.state c.args.source.now in
     let x = g.O.Sink.state c.args.sink.now in
     let script = c.replay_script.new.script in
-    let apart = lent_apart _ _ _ _ _ _ _ _ c.replay_script.ensures.script_lent in
+    let apart = lent_apart _ _ _ _ _ _ _ _ c.replay_script.ensures.goes.script_lent in
     let same_source : script.source.ghost_name ≡ c.new-script.result.source.ghost_name = apart.0 in
     let same_sink : script.sink.ghost_name ≡ c.new-script.result.sink.ghost_name = apart.1 in
-    let size : script.reader.size ≡ told.geometry.size = c.replay_script.ensures.script_size ∙ c.new-script.ensures.size ∙ c.size.ensures in
+    let size : script.reader.size ≡ told.geometry.size = c.replay_script.ensures.goes.size ∙ c.new-script.ensures.size ∙ c.size.ensures in
     on_err c.replay_script.result _ _ c.replay_script.ensures.part (λ e part not_trace not_source.
     part_from told _ _ _ _ _ _ _ _ _
     (known_to script.reader.size told.geometry.size a (g.I.Source.state script.source.now) _ size (search (rules, same_source)))
@@ -86,18 +87,34 @@ returns-clause-part g c =
     _ _ (shown_refusal x (g.O.Sink.state script.sink.now) _ (search (rules, same_sink))) e
     (part not_trace not_source a x c.new-script.ensures.came))
 
-pub returns-clause-source_lent : goal.returns-clause-source_lent
-returns-clause-source_lent g c =
-    let apart = lent_apart _ _ _ _ _ _ _ _ c.replay_script.ensures.script_lent in
+pub returns-clause-causes : goal.returns-clause-causes
+returns-clause-causes g c =
     let script = c.replay_script.new.script in
+    let apart = lent_apart _ _ _ _ _ _ _ _ c.replay_script.ensures.goes.script_lent in
     let same_source : script.source.ghost_name ≡ c.new-script.result.source.ghost_name = apart.0 in
-    let lent : (g.I.Source.state script.source.now).lent ≡ (g.I.Source.state c.new-script.result.source.now).lent = apart.2 in
-    search (rules, same_source, lent)
-
-pub returns-clause-sink_lent : goal.returns-clause-sink_lent
-returns-clause-sink_lent g c =
-    let apart = lent_apart _ _ _ _ _ _ _ _ c.replay_script.ensures.script_lent in
-    let script = c.replay_script.new.script in
     let same_sink : script.sink.ghost_name ≡ c.new-script.result.sink.ghost_name = apart.1 in
-    let lent : (g.O.Sink.state script.sink.now).lent ≡ (g.O.Sink.state c.new-script.result.sink.now).lent = apart.3 in
-    search (rules, same_sink, lent)
+    let r = c.replay_script.result in
+    let blames = c.replay_script.ensures.causes in
+    record {
+      source = λ is. (let rose = (blamed_at r _ _ blames is).source refl in search (rules, same_source, rose));
+      sink = λ is. (let rose = (blamed_at r _ _ blames is).sink refl in search (rules, same_sink, rose));
+      flash = λ is. (blamed_at r _ _ blames is).flash refl;
+      disk = λ is. (blamed_at r _ _ blames is).disk refl;
+    }
+
+pub returns-clause-goes : goal.returns-clause-goes
+returns-clause-goes g c =
+    let script = c.replay_script.new.script in
+    let goes = c.replay_script.ensures.goes in
+    let apart = lent_apart _ _ _ _ _ _ _ _ goes.script_lent in
+    let same_source : script.source.ghost_name ≡ c.new-script.result.source.ghost_name = apart.0 in
+    let same_sink : script.sink.ghost_name ≡ c.new-script.result.sink.ghost_name = apart.1 in
+    let source_lent : (g.I.Source.state script.source.now).lent ≡ (g.I.Source.state c.new-script.result.source.now).lent = apart.2 in
+    let sink_lent : (g.O.Sink.state script.sink.now).lent ≡ (g.O.Sink.state c.new-script.result.sink.now).lent = apart.3 in
+    let sink = goes.sink in
+    record {
+      sink_later = search (rules, same_sink, sink);
+      flash_later = goes.flash;
+      disk_later = goes.disk;
+      lent = record { source_lent = search (rules, same_source, source_lent); sink_lent = search (rules, same_sink, sink_lent); rig_lent = goes.lent };
+    }

@@ -11,7 +11,7 @@ use Rattle.trace_replay.proofs.reading.run_read.Goals as goal
 pub returns-in_err-cuts-clause-ends : goal.returns-in_err-cuts-clause-ends
 returns-in_err-cuts-clause-ends g c =
     at_exit c.from_residual.result _ _ c.from_residual.ensures.1
-    (λ d stood. within_cut g.P.Script.state g.P.Script.came g.P.Script.broke g.P.Script.knows _ _ _ _ _ (line.Read c.args.lba c.args.count) 0 d refl (λ cuts. read_backs_some c.args.lba c.args.count d c.requires.some) c.in_err-cuts.ensures.went.ended tt)
+    (λ d stood. within_cut g.P.Script.state g.P.Script.came g.P.Script.broke g.P.Script.knows _ _ _ _ _ (line.Read c.args.lba c.args.count) 0 d refl (λ cuts. read_backs_some c.args.lba c.args.count d c.requires.may_run.runnable.0) c.in_err-cuts.ensures.went.ended tt)
 
 pub returns-in_err-say_all-clause-ends : goal.returns-in_err-say_all-clause-ends
 returns-in_err-say_all-clause-ends g c =

@@ -2,7 +2,7 @@ use Rattle.std.proofs.Common.{List, refl, subst}
 use Rattle.trace_model.specs.Run.{disk_after}
 use Rattle.trace_model.specs.SoFar.{as_ran}
 use Rattle.trace_replay.specs.Events.{Event}
-use Rattle.trace_replay.proofs.ExitLemmas.{at_exit, exit_is}
+use Rattle.trace_replay.proofs.ExitLemmas.{at_exit}
 use Rattle.trace_replay.proofs.GivenLemmas.{events_more}
 use Rattle.trace_replay.proofs.RanLemmas.{accepts, reads_counted, so_far_more, writes_counted}
 use Rattle.trace_replay.proofs.TheoremLemmas.{ends_uncounted, ends_within}
@@ -16,26 +16,22 @@ count-requires-clause-reads g c = reads_counted _ _ _ _ _ _ _ c.requires.so_far.
 
 pub returns-in_default-clause-ends : goal.returns-in_default-clause-ends
 returns-in_default-clause-ends g c = λ first run so_far s b come.
-    ends_uncounted _ _ _ _ _ _ run so_far g.P.Script.state g.P.Script.came g.P.Script.broke g.P.Script.knows s b _ c.args.script.now c.args.line.now come (g.met.P.Script.known c.args.script.now s b _ come) (λ all whole known. known) c.requires.ack come
+    ends_uncounted _ _ _ _ _ _ run so_far g.P.Script.state g.P.Script.came g.P.Script.broke g.P.Script.knows s b _ c.args.script.now c.args.line.now come (g.met.P.Script.known c.args.script.now s b _ come) (λ all whole known. known) c.requires.may_run.ack come
 
 pub returns-in_err-_became-clause-ends : goal.returns-in_err-_became-clause-ends
 returns-in_err-_became-clause-ends g c = at_exit c.from_residual.result _ _ c.from_residual.ensures.1 (λ first run so_far s b come.
     let l = c.args.line.now in
     let goes = c.run_line.ensures.goes in
     ends_within _ _ _ _ _ _ run so_far g.P.Script.state g.P.Script.came g.P.Script.broke g.P.Script.knows s b c.args.script.now c.run_line.new.script l come (g.met.P.Script.known c.args.script.now s b _ come) (goes.knew s)
-    (g.V.Volume.stands (g.V.Volume.state c.run_line.new.volume).told) (g.R.Media.state c.run_line.new.rig) c.in_err-_became.field-0.0 c.requires.ack (accepts _ _ _ _ _ _ run so_far l c.requires.stops) goes.on goes.shape c.in_err-_became.ensures.spends.ended
+    (g.V.Volume.stands (g.V.Volume.state c.run_line.new.volume).told) (g.R.Media.state c.run_line.new.rig)
+    c.in_err-_became.field-0.0 c.requires.may_run.ack (accepts _ _ _ _ _ _ run so_far l c.requires.may_run.stops) goes.on goes.shape c.in_err-_became.ensures.spends.ended
     (c.in_err-_became.ensures.ends (disk_after run) so_far.disk) (c.run_line.ensures.images (disk_after run) so_far.disk))
 
-pub returns-in_err-_became-clause-not_source : goal.returns-in_err-_became-clause-not_source
-returns-in_err-_became-clause-not_source g c = λ is.
-    let so_far = c.requires.so_far.2 in
-    (c.in_err-_became.ensures.ends (disk_after c.requires.so_far.1) so_far.disk).blamed.not_source (exit_is c.from_residual.result c.in_err-_became.field-0.0 _ c.from_residual.ensures.1 is)
-
-pub returns-in_err-_became-clause-blames : goal.returns-in_err-_became-clause-blames
-returns-in_err-_became-clause-blames g c = at_exit c.from_residual.result _ _ c.from_residual.ensures.1
+pub returns-in_err-_became-clause-causes : goal.returns-in_err-_became-clause-causes
+returns-in_err-_became-clause-causes g c = at_exit c.from_residual.result _ _ c.from_residual.ensures.1
     (let so_far = c.requires.so_far.2 in
     let blamed = (c.in_err-_became.ensures.ends (disk_after c.requires.so_far.1) so_far.disk).blamed in
-    record { sink = blamed.sink; flash = blamed.flash; disk = blamed.disk })
+    record { not_source = blamed.not_source; sink = blamed.sink; flash = blamed.flash; disk = blamed.disk })
 
 pub returns-clause-ran : goal.returns-clause-ran
 returns-clause-ran g c = λ first run so_far.
@@ -44,7 +40,7 @@ returns-clause-ran g c = λ first run so_far.
     let one = as_ran l became.cuts became.kept 0 in
     let goes = c.run_line.ensures.goes in (
       one,
-      so_far_more _ _ _ _ _ _ run so_far (g.V.Volume.stands (g.V.Volume.state c.run_line.new.volume).told) l became.cuts became.kept (g.R.Media.state c.run_line.new.rig) c.count.new.tally (g.V.Volume.state c.run_line.new.volume) c.requires.ack (accepts _ _ _ _ _ _ run so_far l c.requires.stops)
+      so_far_more _ _ _ _ _ _ run so_far (g.V.Volume.stands (g.V.Volume.state c.run_line.new.volume).told) l became.cuts became.kept (g.R.Media.state c.run_line.new.rig) c.count.new.tally (g.V.Volume.state c.run_line.new.volume) c.requires.may_run.ack (accepts _ _ _ _ _ _ run so_far l c.requires.may_run.stops)
           c.in-Ok.ensures.counted
           goes.on goes.shape c.in_ok-_became.ensures.spends.done
           c.in_ok-_became.ensures.runs

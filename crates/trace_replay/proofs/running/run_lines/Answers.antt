@@ -1,7 +1,7 @@
 use Rattle.std.proofs.Common.{◌∷◌, [], Err, refl, sym, ap, ◌∙◌, arith, rules}
 use Rattle.trace_replay.specs.Events.{BreaksBy, CameBy, events_of}
 use Rattle.trace_replay.specs.Theorem.{EndsPart}
-use Rattle.trace_replay.proofs.ExitLemmas.{at_exit, exit_is, rose_later, sink_or_memory}
+use Rattle.trace_replay.proofs.ExitLemmas.{at_exit, rose_later, sink_or_memory}
 use Rattle.trace_replay.proofs.RanLemmas.{lines_more, on_script, on_then, so_far_none, so_far_told}
 use Rattle.trace_replay.proofs.TallyLemmas.{within_none}
 use Rattle.trace_replay.proofs.TheoremLemmas.{ends_memory, ends_sink, ends_source, ends_trace}
@@ -10,17 +10,18 @@ use Rattle.trace_replay.proofs.running.run_lines.Goals as goal
 pub lines-init : goal.lines-init
 lines-init g c =
     let o = (g.V.Volume.state c.args.volume.now).told in
+    let fresh = c.requires.fresh in
     let tally = c.requires.tally in
     let lines = tally.lines in
     record {
       owns = c.requires.owns;
       same = refl;
       run = [];
-      so_far = so_far_none o (g.V.Volume.stands o) (g.R.Media.state c.args.rig.now) c.args.tally.now (g.V.Volume.state c.args.volume.now) refl (record { up = c.requires.up; on = c.requires.on; unarmed = c.requires.unarmed }) c.requires.table c.requires.held c.requires.dirty c.requires.empty tally;
+      so_far = so_far_none o (g.V.Volume.stands o) (g.R.Media.state c.args.rig.now) c.args.tally.now (g.V.Volume.state c.args.volume.now) refl (record { up = fresh.up; on = fresh.on; unarmed = fresh.unarmed }) fresh.table fresh.held fresh.dirty fresh.empty tally;
       came = λ s b come. come;
       within = within_none o.geometry.size c.args.tally.now.touched.keys tally.touched;
       few = omega arith;
-      goes = on_script g.P.Script.state c.args.script.now c.args.script.now (g.R.Media.state c.args.rig.now) c.requires.on (omega arith) (omega arith) refl refl (omega arith);
+      goes = on_script g.P.Script.state c.args.script.now c.args.script.now (g.R.Media.state c.args.rig.now) fresh.on (omega arith) (omega arith) refl refl (omega arith);
     }
 
 pub returns-in_err-line-clause-ends : goal.returns-in_err-line-clause-ends
@@ -48,12 +49,16 @@ returns-in_err-line-clause-ends g c = at_exit c.from_residual.result _ _ c.from_
           ends_sink _ _ _ _ _ _ run so_far g.P.Script.state g.P.Script.came g.P.Script.broke g.P.Script.knows s b x y armed next.0 c.armed.ensures.armed next.1 next.2)
           (λ is.
           let now = (c.next.ensures.memory (c.in_err-line.was ∙ ap Err is)).0 s b (events_of run) here in
-          ends_memory _ _ _ _ _ _ run so_far g.P.Script.state g.P.Script.came g.P.Script.broke g.P.Script.knows s b x y c.requires.ack (g.met.P.Script.known y s b _ now) now);
+          ends_memory _ _ _ _ _ _ run so_far g.P.Script.state g.P.Script.came g.P.Script.broke g.P.Script.knows s b x y c.requires.fresh.ack (g.met.P.Script.known y s b _ now) now);
     })
 
-pub returns-in_err-line-clause-source : goal.returns-in_err-line-clause-source
-returns-in_err-line-clause-source g c = λ is.
-    rose_later _ _ _ c.lines.invariant.goes.source (c.next.ensures.source (c.in_err-line.was ∙ ap Err (exit_is c.from_residual.result c.in_err-line.field-0.0 _ c.from_residual.ensures.1 is))).0
+pub returns-in_err-line-clause-causes : goal.returns-in_err-line-clause-causes
+returns-in_err-line-clause-causes g c = at_exit c.from_residual.result _ _ c.from_residual.ensures.1 (record {
+  source = λ is. rose_later _ _ _ c.lines.invariant.goes.source (c.next.ensures.source (c.in_err-line.was ∙ ap Err is)).0;
+  sink = λ is. rose_later _ _ _ c.lines.invariant.goes.sink (c.next.ensures.sink (c.in_err-line.was ∙ ap Err is)).0;
+  flash = λ is. absurd (c.next.ensures.only.0 (c.in_err-line.was ∙ ap Err is));
+  disk = λ is. absurd (c.next.ensures.only.1 (c.in_err-line.was ∙ ap Err is));
+})
 
 pub lines-preserved : goal.lines-preserved
 lines-preserved g c =
@@ -77,6 +82,6 @@ lines-preserved g c =
       few = omega arith;
       goes = on_then g.P.Script.state c.args.script.now c.lines.script c.run_given.new.script (g.R.Media.state c.args.rig.now) (g.R.Media.state c.lines.rig) (g.R.Media.state c.run_given.new.rig) c.lines.invariant.goes
           (on_then g.P.Script.state c.lines.script c.next.new.self c.run_given.new.script (g.R.Media.state c.lines.rig) (g.R.Media.state c.lines.rig) (g.R.Media.state c.run_given.new.rig)
-          (on_script g.P.Script.state c.lines.script c.next.new.self (g.R.Media.state c.lines.rig) c.lines.invariant.goes.on c.next.ensures.source_later c.next.ensures.later c.next.ensures.lent c.next.ensures.size c.next.ensures.turns)
+          (on_script g.P.Script.state c.lines.script c.next.new.self (g.R.Media.state c.lines.rig) c.lines.invariant.goes.on c.next.ensures.goes.source_later c.next.ensures.goes.later c.next.ensures.goes.lent c.next.ensures.goes.size c.next.ensures.goes.turns)
           c.run_given.ensures.goes);
     }

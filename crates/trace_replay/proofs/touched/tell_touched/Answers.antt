@@ -52,11 +52,11 @@ loop-address-preserved g c =
       goes = goes_script g.P.Script.state g.P.Script.came g.P.Script.broke g.P.Script.knows _ _ _ _ _
           (goes_then g.P.Script.state g.P.Script.came g.P.Script.broke g.P.Script.knows _ _ _ _ _ _ c.loop-address.invariant.goes c.read_through.ensures.went.goes)
           (record {
-            source = c.touched.ensures.source_later;
-            sink = c.touched.ensures.later;
-            lent = c.touched.ensures.lent;
-            size = c.touched.ensures.size;
-            turns = c.touched.ensures.turns;
+            source = c.touched.ensures.goes.source_later;
+            sink = c.touched.ensures.goes.later;
+            lent = c.touched.ensures.goes.lent;
+            size = c.touched.ensures.goes.size;
+            turns = c.touched.ensures.goes.turns;
             knew = c.touched.ensures.knew;
           });
       few = c.loop-address.invariant.few;
@@ -78,11 +78,11 @@ returns-in_err-touched-clause-ends g c =
     (walked.2 d stood) _ _ (g.R.Media.state c.loop-address.rig) _ end c.loop-address.invariant.goes c.loop-address.invariant.cuts
     (ends_untold g.P.Script.state g.P.Script.came g.P.Script.broke g.P.Script.knows c.in_err-touched.field-0.0 c.in_ok-more.more _ c.read_through.new.script c.touched.new.self _ _ memory.0
     c.in_ok-more.ensures.went.done (record {
-      source = c.touched.ensures.source_later;
-      sink = c.touched.ensures.later;
-      lent = c.touched.ensures.lent;
-      size = c.touched.ensures.size;
-      turns = c.touched.ensures.turns;
+      source = c.touched.ensures.goes.source_later;
+      sink = c.touched.ensures.goes.later;
+      lent = c.touched.ensures.goes.lent;
+      size = c.touched.ensures.goes.size;
+      turns = c.touched.ensures.goes.turns;
       knew = c.touched.ensures.knew;
     }) memory.1))
 
