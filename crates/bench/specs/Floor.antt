@@ -12,8 +12,8 @@ no_slot = record { block = record { 0 = [] }; spare = record { 0 = [] } }
 abbrev pub slot_at : List Slot → ℕ → Slot
 slot_at slots at = slice_index_or slots at no_slot
 
-abbrev pub set_page : List Slot → ℕ → Slot → List Slot
-set_page slots at slot = slice_set slots at slot
+abbrev pub set_slot : List Slot → ℕ → Slot → List Slot
+set_slot slots at slot = slice_set slots at slot
 
 -- a ring of pages, and the one that is copied next
 pub record PageRing : Type 0 where
@@ -30,7 +30,7 @@ following pages at = if at + 1 == pages then 0 else at + 1
 -- a page is copied into the next
 abbrev pub copied : PageRing → PageRing
 copied p = record {
-  slots = set_page p.slots (following (length p.slots) p.at) (slot_at p.slots p.at);
+  slots = set_slot p.slots (following (length p.slots) p.at) (slot_at p.slots p.at);
   at = following (length p.slots) p.at;
 }
 

@@ -10,20 +10,47 @@ use mem_rig::MemRig;
 use std::alloc::{AllocError, Global};
 use std::test::Fail;
 
-/// The pool of this geometry is the erase blocks 4 to 8.
-fn geometry() -> Result<Geometry, Fail> {
-    Ok(Geometry::new(4, 2, 2, 1, 64)?)
+/// What can be seen of a pool and of its flash.
+#[derive(Clone, Copy)]
+enum Fact {
+    /// The role of a block of the pool, and the count of its erases. None for any other block.
+    Known(u32, Option<(Role, u64)>),
+    /// Whether a block is free.
+    Free(u32, bool),
+    /// Whether a block is the next one that is taken.
+    NextTaken(u32, bool),
+    /// The page that an erase block is ready for.
+    NextPage(u32, Option<u32>),
+    /// How many erases the flash counted.
+    Erases(u64),
+    /// How often the flash failed.
+    Failures(u64),
 }
 
-/// A rig with the erase blocks of that geometry, of which these calls of the flash will fail.
-fn rig_failing(alloc: Global, calls: Vec<u64>) -> Result<MemRig, AllocError> {
-    let mut rig = MemRig::failing(alloc, calls, Vec::new(alloc));
+/// A line of an example.
+#[derive(Clone, Copy)]
+enum Line {
+    /// A block is taken, which is answered so. None where no block is free.
+    Take(Option<Result<u32, MediaError>>),
+    /// A block is taken, and used for data.
+    TakeForData(Option<u32>),
+    /// A block of the pool is used for this from now on.
+    SetRole(u32, Role),
+    /// The first page of an erase block is programmed.
+    Program(u32),
+    /// A stop is armed, that cuts the next device write.
+    Arm,
+    /// Power is turned on.
+    TurnOn,
+    /// What is seen then.
+    See(Fact),
+}
+
+/// A rig of 9 erase blocks of 4 pages, of which these calls of the flash will fail.
+fn rig_failing(alloc: Global, calls: &[u64]) -> Result<MemRig, AllocError> {
+    let mut rig = MemRig::failing(alloc, calls.to_vec(alloc)?, Vec::new(alloc));
     rig.fit_anew(alloc, 9, 4, 64)?;
     Ok(rig)
-}
-
-fn small_rig(alloc: Global) -> Result<MemRig, AllocError> {
-    rig_failing(alloc, Vec::new(alloc))
 }
 
 /// The free block of the lowest number.
@@ -99,109 +126,174 @@ fn program_first(rig: &mut MemRig, block: u32) {
     }
 }
 
-#[test]
-fn a_new_pool_is_free(rt: HostRuntime) -> Result<(), Fail> {
-    let pool = Pool::new(rt.alloc(), &geometry()?)?;
-    assert_eq!(rt; known_of(&pool, 3), None, "a block of a log region");
-    for block in 4..9 {
-        assert_eq!(rt; known_of(&pool, block), Some((Role::Free, 0)));
-    }
-    assert_eq!(rt; known_of(&pool, 9), None, "past the last block");
-    Ok(())
-}
-
-#[test]
-fn a_role_is_of_one_block(rt: HostRuntime) -> Result<(), Fail> {
-    let mut pool = Pool::new(rt.alloc(), &geometry()?)?;
-    set_role(&mut pool, 5, Role::Log);
-    set_role(&mut pool, 8, Role::Data);
-    assert_eq!(rt; known_of(&pool, 4), Some((Role::Free, 0)));
-    assert_eq!(rt; known_of(&pool, 5), Some((Role::Log, 0)));
-    assert_eq!(rt; known_of(&pool, 6), Some((Role::Free, 0)));
-    assert_eq!(rt; known_of(&pool, 8), Some((Role::Data, 0)));
-    assert!(rt; plain::is_free(&pool, 4));
-    assert!(rt; !plain::is_free(&pool, 5));
-    assert!(rt; !plain::is_free(&pool, 3), "no block of the pool");
-    Ok(())
-}
-
-#[test]
-fn a_block_is_erased_when_it_is_taken(rt: HostRuntime) -> Result<(), Fail> {
-    let mut rig = small_rig(rt.alloc())?;
-    let mut pool = Pool::new(rt.alloc(), &geometry()?)?;
-    program_first(&mut rig, 4);
-    assert_eq!(rt; next_page(&rig, 4), Some(1));
-    assert_eq!(rt; take(&mut pool, &mut rig), Some(Ok(4)));
-    assert_eq!(rt; next_page(&rig, 4), Some(0));
-    assert_eq!(rt; rig.done().erases, 1);
-    assert_eq!(rt;
-        known_of(&pool, 4),
-        Some((Role::Free, 1)),
-        "until its role is set"
-    );
-    assert_eq!(rt;
-        take(&mut pool, &mut rig),
-        Some(Ok(5)),
-        "the other is worn more"
-    );
-    Ok(())
-}
-
-#[test]
-fn wear_is_spread_over_the_free_blocks(rt: HostRuntime) -> Result<(), Fail> {
-    let mut rig = small_rig(rt.alloc())?;
-    let mut pool = Pool::new(rt.alloc(), &geometry()?)?;
-    for block in 4..9 {
-        assert!(rt; plain::is_next_taken(&pool, block));
-        assert_eq!(rt; take_for_data(&mut pool, &mut rig), Some(block));
-    }
-    assert_eq!(rt; take(&mut pool, &mut rig), None, "no block is free");
-    set_role(&mut pool, 6, Role::Free);
-    assert_eq!(rt; take_for_data(&mut pool, &mut rig), Some(6), "the only one");
-    set_role(&mut pool, 6, Role::Free);
-    set_role(&mut pool, 8, Role::Free);
-    set_role(&mut pool, 7, Role::Free);
-    assert_eq!(rt; known_of(&pool, 6), Some((Role::Free, 2)));
-    assert_eq!(rt; known_of(&pool, 8), Some((Role::Free, 1)));
-    assert!(rt; !plain::is_next_taken(&pool, 4), "used for data");
-    assert!(rt; !plain::is_next_taken(&pool, 6), "worn more");
-    assert!(rt; plain::is_next_taken(&pool, 7));
-    assert!(rt;
-        !plain::is_next_taken(&pool, 8),
-        "as worn, and a higher number"
-    );
-    assert_eq!(rt; take_for_data(&mut pool, &mut rig), Some(7));
-    assert_eq!(rt; take_for_data(&mut pool, &mut rig), Some(8));
-    assert_eq!(rt; take_for_data(&mut pool, &mut rig), Some(6));
-    assert_eq!(rt; rig.done().erases, 9);
-    Ok(())
-}
-
-#[test]
-fn a_failed_erase_leaves_the_pool(rt: HostRuntime) -> Result<(), Fail> {
-    let mut calls = Vec::new(rt.alloc());
-    calls.push(1)?;
-    let mut rig = rig_failing(rt.alloc(), calls)?;
-    let mut pool = Pool::new(rt.alloc(), &geometry()?)?;
-    assert_eq!(rt; take(&mut pool, &mut rig), Some(Err(MediaError::Failed)));
-    assert_eq!(rt; rig.flash_faults(), 1);
-    assert_eq!(rt; next_page(&rig, 4), None, "not ready");
-    assert_eq!(rt; next_page(&rig, 5), Some(0));
-    assert_eq!(rt; known_of(&pool, 4), Some((Role::Free, 0)));
-    assert_eq!(rt; take(&mut pool, &mut rig), Some(Ok(4)));
-    Ok(())
-}
-
-#[test]
-fn an_erase_that_is_cut_leaves_the_pool(rt: HostRuntime) -> Result<(), Fail> {
-    let mut rig = small_rig(rt.alloc())?;
-    let mut pool = Pool::new(rt.alloc(), &geometry()?)?;
+/// Arms a stop that cuts the next device write.
+fn arm(rig: &mut MemRig) {
     if rig.stops() < 16 {
         rig.arm_stop(1, Outcome::Torn);
     }
-    assert_eq!(rt; take(&mut pool, &mut rig), Some(Err(MediaError::PowerLost)));
-    assert_eq!(rt; known_of(&pool, 4), Some((Role::Free, 0)));
-    rig.turn_on();
-    assert_eq!(rt; take(&mut pool, &mut rig), Some(Ok(4)));
+}
+
+fn holds(pool: &Pool, rig: &MemRig, fact: Fact) -> bool {
+    match fact {
+        Fact::Known(block, known) => known_of(pool, block) == known,
+        Fact::Free(block, is) => plain::is_free(pool, block) == is,
+        Fact::NextTaken(block, is) => plain::is_next_taken(pool, block) == is,
+        Fact::NextPage(block, page) => next_page(rig, block) == page,
+        Fact::Erases(count) => rig.done().erases == count,
+        Fact::Failures(count) => rig.flash_faults() == count,
+    }
+}
+
+/// Does what the line says. Whether what it tells is so.
+fn is_so(pool: &mut Pool, rig: &mut MemRig, line: Line) -> bool {
+    match line {
+        Line::Take(answer) => return take(pool, rig) == answer,
+        Line::TakeForData(block) => return take_for_data(pool, rig) == block,
+        Line::See(fact) => return holds(pool, rig, fact),
+        Line::SetRole(block, role) => set_role(pool, block, role),
+        Line::Program(block) => program_first(rig, block),
+        Line::Arm => arm(rig),
+        Line::TurnOn => rig.turn_on(),
+    }
+    true
+}
+
+/// Goes through the lines, from a new pool on, on flash of which these calls will fail. Says which is the first
+/// that tells what isn't so.
+fn first_wrong(alloc: Global, failing: &[u64], lines: &[Line]) -> Result<Option<usize>, Fail> {
+    // The pool of this geometry is the erase blocks 4 to 8.
+    let geometry = Geometry::new(4, 2, 2, 1, 64)?;
+    let mut rig = rig_failing(alloc, failing)?;
+    let mut pool = Pool::new(alloc, &geometry)?;
+    for i in 0..lines.len() {
+        if !is_so(&mut pool, &mut rig, lines[i]) {
+            return Ok(Some(i));
+        }
+    }
+    Ok(None)
+}
+
+const NEW: [Line; 7] = [
+    // A block of a log region.
+    Line::See(Fact::Known(3, None)),
+    Line::See(Fact::Known(4, Some((Role::Free, 0)))),
+    Line::See(Fact::Known(5, Some((Role::Free, 0)))),
+    Line::See(Fact::Known(6, Some((Role::Free, 0)))),
+    Line::See(Fact::Known(7, Some((Role::Free, 0)))),
+    Line::See(Fact::Known(8, Some((Role::Free, 0)))),
+    // Past the last block.
+    Line::See(Fact::Known(9, None)),
+];
+
+#[test]
+fn a_new_pool_is_free(rt: HostRuntime) -> Result<(), Fail> {
+    assert_eq!(rt; first_wrong(rt.alloc(), &[], &NEW)?, None);
+    Ok(())
+}
+
+const ROLES: [Line; 9] = [
+    Line::SetRole(5, Role::Log),
+    Line::SetRole(8, Role::Data),
+    Line::See(Fact::Known(4, Some((Role::Free, 0)))),
+    Line::See(Fact::Known(5, Some((Role::Log, 0)))),
+    Line::See(Fact::Known(6, Some((Role::Free, 0)))),
+    Line::See(Fact::Known(8, Some((Role::Data, 0)))),
+    Line::See(Fact::Free(4, true)),
+    Line::See(Fact::Free(5, false)),
+    // No block of the pool.
+    Line::See(Fact::Free(3, false)),
+];
+
+#[test]
+fn a_role_is_of_one_block(rt: HostRuntime) -> Result<(), Fail> {
+    assert_eq!(rt; first_wrong(rt.alloc(), &[], &ROLES)?, None);
+    Ok(())
+}
+
+const ERASED: [Line; 7] = [
+    Line::Program(4),
+    Line::See(Fact::NextPage(4, Some(1))),
+    Line::Take(Some(Ok(4))),
+    Line::See(Fact::NextPage(4, Some(0))),
+    Line::See(Fact::Erases(1)),
+    // Until its role is set.
+    Line::See(Fact::Known(4, Some((Role::Free, 1)))),
+    // The other is worn more.
+    Line::Take(Some(Ok(5))),
+];
+
+#[test]
+fn a_block_is_erased_when_it_is_taken(rt: HostRuntime) -> Result<(), Fail> {
+    assert_eq!(rt; first_wrong(rt.alloc(), &[], &ERASED)?, None);
+    Ok(())
+}
+
+const WEAR: [Line; 26] = [
+    Line::See(Fact::NextTaken(4, true)),
+    Line::TakeForData(Some(4)),
+    Line::See(Fact::NextTaken(5, true)),
+    Line::TakeForData(Some(5)),
+    Line::See(Fact::NextTaken(6, true)),
+    Line::TakeForData(Some(6)),
+    Line::See(Fact::NextTaken(7, true)),
+    Line::TakeForData(Some(7)),
+    Line::See(Fact::NextTaken(8, true)),
+    Line::TakeForData(Some(8)),
+    // No block is free.
+    Line::Take(None),
+    Line::SetRole(6, Role::Free),
+    // The only one.
+    Line::TakeForData(Some(6)),
+    Line::SetRole(6, Role::Free),
+    Line::SetRole(8, Role::Free),
+    Line::SetRole(7, Role::Free),
+    Line::See(Fact::Known(6, Some((Role::Free, 2)))),
+    Line::See(Fact::Known(8, Some((Role::Free, 1)))),
+    // Used for data.
+    Line::See(Fact::NextTaken(4, false)),
+    // Worn more.
+    Line::See(Fact::NextTaken(6, false)),
+    Line::See(Fact::NextTaken(7, true)),
+    // As worn, and a higher number.
+    Line::See(Fact::NextTaken(8, false)),
+    Line::TakeForData(Some(7)),
+    Line::TakeForData(Some(8)),
+    Line::TakeForData(Some(6)),
+    Line::See(Fact::Erases(9)),
+];
+
+#[test]
+fn wear_is_spread_over_the_free_blocks(rt: HostRuntime) -> Result<(), Fail> {
+    assert_eq!(rt; first_wrong(rt.alloc(), &[], &WEAR)?, None);
+    Ok(())
+}
+
+const FAILED: [Line; 6] = [
+    Line::Take(Some(Err(MediaError::Failed))),
+    Line::See(Fact::Failures(1)),
+    // Not ready.
+    Line::See(Fact::NextPage(4, None)),
+    Line::See(Fact::NextPage(5, Some(0))),
+    Line::See(Fact::Known(4, Some((Role::Free, 0)))),
+    Line::Take(Some(Ok(4))),
+];
+
+#[test]
+fn a_failed_erase_leaves_the_pool(rt: HostRuntime) -> Result<(), Fail> {
+    assert_eq!(rt; first_wrong(rt.alloc(), &[1], &FAILED)?, None);
+    Ok(())
+}
+
+const CUT: [Line; 5] = [
+    Line::Arm,
+    Line::Take(Some(Err(MediaError::PowerLost))),
+    Line::See(Fact::Known(4, Some((Role::Free, 0)))),
+    Line::TurnOn,
+    Line::Take(Some(Ok(4))),
+];
+
+#[test]
+fn an_erase_that_is_cut_leaves_the_pool(rt: HostRuntime) -> Result<(), Fail> {
+    assert_eq!(rt; first_wrong(rt.alloc(), &[], &CUT)?, None);
     Ok(())
 }

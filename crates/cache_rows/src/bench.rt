@@ -37,7 +37,11 @@ pub(crate) fn fits_on(rig: &MemRig, geometry: &Geometry) -> bool
 
 /// A rig just large enough for a cache, where power is on.
 pub(crate) fn fitted(alloc: Global, geometry: &Geometry) -> Result<MemRig, Fail> {
-    let mut rig = MemRig::new(alloc);
+    fit(alloc, MemRig::new(alloc), geometry)
+}
+
+fn fit(alloc: Global, rig: MemRig, geometry: &Geometry) -> Result<MemRig, Fail> {
+    let mut rig = rig;
     rig.fit_anew(alloc, geometry.blocks(), geometry.p(), geometry.size())?;
     Ok(rig)
 }
@@ -120,8 +124,18 @@ impl Model for Bench {
 impl Bench {
     /// An empty cache.
     pub(crate) fn new(alloc: Global) -> Result<Bench, Fail> {
+        Bench::on(alloc, MemRig::new(alloc))
+    }
+
+    /// An empty cache, on flash of which the call of a number will fail.
+    pub(crate) fn failing(alloc: Global, number: u64) -> Result<Bench, Fail> {
+        let flash = [number].to_vec(alloc)?;
+        Bench::on(alloc, MemRig::failing(alloc, flash, Vec::new(alloc)))
+    }
+
+    fn on(alloc: Global, rig: MemRig) -> Result<Bench, Fail> {
         let geometry = geometry()?;
-        let mut rig = fitted(alloc, &geometry)?;
+        let mut rig = fit(alloc, rig, &geometry)?;
         format(&mut rig, &geometry)?;
         Bench::open(alloc, rig)
     }
@@ -235,7 +249,8 @@ impl Bench {
         Ok((given, bench.rig))
     }
 
-    fn count_until_stopped(&mut self, steps: &[Step]) -> Result<usize, Fail> {
+    /// Gives the cache these commands until one of them stops it. Says how many did not.
+    pub(crate) fn count_until_stopped(&mut self, steps: &[Step]) -> Result<usize, Fail> {
         for i in 0..steps.len() {
             let _ = self.give(&steps[i])?;
             if self.cache.is_stopped() {

@@ -1,5 +1,6 @@
 //! Worked examples of the cache's commands, over media that are cut: what it holds before a cut and after it,
-//! what it refuses, how much it writes, and which groups give way.
+//! what it refuses, how much it writes, and which groups give way; and of the merges below them: where
+//! pages lie, and what a merge writes.
 //!
 //! No layer stands on this crate; it has tests alone.
 #![tactic(auto)]
@@ -9,8 +10,12 @@ mod bench;
 #[cfg(test)]
 mod device;
 #[cfg(test)]
+mod groups;
+#[cfg(test)]
 mod lists;
 #[cfg(test)]
 mod merges;
+#[cfg(test)]
+mod scrubbed;
 #[cfg(test)]
 mod stops;

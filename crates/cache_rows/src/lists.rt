@@ -1,4 +1,5 @@
 //! The cache as a plain list: what each command makes of it, and what a cut may leave.
+ghost use Rattle.std.specs.Prelude.{◌<◌};
 
 /// A command, with its address, and the tag of the block that it writes.
 #[derive(Clone, Copy)]
@@ -91,13 +92,70 @@ pub(crate) fn after_all(lists: &Lists, steps: &[Step]) -> Lists {
     new
 }
 
-/// Whether this may be left where the command after so many was cut: the list before it without what
-/// was buffered, that list, or the list after it.
-pub(crate) fn may_be_left(lists: &Lists, steps: &[Step], given: usize, found: &Plain) -> bool {
+/// What may be left where the command after so many was cut: the list before it without what was buffered,
+/// that list, or the list after it.
+fn left_of(lists: &Lists, steps: &[Step], given: usize) -> Option<[Plain; 3]> {
     if given >= steps.len() {
-        return false;
+        return None;
     }
     let before = after_all(lists, &steps[..given]);
     let done = after(&before, &steps[given]);
-    *found == before.durable || *found == before.now || *found == done.now
+    Some([before.durable, before.now, done.now])
+}
+
+/// Whether this may be left where the command after so many was cut, and no group gave way.
+pub(crate) fn may_be_left(lists: &Lists, steps: &[Step], given: usize, found: &Plain) -> bool {
+    match left_of(lists, steps, given) {
+        Some(left) => *found == left[0] || *found == left[1] || *found == left[2],
+        None => false,
+    }
+}
+
+/// The same, where clean groups may have given way.
+pub(crate) fn may_give_way(lists: &Lists, steps: &[Step], given: usize, found: &Plain) -> bool {
+    match left_of(lists, steps, given) {
+        Some(left) => gave_way(&left[0], found)
+            || gave_way(&left[1], found)
+            || gave_way(&left[2], found),
+        None => false,
+    }
+}
+
+/// Whether each group is as in the list, or is gone and had nothing dirty.
+fn gave_way(list: &Plain, found: &Plain) -> bool {
+    for group in 0..4 {
+        if !is_group_left(list, found, group) && !is_group_gone(list, found, group) {
+            return false;
+        }
+    }
+    true
+}
+
+fn is_group_left(list: &Plain, found: &Plain, group: usize) -> bool
+    requires { group < 4 }
+{
+    for i in 0..4 {
+        if found.0[group * 4 + i] != list.0[group * 4 + i] {
+            return false;
+        }
+    }
+    true
+}
+
+fn is_group_gone(list: &Plain, found: &Plain, group: usize) -> bool
+    requires { group < 4 }
+{
+    for i in 0..4 {
+        if found.0[group * 4 + i].is_some() || is_dirty(list.0[group * 4 + i]) {
+            return false;
+        }
+    }
+    true
+}
+
+fn is_dirty(held: Option<Held>) -> bool {
+    match held {
+        Some(held) => held.dirty,
+        None => false,
+    }
 }

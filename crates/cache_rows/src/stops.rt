@@ -1,7 +1,7 @@
 //! Power is cut at each device write of some commands, and nothing is lost.
 
 use crate::bench::{Bench, arm, geometry, refusal};
-use crate::lists::{NOTHING, Plain, Step, after_all, may_be_left};
+use crate::lists::{NOTHING, Plain, Step, after_all, may_be_left, may_give_way};
 use ft_base::Outcome;
 use mem_rig::MemRig;
 use op_log::OpenError;
@@ -24,6 +24,8 @@ struct Story<'a> {
     stopped: &'a [Step],
     /// Whether the second device write of a first opening is cut as well.
     is_opening_cut: bool,
+    /// Whether clean groups may give way.
+    gives_way: bool,
 }
 
 /// Opens flash so that the second device write is cut.
@@ -50,8 +52,16 @@ fn keeps_all(alloc: Global, story: &Story, number: u64, outcome: Outcome) -> Res
     let bench = Bench::new(alloc)?.run(story.begun)?.arm(number, outcome)?;
     let (given, rig) = bench.run_until_stopped(story.stopped)?;
     let found = shown_after(alloc, rig, outcome, story.is_opening_cut)?;
+    Ok(is_left(story, given, &found))
+}
+
+/// Whether this may be left of a story, of which a command was cut after so many.
+fn is_left(story: &Story, given: usize, found: &Plain) -> bool {
     let lists = after_all(&NOTHING, story.begun);
-    Ok(may_be_left(&lists, story.stopped, given, &found))
+    if story.gives_way {
+        return may_give_way(&lists, story.stopped, given, found);
+    }
+    may_be_left(&lists, story.stopped, given, found)
 }
 
 /// The first outcome of a stop at the device write of a number that loses something.
@@ -95,6 +105,7 @@ fn a_stop_at_each_device_write_loses_nothing(rt: HostRuntime) -> Result<(), Fail
         begun: &TWO_GROUPS,
         stopped: &TWELVE_WRITES,
         is_opening_cut: true,
+        gives_way: false,
     };
     let losing = first_losing(rt.alloc(), &story, 13)?;
     assert_eq!(rt; losing, None);
@@ -124,8 +135,107 @@ fn a_stop_at_each_device_write_of_a_merge_loses_nothing(rt: HostRuntime) -> Resu
         begun: &FULL_LOG_BLOCKS,
         stopped: &MERGES,
         is_opening_cut: false,
+        gives_way: false,
     };
-    let losing = first_losing(rt.alloc(), &story, 20)?;
+    let losing = first_losing(rt.alloc(), &story, 21)?;
     assert_eq!(rt; losing, None);
+    Ok(())
+}
+
+// ---- an eviction
+
+/// Two clean groups have a data block, and a third one lies in a log block, not in order.
+const THREE_CLEAN_GROUPS: [Step; 13] = [
+    Step::WriteClean(0, 1),
+    Step::WriteClean(1, 1),
+    Step::WriteClean(4, 1),
+    Step::WriteClean(5, 1),
+    Step::WriteClean(9, 1),
+    Step::WriteClean(8, 1),
+    Step::WriteClean(10, 1),
+    Step::WriteClean(11, 1),
+    Step::WriteClean(2, 1),
+    Step::WriteClean(3, 1),
+    Step::WriteClean(6, 1),
+    Step::WriteClean(7, 1),
+    Step::Commit,
+];
+
+/// It copies the third group, and one of the others gives way.
+const EVICTS: [Step; 1] = [Step::WriteClean(8, 2)];
+
+const EVICTION: Story = Story {
+    begun: &THREE_CLEAN_GROUPS,
+    stopped: &EVICTS,
+    is_opening_cut: false,
+    gives_way: true,
+};
+
+#[test]
+fn a_stop_at_each_device_write_of_an_eviction_loses_nothing(rt: HostRuntime) -> Result<(), Fail> {
+    assert_eq!(rt; first_losing(rt.alloc(), &EVICTION, 11)?, None);
+    Ok(())
+}
+
+// ---- calls that fail
+
+/// What becomes of a story in which a call of the flash fails.
+#[derive(Clone, Copy, PartialEq, Eq)]
+enum Became {
+    /// The call is none of the commands that are looked at.
+    Untouched,
+    /// Nothing is lost.
+    Kept,
+    /// Something is.
+    Lost,
+}
+
+/// What becomes of it where the call of a number fails.
+fn made_of(alloc: Global, story: &Story, number: u64) -> Result<Became, Fail> {
+    let mut bench = Bench::failing(alloc, number)?;
+    if bench.count_until_stopped(story.begun)? < story.begun.len() {
+        return Ok(Became::Untouched);
+    }
+    let (given, rig) = bench.run_until_stopped(story.stopped)?;
+    if given == story.stopped.len() {
+        return Ok(Became::Untouched);
+    }
+    let found = Bench::open(alloc, rig)?.seen(alloc)?;
+    if is_left(story, given, &found) {
+        return Ok(Became::Kept);
+    }
+    Ok(Became::Lost)
+}
+
+/// How many calls fail within the commands that are looked at, each in turn, unless one loses something.
+/// The first calls are those that make the cache.
+fn count_kept(alloc: Global, story: &Story) -> Result<Option<u32>, Fail> {
+    let mut kept: u32 = 0;
+    for number in 15..90 {
+        match made_of(alloc, story, number)? {
+            Became::Untouched => {}
+            Became::Kept => kept = kept.wrapping_add(1),
+            Became::Lost => return Ok(None),
+        }
+    }
+    Ok(Some(kept))
+}
+
+/// The calls are the device writes that are cut above, and the reads of the pages that are copied.
+#[test]
+fn a_failed_call_of_a_merge_loses_nothing(rt: HostRuntime) -> Result<(), Fail> {
+    let story = Story {
+        begun: &FULL_LOG_BLOCKS,
+        stopped: &MERGES,
+        is_opening_cut: false,
+        gives_way: false,
+    };
+    assert_eq!(rt; count_kept(rt.alloc(), &story)?, Some(28));
+    Ok(())
+}
+
+#[test]
+fn a_failed_call_of_an_eviction_loses_nothing(rt: HostRuntime) -> Result<(), Fail> {
+    assert_eq!(rt; count_kept(rt.alloc(), &EVICTION)?, Some(14));
     Ok(())
 }

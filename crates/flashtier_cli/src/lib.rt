@@ -10,8 +10,6 @@ mod making;
 mod program;
 mod replaying;
 mod reporting;
-#[cfg(test)]
-mod tests;
 
 pub use inspecting::inspect_with;
 pub use making::gen_with;

@@ -4,7 +4,7 @@ ghost use Rattle.mem_rig.specs.Rig.{state_of};
 ghost use Rattle.log_blocks.specs.Logs.{IsInUse, is_in, next_place};
 
 use crate::{LogBlocks, plain};
-use ft_base::{Block, Geometry, Place, Spare, zero_block};
+use ft_base::{Geometry, Place, Spare, zero_block};
 use ft_media::{MediaError, PageRead};
 use mem_rig::MemRig;
 use std::alloc::{AllocError, Global};
@@ -13,9 +13,49 @@ use std::test::Fail;
 /// The spare bytes of a data page of address 5.
 const DATA_PAGE: [u8; 32] = *b"FTSP\x01\0\0\0\0\0\0\0\0\0\0\x05\0\0\0\0\0\0\0\0\0\0\0\0\0\0\0\0";
 
+/// The block and the page of a place.
+type At = (u32, u32);
+
+/// What can be seen of the log blocks and of their flash.
+#[derive(Clone, Copy)]
+enum Fact {
+    /// The block that was taken first, how many are in use, and the pages that the open one has left.
+    Blocks {
+        oldest: Option<u32>,
+        used: u32,
+        room: u32,
+    },
+    /// The pages that the open block has left.
+    Room(u32),
+    /// The block of a number, in the order in which they were taken.
+    Nth(u32, u32),
+    /// A data page of address 5 stands there, which begins with this byte.
+    DataPage(At, u8),
+    /// Whether a whole page is there.
+    Whole(At, bool),
+    /// How many programs the flash counted.
+    Programs(u64),
+}
+
+/// A line of an example.
+#[derive(Clone, Copy)]
+enum Line {
+    /// A block is begun, or may not be.
+    Begin(u32, bool),
+    /// A block is adopted, or may not be.
+    Adopt(u32, bool),
+    /// A block is released, or isn't there.
+    Release(u32, bool),
+    /// A page of address 5 that begins with this byte is appended, which is answered so. None where no block is
+    /// ready for it.
+    Append(u8, Option<Result<At, MediaError>>),
+    /// What is seen then.
+    See(Fact),
+}
+
 /// A rig of 11 erase blocks of 4 pages, each ready, in which these calls of the flash fail.
-fn small_rig(alloc: Global, failing: Vec<u64>) -> Result<MemRig, AllocError> {
-    let mut rig = MemRig::failing(alloc, failing, Vec::new(alloc));
+fn rig_failing(alloc: Global, failing: &[u64]) -> Result<MemRig, AllocError> {
+    let mut rig = MemRig::failing(alloc, failing.to_vec(alloc)?, Vec::new(alloc));
     rig.fit_anew(alloc, 11, 4, 64)?;
     Ok(rig)
 }
@@ -106,14 +146,13 @@ fn is_ready(rig: &MemRig, at: Place) -> bool
     }
 }
 
-/// Appends a block of this first byte, where the open block is ready and has a page left.
+/// Appends a page of address 5 with this first byte, where the open block is ready and has a page left.
 fn append(
     rig: &mut MemRig,
     logs: &mut LogBlocks,
     geometry: &Geometry,
-    lba: u64,
     byte: u8,
-) -> Option<Result<Place, MediaError>>
+) -> Option<Result<At, MediaError>>
     requires { logs.old.geometry ≡ geometry.now }
     ensures { logs.new.geometry ≡ logs.old.geometry }
 {
@@ -126,98 +165,205 @@ fn append(
     }
     let mut block = zero_block();
     block.0[0] = byte;
-    Some(logs.append(rig, lba, &block))
+    match logs.append(rig, 5, &block) {
+        Ok(at) => Some(Ok((at.block, at.page))),
+        Err(refusal) => Some(Err(refusal)),
+    }
 }
 
-/// The bytes of a page, where it is whole.
-fn read(rig: &mut MemRig, block: u32, page: u32) -> Option<(Block, Spare)> {
+/// The first byte of a page and its spare bytes, where it is whole.
+fn read(rig: &mut MemRig, at: At) -> Option<(u8, Spare)> {
+    let (block, page) = at;
     if block >= rig.flash_blocks() || page >= rig.flash_pages() {
         return None;
     }
     let mut bytes = zero_block();
     let mut spare = Spare([0; 32]);
     match rig.read_flash(Place { block, page }, &mut bytes, &mut spare) {
-        Ok(PageRead::Whole) => Some((bytes, spare)),
+        Ok(PageRead::Whole) => Some((bytes.0[0], spare)),
         _ => None,
     }
 }
 
+/// Whether a data page of address 5 stands there, which begins with this byte.
+fn is_data_page(rig: &mut MemRig, at: At, first: u8) -> bool {
+    match read(rig, at) {
+        Some((byte, spare)) => byte == first && spare.0 == DATA_PAGE,
+        None => false,
+    }
+}
+
+fn holds(rig: &mut MemRig, logs: &LogBlocks, fact: Fact) -> bool {
+    match fact {
+        Fact::Blocks { oldest, used, room } => {
+            logs.oldest() == oldest && logs.used() == used && logs.room() == room
+        }
+        Fact::Room(room) => logs.room() == room,
+        Fact::Nth(i, block) => i < logs.used() && logs.nth(i) == block,
+        Fact::DataPage(at, first) => is_data_page(rig, at, first),
+        Fact::Whole(at, is) => read(rig, at).is_some() == is,
+        Fact::Programs(count) => rig.done().programs == count,
+    }
+}
+
+/// Does what the line says. Whether what it tells is so.
+fn is_so(rig: &mut MemRig, logs: &mut LogBlocks, geometry: &Geometry, line: Line) -> bool
+    requires { logs.old.geometry ≡ geometry.now }
+    ensures { logs.new.geometry ≡ logs.old.geometry }
+{
+    match line {
+        Line::Begin(block, may) => begin(logs, geometry, block) == may,
+        Line::Adopt(block, may) => adopt(logs, geometry, block) == may,
+        Line::Release(block, is_there) => release(logs, block) == is_there,
+        Line::Append(byte, answer) => append(rig, logs, geometry, byte) == answer,
+        Line::See(fact) => holds(rig, logs, fact),
+    }
+}
+
+/// Goes through the lines, from no log block on, on flash of which these calls will fail. Says which is the first
+/// that tells what isn't so.
+fn first_wrong(alloc: Global, failing: &[u64], lines: &[Line]) -> Result<Option<usize>, Fail> {
+    let geometry = Geometry::new(4, 2, 4, 2, 64)?;
+    let mut rig = rig_failing(alloc, failing)?;
+    let mut logs = LogBlocks::new(alloc, &geometry)?;
+    for i in 0..lines.len() {
+        if !is_so(&mut rig, &mut logs, &geometry, lines[i]) {
+            return Ok(Some(i));
+        }
+    }
+    Ok(None)
+}
+
+const APPENDED: [Line; 18] = [
+    Line::See(Fact::Blocks {
+        oldest: None,
+        used: 0,
+        room: 0,
+    }),
+    Line::Begin(9, true),
+    Line::See(Fact::Room(4)),
+    Line::Append(1, Some(Ok((9, 0)))),
+    Line::See(Fact::Room(3)),
+    Line::See(Fact::DataPage((9, 0), 1)),
+    Line::Append(2, Some(Ok((9, 1)))),
+    Line::See(Fact::Room(2)),
+    Line::See(Fact::DataPage((9, 1), 2)),
+    Line::Append(3, Some(Ok((9, 2)))),
+    Line::See(Fact::Room(1)),
+    Line::See(Fact::DataPage((9, 2), 3)),
+    Line::Append(4, Some(Ok((9, 3)))),
+    Line::See(Fact::Room(0)),
+    Line::See(Fact::DataPage((9, 3), 4)),
+    Line::Append(5, None),
+    Line::See(Fact::Blocks {
+        oldest: Some(9),
+        used: 1,
+        room: 0,
+    }),
+    Line::See(Fact::Programs(4)),
+];
+
 #[test]
 fn appended_pages_have_their_address_in_their_spare_bytes(rt: HostRuntime) -> Result<(), Fail> {
-    let geometry = Geometry::new(4, 2, 4, 2, 64)?;
-    let mut rig = small_rig(rt.alloc(), Vec::new(rt.alloc()))?;
-    let mut logs = LogBlocks::new(rt.alloc(), &geometry)?;
-    assert_eq!(rt; (logs.room(), logs.used(), logs.oldest()), (0, 0, None));
-    assert!(rt; begin(&mut logs, &geometry, 9));
-    assert_eq!(rt; logs.room(), 4);
-    for page in 0..4u32 {
-        let answer = append(&mut rig, &mut logs, &geometry, 5, page as u8 + 1);
-        assert_eq!(rt; answer, Some(Ok(Place { block: 9, page })));
-        assert_eq!(rt; logs.room(), 3 - page);
-        let (bytes, spare) = read(&mut rig, 9, page).ok_or("a whole page")?;
-        assert_eq!(rt; bytes.0[0], page as u8 + 1);
-        assert!(rt; spare.0 == DATA_PAGE);
-    }
-    assert_eq!(rt; append(&mut rig, &mut logs, &geometry, 5, 5), None);
-    assert_eq!(rt; (logs.used(), logs.oldest()), (1, Some(9)));
-    assert_eq!(rt; rig.done().programs, 4);
+    assert_eq!(rt; first_wrong(rt.alloc(), &[], &APPENDED)?, None);
     Ok(())
 }
+
+const RELEASED: [Line; 18] = [
+    Line::Begin(7, true),
+    Line::Begin(8, true),
+    Line::Begin(9, true),
+    Line::Begin(10, true),
+    // L blocks are in use.
+    Line::Begin(6, false),
+    // From the middle.
+    Line::Release(8, true),
+    Line::See(Fact::Blocks {
+        oldest: Some(7),
+        used: 3,
+        room: 4,
+    }),
+    // From the front.
+    Line::Release(7, true),
+    Line::See(Fact::Blocks {
+        oldest: Some(9),
+        used: 2,
+        room: 4,
+    }),
+    // The open one.
+    Line::Release(10, true),
+    Line::See(Fact::Blocks {
+        oldest: Some(9),
+        used: 1,
+        room: 0,
+    }),
+    Line::Release(10, false),
+    Line::Begin(8, true),
+    Line::See(Fact::Blocks {
+        oldest: Some(9),
+        used: 2,
+        room: 4,
+    }),
+    Line::See(Fact::Nth(1, 8)),
+    Line::Adopt(7, true),
+    Line::See(Fact::Blocks {
+        oldest: Some(9),
+        used: 3,
+        room: 0,
+    }),
+    Line::See(Fact::Nth(2, 7)),
+];
 
 #[test]
 fn released_blocks_leave_the_others_in_order(rt: HostRuntime) -> Result<(), Fail> {
-    let geometry = Geometry::new(4, 2, 4, 2, 64)?;
-    let mut logs = LogBlocks::new(rt.alloc(), &geometry)?;
-    for block in 7..11u32 {
-        assert!(rt; begin(&mut logs, &geometry, block));
-    }
-    assert!(rt; !begin(&mut logs, &geometry, 6), "L blocks are in use");
-    assert!(rt; release(&mut logs, 8), "from the middle");
-    assert_eq!(rt; (logs.oldest(), logs.used(), logs.room()), (Some(7), 3, 4));
-    assert!(rt; release(&mut logs, 7), "from the front");
-    assert_eq!(rt; (logs.oldest(), logs.used(), logs.room()), (Some(9), 2, 4));
-    assert!(rt; release(&mut logs, 10), "the open one");
-    assert_eq!(rt; (logs.oldest(), logs.used(), logs.room()), (Some(9), 1, 0));
-    assert!(rt; !release(&mut logs, 10));
-    assert!(rt; begin(&mut logs, &geometry, 8));
-    assert!(rt; logs.used() == 2 && logs.nth(1) == 8 && logs.room() == 4);
-    assert!(rt; adopt(&mut logs, &geometry, 7));
-    assert_eq!(rt; (logs.oldest(), logs.used(), logs.room()), (Some(9), 3, 0));
-    assert!(rt; logs.used() == 3 && logs.nth(2) == 7);
+    assert_eq!(rt; first_wrong(rt.alloc(), &[], &RELEASED)?, None);
     Ok(())
 }
 
+const FAILED: [Line; 9] = [
+    Line::Begin(9, true),
+    Line::Append(1, Some(Ok((9, 0)))),
+    Line::Append(2, Some(Err(MediaError::Failed))),
+    Line::See(Fact::Blocks {
+        oldest: Some(9),
+        used: 1,
+        room: 3,
+    }),
+    Line::See(Fact::Whole((9, 0), true)),
+    Line::See(Fact::Whole((9, 1), false)),
+    // The block is not ready.
+    Line::Append(2, None),
+    Line::Release(9, true),
+    Line::See(Fact::Blocks {
+        oldest: None,
+        used: 0,
+        room: 0,
+    }),
+];
+
 #[test]
 fn a_failed_program_leaves_the_room(rt: HostRuntime) -> Result<(), Fail> {
-    let geometry = Geometry::new(4, 2, 4, 2, 64)?;
-    let mut failing = Vec::new(rt.alloc());
-    failing.push(2)?;
-    let mut rig = small_rig(rt.alloc(), failing)?;
-    let mut logs = LogBlocks::new(rt.alloc(), &geometry)?;
-    assert!(rt; begin(&mut logs, &geometry, 9));
-    let at = Place { block: 9, page: 0 };
-    assert_eq!(rt; append(&mut rig, &mut logs, &geometry, 5, 1), Some(Ok(at)));
-    let answer = append(&mut rig, &mut logs, &geometry, 5, 2);
-    assert_eq!(rt; answer, Some(Err(MediaError::Failed)));
-    assert_eq!(rt; (logs.used(), logs.room()), (1, 3));
-    assert!(rt; read(&mut rig, 9, 0).is_some());
-    assert!(rt; read(&mut rig, 9, 1).is_none());
-    let answer = append(&mut rig, &mut logs, &geometry, 5, 2);
-    assert_eq!(rt; answer, None, "the block is not ready");
-    assert!(rt; release(&mut logs, 9));
-    assert_eq!(rt; (logs.oldest(), logs.used(), logs.room()), (None, 0, 0));
+    assert_eq!(rt; first_wrong(rt.alloc(), &[2], &FAILED)?, None);
     Ok(())
+}
+
+/// Whether a block is in a list, and these are left without it.
+fn is_without(
+    alloc: Global,
+    used: &[u32],
+    block: u32,
+    is_in: bool,
+    left: &[u32],
+) -> Result<bool, AllocError> {
+    let without = plain::without(alloc, used, block)?;
+    Ok(plain::is_in_use(used, block) == is_in && without.as_slice() == left)
 }
 
 #[test]
 fn plain_programs_on_worked_lists(rt: HostRuntime) -> Result<(), Fail> {
     let used = [9, 7, 5];
-    assert!(rt; plain::is_in_use(&used, 7));
-    assert!(rt; !plain::is_in_use(&used, 6));
+    assert!(rt; is_without(rt.alloc(), &used, 7, true, &[9, 5])?);
+    assert!(rt; is_without(rt.alloc(), &used, 6, false, &used)?);
     assert_eq!(rt; plain::last(&used), Some(5));
-    let left = plain::without(rt.alloc(), &used, 7)?;
-    assert_eq!(rt; left.as_slice(), [9, 5].as_slice());
-    let same = plain::without(rt.alloc(), &used, 6)?;
-    assert_eq!(rt; same.as_slice(), used.as_slice());
     Ok(())
 }

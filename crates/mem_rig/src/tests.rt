@@ -4,7 +4,7 @@ use crate::MemRig;
 use crate::plain::{Kept, Plain};
 use device_calls::Ending;
 use ft_base::{Block, Outcome, Place, Spare, Stop, is_same, pattern, tag, zero_block};
-use ft_media::{MediaError, PageRead, Rig};
+use ft_media::{Counts, MediaError, PageRead, Rig};
 use std::alloc::{AllocError, Global};
 use std::test::Fail;
 
@@ -16,6 +16,50 @@ const OUTCOMES: [Outcome; 4] = [
     Outcome::Torn,
     Outcome::Mixed,
 ];
+
+/// What a rig tells without a call.
+#[derive(Clone, Copy)]
+enum Fact {
+    /// The page of a block to program next, where it is ready and has one.
+    NextPage(u32, Option<u32>),
+    /// Whether power is on.
+    Power(bool),
+    /// How many stops are armed.
+    Stops(u32),
+    /// How often power was lost, or was off at a call.
+    Cuts(u64),
+    /// How often the flash failed, and the disk.
+    Failures(u64, u64),
+    /// The counts of calls that answered Ok.
+    Done(Counts),
+}
+
+/// A line of an example. A call comes with its answer.
+#[derive(Clone, Copy)]
+enum Line {
+    /// A stop is armed, which cuts the device write of this number, and leaves this of it.
+    Arm(u64, Outcome),
+    /// The next page of a block is programmed with this tag. None where none is ready.
+    Program(u32, u64, Option<Ending>),
+    /// Three pages of a block are programmed, with the tags 1 to 3, however that ends.
+    Fill(u32),
+    /// A block is erased.
+    Erase(u32, Option<Ending>),
+    /// A block of the disk is written with this tag.
+    Write(u64, u64, Ending),
+    /// The disk is flushed.
+    Flush(Ending),
+    /// Power is cut between two device writes.
+    Cut(Outcome),
+    /// Power is turned on.
+    TurnOn,
+    /// A page is read.
+    ReadPage(u32, u32, Result<Kept, MediaError>),
+    /// A block of the disk is read, which has this tag.
+    ReadBlock(u64, Result<u64, MediaError>),
+    /// What is told then.
+    See(Fact),
+}
 
 /// The block of this tag.
 fn tagged(number: u64) -> Block {
@@ -82,12 +126,6 @@ fn erase(rig: &mut MemRig, block: u32) -> Option<Ending> {
     Some(rig.erase_block(block))
 }
 
-fn arm<R: Rig>(rig: &mut R, after: u64, outcome: Outcome) {
-    if rig.armed() < 16 && after > 0 {
-        rig.arm(after, outcome);
-    }
-}
-
 /// A rig of two blocks of nine pages and eight disk blocks.
 fn small_rig(alloc: Global) -> Result<MemRig, AllocError> {
     let mut rig = MemRig::new(alloc);
@@ -102,196 +140,326 @@ fn fill(rig: &mut MemRig, block: u32) {
     }
 }
 
-/// What a cut leaves of the page that is programmed.
-fn cut_program(alloc: Global, outcome: Outcome) -> Result<Option<Kept>, AllocError> {
-    let mut rig = small_rig(alloc)?;
-    arm(&mut rig, 1, outcome);
-    let cut = program(&mut rig, 0, 5) == Some(Ending::Cut(outcome));
-    let off = !rig.has_power() && rig.stops() == 0 && rig.cuts() == 1;
-    let unready = next_page(&rig, 0).is_none() && next_page(&rig, 1).is_none();
-    rig.turn_on();
-    let page = read_page(&mut rig, 0, 0).ok();
-    Ok(page.filter(|_| cut && off && unready))
-}
-
-/// What a cut leaves of pages 0 to 3 of a block that is erased, of which the first three were whole.
-fn cut_erase(alloc: Global, outcome: Outcome) -> Result<[Option<Kept>; 4], AllocError> {
-    let mut rig = small_rig(alloc)?;
-    fill(&mut rig, 0);
-    fill(&mut rig, 1);
-    arm(&mut rig, 1, outcome);
-    let cut = erase(&mut rig, 0) == Some(Ending::Cut(outcome));
-    let unready = next_page(&rig, 0).is_none() && next_page(&rig, 1).is_none();
-    rig.turn_on();
-    let other = read_page(&mut rig, 1, 1) == Ok(Kept::Whole(2));
-    let mut left = [None; 4];
-    for page in 0..4 {
-        let found = read_page(&mut rig, 0, page).ok();
-        left[page as usize] = found.filter(|_| cut && unready && other);
+fn arm(rig: &mut MemRig, after: u64, outcome: Outcome) -> bool {
+    if rig.stops() >= 16 || after == 0 {
+        return false;
     }
-    Ok(left)
+    rig.arm_stop(after, outcome);
+    true
 }
 
-/// What a cut leaves of page 2 of a block that is erased, where that page was torn.
-fn cut_erase_of_torn(alloc: Global, outcome: Outcome) -> Result<Option<Kept>, AllocError> {
+fn tells(rig: &MemRig, fact: Fact) -> bool {
+    match fact {
+        Fact::NextPage(block, page) => next_page(rig, block) == page,
+        Fact::Power(on) => rig.has_power() == on,
+        Fact::Stops(count) => rig.stops() == count,
+        Fact::Cuts(count) => rig.cuts() == count,
+        Fact::Failures(flash, disk) => rig.flash_faults() == flash && rig.disk_faults() == disk,
+        Fact::Done(counts) => rig.done() == counts,
+    }
+}
+
+/// Makes the call of the line. Whether what the line tells is so.
+fn is_so(rig: &mut MemRig, line: Line) -> Result<bool, AllocError> {
+    match line {
+        Line::Arm(after, outcome) => return Ok(arm(rig, after, outcome)),
+        Line::Program(block, number, ending) => return Ok(program(rig, block, number) == ending),
+        Line::Erase(block, ending) => return Ok(erase(rig, block) == ending),
+        Line::Write(lba, number, ending) => return Ok(
+            rig.write_disk(lba, &tagged(number))? == ending,
+        ),
+        Line::Flush(ending) => return Ok(rig.flush_blocks() == ending),
+        Line::ReadPage(block, page, found) => return Ok(read_page(rig, block, page) == found),
+        Line::ReadBlock(lba, found) => return Ok(read_block(rig, lba) == found),
+        Line::See(fact) => return Ok(tells(rig, fact)),
+        Line::Fill(block) => fill(rig, block),
+        Line::Cut(outcome) => rig.cut_power(outcome),
+        Line::TurnOn => rig.turn_on(),
+    }
+    Ok(true)
+}
+
+/// Goes through the lines. Says which is the first that tells what isn't so.
+fn first_wrong(rig: &mut MemRig, lines: &[Line]) -> Result<Option<usize>, AllocError> {
+    for i in 0..lines.len() {
+        if !is_so(rig, lines[i])? {
+            return Ok(Some(i));
+        }
+    }
+    Ok(None)
+}
+
+/// The same from a new rig on.
+fn first_wrong_anew(alloc: Global, lines: &[Line]) -> Result<Option<usize>, AllocError> {
     let mut rig = small_rig(alloc)?;
-    arm(&mut rig, 3, Outcome::Torn);
-    arm(&mut rig, 1, outcome);
-    fill(&mut rig, 0);
-    rig.turn_on();
-    let was_torn = read_page(&mut rig, 0, 2) == Ok(Kept::Torn);
-    let cut = erase(&mut rig, 0) == Some(Ending::Cut(outcome));
-    rig.turn_on();
-    let page = read_page(&mut rig, 0, 2).ok();
-    Ok(page.filter(|_| was_torn && cut))
+    first_wrong(&mut rig, lines)
+}
+
+/// What a cut of this outcome leaves.
+#[derive(Clone, Copy)]
+struct Row {
+    outcome: Outcome,
+    /// The page that is programmed.
+    programmed: Kept,
+    /// Pages 0 to 3 of a block that is erased, of which the first three were whole.
+    erased: [Kept; 4],
+    /// Page 2 of a block that is erased, where that page was torn.
+    was_torn: Kept,
+    /// The tags at addresses 4 to 7: 4 and 5 were flushed with tag 1, and then all four were written with tags
+    /// 3 and 2.
+    blocks: [u64; 4],
+}
+
+const ROWS: [Row; 4] = [
+    Row {
+        outcome: Outcome::Blank,
+        programmed: Kept::Blank,
+        erased: [Kept::Blank, Kept::Blank, Kept::Blank, Kept::Blank],
+        was_torn: Kept::Blank,
+        blocks: [1, 1, 0, 0],
+    },
+    Row {
+        outcome: Outcome::Whole,
+        programmed: Kept::Whole(5),
+        erased: [Kept::Whole(1), Kept::Whole(2), Kept::Whole(3), Kept::Blank],
+        was_torn: Kept::Torn,
+        blocks: [2, 2, 2, 2],
+    },
+    Row {
+        outcome: Outcome::Torn,
+        programmed: Kept::Torn,
+        erased: [Kept::Torn, Kept::Torn, Kept::Torn, Kept::Blank],
+        was_torn: Kept::Torn,
+        blocks: [1, 2, 0, 2],
+    },
+    Row {
+        outcome: Outcome::Mixed,
+        programmed: Kept::Torn,
+        erased: [Kept::Whole(1), Kept::Blank, Kept::Torn, Kept::Blank],
+        was_torn: Kept::Torn,
+        blocks: [1, 2, 0, 2],
+    },
+];
+
+/// What is cut.
+#[derive(Clone, Copy, Debug, PartialEq, Eq)]
+enum Cut {
+    /// A program.
+    Program,
+    /// An erase of a block with three whole pages.
+    Erase,
+    /// An erase of a block with a torn page.
+    EraseOfTorn,
+    /// Whatever leaves blocks of the disk unflushed.
+    Unflushed(Unflushed),
+    /// A write of the disk, to the first or the second address.
+    Write(bool),
 }
 
 /// The device write, or the cut between two, that a disk is settled by.
-#[derive(Clone, Copy, Debug)]
-enum Cut {
+#[derive(Clone, Copy, Debug, PartialEq, Eq)]
+enum Unflushed {
+    /// A program.
     Program,
+    /// An erase.
     Erase,
+    /// The flush.
     Flush,
+    /// Nothing: power goes off between two.
     Between,
 }
 
-fn cut_by(rig: &mut MemRig, cut: Cut, outcome: Outcome) {
-    arm(rig, 1, outcome);
+const CUTS: [Cut; 9] = [
+    Cut::Program,
+    Cut::Erase,
+    Cut::EraseOfTorn,
+    Cut::Unflushed(Unflushed::Program),
+    Cut::Unflushed(Unflushed::Erase),
+    Cut::Unflushed(Unflushed::Flush),
+    Cut::Unflushed(Unflushed::Between),
+    Cut::Write(false),
+    Cut::Write(true),
+];
+
+/// What a cut leaves of the page that is programmed.
+fn program_cut(row: &Row) -> [Line; 9] {
+    [
+        Line::Arm(1, row.outcome),
+        Line::Program(0, 5, Some(Ending::Cut(row.outcome))),
+        Line::See(Fact::Power(false)),
+        Line::See(Fact::Stops(0)),
+        Line::See(Fact::Cuts(1)),
+        Line::See(Fact::NextPage(0, None)),
+        Line::See(Fact::NextPage(1, None)),
+        Line::TurnOn,
+        Line::ReadPage(0, 0, Ok(row.programmed)),
+    ]
+}
+
+/// What a cut leaves of pages 0 to 3 of a block that is erased, of which the first three were whole.
+fn erase_cut(row: &Row) -> [Line; 12] {
+    [
+        Line::Fill(0),
+        Line::Fill(1),
+        Line::Arm(1, row.outcome),
+        Line::Erase(0, Some(Ending::Cut(row.outcome))),
+        Line::See(Fact::NextPage(0, None)),
+        Line::See(Fact::NextPage(1, None)),
+        Line::TurnOn,
+        // The other block stays.
+        Line::ReadPage(1, 1, Ok(Kept::Whole(2))),
+        Line::ReadPage(0, 0, Ok(row.erased[0])),
+        Line::ReadPage(0, 1, Ok(row.erased[1])),
+        Line::ReadPage(0, 2, Ok(row.erased[2])),
+        Line::ReadPage(0, 3, Ok(row.erased[3])),
+    ]
+}
+
+/// What a cut leaves of page 2 of a block that is erased, where that page was torn.
+fn erase_of_torn_cut(row: &Row) -> [Line; 8] {
+    [
+        Line::Arm(3, Outcome::Torn),
+        Line::Arm(1, row.outcome),
+        Line::Fill(0),
+        Line::TurnOn,
+        Line::ReadPage(0, 2, Ok(Kept::Torn)),
+        Line::Erase(0, Some(Ending::Cut(row.outcome))),
+        Line::TurnOn,
+        Line::ReadPage(0, 2, Ok(row.was_torn)),
+    ]
+}
+
+/// The call that is cut, or cuts.
+fn cut_by(cut: Unflushed, outcome: Outcome) -> Line {
     match cut {
-        Cut::Program => {
-            program(rig, 0, 5);
-        }
-        Cut::Erase => {
-            erase(rig, 0);
-        }
-        Cut::Flush => {
-            rig.flush_blocks();
-        }
-        Cut::Between => rig.cut_power(outcome),
+        Unflushed::Program => Line::Program(0, 5, Some(Ending::Cut(outcome))),
+        Unflushed::Erase => Line::Erase(0, Some(Ending::Cut(outcome))),
+        Unflushed::Flush => Line::Flush(Ending::Cut(outcome)),
+        Unflushed::Between => Line::Cut(outcome),
     }
 }
 
-/// The tags at addresses 4 to 7 after a cut: 4 and 5 were flushed with tag 1, and then all four were written
-/// with tags 3 and 2.
-fn cut_disk(alloc: Global, cut: Cut, outcome: Outcome) -> Result<[Option<u64>; 4], AllocError> {
-    let mut rig = small_rig(alloc)?;
-    rig.write_disk(4, &tagged(1))?;
-    rig.write_disk(5, &tagged(1))?;
-    rig.flush_blocks();
-    for number in [3, 2] {
-        for lba in 4..8 {
-            rig.write_disk(lba, &tagged(number))?;
-        }
-    }
-    cut_by(&mut rig, cut, outcome);
-    let off = !rig.has_power();
-    rig.turn_on();
-    let mut left = [None; 4];
-    for at in 0..4 {
-        left[at as usize] = read_block(&mut rig, 4 + at).ok().filter(|_| off);
-    }
-    Ok(left)
+/// What a cut leaves at addresses 4 to 7: 4 and 5 were flushed with tag 1, and then all four were written with
+/// tags 3 and 2.
+fn unflushed_cut(cut: Unflushed, row: &Row) -> [Line; 19] {
+    [
+        Line::Write(4, 1, Ending::Done),
+        Line::Write(5, 1, Ending::Done),
+        Line::Flush(Ending::Done),
+        Line::Write(4, 3, Ending::Done),
+        Line::Write(5, 3, Ending::Done),
+        Line::Write(6, 3, Ending::Done),
+        Line::Write(7, 3, Ending::Done),
+        Line::Write(4, 2, Ending::Done),
+        Line::Write(5, 2, Ending::Done),
+        Line::Write(6, 2, Ending::Done),
+        Line::Write(7, 2, Ending::Done),
+        Line::Arm(1, row.outcome),
+        cut_by(cut, row.outcome),
+        Line::See(Fact::Power(false)),
+        Line::TurnOn,
+        Line::ReadBlock(4, Ok(row.blocks[0])),
+        Line::ReadBlock(5, Ok(row.blocks[1])),
+        Line::ReadBlock(6, Ok(row.blocks[2])),
+        Line::ReadBlock(7, Ok(row.blocks[3])),
+    ]
 }
 
-/// The tags at addresses 4 and 5, flushed with tag 1, after a write of tag 2 there that is cut.
-fn cut_write(alloc: Global, outcome: Outcome) -> Result<[Option<u64>; 2], AllocError> {
-    let mut left = [None; 2];
-    for at in 0..2 {
-        let mut rig = small_rig(alloc)?;
-        rig.write_disk(4 + at, &tagged(1))?;
-        rig.flush_blocks();
-        arm(&mut rig, 1, outcome);
-        let cut = rig.write_disk(4 + at, &tagged(2))? == Ending::Cut(outcome);
-        rig.turn_on();
-        left[at as usize] = read_block(&mut rig, 4 + at).ok().filter(|_| cut);
+/// What a cut leaves at an address, flushed with tag 1, of a write of tag 2 there.
+fn write_cut(lba: u64, left: u64, outcome: Outcome) -> [Line; 6] {
+    [
+        Line::Write(lba, 1, Ending::Done),
+        Line::Flush(Ending::Done),
+        Line::Arm(1, outcome),
+        Line::Write(lba, 2, Ending::Cut(outcome)),
+        Line::TurnOn,
+        Line::ReadBlock(lba, Ok(left)),
+    ]
+}
+
+/// The first line of a cut that tells what isn't so.
+fn first_wrong_of(alloc: Global, cut: Cut, row: &Row) -> Result<Option<usize>, AllocError> {
+    match cut {
+        Cut::Program => first_wrong_anew(alloc, &program_cut(row)),
+        Cut::Erase => first_wrong_anew(alloc, &erase_cut(row)),
+        Cut::EraseOfTorn => first_wrong_anew(alloc, &erase_of_torn_cut(row)),
+        Cut::Unflushed(by) => first_wrong_anew(alloc, &unflushed_cut(by, row)),
+        Cut::Write(false) => first_wrong_anew(alloc, &write_cut(4, row.blocks[0], row.outcome)),
+        Cut::Write(true) => first_wrong_anew(alloc, &write_cut(5, row.blocks[1], row.outcome)),
     }
-    Ok(left)
+}
+
+/// The first cut of an outcome that leaves something else, and its line.
+fn first_wrong_cut(alloc: Global) -> Result<Option<(Outcome, Cut, usize)>, AllocError> {
+    for row in ROWS {
+        for cut in CUTS {
+            if let Some(line) = first_wrong_of(alloc, cut, &row)? {
+                return Ok(Some((row.outcome, cut, line)));
+            }
+        }
+    }
+    Ok(None)
 }
 
 #[test]
 fn a_cut_leaves_what_its_outcome_says(rt: HostRuntime) -> Result<(), Fail> {
-    let alloc = rt.alloc();
-    let whole = [Kept::Whole(1), Kept::Whole(2), Kept::Whole(3), Kept::Blank];
-    let torn = [Kept::Torn, Kept::Torn, Kept::Torn, Kept::Blank];
-    let thirds = [Kept::Whole(1), Kept::Blank, Kept::Torn, Kept::Blank];
-    let rows = [
-        (
-            Outcome::Blank,
-            Kept::Blank,
-            [Kept::Blank; 4],
-            Kept::Blank,
-            [1, 1, 0, 0],
-        ),
-        (
-            Outcome::Whole,
-            Kept::Whole(5),
-            whole,
-            Kept::Torn,
-            [2, 2, 2, 2],
-        ),
-        (Outcome::Torn, Kept::Torn, torn, Kept::Torn, [1, 2, 0, 2]),
-        (Outcome::Mixed, Kept::Torn, thirds, Kept::Torn, [1, 2, 0, 2]),
-    ];
-    for (outcome, programmed, erased, was_torn, blocks) in rows {
-        assert_eq!(rt; cut_program(alloc, outcome)?, Some(programmed));
-        assert_eq!(rt; cut_erase(alloc, outcome)?, erased.map(Some));
-        assert_eq!(rt; cut_erase_of_torn(alloc, outcome)?, Some(was_torn));
-        for cut in [Cut::Program, Cut::Erase, Cut::Flush, Cut::Between] {
-            assert_eq!(rt; cut_disk(alloc, cut, outcome)?, blocks.map(Some));
-        }
-        assert_eq!(rt;
-            cut_write(alloc, outcome)?,
-            [Some(blocks[0]), Some(blocks[1])]
-        );
-    }
+    assert_eq!(rt; first_wrong_cut(rt.alloc())?, None);
     Ok(())
+}
+
+const NUMBERED: [Line; 23] = [
+    // Stops cut the third device write, and then the first after it.
+    Line::Arm(3, Outcome::Torn),
+    Line::Arm(1, Outcome::Whole),
+    Line::Program(0, 1, Some(Ending::Done)),
+    // Reads are counted as calls, and not by stops. Call 2 of the flash fails.
+    Line::ReadPage(0, 0, Err(MediaError::Failed)),
+    Line::Write(0, 1, Ending::Failed),
+    Line::Program(0, 2, Some(Ending::Cut(Outcome::Torn))),
+    // Calls with power off are counted by nobody.
+    Line::ReadPage(0, 1, Err(MediaError::PowerLost)),
+    Line::Erase(0, Some(Ending::Off)),
+    Line::Flush(Ending::Off),
+    Line::TurnOn,
+    // Call 4 of the flash is cut, though its number is listed.
+    Line::Erase(1, Some(Ending::Cut(Outcome::Whole))),
+    Line::TurnOn,
+    Line::ReadPage(0, 1, Ok(Kept::Torn)),
+    Line::See(Fact::NextPage(0, None)),
+    Line::Erase(0, Some(Ending::Done)),
+    Line::See(Fact::NextPage(0, Some(0))),
+    Line::ReadPage(0, 1, Ok(Kept::Blank)),
+    Line::ReadBlock(0, Ok(0)),
+    Line::Flush(Ending::Failed),
+    Line::Flush(Ending::Done),
+    Line::See(Fact::Failures(1, 2)),
+    Line::See(Fact::Cuts(5)),
+    Line::See(Fact::Done(Counts {
+        programs: 1,
+        erases: 1,
+        disk_reads: 1,
+        disk_writes: 0,
+        disk_flushes: 1,
+    })),
+];
+
+/// Goes through the lines on devices of which the calls with these numbers fail.
+fn first_wrong_failing(
+    alloc: Global,
+    flash: &[u64],
+    disk: &[u64],
+    lines: &[Line],
+) -> Result<Option<usize>, AllocError> {
+    let mut rig = MemRig::failing(alloc, flash.to_vec(alloc)?, disk.to_vec(alloc)?);
+    rig.fit_anew(alloc, 2, 4, 2)?;
+    first_wrong(&mut rig, lines)
 }
 
 #[test]
 fn stops_and_failures_come_at_their_numbers(rt: HostRuntime) -> Result<(), Fail> {
-    let alloc = rt.alloc();
-    let flash = Vec::from_slice(alloc, &[2, 4])?;
-    let disk = Vec::from_slice(alloc, &[1, 3])?;
-    let mut rig = MemRig::failing(alloc, flash, disk);
-    rig.fit_anew(alloc, 2, 4, 2)?;
-    // Stops cut the third device write, and then the first after it.
-    arm(&mut rig, 3, Outcome::Torn);
-    arm(&mut rig, 1, Outcome::Whole);
-    assert_eq!(rt; program(&mut rig, 0, 1), Some(Ending::Done));
-    // Reads are counted as calls, and not by stops. Call 2 of the flash fails.
-    assert_eq!(rt; read_page(&mut rig, 0, 0), Err(MediaError::Failed));
-    assert_eq!(rt; rig.write_disk(0, &tagged(1))?, Ending::Failed);
-    assert_eq!(rt; program(&mut rig, 0, 2), Some(Ending::Cut(Outcome::Torn)));
-    // Calls with power off are counted by nobody.
-    assert_eq!(rt; read_page(&mut rig, 0, 1), Err(MediaError::PowerLost));
-    assert_eq!(rt; erase(&mut rig, 0), Some(Ending::Off));
-    assert_eq!(rt; rig.flush_blocks(), Ending::Off);
-    rig.turn_on();
-    // Call 4 of the flash is cut, though its number is listed.
-    assert_eq!(rt; erase(&mut rig, 1), Some(Ending::Cut(Outcome::Whole)));
-    rig.turn_on();
-    assert_eq!(rt; read_page(&mut rig, 0, 1), Ok(Kept::Torn));
-    assert_eq!(rt; next_page(&rig, 0), None);
-    assert_eq!(rt; erase(&mut rig, 0), Some(Ending::Done));
-    assert_eq!(rt; next_page(&rig, 0), Some(0));
-    assert_eq!(rt; read_page(&mut rig, 0, 1), Ok(Kept::Blank));
-    assert_eq!(rt; read_block(&mut rig, 0), Ok(0));
-    assert_eq!(rt; rig.flush_blocks(), Ending::Failed);
-    assert_eq!(rt; rig.flush_blocks(), Ending::Done);
     assert_eq!(rt;
-        [rig.flash_faults(), rig.disk_faults(), rig.cuts()],
-        [1, 2, 5]
-    );
-    let counts = rig.done();
-    assert_eq!(rt;
-        [
-            counts.programs,
-            counts.erases,
-            counts.disk_reads,
-            counts.disk_writes,
-            counts.disk_flushes
-        ],
-        [1, 1, 1, 0, 1]
+        first_wrong_failing(rt.alloc(), &[2, 4], &[1, 3], &NUMBERED)?,
+        None
     );
     Ok(())
 }

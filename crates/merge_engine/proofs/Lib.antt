@@ -22,7 +22,6 @@ pub mod GiveBackLemmas
 pub mod SpendLemmas
 pub mod GoesLemmas
 pub mod LoadedLemmas
-pub mod BenchLemmas
 pub mod LogRoomLemmas
 pub mod SwitchLemmas
 pub mod SwitchedLemmas

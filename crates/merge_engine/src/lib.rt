@@ -31,6 +31,3 @@ pub use loading::loaded;
 pub use merging::merge_group;
 pub use noting::{put_clean, put_out, put_page};
 pub use parts::Parts;
-
-#[cfg(test)]
-mod tests;

@@ -28,3 +28,5 @@ mod refusals;
 mod replay;
 #[cfg(test)]
 mod small;
+#[cfg(test)]
+mod untouched;

@@ -20,6 +20,3 @@ pub use cache::Ssc;
 pub use error::SscError;
 pub use op_log::OpenError;
 pub use scrubbing::Scrub;
-
-#[cfg(test)]
-mod tests;

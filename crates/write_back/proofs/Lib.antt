@@ -2,6 +2,5 @@ pub mod CleaningLemmas
 pub mod CopyLemmas
 pub mod PartLemmas
 pub mod TableLemmas
-pub mod TestLemmas
 pub mod VolumeLemmas
 pub mod WriteLemmas

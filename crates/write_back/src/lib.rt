@@ -7,8 +7,6 @@
 
 mod cleaning;
 mod tables;
-#[cfg(test)]
-mod tests;
 mod volume;
 mod writing;
 

@@ -2,4 +2,3 @@ pub mod TakeLemmas
 pub mod PutLemmas
 pub mod WriteLemmas
 pub mod VolumeLemmas
-pub mod TestLemmas

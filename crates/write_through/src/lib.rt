@@ -5,8 +5,6 @@
 //! the flash holds is the disk's own.
 #![tactic(auto)]
 
-#[cfg(test)]
-mod tests;
 mod volume;
 mod writing;
 

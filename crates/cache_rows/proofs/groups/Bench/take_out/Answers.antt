@@ -1,0 +1,14 @@
+use Rattle.mem_rig.specs.Rig.{state_of}
+use Rattle.cache_rows.proofs.GroupsLemmas.{agree_reserved}
+use Rattle.merge_engine.proofs.TakeLemmas.{agree_map}
+use Rattle.cache_rows.proofs.groups.Bench.take_out.Goals as goal
+
+pub put_out-requires-clause-is_map : goal.put_out-requires-clause-is_map
+put_out-requires-clause-is_map c =
+    let agree = agree_reserved c.self.inside.parts c.reserve.new.parts (state_of c.self.inside.rig).contents c.reserve.ensures.cache c.reserve.ensures.geometry c.reserve.ensures.entries c.self.invariant in
+    agree_map c.reserve.new.parts (state_of c.self.inside.rig).contents agree
+
+pub invariant_of-result : goal.invariant_of-result
+invariant_of-result c =
+    let agree = agree_reserved c.self.inside.parts c.reserve.new.parts (state_of c.self.inside.rig).contents c.reserve.ensures.cache c.reserve.ensures.geometry c.reserve.ensures.entries c.self.invariant in
+    c.put_out.ensures.agree (state_of c.self.inside.rig).contents agree

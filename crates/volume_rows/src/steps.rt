@@ -1,0 +1,184 @@
+//! Calls of a volume one after another, each with what it must answer.
+ghost use Rattle.std.specs.Prelude.{◌≡◌};
+
+use ft_base::{Block, Outcome, pattern, tag_of, zero_block};
+use ft_media::{Media, Rig};
+use ft_volume::{Idled, Report, Volume, VolumeError};
+
+/// A call of a volume with what it must answer, or what must be seen of it.
+#[derive(Clone, Copy)]
+pub(crate) enum Step {
+    /// Writes a pattern of an address with a tag.
+    Write(u64, u64),
+    /// Reads the pattern of an address with a tag.
+    Read(u64, u64),
+    /// Neither writes nor reads an address that it doesn't have, and no count of the rig rises.
+    Refuse(u64),
+    /// Flushes.
+    Flush,
+    /// Cuts power, and turns it on.
+    Cut(Outcome),
+    /// Takes an idle step.
+    Idle(Idled),
+    /// Reports this.
+    Report(Report),
+    /// Reports these numbers, and any number of buckets.
+    ReportAll {
+        held: u64,
+        dirty_groups: u32,
+        scrubbed: u64,
+    },
+    /// Whether it is down.
+    Down(bool),
+    /// How many blocks it has.
+    Size(u64),
+    /// How many blocks came from the disk.
+    DiskReads(u64),
+    /// How many blocks went to the disk.
+    DiskWrites(u64),
+}
+
+pub(crate) fn block_of(lba: u64, tag: u64) -> Block {
+    let mut block = zero_block();
+    if tag > 0 {
+        pattern(lba, tag, &mut block);
+    }
+    block
+}
+
+// Each call with no more in its contract than the next one asks.
+
+fn write<R: Rig, V: Volume<R>>(
+    volume: &mut V,
+    rig: &mut R,
+    lba: u64,
+    tag: u64,
+) -> Result<(), VolumeError>
+    requires { V.owns volume.old (R.state rig.old).contents }
+    ensures owns { V.owns volume.new (R.state rig.new).contents }
+    ensures told { (V.state volume.new).told ≡ (V.state volume.old).told }
+{
+    volume.write(rig, lba, &block_of(lba, tag))
+}
+
+/// The tag that an address reads.
+fn read<R: Rig, V: Volume<R>>(
+    volume: &mut V,
+    rig: &mut R,
+    lba: u64,
+) -> Result<Option<u64>, VolumeError>
+    requires { V.owns volume.old (R.state rig.old).contents }
+    ensures owns { V.owns volume.new (R.state rig.new).contents }
+    ensures told { (V.state volume.new).told ≡ (V.state volume.old).told }
+{
+    let mut block = zero_block();
+    match volume.read(rig, lba, &mut block) {
+        Ok(()) => Ok(tag_of(lba, &block)),
+        Err(error) => Err(error),
+    }
+}
+
+/// Whether a write and a read of an address are refused, and no count of the rig rises.
+fn refuses<R: Rig, V: Volume<R>>(volume: &mut V, rig: &mut R, lba: u64) -> bool
+    requires { V.owns volume.old (R.state rig.old).contents }
+    ensures owns { V.owns volume.new (R.state rig.new).contents }
+    ensures told { (V.state volume.new).told ≡ (V.state volume.old).told }
+{
+    let before = rig.counts();
+    let refused = write(volume, rig, lba, 7);
+    let unread = read(volume, rig, lba);
+    refused == Err(VolumeError::OutOfVolume)
+        && unread == Err(VolumeError::OutOfVolume)
+        && rig.counts() == before
+}
+
+fn flush<R: Rig, V: Volume<R>>(volume: &mut V, rig: &mut R) -> Result<(), VolumeError>
+    requires { V.owns volume.old (R.state rig.old).contents }
+    ensures owns { V.owns volume.new (R.state rig.new).contents }
+    ensures told { (V.state volume.new).told ≡ (V.state volume.old).told }
+{
+    volume.flush(rig)
+}
+
+fn cut<R: Rig, V: Volume<R>>(volume: &mut V, rig: &mut R, outcome: Outcome)
+    requires { V.owns volume.old (R.state rig.old).contents }
+    ensures owns { V.owns volume.new (R.state rig.new).contents }
+    ensures told { (V.state volume.new).told ≡ (V.state volume.old).told }
+{
+    volume.cut(rig, outcome);
+}
+
+fn idle<R: Rig, V: Volume<R>>(volume: &mut V, rig: &mut R) -> Result<Idled, VolumeError>
+    requires { V.owns volume.old (R.state rig.old).contents }
+    ensures owns { V.owns volume.new (R.state rig.new).contents }
+    ensures told { (V.state volume.new).told ≡ (V.state volume.old).told }
+{
+    volume.idle(rig)
+}
+
+fn report<R: Rig, V: Volume<R>>(volume: &mut V, rig: &mut R) -> Result<Report, VolumeError>
+    requires { V.owns volume.old (R.state rig.old).contents }
+    ensures owns { V.owns volume.new (R.state rig.new).contents }
+    ensures told { (V.state volume.new).told ≡ (V.state volume.old).told }
+{
+    volume.report(rig)
+}
+
+/// Whether a report tells these numbers.
+fn reports<R: Rig, V: Volume<R>>(volume: &mut V, rig: &mut R, wanted: (u64, u32, u64)) -> bool
+    requires { V.owns volume.old (R.state rig.old).contents }
+    ensures owns { V.owns volume.new (R.state rig.new).contents }
+    ensures told { (V.state volume.new).told ≡ (V.state volume.old).told }
+{
+    match report(volume, rig) {
+        Ok(told) => (told.held, told.dirty_groups, told.scrubbed) == wanted,
+        Err(_) => false,
+    }
+}
+
+/// Makes a step, and says whether it answers that.
+fn agrees<R: Rig, V: Volume<R>>(volume: &mut V, rig: &mut R, step: Step) -> bool
+    requires { V.owns volume.old (R.state rig.old).contents }
+    ensures owns { V.owns volume.new (R.state rig.new).contents }
+    ensures told { (V.state volume.new).told ≡ (V.state volume.old).told }
+{
+    match step {
+        Step::Write(lba, tag) => write(volume, rig, lba, tag) == Ok(()),
+        Step::Read(lba, tag) => read(volume, rig, lba) == Ok(Some(tag)),
+        Step::Refuse(lba) => refuses(volume, rig, lba),
+        Step::Flush => flush(volume, rig) == Ok(()),
+        Step::Cut(outcome) => {
+            cut(volume, rig, outcome);
+            true
+        }
+        Step::Idle(idled) => idle(volume, rig) == Ok(idled),
+        Step::Report(told) => report(volume, rig) == Ok(told),
+        Step::ReportAll {
+            held,
+            dirty_groups,
+            scrubbed,
+        } => reports(volume, rig, (held, dirty_groups, scrubbed)),
+        Step::Down(down) => volume.is_down() == down,
+        Step::Size(blocks) => volume.size() == blocks,
+        Step::DiskReads(count) => rig.counts().disk_reads == count,
+        Step::DiskWrites(count) => rig.counts().disk_writes == count,
+    }
+}
+
+/// Makes the steps one after another, up to the first that answers something else. Says which that is.
+pub(crate) fn first_wrong<R: Rig, V: Volume<R>>(
+    volume: &mut V,
+    rig: &mut R,
+    steps: &[Step],
+) -> Option<usize>
+    requires { V.owns volume.old (R.state rig.old).contents }
+    ensures owns { V.owns volume.new (R.state rig.new).contents }
+    ensures told { (V.state volume.new).told ≡ (V.state volume.old).told }
+{
+    for i in 0..steps.len() {
+        if !agrees(volume, rig, steps[i]) {
+            return Some(i);
+        }
+    }
+    None
+}

@@ -1,5 +1,0 @@
-use Rattle.write_back.proofs.TestLemmas.{if_ok_then}
-use Rattle.write_back.proofs.tests.created.Goals as goal
-
-pub returns-clause-told : goal.returns-clause-told
-returns-clause-told c = if_ok_then c.create.result (λ v opened. opened.told) c.create.ensures.opened
