@@ -7,7 +7,8 @@ use Rattle.ft_base.specs.declared.block.Place.{Place}
 use Rattle.ft_base.specs.declared.block.Page.{Page}
 use Rattle.ft_base.specs.declared.geometry.Geometry.{Geometry}
 use Rattle.ft_base.specs.Contents.{Contents, Image, Now}
-use Rattle.cache_model.specs.Cache.{Held, held, CacheList, Buffered, Inserted, Cleaned, Vanish, undo, written_dirty, written_clean, evicted, made_clean, marked, IsFull}
+use Rattle.cache_model.specs.Cache.{Buffered, Inserted, Cleaned, Vanish, undo, written_dirty, written_clean, evicted, made_clean, marked, IsFull}
+use Rattle.cache_model.specs.CacheList.{Held, held, CacheList}
 use Rattle.cache_model.specs.Stands.{FlashStandsFor}
 use Rattle.cache_model.proofs.UndoLemmas.{undone_at, get_undo, undo_inserted, undo_cleaned}
 use Rattle.ssc.specs.declared.error.SscError.{SscError}

@@ -3,7 +3,8 @@ use Rattle.std.proofs.Common.{◌≡◌, ◌⊎◌, ℕ, ◌/◌, true, false, c
 use Rattle.std.specs.FinMap.{get}
 use Rattle.std.proofs.lemmas.Bool.{cases_Bool}
 use Rattle.ft_base.specs.declared.geometry.Geometry.{Geometry}
-use Rattle.cache_model.specs.Cache.{Held, CacheList, Vanish}
+use Rattle.cache_model.specs.Cache.{Vanish}
+use Rattle.cache_model.specs.CacheList.{Held, CacheList}
 use Rattle.cache_history.specs.declared.kind.Kind.{Kind}
 use Rattle.cache_history.specs.declared.kind.Kind.TheVariants.{WriteDirty, WriteClean, Evict, Clean, Commit, Checkpoint}
 use Rattle.cache_history.specs.History.{LeftByKind, unless_gone, is_write}

@@ -3,7 +3,8 @@ use Rattle.std.proofs.Common.{◌≡◌, ◌⊎◌, ℕ, ◌==◌, ◌&&◌, Boo
 use Rattle.std.proofs.lemmas.Bool.{cases_Bool, and_parts, or_parts, both_ways, false≢true}
 use Rattle.std.specs.List.{list_any}
 use Rattle.ft_base.specs.declared.block.Block.{Block}
-use Rattle.cache_model.specs.Cache.{Held, written_block}
+use Rattle.cache_model.specs.Cache.{written_block}
+use Rattle.cache_model.specs.CacheList.{Held}
 use Rattle.cache_model.proofs.CountLemmas.{same_number}
 use Rattle.cache_history.specs.declared.kind.Kind.{Kind}
 use Rattle.cache_history.specs.declared.kind.Kind.TheVariants.{WriteDirty, WriteClean, Evict, Clean, Commit, Checkpoint}

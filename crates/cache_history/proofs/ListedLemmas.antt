@@ -4,7 +4,8 @@ use Rattle.std.specs.List.{AllByRecursion, Contains}
 use Rattle.std.specs.FinMap.{get, entries}
 use Rattle.std.proofs.lemmas.Bool.Decides.{nat_tests}
 use Rattle.std.proofs.lemmas.List.Elements.{Contains-append_left, Contains-append_right, Contains-push}
-use Rattle.cache_model.specs.Cache.{Held, CacheList, dirty_between}
+use Rattle.cache_model.specs.Cache.{dirty_between}
+use Rattle.cache_model.specs.CacheList.{Held, CacheList}
 use Rattle.cache_model.proofs.MapLemmas.{by_get}
 
 contains_first : (n : ℕ) (ns : List ℕ) → Contains (n ∷ ns) n

@@ -4,7 +4,8 @@ use Rattle.std.specs.Option.{option_map}
 use Rattle.std.specs.FinMap.{get, empty, get-empty}
 use Rattle.ft_base.specs.declared.block.Block.{Block}
 use Rattle.ft_base.specs.declared.geometry.Geometry.{Geometry}
-use Rattle.cache_model.specs.Cache.{Held, CacheList, marked_as}
+use Rattle.cache_model.specs.Cache.{marked_as}
+use Rattle.cache_model.specs.CacheList.{Held, CacheList}
 use Rattle.cache_history.specs.declared.kind.Kind.{Kind}
 use Rattle.cache_history.specs.declared.kind.Kind.TheVariants.{WriteDirty, WriteClean, Evict, Clean, Commit, Checkpoint}
 use Rattle.cache_history.specs.History.{Given, CacheEvent, Answered, Refused, Crashed, TwoLists, both_alike, IsAtOnce, unless_gone, AfterAnswer, AfterRefusal, AfterCrash, LivedFrom, Lived, is_write}

@@ -4,7 +4,8 @@ use Rattle.std.specs.FinMap.{get}
 use Rattle.ft_base.specs.declared.block.Block.{Block}
 use Rattle.ft_base.specs.declared.geometry.Geometry.{Geometry}
 use Rattle.cache_model.specs.Spelling.{data_spare}
-use Rattle.cache_model.specs.Cache.{AreOwn, CacheList, Held, written_block}
+use Rattle.cache_model.specs.Cache.{AreOwn, written_block}
+use Rattle.cache_model.specs.CacheList.{CacheList, Held}
 use Rattle.ssc.proofs.OwnLemmas.{IsOwnAt, own_as, own_marked, own_none}
 use Rattle.cache_history.specs.declared.kind.Kind.{Kind}
 use Rattle.cache_history.specs.declared.kind.Kind.TheVariants.{WriteDirty, WriteClean, Evict, Clean, Commit, Checkpoint}

@@ -4,7 +4,8 @@ use Rattle.std.specs.Prelude.{IsErrOf}
 use Rattle.std.proofs.lemmas.Bool.{false≢true}
 use Rattle.ft_base.specs.Contents.{Contents}
 use Rattle.ft_media.specs.State.{State}
-use Rattle.cache_model.specs.Cache.{Buffered, CacheList, undo}
+use Rattle.cache_model.specs.Cache.{Buffered, undo}
+use Rattle.cache_model.specs.CacheList.{CacheList}
 use Rattle.ssc.specs.declared.cache.Ssc.{Ssc}
 use Rattle.ssc.specs.declared.error.SscError.{SscError}
 use Rattle.ssc.specs.declared.error.SscError.TheVariants.{Full, FlashFault, PowerLost, OutOfMemory}

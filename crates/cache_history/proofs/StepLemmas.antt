@@ -3,7 +3,8 @@ use Rattle.std.proofs.Common.{◌≡◌, ℕ, ◌==◌, ◌&&◌, Bool, true, fa
 use Rattle.std.specs.Option.{option_map}
 use Rattle.std.specs.FinMap.{get}
 use Rattle.ft_base.specs.declared.block.Block.{Block}
-use Rattle.cache_model.specs.Cache.{Held, written_block, CacheList, marked_as}
+use Rattle.cache_model.specs.Cache.{written_block, marked_as}
+use Rattle.cache_model.specs.CacheList.{Held, CacheList}
 use Rattle.cache_model.proofs.MapLemmas.{get_insert, get_remove}
 use Rattle.cache_model.proofs.UndoLemmas.{get_marked}
 use Rattle.cache_history.specs.declared.kind.Kind.{Kind}

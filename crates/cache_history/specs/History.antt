@@ -4,7 +4,8 @@ use Rattle.std.specs.List.{list_any}
 use Rattle.std.specs.FinMap.{get, empty}
 use Rattle.ft_base.specs.declared.block.Block.{Block}
 use Rattle.ft_base.specs.declared.geometry.Geometry.{Geometry}
-use Rattle.cache_model.specs.Cache.{Held, CacheList, Vanish, written_dirty, written_clean, evicted, made_clean}
+use Rattle.cache_model.specs.Cache.{Vanish, written_dirty, written_clean, evicted, made_clean}
+use Rattle.cache_model.specs.CacheList.{Held, CacheList}
 use Rattle.ssc.specs.Commands.{IsHeldIn}
 use Rattle.cache_history.specs.declared.kind.Kind.{Kind}
 use Rattle.cache_history.specs.declared.kind.Kind.TheVariants.{WriteDirty, WriteClean, Evict, Clean, Commit, Checkpoint}

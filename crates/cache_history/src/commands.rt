@@ -1,7 +1,8 @@
 ghost use Rattle.std.specs.Prelude.{◌≡◌, ◌<◌, ℕ, true, false, OnOk, OnErr, IfOk, IfErr, IsErrOf};
 ghost use Rattle.ft_base.specs.Contents.{Image, Now};
 ghost use Rattle.ft_media.specs.Drives.{DrivesFlash};
-ghost use Rattle.cache_model.specs.Cache.{CacheList, IsFull};
+ghost use Rattle.cache_model.specs.Cache.{IsFull};
+ghost use Rattle.cache_model.specs.CacheList.{CacheList};
 ghost use Rattle.cache_model.specs.Loading.{load};
 ghost use Rattle.cache_model.specs.Stands.{FlashStandsFor};
 ghost use Rattle.op_log.specs.Log.{FitsOn};

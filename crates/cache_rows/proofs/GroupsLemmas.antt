@@ -18,11 +18,11 @@ use Rattle.silent_evict.proofs.GroupLemmas.{chosen_some}
 use Rattle.log_blocks.specs.Logs.{IsInUse}
 use Rattle.log_blocks.specs.Logs as list
 use Rattle.merge_engine.specs.declared.parts.Parts.{Parts}
-use Rattle.merge_engine.specs.Agreement.{Agree, AreOfOne, IsDataBlockOf, IsSound, RolesAgree}
+use Rattle.merge_engine.specs.Agreement.{Agree, AreOfOne, IsDataBlockOf, ArePartsSound, RolesAgree}
 
 -- the parts of an empty map agree with a flash that was formatted
 pub formatted_agree : (parts : Parts) (contents : Contents) (g : Geometry) → AreOfOne parts → parts.geometry ≡ g → FitsOn g contents.shape → parts.map.entries ≡ no_entries → parts.log ≡ log_formatted g
-    → IsCommitted contents.flash (log_formatted g) no_entries → RolesAgree parts → list.IsSound parts.logs → parts.logs.room ≡ 0 → Agree parts contents
+    → IsCommitted contents.flash (log_formatted g) no_entries → RolesAgree parts → list.AreSoundLogs parts.logs → parts.logs.room ≡ 0 → Agree parts contents
 formatted_agree parts contents g of_one own shape none log begins roles sound closed = record {
   sound = record {
     of_one = of_one;
@@ -56,7 +56,7 @@ with_map old map contents geometry entries agree = record {
   open_log = agree.open_log;
 }
   where
-    s : IsSound old contents
+    s : ArePartsSound old contents
     s = agree.sound
 
 pub agree_reserved : (old new : Parts) (contents : Contents) → new ≡ record old { map = new.map } → new.map.geometry ≡ old.map.geometry → new.map.entries ≡ old.map.entries → Agree old contents → Agree new contents

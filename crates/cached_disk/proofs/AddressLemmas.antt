@@ -16,10 +16,11 @@ use Rattle.ft_base.specs.declared.geometry.Geometry.{Geometry}
 use Rattle.ft_volume.specs.Volume.{Call, IsOwn, dirty_lbas}
 use Rattle.ft_volume.specs.Volume as volume
 use Rattle.cache_model.specs.declared.entry.Entry.{Entry}
-use Rattle.cache_model.specs.Cache.{CacheList, Held, Vanish, dirty_between, groups, with_group}
+use Rattle.cache_model.specs.Cache.{Vanish, dirty_between, groups, with_group}
+use Rattle.cache_model.specs.CacheList.{CacheList, Held}
 use Rattle.cache_model.specs.Entries.{each_once}
 use Rattle.cache_model.proofs.CountLemmas.{all_members, each_once-le, member_of, same_number}
-use Rattle.cache_model.proofs.MapLemmas.{all_entries, by_get, get_insert}
+use Rattle.cache_model.proofs.MapLemmas.{less_key, all_entries, by_get, get_insert}
 use Rattle.merge_engine.proofs.TakeLemmas.{agree_map}
 use Rattle.ssc.specs.declared.cache.Ssc.{Ssc}
 use Rattle.ssc.specs.CacheState.{Holds, entries_of, geometry_of}
@@ -184,9 +185,6 @@ has_lba-with x a (n ∷ ns) = by (nat_cmp a n) refl (has_lba-with x a ns)
 true_of : (b : Bool) → T b → b ≡ true
 true_of true t = refl
 true_of false t = absurd t
-
-less_key : (x y : ℕ) → is_lt (nat_cmp x y) ≡ true → x < y
-less_key x y is = grind (arith, nat_tests)
 
 module _ {X : Type 0} (t : ℕ × X → Bool) where
   above_keys : (n : ℕ) (es : List (ℕ × X)) → below_all nat_cmp n es ≡ true → AllByRecursion (λ k. n < k) (map (λ x. x.0) (filter t es))

@@ -14,7 +14,8 @@ use Rattle.ft_media.specs.Media.{read_counted}
 use Rattle.ft_media.specs.Passes.{Passes}
 use Rattle.ft_media.proofs.PassesLemmas.{passes_then}
 use Rattle.ft_volume.specs.Opening.{ImageIs}
-use Rattle.ft_volume.specs.Volume.{Call, Costs, Finds, Goes, HasCause, HoldsAfter, IsOwn, Reads, StandFor, VolumeState, WasDone, WasOne, Writes, backs_of, misses, table_after, volume_lost, writes_of}
+use Rattle.ft_volume.specs.Volume.{Call, Costs, Finds, Goes, HasCause, HoldsAfter, IsOwn, Reads, VolumeState, WasDone, WasOne, Writes, backs_of, misses, table_after, volume_lost, writes_of}
+use Rattle.ft_volume.specs.Standing.{StandFor}
 use Rattle.ft_volume.specs.declared.volume.VolumeError.{VolumeError}
 use Rattle.ft_volume.specs.declared.volume.VolumeError.TheVariants as volume
 use Rattle.ft_volume.proofs.DoneLemmas.{answered_one, done_of_one, refused_one}

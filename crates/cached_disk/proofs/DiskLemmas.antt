@@ -12,10 +12,11 @@ use Rattle.ft_base.specs.PlainDisk.{PlainDisk}
 use Rattle.ft_base.specs.Told.{Told}
 use Rattle.ft_base.proofs.Images.{newest_image, set_here, value_image, with_newest, with_value}
 use Rattle.ft_volume.specs.Opening.{ImageIs}
-use Rattle.ft_volume.specs.Volume.{StandFor, StandForAny, StandForOneOf}
+use Rattle.ft_volume.specs.Volume.{StandForAny, StandForOneOf}
+use Rattle.ft_volume.specs.Standing.{StandFor}
 use Rattle.ft_volume.proofs.UpLemmas.{any_map}
 use Rattle.cache_model.specs.Records.{Entries}
-use Rattle.cache_model.specs.Cache.{Agrees, CacheList, Held, held_or}
+use Rattle.cache_model.specs.CacheList.{Agrees, CacheList, Held, held_or}
 use Rattle.cache_model.specs.Stands.{FlashStandsFor, held_at}
 use Rattle.cached_disk.specs.Kept.{IsBeneath}
 

@@ -11,8 +11,10 @@ use Rattle.ft_base.specs.Contents.{Contents, Values}
 use Rattle.ft_base.specs.PlainDisk.{PlainDisk}
 use Rattle.ft_media.specs.Media.{Crashed, DiskStays}
 use Rattle.ft_volume.specs.Opening.{ImageIs, Suits}
-use Rattle.ft_volume.specs.Volume.{StandFor, StandForAny, StandForOneOf}
-use Rattle.cache_model.specs.Cache.{Agrees, Buffered, Inserted, Cleaned, CacheList, Held, held_or, undo}
+use Rattle.ft_volume.specs.Volume.{StandForAny, StandForOneOf}
+use Rattle.ft_volume.specs.Standing.{StandFor}
+use Rattle.cache_model.specs.Cache.{Buffered, Inserted, Cleaned, undo}
+use Rattle.cache_model.specs.CacheList.{Agrees, CacheList, Held, held_or}
 use Rattle.cache_model.specs.Stands.{FlashStandsFor}
 use Rattle.cache_model.proofs.UndoLemmas.{back_at, get_undo, undone_at}
 use Rattle.op_log.specs.Log.{FitsOn}

@@ -14,7 +14,7 @@ use Rattle.ft_media.specs.declared.media.MediaError.TheVariants as media
 use Rattle.ft_media.specs.State.{lost}
 use Rattle.ft_media.specs.Media.{Crashed, DiskStays}
 use Rattle.ft_volume.specs.Opening.{Opens}
-use Rattle.cache_model.specs.Cache.{CacheList}
+use Rattle.cache_model.specs.CacheList.{CacheList}
 use Rattle.cache_model.specs.Loading.{load}
 use Rattle.cache_model.specs.Stands.{FlashStandsFor}
 use Rattle.op_log.specs.declared.error.OpenError.{OpenError}

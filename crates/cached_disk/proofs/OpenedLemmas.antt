@@ -20,13 +20,15 @@ use Rattle.ft_base.specs.Told.{Told}
 use Rattle.ft_media.specs.State.{State}
 use Rattle.ft_media.specs.Rig.{Cut, powered}
 use Rattle.ft_volume.specs.Opening.{ImageIs, IsOpened, Opens, Suits, nothing_held}
-use Rattle.ft_volume.specs.Volume.{ComesUp, IsAny, IsFixed, StandFor, StandForAny, StandForOneOf, VolumeState, dirty_lbas, fixes, opened_of, told_for}
+use Rattle.ft_volume.specs.Volume.{ComesUp, IsAny, IsFixed, StandForAny, StandForOneOf, VolumeState, dirty_lbas, fixes, opened_of, told_for}
+use Rattle.ft_volume.specs.Standing.{StandFor}
 use Rattle.ft_volume.specs.declared.options.Options.{Options}
 use Rattle.ft_volume.specs.declared.volume.VolumeError.{VolumeError}
 use Rattle.ft_volume.specs.declared.volume.VolumeError.TheVariants as volume
 use Rattle.ft_volume.proofs.OpenedLemmas.{opened_down, opened_up}
 use Rattle.ft_volume.proofs.UpLemmas.{any_map}
-use Rattle.cache_model.specs.Cache.{Agrees, Buffered, CacheList, Held, held_or}
+use Rattle.cache_model.specs.Cache.{Buffered}
+use Rattle.cache_model.specs.CacheList.{Agrees, CacheList, Held, held_or}
 use Rattle.cache_model.specs.Loading.{load}
 use Rattle.cache_model.specs.Records.{Entries}
 use Rattle.cache_model.specs.Stands.{FlashStandsFor}

@@ -17,10 +17,12 @@ use Rattle.ft_base.specs.PlainDisk.{PlainDisk}
 use Rattle.ft_media.specs.State.{State}
 use Rattle.ft_media.specs.Drives.{DrivesFlash}
 use Rattle.ft_volume.specs.Opening.{ImageIs, Suits}
-use Rattle.ft_volume.specs.Volume.{Reads, StandFor}
+use Rattle.ft_volume.specs.Volume.{Reads}
+use Rattle.ft_volume.specs.Standing.{StandFor}
 use Rattle.ft_volume.specs.Volume as calls
 use Rattle.ft_volume.specs.declared.volume.Idled.TheVariants.{Nothing, Checkpointed}
-use Rattle.cache_model.specs.Cache.{Agrees, Buffered, Inserted, CacheList, Held, Vanish, undo, written_block, written_clean}
+use Rattle.cache_model.specs.Cache.{Buffered, Inserted, Vanish, undo, written_block, written_clean}
+use Rattle.cache_model.specs.CacheList.{Agrees, CacheList, Held}
 use Rattle.cache_model.specs.Stands.{FlashStandsFor}
 use Rattle.op_log.specs.Log.{FitsOn}
 use Rattle.ssc.specs.declared.cache.Ssc.{Ssc}

@@ -15,14 +15,17 @@ use Rattle.ft_media.specs.Reads.{ReadsFlash}
 use Rattle.ft_media.specs.State.{State}
 use Rattle.ft_media.proofs.PassesLemmas.{passes_then}
 use Rattle.ft_volume.specs.Opening.{ImageIs}
-use Rattle.ft_volume.specs.Volume.{Costs, Flushes, Goes, HasCause, IsAny, IsReport, Reports, StandFor, VolumeState, WasDone, stages, volume_lost}
+use Rattle.ft_volume.specs.Volume.{Costs, Flushes, Goes, HasCause, IsAny, Reports, VolumeState, WasDone, stages, volume_lost}
+use Rattle.ft_volume.specs.Reported.{IsReport}
+use Rattle.ft_volume.specs.Standing.{StandFor}
 use Rattle.ft_volume.specs.declared.options.Options.{Options}
 use Rattle.ft_volume.specs.declared.volume.Report.{Report}
 use Rattle.ft_volume.specs.declared.volume.VolumeError.{VolumeError}
 use Rattle.ft_volume.specs.declared.volume.VolumeError.TheVariants as volume
 use Rattle.ft_volume.proofs.UpLemmas.{cause_at, cause_then, err_at, lost_at}
 use Rattle.cache_model.specs.Buckets.{AreBucketsFor}
-use Rattle.cache_model.specs.Cache.{CacheList, dirty_groups, undo}
+use Rattle.cache_model.specs.Cache.{dirty_groups, undo}
+use Rattle.cache_model.specs.CacheList.{CacheList}
 use Rattle.cache_model.specs.Entries.{groups_with}
 use Rattle.cache_model.specs.Loading.{load}
 use Rattle.cache_model.specs.Records.{Entries}

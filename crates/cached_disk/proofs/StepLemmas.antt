@@ -8,7 +8,8 @@ use Rattle.ft_base.specs.declared.block.Block.{Block}
 use Rattle.ft_base.specs.declared.geometry.Geometry.{Geometry}
 use Rattle.ft_base.specs.Contents.{Values, HasValue, set}
 use Rattle.ft_base.specs.PlainDisk.{PlainDisk}
-use Rattle.cache_model.specs.Cache.{Agrees, Buffered, Inserted, Cleaned, CacheList, Held, MayWait, Vanish, address_of, held_or, written_block, marked_as, undo, written_clean, written_dirty}
+use Rattle.cache_model.specs.Cache.{Buffered, Inserted, Cleaned, MayWait, Vanish, address_of, written_block, marked_as, undo, written_clean, written_dirty}
+use Rattle.cache_model.specs.CacheList.{Agrees, CacheList, Held, held_or}
 use Rattle.cache_model.proofs.MapLemmas.{get_insert}
 use Rattle.cache_model.proofs.UndoLemmas.{back_at, get_undo, undone_at}
 use Rattle.cached_disk.specs.Kept.{IsDirtyIn}

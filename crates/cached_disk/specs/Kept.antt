@@ -13,7 +13,7 @@ use Rattle.ft_base.specs.declared.block.Place.{Place}
 use Rattle.ft_base.specs.declared.geometry.Geometry.{Geometry}
 use Rattle.ft_base.specs.declared.told.Mode.{Mode}
 use Rattle.ft_base.specs.declared.told.Mode.TheVariants.{Back, Through}
-use Rattle.ft_media.specs.Media.{KeepsReady}
+use Rattle.ft_media.specs.Fitted.{KeepsReady}
 use Rattle.ft_media.specs.Passes.{Passes}
 use Rattle.ft_media.specs.State.{State}
 use Rattle.ft_volume.specs.Opening.{ImageIs, Suits}
@@ -24,7 +24,8 @@ use Rattle.ft_volume.specs.declared.volume.VolumeError.TheVariants.{OutOfVolume}
 use Rattle.cache_model.specs.Loading.{load}
 use Rattle.cache_model.specs.Records.{Entries}
 pub use Rattle.ssc.specs.Commands.{IsDirtyIn}
-use Rattle.cache_model.specs.Cache.{Agrees, Buffered, CacheList, Cleaned, Inserted, dirty_between, vol}
+use Rattle.cache_model.specs.Cache.{Buffered, Cleaned, Inserted, dirty_between}
+use Rattle.cache_model.specs.CacheList.{Agrees, CacheList, vol}
 use Rattle.cache_model.specs.Stands.{FlashStandsFor}
 use Rattle.op_log.specs.Log.{FitsOn}
 use Rattle.ssc.specs.declared.cache.Ssc.{Ssc}

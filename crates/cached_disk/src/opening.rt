@@ -2,11 +2,12 @@ ghost use Rattle.std.specs.Prelude.{◌≡◌, ℕ, false, Ok, OnOk, IfOk, IfErr
 ghost use Rattle.ft_base.specs.Contents.{HasValue};
 ghost use Rattle.ft_base.specs.PlainDisk.{PlainDisk};
 ghost use Rattle.ft_base.specs.declared.block.Block.{Block};
-ghost use Rattle.ft_media.specs.Media.{KeepsReady};
+ghost use Rattle.ft_media.specs.Fitted.{KeepsReady};
 ghost use Rattle.ft_media.specs.Passes.{Passes};
 ghost use Rattle.ft_volume.specs.Opening.{ImageIs, IsNewestOnDisk, MayOpen, Opens, nothing_held};
-ghost use Rattle.ft_volume.specs.Volume.{HasCause, StandFor, told_for, volume_lost};
-ghost use Rattle.cache_model.specs.Cache.{CacheList};
+ghost use Rattle.ft_volume.specs.Volume.{HasCause, told_for, volume_lost};
+ghost use Rattle.ft_volume.specs.Standing.{StandFor};
+ghost use Rattle.cache_model.specs.CacheList.{CacheList};
 ghost use Rattle.cache_model.specs.Loading.{load};
 ghost use Rattle.cache_model.specs.Stands.{FlashStandsFor};
 ghost use Rattle.op_log.specs.Log.{FitsOn};

@@ -2,7 +2,8 @@ ghost use Rattle.std.specs.Prelude.{◌≡◌, ◌<◌, ℕ, List, None, false, 
 ghost use Rattle.std.specs.FinMap.{get};
 ghost use Rattle.ft_base.specs.PlainDisk.{PlainDisk};
 ghost use Rattle.ft_volume.specs.Opening.{ImageIs};
-ghost use Rattle.ft_volume.specs.Volume.{Costs, Goes, Reads, StandFor, WasDone};
+ghost use Rattle.ft_volume.specs.Volume.{Costs, Goes, Reads, WasDone};
+ghost use Rattle.ft_volume.specs.Standing.{StandFor};
 ghost use Rattle.ssc.specs.CacheState.{entries_of};
 ghost use Rattle.cached_disk.specs.Kept.{IsLeft, dirty_of, state_in, told_of};
 ghost use Rattle.cached_disk.specs.Kept as kept;

@@ -10,28 +10,22 @@ use Rattle.std.proofs.lemmas.List.{length-map}
 use Rattle.std.proofs.lemmas.List.FromFn.{length-range_with_len}
 use Rattle.std.proofs.lemmas.Nat.{div-mul-add}
 use Rattle.ft_base.specs.declared.geometry.Geometry.{Geometry}
-use Rattle.ft_base.specs.Layout.{up, most_records, pages_for, checkpoint_pages}
+use Rattle.ft_base.specs.Layout.{up, most_records, page_records, pages_for, checkpoint_pages}
 use Rattle.cache_model.specs.declared.entry.Entry.{Entry}
 use Rattle.cache_model.specs.Records.{Entries}
 use Rattle.cache_model.specs.Entries.{each_once, groups_with, blocks_with, page_mapped, IsMap}
 use Rattle.cache_model.proofs.CountLemmas.{member, numbers, each_once-le, member_of}
 use Rattle.cache_model.proofs.MapLemmas.{all_entries}
-use Rattle.cache_model.proofs.LayoutLemmas.{checkpoint_fits}
+use Rattle.ft_base.proofs.LayoutLemmas.{k_holds}
 use Rattle.ft_base.specs.declared.record.Record.{Record}
 use Rattle.mapping.specs.Checkpoint.{IsCheckpointOf, set_group_of, set_page_of}
 use Rattle.mapping.proofs.AscendingLemmas.{Items}
 use Rattle.mapping.proofs.MarksLemmas.{member_from}
 use Rattle.checkpoint.specs.Regions.{map_pages}
 use Rattle.checkpoint.proofs.PlacesLemmas.{product}
+use Rattle.mapping.proofs.TallyLemmas.{once_few}
 
 -- ---- membership
-
-once_few : (ns : List ℕ) → length (each_once ns) ≤ length ns
-once_few [] = omega arith
-once_few (n ∷ ns) = elim (cases_Bool (member n ns)) [
-  | inl t ↦ subst (λ b. length (cond b (each_once ns) (n ∷ each_once ns)) ≤ suc (length ns)) (sym t) (omega (arith, once_few ns))
-  | inr f ↦ subst (λ b. length (cond b (each_once ns) (n ∷ each_once ns)) ≤ suc (length ns)) (sym f) (omega (arith, once_few ns))
-]
 
 member_once : (k : ℕ) (ns : List ℕ) → member k ns ≡ true → member k (each_once ns) ≡ true
 member_once k [] there = there
@@ -191,9 +185,9 @@ module _ (g : Geometry) (m : Entries) (is_map : IsMap g m) where
 
   -- the map pages and the seal fit the region
   pub maps_fit : (records : List Record) → IsCheckpointOf g m records → map_pages g records < checkpoint_pages g
-  maps_fit records listed = by_number (length records) (most_records g) (records_few records listed) (checkpoint_fits g)
+  maps_fit records listed = by_number (length records) (most_records g) (records_few records listed) (k_holds g)
     where
-      by_number : (a b : ℕ) → a ≤ b → pages_for b ≤ checkpoint_pages g → up a 127 < checkpoint_pages g
+      by_number : (a b : ℕ) → a ≤ b → pages_for g b ≤ checkpoint_pages g → up a (page_records g) < checkpoint_pages g
       by_number a b le fits = omega arith
 
 -- a listing of a map of this geometry

@@ -13,16 +13,18 @@ use Rattle.cache_model.specs.declared.format.PageKind.TheVariants.{Log}
 use Rattle.cache_model.specs.Records.{Entries}
 use Rattle.cache_model.specs.Loading.{Complete, ◌>>=◌, pages_from, checkpoint_in, chosen, checkpoint_region, log_region, checkpoint_of, entries_of, wanted, load, header_at, is_whole}
 use Rattle.cache_model.specs.Loading.Refusal.{NotFormatted}
-use Rattle.cache_model.specs.Laws.{ArePages, LogEnds}
+use Rattle.cache_model.specs.Laws.{ArePages}
+use Rattle.cache_model.proofs.Alike.{LogEnds}
 use Rattle.cache_model.proofs.LoadLemmas.{pages_from-same, loaded_is, set_page-other}
 use Rattle.cache_model.proofs.LogLemmas.{log_apart, log_appended, log_torn}
 use Rattle.cache_model.proofs.FitsLemmas.{load-map}
 use Rattle.cache_model.proofs.StandLemmas.{entry_whole}
-use Rattle.op_log.specs.Log.{LogValue, next_place, if_buffered, flushed, Appended, AppendedReady, LeavesLog}
+use Rattle.op_log.specs.Log.{LogValue, next_place, if_buffered, log_flushed, Appended, AppendedReady, LeavesLog}
 use Rattle.checkpoint.specs.Current.{IsCurrent, AreWhole, IsOpenLog, IsCommitted, LoadsOneOf}
 use Rattle.checkpoint.proofs.PlacesLemmas.{product, checkpoint_within, log_within, checkpoint_no_log, pool_no_log}
 use Rattle.checkpoint.proofs.ListsLemmas.{take-pages, are_pages, each_page}
-use Rattle.checkpoint.proofs.MapsLemmas.{set_page-here, set-other, ready_after}
+use Rattle.checkpoint.proofs.MapsLemmas.{set-other, ready_after}
+use Rattle.cache_model.proofs.LogLemmas.{set_page-here}
 use Rattle.checkpoint.proofs.SealedLemmas.{load_from, current_map, current_low}
 
 -- ---- where something is buffered
@@ -35,7 +37,7 @@ if_some (change ∷ changes) x y some = refl
 abbrev pub one_longer : LogValue → LogValue
 one_longer log = record log { next = log.next + 1; buffered = [] }
 
-pub flushed_some : (log : LogValue) → log.buffered ≢ [] → flushed log ≡ one_longer log
+pub flushed_some : (log : LogValue) → log.buffered ≢ [] → log_flushed log ≡ one_longer log
 flushed_some log some = if_some log.buffered (one_longer log) log some
 
 -- ---- blank pages ahead

@@ -12,12 +12,9 @@ use Rattle.cache_model.specs.declared.format.Header.{Header}
 use Rattle.cache_model.specs.Loading.{pages_from, header_at}
 use Rattle.cache_model.specs.Laws.{ArePages}
 use Rattle.checkpoint.specs.Regions.{part}
+use Rattle.cache_model.proofs.LogLemmas.{length-pages}
 
 -- ---- pages
-
-pub length-pages : (page : Place → Page) (at : ℕ → Place) (i n : ℕ) → length (pages_from page at i n) ≡ n
-length-pages page at i zero = refl
-length-pages page at i (suc n) = ap suc (length-pages page at (i + 1) n)
 
 -- the pages before one, the page, and those behind it
 pub pages_split : (page : Place → Page) (at : ℕ → Place) (i n most : ℕ) → n < most → pages_from page at i most ≡ pages_from page at i n ++ page (at (i + n)) ∷ pages_from page at (i + n + 1) (most - (n + 1))

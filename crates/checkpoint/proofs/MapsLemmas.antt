@@ -16,11 +16,9 @@ use Rattle.checkpoint.specs.Regions.{InCheckpoint, AreBlank, IsBare, IsMapPage, 
 use Rattle.checkpoint.proofs.PlacesLemmas.{product, checkpoint_within, checkpoint_apart}
 use Rattle.checkpoint.proofs.ErasingLemmas.{map_or_lost}
 use Rattle.checkpoint.proofs.ProgramLemmas.{map_page_bare}
+use Rattle.cache_model.proofs.LogLemmas.{set_page-here}
 
 -- ---- the page after one
-
-pub set_page-here : (page : Place → Page) (at : Place) (v : Page) → set_page page at v at ≡ v
-set_page-here page at v = grind (arith, nat_tests)
 
 pub set-other : (f : ℕ → Option ℕ) (i j : ℕ) (v : Option ℕ) → (i ≡ j → ⊥) → set f i v j ≡ f j
 set-other f i j v apart = ap (λ b. cond b v (f j)) (ne_eqb i j apart)

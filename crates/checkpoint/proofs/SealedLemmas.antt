@@ -31,7 +31,8 @@ use Rattle.op_log.specs.Refusals.{seal_of}
 use Rattle.checkpoint.specs.Current.{IsCurrent, AreWhole, IsCommitted, LoadsOneOf, LogGoesLast, log_checkpointed}
 use Rattle.checkpoint.specs.Regions.{IsBare, IsMapPage, IsSealPage, IsSealed, IsWritten, IsUnsealed, part, map_pages}
 use Rattle.checkpoint.proofs.PlacesLemmas.{log_within, other_low, pool_no_checkpoint, pool_no_log}
-use Rattle.checkpoint.proofs.ListsLemmas.{length-pages, pages_split, take-pages, part_and_rest, length-part}
+use Rattle.checkpoint.proofs.ListsLemmas.{pages_split, take-pages, part_and_rest, length-part}
+use Rattle.cache_model.proofs.LogLemmas.{length-pages}
 use Rattle.checkpoint.proofs.CountingLemmas.{maps_fit}
 use Rattle.checkpoint.proofs.UnsealedLemmas.{bare_incomplete, checkpoint_stays, pool_stays, unsealed_stays, unsealed_loads, unsealed_log}
 

@@ -21,7 +21,7 @@ use Rattle.checkpoint.specs.declared.reading.Found.{Found}
 use Rattle.checkpoint.specs.Walk.{sealed_by, IsFoundAs}
 use Rattle.checkpoint.specs.Found.{in_region}
 use Rattle.ft_base.specs.Contents.{Contents}
-use Rattle.cache_model.proofs.LayoutLemmas.{checkpoint_least}
+use Rattle.ft_base.proofs.LayoutLemmas.{k_barely}
 use Rattle.checkpoint.proofs.PlacesLemmas.{product}
 
 -- a page of records is no seal
@@ -148,7 +148,7 @@ module _ (g : Geometry) (region : ℕ) (page : Place → Page) where
 -- few pages are walked
 pub pages_few : (g : Geometry) → checkpoint_pages g ≤ 2 ^ 16
 pages_few g =
-    let least = checkpoint_least g in
+    let least = k_barely g in
     let pages = product g.l 64 g.p g.in_range.l_high in
     omega (arith, g.in_range.c_high, g.in_range.p_high)
 

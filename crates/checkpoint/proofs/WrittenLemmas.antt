@@ -11,7 +11,8 @@ use Rattle.cache_model.proofs.LoadLemmas.{set_page-other}
 use Rattle.checkpoint.specs.Regions.{InCheckpoint, InLog, IsPrepared, IsBare, IsUnsealed, IsMapPage, IsSealPage, Programmed, LeavesOne, MapsWritten, LeavesMaps, IsSealed, IsWritten, HasSpares, part, map_pages, seal_spare}
 use Rattle.op_log.specs.Log.{HasSpare}
 use Rattle.checkpoint.proofs.PlacesLemmas.{checkpoint_within, checkpoint_apart, checkpoint_no_log}
-use Rattle.checkpoint.proofs.MapsLemmas.{set_page-here, set-other, maps_bare, bare_put, outside}
+use Rattle.checkpoint.proofs.MapsLemmas.{set-other, maps_bare, bare_put, outside}
+use Rattle.cache_model.proofs.LogLemmas.{set_page-here}
 
 -- while map pages are programmed, nothing is sealed
 pub maps_unsealed : (g : Geometry) (region : ℕ) (old mid new : Flash) → IsPrepared g region old mid → LeavesMaps g region mid.page new.page → IsUnsealed g region old.page new.page

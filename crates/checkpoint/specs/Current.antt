@@ -11,7 +11,7 @@ use Rattle.cache_model.specs.declared.format.PageKind.TheVariants.{Log}
 use Rattle.cache_model.specs.Records.{Entries}
 use Rattle.cache_model.specs.Loading.{Complete, after_all, checkpoint_of, checkpoint_in, checkpoint_region, is_whole, load, log_region, newest}
 use Rattle.cache_model.specs.Laws.{ArePages}
-use Rattle.op_log.specs.Log.{LogValue, flushed, if_buffered, restarted}
+use Rattle.op_log.specs.Log.{LogValue, log_flushed, if_buffered, restarted}
 
 -- what loading answers, with what is buffered, is the map; and the log is that of the checkpoint that counts
 pub record IsCurrent (page : Place → Page) (log : LogValue) (m : Entries) : Type 0 where
@@ -67,4 +67,4 @@ log_checkpointed log = restarted (1 - log.region) ((log.era + 1) % 3) log
 
 -- the log after a commit: one page longer, or after a checkpoint where it had no page left
 abbrev pub log_committed : LogValue → LogValue
-log_committed log = if_buffered log.buffered (if nat_lt log.next (log_pages log.geometry) then flushed log else log_checkpointed log) log
+log_committed log = if_buffered log.buffered (if nat_lt log.next (log_pages log.geometry) then log_flushed log else log_checkpointed log) log

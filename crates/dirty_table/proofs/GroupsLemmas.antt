@@ -7,22 +7,22 @@ use Rattle.std.specs.Map.{keys_of, lookup, lookup_entry, remove_entry}
 use Rattle.std.specs.List.{IsDistinct, AllByRecursion}
 use Rattle.std.specs.Option.{option_map_or}
 use Rattle.lru.specs.LruCache.{LruCache, put_entries}
-use Rattle.dirty_table.specs.Groups.{has, without, touched}
+use Rattle.dirty_table.specs.Groups.{has, without_first, touched}
 
 -- a group that is not there is not taken out
-pub without_absent : (k : ℕ) (xs : List ℕ) → has k xs ≡ false → without k xs ≡ xs
+pub without_absent : (k : ℕ) (xs : List ℕ) → has k xs ≡ false → without_first k xs ≡ xs
 without_absent k [] h = refl
-without_absent k (x ∷ xs) h = (elim (nat_eq k x) as (λ b. nat_eq k x ≡ b → without k (x ∷ xs) ≡ x ∷ xs) [
+without_absent k (x ∷ xs) h = (elim (nat_eq k x) as (λ b. nat_eq k x ≡ b → without_first k (x ∷ xs) ≡ x ∷ xs) [
   | true ↦ λ t. let bad : true ≡ false = rw t at h in cc
   | false ↦ λ t. rw t (ap (λ l. x ∷ l) (without_absent k xs (rw t at h)))
 ]) refl
 
 module _ {V : Type 0} (k : ℕ) where
   -- the keys that are left of the entries
-  pub keys_remove : (es : List (ℕ × V)) → keys_of (remove_entry (nat_eq k) es) ≡ without k (keys_of es)
+  pub keys_remove : (es : List (ℕ × V)) → keys_of (remove_entry (nat_eq k) es) ≡ without_first k (keys_of es)
   keys_remove [] = refl
   keys_remove (e ∷ es) =
-      elim (nat_eq k e.0) as (λ b. keys_of (cond b es (e ∷ remove_entry (nat_eq k) es)) ≡ cond b (keys_of es) (e.0 ∷ without k (keys_of es))) [
+      elim (nat_eq k e.0) as (λ b. keys_of (cond b es (e ∷ remove_entry (nat_eq k) es)) ≡ cond b (keys_of es) (e.0 ∷ without_first k (keys_of es))) [
         | true ↦ refl
         | false ↦ ap (λ l. e.0 ∷ l) (keys_remove es)
       ]
@@ -69,9 +69,9 @@ keys_put {V} c k v room = go (lookup_entry (nat_eq k) c.entries) refl
 
 -- ---- for callers: what is in the list after a step
 
-pub has-without_other : (q g : ℕ) (xs : List ℕ) → q ≢ g → has q (without g xs) ≡ has q xs
+pub has-without_other : (q g : ℕ) (xs : List ℕ) → q ≢ g → has q (without_first g xs) ≡ has q xs
 has-without_other q g [] apart = refl
-has-without_other q g (x ∷ xs) apart = (elim (nat_eq g x) as (λ b. nat_eq g x ≡ b → has q (cond b xs (x ∷ without g xs)) ≡ has q (x ∷ xs)) [
+has-without_other q g (x ∷ xs) apart = (elim (nat_eq g x) as (λ b. nat_eq g x ≡ b → has q (cond b xs (x ∷ without_first g xs)) ≡ has q (x ∷ xs)) [
   | true ↦ λ t.
       let at : g ≡ x = eqb-true g x t in
       let other : nat_eq q x ≡ false = grind (arith, at, apart) in
@@ -84,23 +84,23 @@ has-apart g [] none = refl
 has-apart g (x ∷ xs) none = rw none.0 (has-apart g xs none.1)
 
 -- in a list of distinct groups one that is taken out is gone
-pub has-without_same : (g : ℕ) (xs : List ℕ) → IsDistinct nat_eq xs → has g (without g xs) ≡ false
+pub has-without_same : (g : ℕ) (xs : List ℕ) → IsDistinct nat_eq xs → has g (without_first g xs) ≡ false
 has-without_same g [] distinct = refl
-has-without_same g (x ∷ xs) distinct = (elim (nat_eq g x) as (λ b. nat_eq g x ≡ b → has g (cond b xs (x ∷ without g xs)) ≡ false) [
+has-without_same g (x ∷ xs) distinct = (elim (nat_eq g x) as (λ b. nat_eq g x ≡ b → has g (cond b xs (x ∷ without_first g xs)) ≡ false) [
   | true ↦ λ t. rw (eqb-true g x t) (has-apart x xs (IsDistinct-head nat_eq x xs distinct))
   | false ↦ λ f. rw f (has-without_same g xs (IsDistinct-tail nat_eq x xs distinct))
 ]) refl
 
 pub has-touched : (q g : ℕ) (xs : List ℕ) → has q (touched g xs) ≡ (nat_eq q g || has q xs)
-has-touched q g xs = (elim (nat_eq q g) as (λ b. nat_eq q g ≡ b → (b || has q (without g xs)) ≡ (b || has q xs)) [
+has-touched q g xs = (elim (nat_eq q g) as (λ b. nat_eq q g ≡ b → (b || has q (without_first g xs)) ≡ (b || has q xs)) [
   | true ↦ λ _. refl
   | false ↦ λ f. has-without_other q g xs (λ same. let bad : true ≡ false = sym (grind (arith, same)) ∙ f in cc)
 ]) refl
 
-pub length-without : (g : ℕ) (xs : List ℕ) → length (without g xs) + cond (has g xs) 1 0 ≡ length xs
+pub length-without : (g : ℕ) (xs : List ℕ) → length (without_first g xs) + cond (has g xs) 1 0 ≡ length xs
 length-without g [] = refl
 length-without g (x ∷ xs) =
-    elim (nat_eq g x) as (λ b. length (cond b xs (x ∷ without g xs)) + cond (b || has g xs) 1 0 ≡ suc (length xs)) [
+    elim (nat_eq g x) as (λ b. length (cond b xs (x ∷ without_first g xs)) + cond (b || has g xs) 1 0 ≡ suc (length xs)) [
       | true ↦ omega arith
       | false ↦ omega (arith, length-without g xs)
     ]

@@ -7,21 +7,21 @@ pub record Groups : Type 0 where
   pub order : List ℕ
   pub limit : ℕ
 
-abbrev pub groups : List ℕ → ℕ → Groups
-groups order limit = record { order = order; limit = limit }
+abbrev pub groups_in_order : List ℕ → ℕ → Groups
+groups_in_order order limit = record { order = order; limit = limit }
 
 -- the group is in the list
 abbrev pub has : ℕ → List ℕ → Bool
 has group order = list_any (λ one. group == one) order
 
 -- the list without the first place of the group
-abbrev pub without : ℕ → List ℕ → List ℕ
-without group [] = []
-without group (one ∷ rest) = if group == one then rest else one ∷ without group rest
+abbrev pub without_first : ℕ → List ℕ → List ℕ
+without_first group [] = []
+without_first group (one ∷ rest) = if group == one then rest else one ∷ without_first group rest
 
 -- the group goes to the front
 abbrev pub touched : ℕ → List ℕ → List ℕ
-touched group order = group ∷ without group order
+touched group order = group ∷ without_first group order
 
 -- the last of the list
 abbrev pub oldest_of : List ℕ → Option ℕ

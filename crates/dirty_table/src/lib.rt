@@ -8,7 +8,7 @@
 
 ghost use Rattle.std.specs.Prelude.{◌≡◌, ◌<◌, ◌≤◌, ◌⊎◌, [], length, IfOk, OnOk, OnErr, IsOk, IsTrue, nat_eq};
 ghost use Rattle.std.specs.List.{IsDistinct};
-ghost use Rattle.dirty_table.specs.Groups.{groups, has, without, touched, oldest_of};
+ghost use Rattle.dirty_table.specs.Groups.{groups_in_order, has, without_first, touched, oldest_of};
 
 pub mod plain;
 
@@ -26,11 +26,11 @@ pub struct DirtyTable {
 impl Model for DirtyTable {
     ghost use Rattle.std.specs.Prelude.{◌<◌, ◌^◌};
     ghost use Rattle.std.specs.Map.{keys_of};
-    ghost use Rattle.dirty_table.specs.Groups.{Groups, groups};
+    ghost use Rattle.dirty_table.specs.Groups.{Groups, groups_in_order};
 
     ghost Value = { Groups };
 
-    ghost view = { λ t. groups (keys_of t.cache.entries) t.cache.cap };
+    ghost view = { λ t. groups_in_order (keys_of t.cache.entries) t.cache.cap };
 
     ghost invariant = { λ t. t.cache.cap < 2 ^ 32 };
 }
@@ -39,7 +39,7 @@ impl DirtyTable {
     /// An empty table for `c` groups, 1 at least.
     pub fn new(alloc: Global, c: u32) -> Result<DirtyTable, AllocError>
         requires { 0 < c }
-        ensures { IfOk result (λ t. t ≡ groups [] c) }
+        ensures { IfOk result (λ t. t ≡ groups_in_order [] c) }
     {
         let Some(limit) = NonZeroUsize::new(c as usize) else {
             unreachable!()
@@ -53,7 +53,7 @@ impl DirtyTable {
     #[tactic(auto, using(crate::proofs::GroupsLemmas::keys_put, crate::proofs::GroupsLemmas::has_lookup))]
     pub fn touch(&mut self, group: u64) -> Result<(), AllocError>
         requires { IsTrue (has group self.old.order) ⊎ (length self.old.order < self.old.limit) }
-        ensures ok { OnOk result (self.new ≡ groups (touched group self.old.order) self.old.limit) }
+        ensures ok { OnOk result (self.new ≡ groups_in_order (touched group self.old.order) self.old.limit) }
         ensures err { OnErr result (self.new ≡ self.old) }
         ensures stays { IsTrue (has group self.old.order) → IsOk result }
     {
@@ -67,7 +67,7 @@ impl DirtyTable {
     #[tactic(auto, using(crate::proofs::GroupsLemmas::keys_remove, crate::proofs::GroupsLemmas::has_lookup))]
     pub fn remove(&mut self, group: u64) -> bool
         ensures found { result ≡ has group self.old.order }
-        ensures order { self.new ≡ groups (without group self.old.order) self.old.limit }
+        ensures order { self.new ≡ groups_in_order (without_first group self.old.order) self.old.limit }
     {
         self.cache.pop(&group).is_some()
     }

@@ -1,6 +1,6 @@
 //! The table's plain programs, over a list of groups with the last touched first.
 ghost use Rattle.std.specs.Prelude.{◌≡◌, IfOk};
-ghost use Rattle.dirty_table.specs.Groups.{has, without, touched, oldest_of};
+ghost use Rattle.dirty_table.specs.Groups.{has, without_first, touched, oldest_of};
 
 use std::alloc::{AllocError, Global};
 
@@ -13,7 +13,7 @@ pub fn contains(order: &[u64], group: u64) -> bool
 
 /// The list without the first place of the group.
 pub fn removed(alloc: Global, order: &[u64], group: u64) -> Result<Vec<u64>, AllocError>
-    ensures { IfOk result (λ left. left.items ≡ without group order.now) }
+    ensures { IfOk result (λ left. left.items ≡ without_first group order.now) }
 {
     let mut left = Vec::new(alloc);
     let mut found = false;

@@ -19,31 +19,31 @@ abbrev pub calls_of : MemDisk → Calls
 calls_of disk = disk.calls
 
 -- the reads, the writes and the flushes that were done
-abbrev pub reads_of : MemDisk → ℕ
-reads_of disk = disk.reads
+abbrev pub reads_done : MemDisk → ℕ
+reads_done disk = disk.reads
 
-abbrev pub writes_of : MemDisk → ℕ
-writes_of disk = disk.writes
+abbrev pub writes_done : MemDisk → ℕ
+writes_done disk = disk.writes
 
-abbrev pub flushes_of : MemDisk → ℕ
-flushes_of disk = disk.flushes
+abbrev pub flushes_done : MemDisk → ℕ
+flushes_done disk = disk.flushes
 
 -- its calls and counts stay
 pub record SameNumbers (old new : MemDisk) : Type 0 where
   pub calls : calls_of new ≡ calls_of old
-  pub reads : reads_of new ≡ reads_of old
-  pub writes : writes_of new ≡ writes_of old
-  pub flushes : flushes_of new ≡ flushes_of old
+  pub reads : reads_done new ≡ reads_done old
+  pub writes : writes_done new ≡ writes_done old
+  pub flushes : flushes_done new ≡ flushes_done old
 
 -- the numbers fit their types
 pub size_small : (disk : MemDisk) → size_of disk < 2 ^ 64
 size_small disk = disk.size_small
 
-pub reads_small : (disk : MemDisk) → reads_of disk ≤ last_count
+pub reads_small : (disk : MemDisk) → reads_done disk ≤ last_count
 reads_small disk = disk.reads_small
 
-pub writes_small : (disk : MemDisk) → writes_of disk ≤ last_count
+pub writes_small : (disk : MemDisk) → writes_done disk ≤ last_count
 writes_small disk = disk.writes_small
 
-pub flushes_small : (disk : MemDisk) → flushes_of disk ≤ last_count
+pub flushes_small : (disk : MemDisk) → flushes_done disk ≤ last_count
 flushes_small disk = disk.flushes_small

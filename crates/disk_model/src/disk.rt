@@ -26,9 +26,10 @@ pub struct MemDisk {
 impl MemDisk {
     ghost use Rattle.std.specs.Prelude.{◌↔◌, true, OnOk, OnErr, IfOk, IfErr, IsErr, if◌then◌else◌};
     ghost use Rattle.ft_base.specs.Count.{bumped};
-    ghost use Rattle.ft_media.specs.Rig.{new_contents, after_cut};
+    ghost use Rattle.ft_media.specs.Rig.{after_cut};
+    ghost use Rattle.ft_media.specs.Fitted.{new_contents};
     ghost use Rattle.device_calls.specs.Calls.{calls_made, fault_count, failing_numbers, is_listed, ending_of, bumped_if_done, CountsRead, CountsWrite};
-    ghost use Rattle.disk_model.specs.Disk.{size_of, disk_of, calls_of, reads_of, writes_of, flushes_of, SameNumbers};
+    ghost use Rattle.disk_model.specs.Disk.{size_of, disk_of, calls_of, reads_done, writes_done, flushes_done, SameNumbers};
     ghost use Rattle.disk_model.specs.Steps.{write_left, flush_left, TakesMemory};
 
     /// A disk without a block. The calls with these numbers will fail, from 1.
@@ -38,9 +39,9 @@ impl MemDisk {
         ensures failing { failing_numbers (calls_of result) ≡ failing.items }
         ensures made { calls_made (calls_of result) ≡ 0 }
         ensures faults { fault_count (calls_of result) ≡ 0 }
-        ensures reads { reads_of result ≡ 0 }
-        ensures writes { writes_of result ≡ 0 }
-        ensures flushes { flushes_of result ≡ 0 }
+        ensures reads { reads_done result ≡ 0 }
+        ensures writes { writes_done result ≡ 0 }
+        ensures flushes { flushes_done result ≡ 0 }
     {
         MemDisk {
             size: 0,
@@ -78,9 +79,9 @@ impl MemDisk {
         ensures disk { disk_of self.new ≡ disk_of self.old }
         ensures size { size_of self.new ≡ size_of self.old }
         ensures calls { CountsRead (is_listed (calls_of self.old)) (calls_of self.old) (calls_of self.new) }
-        ensures reads { reads_of self.new ≡ (if is_listed (calls_of self.old) then reads_of self.old else bumped (reads_of self.old)) }
-        ensures writes { writes_of self.new ≡ writes_of self.old }
-        ensures flushes { flushes_of self.new ≡ flushes_of self.old }
+        ensures reads { reads_done self.new ≡ (if is_listed (calls_of self.old) then reads_done self.old else bumped (reads_done self.old)) }
+        ensures writes { writes_done self.new ≡ writes_done self.old }
+        ensures flushes { flushes_done self.new ≡ flushes_done self.old }
     {
         if self.calls.read_fails() {
             return Err(MediaError::Failed);
@@ -97,9 +98,9 @@ impl MemDisk {
         ensures disk { IfOk result (λ ending. disk_of self.new ≡ write_left ending (disk_of self.old) lba block.now) }
         ensures size { size_of self.new ≡ size_of self.old }
         ensures calls { IfOk result (λ ending. CountsWrite ending (calls_of self.old) (calls_of self.new)) }
-        ensures writes { IfOk result (λ ending. writes_of self.new ≡ bumped_if_done ending (writes_of self.old)) }
-        ensures reads { reads_of self.new ≡ reads_of self.old }
-        ensures flushes { flushes_of self.new ≡ flushes_of self.old }
+        ensures writes { IfOk result (λ ending. writes_done self.new ≡ bumped_if_done ending (writes_done self.old)) }
+        ensures reads { reads_done self.new ≡ reads_done self.old }
+        ensures flushes { flushes_done self.new ≡ flushes_done self.old }
         ensures memory { OnErr result (TakesMemory (ending_of current (is_listed (calls_of self.old)))) }
         ensures refused { OnErr result (disk_of self.new ≡ disk_of self.old) }
         ensures uncounted { OnErr result (SameNumbers self.old self.new) }
@@ -127,9 +128,9 @@ impl MemDisk {
         ensures disk { disk_of self.new ≡ flush_left result (disk_of self.old) }
         ensures size { size_of self.new ≡ size_of self.old }
         ensures calls { CountsWrite result (calls_of self.old) (calls_of self.new) }
-        ensures flushes { flushes_of self.new ≡ bumped_if_done result (flushes_of self.old) }
-        ensures reads { reads_of self.new ≡ reads_of self.old }
-        ensures writes { writes_of self.new ≡ writes_of self.old }
+        ensures flushes { flushes_done self.new ≡ bumped_if_done result (flushes_done self.old) }
+        ensures reads { reads_done self.new ≡ reads_done self.old }
+        ensures writes { writes_done self.new ≡ writes_done self.old }
     {
         let ending = self.calls.write_ends(current);
         match ending {
@@ -155,21 +156,21 @@ impl MemDisk {
 
     /// Blocks read.
     pub fn reads(&self) -> u64
-        ensures { result ≡ reads_of self.now }
+        ensures { result ≡ reads_done self.now }
     {
         self.reads
     }
 
     /// Blocks written.
     pub fn writes(&self) -> u64
-        ensures { result ≡ writes_of self.now }
+        ensures { result ≡ writes_done self.now }
     {
         self.writes
     }
 
     /// Flushes done.
     pub fn flushes(&self) -> u64
-        ensures { result ≡ flushes_of self.now }
+        ensures { result ≡ flushes_done self.now }
     {
         self.flushes
     }

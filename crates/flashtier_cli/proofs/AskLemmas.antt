@@ -13,6 +13,7 @@ use Rattle.trace_replay.specs.Said.{ended_of}
 use Rattle.trace_replay.specs.declared.ended.Ended.{Ended}
 use Rattle.trace_replay.specs.declared.ended.Ended.TheVariants as ended
 use Rattle.flashtier_cli.specs.Inspected.{Asks}
+use Rattle.trace_replay.proofs.ExitLemmas.{rose_later}
 
 -- nothing was asked yet
 pub asks_none : (a : State) → a.power.on ≡ true → Asks 0 a a
@@ -156,10 +157,6 @@ on_both (Err e) f a b = a
 pub if_err_is : {A B : Ended → Type 0} (r : Result (Unit {0}) Ended) → ((e : Ended) → r ≡ Err e → A e → B e) → IfErr r A → IfErr r B
 if_err_is (Ok done) f a = a
 if_err_is (Err e) f a = f e refl a
-
--- a count that rose after it may have risen before
-pub rose_later : (a b c : ℕ) → a ≤ b → Rose b c → Rose a c
-rose_later a b c later rose = let since : min (b + 1) last_count ≤ c = rose in omega (arith, since)
 
 pub ok_any : {A E : Type 0} (r : Result (Unit {0}) E) → A → OnOk r A
 ok_any (Ok done) a = a

@@ -11,28 +11,32 @@ use Rattle.ft_base.specs.Table.{table_of}
 use Rattle.ft_base.specs.Told.{Told}
 use Rattle.ft_base.specs.declared.geometry.Geometry.{Geometry}
 use Rattle.ft_base.specs.declared.told.Mode.{Mode}
-use Rattle.cache_model.specs.Cache.{Held, dirty_between}
+use Rattle.cache_model.specs.Cache.{dirty_between}
+use Rattle.cache_model.specs.CacheList.{Held}
 use Rattle.cache_model.specs.Stands.{ImageStandsFor}
-use Rattle.ft_media.specs.Media.{KeepsReady}
+use Rattle.ft_media.specs.Fitted.{KeepsReady}
 use Rattle.ft_media.specs.Passes.{Passes}
 use Rattle.ft_media.specs.State.{State}
 use Rattle.ft_volume.proofs.MediaLemmas.{image_stands}
 use Rattle.ft_volume.specs.Opening.{ImageIs, IsNewestOnDisk, IsOpened, nothing_held}
-use Rattle.ft_volume.specs.Volume.{StandFor, VolumeState, told_for}
+use Rattle.ft_volume.specs.Volume.{VolumeState, told_for}
+use Rattle.ft_volume.specs.Standing.{StandFor}
 use Rattle.ft_volume.specs.declared.options.Options.{Options}
 use Rattle.trace_model.specs.declared.line.Line.{Line}
 use Rattle.trace_model.specs.Readings.{Reads}
 use Rattle.trace_replay.proofs.FromLemmas.{part_from, refused_from, unread_from, whole_from}
 use Rattle.trace_replay.specs.Before.{IsBefore}
-use Rattle.trace_replay.specs.Causes.{EndHasCause, EndHasCauseUntraced, KeepsLent, KeepsLentUntraced}
+use Rattle.trace_replay.specs.Causes.{EndHasCause, EndHasCauseUntraced, KeepsLentUntraced}
+use Rattle.trace_replay.specs.Lent.{KeepsLent}
 use Rattle.trace_replay.specs.Commands.{Gives, TellsEnd, TellsEndPart}
 use Rattle.trace_replay.specs.AsMade.{IsAsMade}
 use Rattle.trace_replay.specs.Said.{Tells, TellsPart}
 use Rattle.trace_replay.specs.Theorem.{EndsPart, EndsRefused, EndsUnread, RunsWhole}
 use Rattle.trace_replay.specs.declared.ended.Ended.{Ended}
 use Rattle.trace_replay.specs.declared.ended.Ended.TheVariants.{Trace, Source, Sink, Flash, Disk, Memory}
-use Rattle.flashtier_cli.specs.Begun.{Begins, IsNewVolume, fitted_for}
-use Rattle.flashtier_cli.proofs.AskLemmas.{rose_later}
+use Rattle.flashtier_cli.specs.Begun.{Begins, IsNewVolume}
+use Rattle.flashtier_cli.specs.Fitted.{fitted_for}
+use Rattle.trace_replay.proofs.ExitLemmas.{rose_later}
 
 -- ---- a new volume
 

@@ -13,11 +13,12 @@ use Rattle.ft_base.specs.declared.geometry.Geometry.{Geometry}
 use Rattle.ft_base.specs.declared.told.Mode.{Mode}
 use Rattle.cache_model.specs.Records.{Entries}
 use Rattle.cache_model.specs.Stands.{ImageStandsFor}
-use Rattle.ft_media.specs.Media.{KeepsReady}
+use Rattle.ft_media.specs.Fitted.{KeepsReady}
 use Rattle.ft_media.specs.State.{State}
 use Rattle.ft_volume.proofs.MediaLemmas.{image_stands}
 use Rattle.ft_volume.specs.Opening.{ImageIs}
-use Rattle.ft_volume.specs.Volume.{StandFor, VolumeState, told_for}
+use Rattle.ft_volume.specs.Volume.{VolumeState, told_for}
+use Rattle.ft_volume.specs.Standing.{StandFor}
 use Rattle.ft_volume.specs.declared.options.Options.{Options}
 use Rattle.trace_model.specs.declared.answer.Answer.{Answer}
 use Rattle.trace_model.specs.declared.ran.Ran.{Ran}
@@ -35,16 +36,15 @@ use Rattle.trace_replay.specs.Said.{RoseAtLeast, Takes, stops_in}
 use Rattle.trace_replay.specs.Theorem.{EndsPart, EndsRefused, EndsUnread, LeavesRig, RunsWhole}
 use Rattle.trace_replay.specs.Went.{Keeps as KeepsDisk}
 use Rattle.trace_replay.proofs.FromLemmas.{before_itself, leaves_from, part_from, refused_from, unread_from}
-use Rattle.flashtier_cli.specs.Begun.{IsNewVolume, fitted_for}
-use Rattle.flashtier_cli.specs.Inspected.{Asks, EndsInspecting, Inspects, Loads, PrintsFront, PrintsReport, TellsInspectPart}
+use Rattle.flashtier_cli.specs.Begun.{IsNewVolume}
+use Rattle.flashtier_cli.specs.Fitted.{fitted_for}
+use Rattle.flashtier_cli.specs.Inspected.{Asks, EndsInspecting, Inspects, LoadsAs, PrintsFront, PrintsReport, TellsInspectPart}
 use Rattle.flashtier_cli.proofs.SilentLemmas.{front_silent, kept_none, kept_then, none_stopped}
 use Rattle.flashtier_cli.proofs.UncutLemmas.{disk_after-uncut, uncut_none}
+use Rattle.trace_replay.proofs.EndingLemmas.{failed_by}
+use Rattle.trace_replay.proofs.CutsLemmas.{long_stopped, stops_all}
 
 -- ---- how it ended
-
--- a run ended so
-abbrev pub failed_by : Ended → Result (Unit {0}) Ended
-failed_by e = Err e
 
 pub at_end : {A : Type 0} (e : Ended) → (IsErrOf (failed_by e) ended.Trace → A) → (IsErrOf (failed_by e) ended.Source → A) → (e ≢ ended.Trace → e ≢ ended.Source → A) → A
 at_end ended.Trace trace source other = trace refl
@@ -71,14 +71,6 @@ took_front ended.Source says short front rest taken other = taken
 took_front ended.Flash says short front rest taken other = taken
 took_front ended.Disk says short front rest taken other = taken
 took_front ended.Memory says short front rest taken other = taken
-
-long_stopped : (n : ℕ) → length (stopped n) ≡ n
-long_stopped zero = refl
-long_stopped (suc n) = let rest = long_stopped n in omega arith
-
-stops_all : (n : ℕ) → stops_in (stopped n) ≡ n
-stops_all zero = refl
-stops_all (suc n) = let rest = stops_all n in omega arith
 
 -- ---- within a line
 
@@ -241,12 +233,12 @@ module _ (mode kind : Mode) (options : Options) (is : mode ≡ kind) {owns : Con
   same : v.told ≡ told_for mode options
   same = new.told ∙ ap (λ (m : Mode). told_for m options) (sym is)
 
-  pub inspects_new : Inspects v.told (Reads v.told.geometry.size a z) (Loads v.told.geometry) x y (ImageIs u) begun now
-      → Inspects (told_for mode options) (Reads options.geometry.size a z) (Loads options.geometry) x y (ImageStandsFor options.geometry) (fitted_for options.geometry old) now
+  pub inspects_new : Inspects v.told (Reads v.told.geometry.size a z) (LoadsAs v.told.geometry) x y (ImageIs u) begun now
+      → Inspects (told_for mode options) (Reads options.geometry.size a z) (LoadsAs options.geometry) x y (ImageStandsFor options.geometry) (fitted_for options.geometry old) now
   inspects_new ends =
-      inspects_from (told_for mode options) (Reads options.geometry.size a z) (Reads options.geometry.size a z) (Loads options.geometry) x y (ImageIs (told_for mode options)) (ImageStandsFor options.geometry) (fitted_for options.geometry old) begun now
+      inspects_from (told_for mode options) (Reads options.geometry.size a z) (Reads options.geometry.size a z) (LoadsAs options.geometry) x y (ImageIs (told_for mode options)) (ImageStandsFor options.geometry) (fitted_for options.geometry old) begun now
       (λ all w reads. reads) (image_stands (told_for mode options)) new.before
-      (subst (λ (k : Told). Inspects k (Reads k.geometry.size a z) (Loads k.geometry) x y (ImageIs k) begun now) same (subst (λ (k : Told). Inspects v.told (Reads v.told.geometry.size a z) (Loads v.told.geometry) x y (ImageIs k) begun now) stays ends))
+      (subst (λ (k : Told). Inspects k (Reads k.geometry.size a z) (LoadsAs k.geometry) x y (ImageIs k) begun now) same (subst (λ (k : Told). Inspects v.told (Reads v.told.geometry.size a z) (LoadsAs v.told.geometry) x y (ImageIs k) begun now) stays ends))
 
   pub refused_quiet : EndsRefused v.told (Reads v.told.geometry.size a z) (TellsRefusal x y) (ImageIs u) begun now
       → EndsRefused (told_for mode options) (Reads options.geometry.size a z) (TellsRefusal x y) (ImageStandsFor options.geometry) (fitted_for options.geometry old) now
@@ -262,9 +254,9 @@ module _ (mode kind : Mode) (options : Options) (is : mode ≡ kind) {owns : Con
       (λ all w reads. reads) (λ run answers says. says) (image_stands (told_for mode options)) new.before
       (subst (λ (k : Told). EndsUnread k (Reads k.geometry.size a z) (TellsRefusal x y) (ImageIs k) begun now) same (subst (λ (k : Told). EndsUnread v.told (Reads v.told.geometry.size a z) (TellsRefusal x y) (ImageIs k) begun now) stays ends))
 
-  pub inspecting_new : (e : Ended) → EndsInspecting v.told (Reads v.told.geometry.size a z) (Loads v.told.geometry) x y (ImageIs u) begun now e
-      → EndsInspecting (told_for mode options) (Reads options.geometry.size a z) (Loads options.geometry) x y (ImageStandsFor options.geometry) (fitted_for options.geometry old) now e
+  pub inspecting_new : (e : Ended) → EndsInspecting v.told (Reads v.told.geometry.size a z) (LoadsAs v.told.geometry) x y (ImageIs u) begun now e
+      → EndsInspecting (told_for mode options) (Reads options.geometry.size a z) (LoadsAs options.geometry) x y (ImageStandsFor options.geometry) (fitted_for options.geometry old) now e
   inspecting_new e ends =
-      inspecting_from (told_for mode options) (Reads options.geometry.size a z) (Reads options.geometry.size a z) (Loads options.geometry) x y (ImageIs (told_for mode options)) (ImageStandsFor options.geometry) (fitted_for options.geometry old) begun now
+      inspecting_from (told_for mode options) (Reads options.geometry.size a z) (Reads options.geometry.size a z) (LoadsAs options.geometry) x y (ImageIs (told_for mode options)) (ImageStandsFor options.geometry) (fitted_for options.geometry old) begun now
       (λ all w reads. reads) (image_stands (told_for mode options)) new.before e
-      (subst (λ (k : Told). EndsInspecting k (Reads k.geometry.size a z) (Loads k.geometry) x y (ImageIs k) begun now e) same (subst (λ (k : Told). EndsInspecting v.told (Reads v.told.geometry.size a z) (Loads v.told.geometry) x y (ImageIs k) begun now e) stays ends))
+      (subst (λ (k : Told). EndsInspecting k (Reads k.geometry.size a z) (LoadsAs k.geometry) x y (ImageIs k) begun now e) same (subst (λ (k : Told). EndsInspecting v.told (Reads v.told.geometry.size a z) (LoadsAs v.told.geometry) x y (ImageIs k) begun now e) stays ends))

@@ -18,6 +18,7 @@ use Rattle.trace_model.specs.Readings.{Reading}
 use Rattle.trace_model.specs.Run.{answers_of, disk_without, end_answers, end_of, own_answers, stopped}
 use Rattle.trace_model.specs.SoFar.{AnswersTo, MayTell, as_ran, refusal_of}
 use Rattle.trace_replay.specs.Commands.{is_refusal, refusals_in}
+use Rattle.trace_replay.proofs.SayingLemmas.{left_empty}
 
 -- ---- answers that are no refusal
 
@@ -48,10 +49,6 @@ none_end : (run : List Ran) (cuts lost : ℕ) → refusals_in (end_answers run c
 none_end run cuts lost = none_both (stopped cuts) (end_of lost run ∷ []) (none_stopped cuts) refl
 
 -- ---- a front of what is due
-
-left_empty : (xs ys : List Answer) → xs ++ ys ≡ [] → xs ≡ []
-left_empty [] ys none = refl
-left_empty (x ∷ xs) ys none = absurd (cc)
 
 front_none : (front rest due : List Answer) → due ≡ front ++ rest → refusals_in due ≡ [] → refusals_in front ≡ []
 front_none front rest due both none = left_empty (refusals_in front) (refusals_in rest) (sym (filter-append is_refusal front rest) ∙ ap refusals_in (sym both) ∙ none)

@@ -1,22 +1,17 @@
 -- What a run begins with.
-use Rattle.std.specs.Prelude.{◌≡◌, ◌⊎◌, ◌≤◌, ℕ, true, false, [], Result, OnErr, IsErrOf}
+use Rattle.std.specs.Prelude.{◌≡◌, ◌⊎◌, ◌≤◌, ℕ, true, false, Result, OnErr, IsErrOf, []}
 use Rattle.ft_base.specs.Contents.{Contents}
 use Rattle.ft_base.specs.Count.{Rose}
-use Rattle.ft_base.specs.Layout.{blocks}
 use Rattle.ft_base.specs.PlainDisk.{empty}
 use Rattle.ft_base.specs.Told.{Told}
-use Rattle.ft_base.specs.declared.geometry.Geometry.{Geometry}
-use Rattle.ft_media.specs.Rig.{fitted}
 use Rattle.ft_media.specs.State.{State}
 use Rattle.ft_volume.specs.Opening.{ImageIs}
-use Rattle.ft_volume.specs.Volume.{StandFor, VolumeState}
+use Rattle.ft_volume.specs.Volume.{VolumeState}
+use Rattle.ft_volume.specs.Standing.{StandFor}
 use Rattle.trace_replay.specs.Before.{IsBefore}
 use Rattle.trace_replay.specs.declared.ended.Ended.{Ended}
 use Rattle.trace_replay.specs.declared.ended.Ended.TheVariants.{Flash, Disk, Memory}
-
--- a rig of just the blocks, pages and size of the geometry, with nothing on it
-abbrev pub fitted_for : Geometry → State → State
-fitted_for g old = fitted old (blocks g) g.p g.size
+use Rattle.flashtier_cli.specs.Fitted.{fitted_for}
 
 -- a new volume of these options, which owns such contents: it is up, its cache is empty and no block waits to be written back; a disk of zero blocks, on a rig that was fitted for it, with power on and nothing armed
 pub record IsNewVolume (o : Told) (owns : Contents → Type 0) (v : VolumeState) (old now : State) : Type 0 where

@@ -12,7 +12,8 @@ use Rattle.ft_base.specs.declared.geometry.Geometry.{Geometry}
 use Rattle.cache_model.specs.Loading.{load}
 use Rattle.cache_model.specs.Records.{Entries}
 use Rattle.ft_media.specs.State.{State}
-use Rattle.ft_volume.specs.Volume.{IsReport, StandFor}
+use Rattle.ft_volume.specs.Reported.{IsReport}
+use Rattle.ft_volume.specs.Standing.{StandFor}
 use Rattle.ft_volume.specs.declared.volume.Report.{Report}
 use Rattle.trace_model.specs.declared.answer.Answer.{Answer}
 use Rattle.trace_model.specs.declared.line.Line.{Line}
@@ -38,8 +39,8 @@ report_text r = codes "held " ++ (decimal r.held ++ (line_feed
     ++ (line_feed ++ (codes "scrubbed " ++ (decimal r.scrubbed ++ line_feed))))))))))
 
 -- flash is loaded as these entries
-abbrev pub Loads : Geometry → (Place → Page) → Entries → Type 0
-Loads g page m = load g page ≡ Ok m
+abbrev pub LoadsAs : Geometry → (Place → Page) → Entries → Type 0
+LoadsAs g page m = load g page ≡ Ok m
 
 -- the report is one of the entries that the flash has now
 pub record IsReportOf (g : Geometry) (loads : (Place → Page) → Entries → Type 0) (now : State) (report : Report) : Type 0 where

@@ -2,3 +2,4 @@ pub mod Begun
 pub mod Inspected
 pub mod Status
 pub mod Words
+pub mod Fitted

@@ -4,7 +4,8 @@ ghost use Rattle.ft_base.specs.declared.told.Mode.TheVariants.{Back, Through};
 ghost use Rattle.ft_volume.specs.Volume.{told_for};
 ghost use Rattle.write_back.specs.Left as back;
 ghost use Rattle.write_through.specs.Left as through;
-ghost use Rattle.flashtier_cli.specs.Begun.{Begins, IsNewVolume, fitted_for};
+ghost use Rattle.flashtier_cli.specs.Begun.{Begins, IsNewVolume};
+ghost use Rattle.flashtier_cli.specs.Fitted.{fitted_for};
 
 use ft_base::Geometry;
 use ft_media::{Media, Rig};

@@ -4,12 +4,13 @@ ghost use Rattle.std.specs.Io.KnownBytes.{IsAtEnd};
 ghost use Rattle.ft_volume.specs.Volume.{told_for};
 ghost use Rattle.cache_model.specs.Stands.{ImageStandsFor};
 ghost use Rattle.trace_model.specs.Readings.{Reads};
-ghost use Rattle.trace_replay.specs.Causes.{EndHasCause, KeepsLent};
+ghost use Rattle.trace_replay.specs.Causes.{EndHasCause};
+ghost use Rattle.trace_replay.specs.Lent.{KeepsLent};
 ghost use Rattle.trace_replay.specs.Commands.{TellsRefusal};
 ghost use Rattle.trace_replay.specs.AsMade.{IsAsMade};
 ghost use Rattle.trace_replay.specs.Theorem.{EndsRefused, EndsUnread};
-ghost use Rattle.flashtier_cli.specs.Begun.{fitted_for};
-ghost use Rattle.flashtier_cli.specs.Inspected.{EndsInspecting, Inspects, Loads};
+ghost use Rattle.flashtier_cli.specs.Fitted.{fitted_for};
+ghost use Rattle.flashtier_cli.specs.Inspected.{EndsInspecting, Inspects, LoadsAs};
 
 use crate::beginning::{begin_back, begin_through};
 use crate::reporting::tell_report;
@@ -68,7 +69,7 @@ pub fn inspect_with<I: Source, O: Sink, R: Rig>(
     rig: &mut R,
 ) -> Result<(), Ended>
     ensures whole { OnOk result (Inspects (told_for mode options.now)
-        (Reads options.now.geometry.size (I.state source.old) (I.state source.new)) (Loads options.now.geometry)
+        (Reads options.now.geometry.size (I.state source.old) (I.state source.new)) (LoadsAs options.now.geometry)
         (O.state sink.old) (O.state sink.new) (ImageStandsFor options.now.geometry) (fitted_for options.now.geometry (R.state rig.old))
         (R.state rig.new)) }
     ensures end { OnOk result (IsAtEnd (I.state source.new).left) }
@@ -88,7 +89,7 @@ pub fn inspect_with<I: Source, O: Sink, R: Rig>(
         × ((R.state rig.new).counts.disk_writes ≡ (R.state rig.old).counts.disk_writes)
         × ((e ≡ Ended.Flash) ⊎ (e ≡ Ended.Disk) → (R.state rig.new).power.stops ≡ []))
         ⊎ EndsInspecting (told_for mode options.now) (Reads options.now.geometry.size (I.state source.old) (I.state source.new))
-        (Loads options.now.geometry)
+        (LoadsAs options.now.geometry)
         (O.state sink.old) (O.state sink.new) (ImageStandsFor options.now.geometry) (fitted_for options.now.geometry (R.state rig.old))
         (R.state rig.new) e) }
     ensures causes { EndHasCause result (I.state source.old) (I.state source.new) (O.state sink.old) (O.state sink.new) (R.state rig.old)

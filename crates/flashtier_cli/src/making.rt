@@ -5,7 +5,7 @@ ghost use Rattle.trace_gen.specs.Made.{made_trace};
 ghost use Rattle.trace_replay.specs.Causes.{EndHasCauseUntraced, KeepsLentUntraced};
 ghost use Rattle.trace_replay.specs.Commands.{Gives, TellsEnd, TellsEndPart};
 ghost use Rattle.trace_replay.specs.Theorem.{EndsPart, RunsWhole};
-ghost use Rattle.flashtier_cli.specs.Begun.{fitted_for};
+ghost use Rattle.flashtier_cli.specs.Fitted.{fitted_for};
 
 use crate::beginning::{begin_back, begin_through};
 use ft_base::Sink;

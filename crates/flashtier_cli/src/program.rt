@@ -6,13 +6,13 @@ ghost use Rattle.cache_model.specs.Stands.{ImageStandsFor};
 ghost use Rattle.trace_model.specs.Readings.{Reads};
 ghost use Rattle.trace_gen.specs.Made.{made_trace};
 ghost use Rattle.trace_replay.specs.declared.ended.Ended as ended;
-ghost use Rattle.trace_replay.specs.Causes.{KeepsLent};
+ghost use Rattle.trace_replay.specs.Lent.{KeepsLent};
 ghost use Rattle.trace_replay.specs.Commands.{Gives, TellsEnd, TellsEndPart, TellsRefusal};
 ghost use Rattle.trace_replay.specs.Said.{Tells, TellsPart};
 ghost use Rattle.trace_replay.specs.Theorem.{EndsPart, EndsRefused, EndsUnread, RunsWhole};
 ghost use Rattle.command_line.specs.Command.{IsCommand, IsGen, IsInspect};
-ghost use Rattle.flashtier_cli.specs.Begun.{fitted_for};
-ghost use Rattle.flashtier_cli.specs.Inspected.{EndsInspecting, Inspects, Loads};
+ghost use Rattle.flashtier_cli.specs.Fitted.{fitted_for};
+ghost use Rattle.flashtier_cli.specs.Inspected.{EndsInspecting, Inspects, LoadsAs};
 ghost use Rattle.flashtier_cli.specs.Status as status;
 ghost use Rattle.flashtier_cli.specs.Status.{RunsEveryLine, StatusHasCause};
 ghost use Rattle.flashtier_cli.specs.Words.{ReadsTrace, RefusesWords};
@@ -80,7 +80,7 @@ pub fn run<I: Source, O: Sink, R: Rig>(
         × RunsWhole o (Gives (made_trace number count o.geometry)) (TellsEnd (O.state sink.old) (O.state sink.new))
         (ImageStandsFor o.geometry) (fitted_for o.geometry (R.state rig.old)) (R.state rig.new))
         ⊎ ((o : Told) × IsInspect (map string_bytes words.now) o
-        × Inspects o (Reads o.geometry.size (I.state source.old) (I.state source.new)) (Loads o.geometry) (O.state sink.old)
+        × Inspects o (Reads o.geometry.size (I.state source.old) (I.state source.new)) (LoadsAs o.geometry) (O.state sink.old)
         (O.state sink.new)
         (ImageStandsFor o.geometry) (fitted_for o.geometry (R.state rig.old)) (R.state rig.new))) }
     ensures end { result ≡ 0 → (o : Told) → ReadsTrace (map string_bytes words.now) o → IsAtEnd (I.state source.new).left }
@@ -122,7 +122,7 @@ pub fn run<I: Source, O: Sink, R: Rig>(
         (TellsEnd (O.state sink.old) (O.state sink.new)) (TellsEndPart (O.state sink.old) (O.state sink.new))
         (ImageStandsFor o.geometry) (fitted_for o.geometry (R.state rig.old)) (R.state rig.new) e)
         ⊎ ((o : Told) × (e : ended.Ended) × IsInspect (map string_bytes words.now) o × (result ≡ status.status_of (Err e))
-        × EndsInspecting o (Reads o.geometry.size (I.state source.old) (I.state source.new)) (Loads o.geometry) (O.state sink.old)
+        × EndsInspecting o (Reads o.geometry.size (I.state source.old) (I.state source.new)) (LoadsAs o.geometry) (O.state sink.old)
         (O.state sink.new)
         (ImageStandsFor o.geometry) (fitted_for o.geometry (R.state rig.old)) (R.state rig.new) e))) }
     ensures known { result ≤ 7 }

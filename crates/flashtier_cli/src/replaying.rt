@@ -3,10 +3,11 @@ ghost use Rattle.std.specs.Io.KnownBytes.{IsAtEnd};
 ghost use Rattle.ft_volume.specs.Volume.{told_for};
 ghost use Rattle.cache_model.specs.Stands.{ImageStandsFor};
 ghost use Rattle.trace_model.specs.Readings.{Reads};
-ghost use Rattle.trace_replay.specs.Causes.{EndHasCause, KeepsLent};
+ghost use Rattle.trace_replay.specs.Causes.{EndHasCause};
+ghost use Rattle.trace_replay.specs.Lent.{KeepsLent};
 ghost use Rattle.trace_replay.specs.Said.{Tells, TellsPart};
 ghost use Rattle.trace_replay.specs.Theorem.{EndsPart, EndsRefused, EndsUnread, RunsWhole};
-ghost use Rattle.flashtier_cli.specs.Begun.{fitted_for};
+ghost use Rattle.flashtier_cli.specs.Fitted.{fitted_for};
 
 use crate::beginning::{begin_back, begin_through};
 use ft_base::{Sink, Source};

@@ -5,7 +5,7 @@ ghost use Rattle.std.specs.Option.{OnSome};
 ghost use Rattle.std.specs.String.{string_bytes};
 ghost use Rattle.ft_base.specs.Count.{Rose};
 ghost use Rattle.ft_base.specs.declared.told.Ack.TheVariants as ack;
-ghost use Rattle.ft_media.specs.Media.{KeepsReady};
+ghost use Rattle.ft_media.specs.Fitted.{KeepsReady};
 ghost use Rattle.ft_media.specs.Rig.{powered};
 ghost use Rattle.ft_volume.specs.declared.volume.VolumeError.TheVariants as volume_error;
 ghost use Rattle.trace_replay.specs.Causes.{EndHasCauseUntraced};

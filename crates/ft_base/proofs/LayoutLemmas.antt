@@ -14,7 +14,11 @@ up_least n d m some fits =
     omega arith
 
 pub k_holds : (g : Geometry) → HoldsCheckpoint g (k g)
-k_holds g = up_fits (pages_for (most_records g)) g.p (omega (arith, g.in_range.p_low))
+k_holds g = up_fits (pages_for g (most_records g)) g.p (omega (arith, g.in_range.p_low))
+
+-- and no region with an erase block less would hold it
+pub k_barely : (g : Geometry) → k g * g.p < pages_for g (most_records g) + g.p
+k_barely g = omega (arith, div-add-mod' (pages_for g (most_records g) + g.p - 1) g.p)
 
 pub k_least : (g : Geometry) (n : ℕ) → HoldsCheckpoint g n → k g ≤ n
-k_least g n = up_least (pages_for (most_records g)) g.p n (omega (arith, g.in_range.p_low))
+k_least g n = up_least (pages_for g (most_records g)) g.p n (omega (arith, g.in_range.p_low))

@@ -6,7 +6,8 @@ use Rattle.ft_base.specs.Contents.{Contents, Image}
 use Rattle.ft_base.specs.PlainDisk.{PlainDisk, BlockWrite, after_writes}
 use Rattle.ft_base.specs.Told.{Told}
 use Rattle.ft_volume.specs.declared.volume.VolumeError.{VolumeError}
-use Rattle.ft_volume.specs.Volume.{Call, Done, Finds, IsAny, IsDisk, IsUnopened, LeavesOwed, StandFor, StandForEither, VolumeState, WasDone, WasOne, stages, writes_of}
+use Rattle.ft_volume.specs.Volume.{Call, Done, Finds, IsAny, IsDisk, IsUnopened, LeavesOwed, StandForEither, VolumeState, WasDone, WasOne, stages, writes_of}
+use Rattle.ft_volume.specs.Standing.{StandFor}
 
 -- ---- writes in a row
 

@@ -9,11 +9,11 @@ use Rattle.ft_base.specs.Contents.{Contents, Image}
 use Rattle.ft_base.specs.PlainDisk.{PlainDisk}
 use Rattle.ft_base.specs.Told.{Told}
 use Rattle.ft_base.proofs.Images.{newest_image, set_here, value_image, with_newest, with_value}
-use Rattle.cache_model.specs.Cache.{CacheList}
+use Rattle.cache_model.specs.CacheList.{CacheList}
 use Rattle.cache_model.specs.Records.{Entries}
 use Rattle.cache_model.specs.Stands.{ImageStandsFor, MediaStandFor, FlashStandsFor, held_at}
 use Rattle.ft_volume.specs.Opening.{ImageIs, Opens}
-use Rattle.ft_volume.specs.Volume.{StandFor}
+use Rattle.ft_volume.specs.Standing.{StandFor}
 
 -- flash stands for one list at most
 same_list : (g : Geometry) (page : Place → Page) (s t : CacheList) → FlashStandsFor g page s → FlashStandsFor g page t → (a : ℕ) → get s a ≡ get t a

@@ -12,7 +12,8 @@ use Rattle.ft_media.specs.Passes.{Passes}
 use Rattle.ft_media.specs.State.{Faults, State}
 use Rattle.ft_volume.specs.declared.volume.VolumeError.{VolumeError}
 use Rattle.ft_volume.specs.declared.volume.VolumeError.TheVariants.{FlashFault, DiskFault, PowerLost, OutOfMemory, OutOfVolume}
-use Rattle.ft_volume.specs.Volume.{Call, ComesUp, Costs, Done, Goes, HasCause, IsAny, IsOwn, Programs, StandFor, VolumeState, WasDone, backs_of, misses, opened_of, table_after, volume_lost}
+use Rattle.ft_volume.specs.Volume.{Call, ComesUp, Costs, Done, Goes, HasCause, IsAny, IsOwn, Programs, VolumeState, WasDone, backs_of, misses, opened_of, table_after, volume_lost}
+use Rattle.ft_volume.specs.Standing.{StandFor}
 use Rattle.ft_media.proofs.PassesLemmas.{passes_then}
 
 pub any_map : {A : Type 0} (p q : A → Type 0) → ((x : A) → p x → q x) → (xs : List A) → IsAny p xs → IsAny q xs

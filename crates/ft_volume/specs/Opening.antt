@@ -11,7 +11,8 @@ use Rattle.ft_base.specs.declared.block.Block.{Block}
 use Rattle.ft_base.specs.declared.geometry.Geometry.{Geometry}
 use Rattle.ft_base.specs.declared.told.Mode.{Mode}
 use Rattle.ft_base.specs.declared.told.Mode.TheVariants.{Back, Through}
-use Rattle.cache_model.specs.Cache.{Agrees, CacheList, Held, dirty_between, vol}
+use Rattle.cache_model.specs.Cache.{dirty_between}
+use Rattle.cache_model.specs.CacheList.{Agrees, CacheList, Held, vol}
 use Rattle.cache_model.specs.Loading.{load}
 use Rattle.cache_model.specs.Stands.{FlashStandsFor, settled}
 use Rattle.ft_volume.specs.Volume.{VolumeState}

@@ -1,5 +1,5 @@
 -- What a volume is, and what each of its calls does.
-use Rattle.std.specs.Prelude.{◌≡◌, ◌⊎◌, ◌≤◌, ◌+◌, ◌*◌, ◌/◌, ℕ, Bool, true, false, List, [], ◌∷◌, ◌++◌, length, take, drop, if◌then◌else◌, nat_le, ◌==◌, map, filter, Result, Ok, Err, OnOk, OnErr, IsErrOf, ⊤}
+use Rattle.std.specs.Prelude.{◌≡◌, ◌⊎◌, ◌≤◌, ◌+◌, ◌*◌, ◌/◌, ℕ, Bool, true, false, List, ◌∷◌, ◌++◌, length, take, drop, if◌then◌else◌, nat_le, ◌==◌, map, filter, Result, Ok, Err, OnOk, OnErr, IsErrOf, ⊤, []}
 use Rattle.std.specs.List.{list_any}
 use Rattle.std.specs.FinMap.{entries, get}
 use Rattle.std.specs.Option.{is_some}
@@ -12,21 +12,18 @@ use Rattle.ft_base.specs.Told.{Told}
 use Rattle.ft_base.specs.declared.block.Block.{Block}
 use Rattle.ft_base.specs.declared.block.Page.{Page}
 use Rattle.ft_base.specs.declared.block.Place.{Place}
-use Rattle.ft_base.specs.declared.geometry.Geometry.{Geometry}
 use Rattle.ft_base.specs.declared.told.Mode.{Mode}
 use Rattle.ft_base.specs.declared.told.Ack.TheVariants.{Write as AtWrite}
 use Rattle.cache_model.specs.Records.{Entries}
-use Rattle.cache_model.specs.Buckets.{AreBucketsFor}
-use Rattle.cache_model.specs.Entries.{groups_with}
 use Rattle.ft_volume.specs.declared.options.Options.{Options}
 use Rattle.ft_volume.specs.declared.volume.Idled.{Idled}
-use Rattle.ft_volume.specs.declared.volume.Report.{Report}
 use Rattle.ft_volume.specs.declared.volume.Idled.TheVariants.{Nothing, Cleaned, Checkpointed}
 use Rattle.ft_volume.specs.declared.volume.VolumeError.{VolumeError}
 use Rattle.ft_volume.specs.declared.volume.VolumeError.TheVariants.{FlashFault, DiskFault, PowerLost, OutOfMemory, OutOfVolume}
-use Rattle.ft_media.specs.Media.{KeepsReady}
+use Rattle.ft_media.specs.Fitted.{KeepsReady}
 use Rattle.ft_media.specs.Passes.{Passes, Spends}
 use Rattle.ft_media.specs.State.{State, Faults}
+use Rattle.ft_volume.specs.Standing.{StandFor}
 
 -- what a volume of this mode tells that is made with these options; each write is on the media when it answers
 abbrev pub told_for : Mode → Options → Told
@@ -67,10 +64,6 @@ writes_of Reports = []
 abbrev pub IsAny : {A : Type 0} → (A → Type 0) → List A → Type 0
 IsAny is [] = ⊥
 IsAny is (x ∷ xs) = is x ⊎ IsAny is xs
-
--- whatever a crash leaves now stands for this plain disk
-abbrev pub StandFor : (Image → PlainDisk → Type 0) → Contents → PlainDisk → Type 0
-StandFor stands contents d = (x : Image) → Now contents x → stands x d
 
 -- whatever a crash leaves now stands for one of these
 abbrev pub StandForAny : (Image → PlainDisk → Type 0) → Contents → List PlainDisk → Type 0
@@ -270,13 +263,6 @@ idled_of told groups room = if goes_back told.mode told.dirty groups then Cleane
     (if nat_le (2 * room) (log_pages told.geometry) then Checkpointed else Nothing)
 
 -- ---- what a report says
-
--- of the entries that the flash has: how many there are, of how many groups some are dirty, and how many pages were looked at; and buckets for those that stand in log blocks
-pub record IsReport (g : Geometry) (m : Entries) (report : Report) : Type 0 where
-  pub held : report.held ≡ length (entries m)
-  pub dirty_groups : report.dirty_groups ≡ length (groups_with g (λ e. e.dirty) m)
-  pub buckets : AreBucketsFor m report.buckets
-  pub scrubbed : report.scrubbed ≡ length (entries m)
 
 -- a page was programmed: the count tells it, and it is one device write less before the front stop
 pub record Programs (before after : State) : Type 0 where

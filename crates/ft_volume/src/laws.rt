@@ -5,7 +5,8 @@ ghost use Rattle.ft_base.specs.Told.{Told};
 ghost use Rattle.ft_base.specs.declared.geometry.Geometry.{Geometry};
 ghost use Rattle.cache_model.specs.Stands.{ImageStandsFor, MediaStandFor};
 ghost use Rattle.ft_volume.specs.Opening.{ImageIs, Opens};
-ghost use Rattle.ft_volume.specs.Volume.{Call, Done, Finds, IsDisk, StandFor, VolumeState, WasOne, writes_of};
+ghost use Rattle.ft_volume.specs.Volume.{Call, Done, Finds, IsDisk, VolumeState, WasOne, writes_of};
+ghost use Rattle.ft_volume.specs.Standing.{StandFor};
 ghost use Rattle.ft_volume.specs.declared.volume.VolumeError.{VolumeError};
 
 use crate::Volume;

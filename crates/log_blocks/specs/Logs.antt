@@ -17,8 +17,8 @@ abbrev pub is_in : ℕ → List ℕ → Bool
 is_in block list = list_any (λ one. block == one) list
 
 -- the list without the block, all others in their order
-abbrev pub without : ℕ → List ℕ → List ℕ
-without block list = filter (λ one. not (block == one)) list
+abbrev pub without_block : ℕ → List ℕ → List ℕ
+without_block block list = filter (λ one. not (block == one)) list
 
 -- the last of the list
 abbrev pub last_of : List ℕ → Option ℕ
@@ -33,7 +33,7 @@ abbrev pub is_open : LogBlocksValue → ℕ → Bool
 is_open logs block = option_eq nat_eq logs.open_block (Some block)
 
 -- no block is there twice, there are at most L, the open one is the last, and only it has pages left
-pub record IsSound (logs : LogBlocksValue) : Type 0 where
+pub record AreSoundLogs (logs : LogBlocksValue) : Type 0 where
   pub distinct : IsDistinct nat_eq logs.used
   pub few : length logs.used ≤ logs.geometry.l
   pub last : IfSome logs.open_block (λ block. last_of logs.used ≡ Some block)
@@ -41,8 +41,8 @@ pub record IsSound (logs : LogBlocksValue) : Type 0 where
   pub within : logs.room ≤ logs.geometry.p
 
 -- the block is the last and the open one, with all its pages left
-abbrev pub begun : ℕ → LogBlocksValue → LogBlocksValue
-begun block logs = record logs { used = logs.used ++ block ∷ []; open_block = Some block; room = logs.geometry.p }
+abbrev pub block_begun : ℕ → LogBlocksValue → LogBlocksValue
+block_begun block logs = record logs { used = logs.used ++ block ∷ []; open_block = Some block; room = logs.geometry.p }
 
 -- the block is the last, and none is open
 abbrev pub adopted : ℕ → LogBlocksValue → LogBlocksValue
@@ -51,7 +51,7 @@ adopted block logs = record logs { used = logs.used ++ block ∷ []; open_block 
 -- the block is out of the list; where it was the open one, none is open
 abbrev pub released : ℕ → LogBlocksValue → LogBlocksValue
 released block logs = record logs {
-  used = without block logs.used;
+  used = without_block block logs.used;
   open_block = if is_open logs block then None else logs.open_block;
   room = if is_open logs block then 0 else logs.room;
 }

@@ -5,7 +5,7 @@ ghost use Rattle.ft_base.specs.Contents.{set};
 ghost use Rattle.ft_media.specs.Media.{LeavesPage, after_program, if_ok, program_counted};
 ghost use Rattle.ft_media.specs.Passes.{Spends};
 ghost use Rattle.ft_media.specs.Drives.{DrivesFlash};
-ghost use Rattle.log_blocks.specs.Logs.{IsInUse, IsSound, without, begun, adopted, released, next_place};
+ghost use Rattle.log_blocks.specs.Logs.{IsInUse, AreSoundLogs, without_block, block_begun, adopted, released, next_place};
 ghost use Rattle.cache_model.specs.Spelling.{data_spare};
 
 use cache_model::SpareKind;
@@ -27,13 +27,13 @@ pub struct LogBlocks {
 impl Model for LogBlocks {
     ghost use Rattle.std.specs.Prelude.{◌≤◌};
     ghost use Rattle.std.specs.Vec.{vec_capacity};
-    ghost use Rattle.log_blocks.specs.Logs.{LogBlocksValue, IsSound};
+    ghost use Rattle.log_blocks.specs.Logs.{LogBlocksValue, AreSoundLogs};
 
     ghost Value = { LogBlocksValue };
 
     ghost view = { λ b. record { geometry = b.geometry; used = b.used.items; open_block = b.open_block; room = b.room } };
 
-    ghost invariant = { λ b. IsSound (record { geometry = b.geometry; used = b.used.items; open_block = b.open_block; room = b.room })
+    ghost invariant = { λ b. AreSoundLogs (record { geometry = b.geometry; used = b.used.items; open_block = b.open_block; room = b.room })
         × (b.geometry.l ≤ vec_capacity b.used) };
 }
 
@@ -53,7 +53,7 @@ impl LogBlocks {
     /// The pages of the open block that are left, 0 to P, and 0 where no block is open.
     pub fn room(&self) -> u32
         ensures room { result ≡ self.now.room }
-        ensures sound { IsSound self.now }
+        ensures sound { AreSoundLogs self.now }
     {
         self.room
     }
@@ -69,7 +69,7 @@ impl LogBlocks {
     /// How many blocks are in use, 0 to L.
     pub fn used(&self) -> u32
         ensures used { result ≡ length self.now.used }
-        ensures sound { IsSound self.now }
+        ensures sound { AreSoundLogs self.now }
     {
         self.used.len() as u32
     }
@@ -87,8 +87,8 @@ impl LogBlocks {
     pub fn begin(&mut self, block: u32)
         requires fresh { ¬ IsInUse self.old block }
         requires few { length self.old.used < self.old.geometry.l }
-        ensures begun { self.new ≡ begun block self.old }
-        ensures sound { IsSound self.new }
+        ensures begun { self.new ≡ block_begun block self.old }
+        ensures sound { AreSoundLogs self.new }
     {
         self.adopt(block);
         self.open_block = Some(block);
@@ -100,7 +100,7 @@ impl LogBlocks {
         requires fresh { ¬ IsInUse self.old block }
         requires few { length self.old.used < self.old.geometry.l }
         ensures adopted { self.new ≡ adopted block self.old }
-        ensures sound { IsSound self.new }
+        ensures sound { AreSoundLogs self.new }
     {
         match self.used.push(block) {
             Ok(()) => {}
@@ -114,7 +114,7 @@ impl LogBlocks {
     pub fn release(&mut self, block: u32)
         requires { IsInUse self.old block }
         ensures released { self.new ≡ released block self.old }
-        ensures sound { IsSound self.new }
+        ensures sound { AreSoundLogs self.new }
     {
         take_out(&mut self.used, block);
         if self.open_block == Some(block) {
@@ -144,7 +144,7 @@ impl LogBlocks {
             (data_spare lba) }
         ensures not_ready { IsErrOf result MediaError.Failed
             → (M.state media.new).contents.flash.next ≡ set (M.state media.old).contents.flash.next (next_place self.old).block None }
-        ensures sound { IsSound self.new }
+        ensures sound { AreSoundLogs self.new }
         ensures counts { (M.state media.new).counts ≡ if_ok result (program_counted (M.state media.old).counts) (M.state media.old).counts }
         ensures spends { OnOk result (Spends 1 (M.state media.old) (M.state media.new)) }
         ensures memory { IsErrOf result MediaError.OutOfMemory → ⊥ }
@@ -175,7 +175,7 @@ impl LogBlocks {
 
 /// Takes a block out of a list, whose others stay in their order.
 fn take_out(used: &mut Vec<u32>, block: u32)
-    ensures items { used.new.items ≡ without block used.old.items }
+    ensures items { used.new.items ≡ without_block block used.old.items }
     ensures capacity { vec_capacity used.new ≡ vec_capacity used.old }
 {
     used.retain(|one| block != *one);

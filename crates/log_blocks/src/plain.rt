@@ -1,6 +1,6 @@
 //! The plain programs, over a list of blocks with the one taken first in front.
 ghost use Rattle.std.specs.Prelude.{◌≡◌, IfOk};
-ghost use Rattle.log_blocks.specs.Logs.{is_in, without, last_of};
+ghost use Rattle.log_blocks.specs.Logs.{is_in, without_block, last_of};
 
 use std::alloc::{AllocError, Global};
 
@@ -13,7 +13,7 @@ pub fn is_in_use(used: &[u32], block: u32) -> bool
 
 /// The list without the block.
 pub fn without(alloc: Global, used: &[u32], block: u32) -> Result<Vec<u32>, AllocError>
-    ensures { IfOk result (λ left. left.items ≡ without block used.now) }
+    ensures { IfOk result (λ left. left.items ≡ without_block block used.now) }
 {
     let mut left = Vec::new(alloc);
     for &one in used {

@@ -7,16 +7,11 @@ use Rattle.std.proofs.lemmas.Bool.Decides.{nat_tests}
 use Rattle.std.specs.FinMap.{get, from_entries, find, is_sorted, get-from_entries}
 use Rattle.std.specs.FinMap.Entries.{below_all}
 use Rattle.cache_model.specs.declared.entry.Entry.{Entry}
-use Rattle.mapping.specs.Ascending.{Ascends}
+use Rattle.mapping.proofs.Words.{Ascends}
+use Rattle.cache_model.proofs.MapLemmas.{eq_key, less_key}
 
 abbrev pub Items : Type 0
 Items = List (ℕ × Entry)
-
-eq_key : (x y : ℕ) → eq_by_cmp nat_cmp x y ≡ (x == y)
-eq_key x y = grind (arith, nat_tests)
-
-less_key : (x y : ℕ) → is_lt (nat_cmp x y) ≡ true → x < y
-less_key x y e = grind (arith, nat_tests)
 
 pub below_at : (k : ℕ) (es : Items) (j : ℕ) (d : ℕ × Entry) → below_all nat_cmp k es ≡ true → j < length es → k < (get_or es j d).0
 below_at k [] j d below within = absurd (omega arith)

@@ -15,9 +15,7 @@ use Rattle.mapping.specs.Bits.{set_of, is_chosen, chosen_of, IsDataBlock}
 use Rattle.mapping.specs.Candidates.{IsClean, IsCandidate, IsCandidateIn, AreCandidates, ChangesOne, StandsInPool, pages_held, with_count}
 use Rattle.mapping.specs.Numbers.{IsGroupIn}
 use Rattle.mapping.proofs.ChosenLemmas.{chosen_none, stands_some, pages_held-count, page_count-most}
-
-none_some : {A : Type 0} (x : Entry) → None ≡ Some x → A
-none_some x s = absurd (cc)
+use Rattle.mapping.proofs.SeekingLemmas.{none_some}
 
 -- ---- that of no entries
 

@@ -18,3 +18,4 @@ pub mod StepLemmas
 pub mod ListingLemmas
 pub mod SeekingLemmas
 pub mod ApplyLemmas
+pub mod Words

@@ -25,18 +25,14 @@ use Rattle.mapping.specs.declared.log_page.LogPage.{LogPage}
 use Rattle.mapping.specs.Checkpoint.{set_group_of, set_page_of, IsCheckpointOf}
 use Rattle.mapping.specs.Bits.{IsDataBlock}
 use Rattle.mapping.specs.Counts.{page_mapped_count, data_block_count}
-use Rattle.mapping.specs.Packed.{HeldValue, page_record, block_record, entries_of, page_in, entry_in, IsPackedMap, records_of}
+use Rattle.mapping.specs.Packed.{HeldValue, page_record, block_record, entries_of, page_in, IsPackedMap, records_of}
+use Rattle.mapping.proofs.Words.{entry_in}
 use Rattle.cache_model.specs.Buckets.{AreBucketsFor}
 use Rattle.mapping.proofs.MarksLemmas.{same_bools, member_from, member_to}
 use Rattle.mapping.proofs.PackedLemmas.{get_held, data_block_is}
 use Rattle.mapping.proofs.ChosenLemmas.{blocks_as}
 use Rattle.mapping.proofs.TallyLemmas.{tally_is}
-
-some_is : {A : Type 0} (x y : A) → Some x ≡ Some y → x ≡ y
-some_is x y s = cc
-
-none_some : {A B : Type 0} (x : A) → None ≡ Some x → B
-none_some x s = absurd (cc)
+use Rattle.mapping.proofs.SeekingLemmas.{none_some, some_is}
 
 -- ---- a list in which no key comes twice
 

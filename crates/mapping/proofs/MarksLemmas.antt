@@ -11,7 +11,7 @@ use Rattle.cache_model.proofs.MapLemmas.{all_entries, by_get}
 use Rattle.cache_model.proofs.CountLemmas.{member, numbers, all_members, member_of, counts_beside, others, member_others, member_self, one_and_others}
 use Rattle.mapping.specs.declared.marks.Mark.{Mark}
 use Rattle.mapping.specs.Counts.{has_mark}
-use Rattle.mapping.specs.Fitting.{count_range}
+use Rattle.mapping.proofs.Words.{count_range}
 use Rattle.mapping.specs.Seeking.{HasMarkIn, MayHave}
 
 pub same_bools : (a b : Bool) → (a ≡ true → b ≡ true) → (b ≡ true → a ≡ true) → a ≡ b

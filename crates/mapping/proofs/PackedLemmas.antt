@@ -14,9 +14,9 @@ use Rattle.ft_base.specs.declared.geometry.Geometry.{Geometry}
 use Rattle.ft_base.specs.declared.record.Record.TheVariants.{SetPage, Remove, Clean, SetGroup, RemoveGroup}
 use Rattle.cache_model.specs.declared.entry.Entry.{Entry}
 use Rattle.cache_model.specs.Records.{Entries, no_entries, after, has_bit, in_log_block, page_of_group, cleaned}
-use Rattle.cache_model.proofs.StepLemmas.{get-after}
+use Rattle.cache_model.proofs.StepLemmas.{and_of, get-after}
 use Rattle.cache_model.proofs.MapLemmas.{eq_key, get_insert, get_remove}
-use Rattle.block_map.specs.PageSets.{BlockPages, IsSound, IsLeftWithout, IsOnlyPage}
+use Rattle.block_map.specs.PageSets.{BlockPages, IsSoundBlock, IsLeftWithout, IsOnlyPage}
 use Rattle.mapping.specs.declared.log_page.LogPage.{LogPage}
 use Rattle.mapping.specs.declared.bits.Choice.TheVariants.{Mapped, MappedDirty}
 use Rattle.mapping.specs.Checkpoint.{set_group_of}
@@ -24,13 +24,12 @@ use Rattle.mapping.specs.Bits.{is_chosen, chosen_of, IsDataBlock}
 use Rattle.sparse_map.specs.Slots.{items_of}
 use Rattle.sparse_map.specs.Packed.{PackedTable, map_of, len_of, buckets_of, IsSound as IsSoundTable}
 use Rattle.sparse_map.proofs.MapLemmas.{len_of-items}
-use Rattle.mapping.specs.Packed.{records_of, Pages, Blocks, page_record, block_record, with_blocks, with_logs, entries_of, page_in, entry_in, AreBlocks, AreDisjoint, IsLeftOut}
+use Rattle.mapping.specs.Packed.{records_of, Pages, Blocks, page_record, block_record, with_data_blocks, with_logs, entries_of, page_in, AreBlocks, AreDisjoint, IsLeftOut}
+use Rattle.mapping.proofs.Words.{entry_in}
 use Rattle.mapping.proofs.BitsLemmas.{bit_of_set, set_of_none}
+use Rattle.mapping.proofs.SeekingLemmas.{some_is}
 
 -- ---- options and tests
-
-some_is : {A : Type 0} (x y : A) → Some x ≡ Some y → x ≡ y
-some_is x y s = cc
 
 pub no_some : {A B : Type 0} (x : A) → None ≡ Some x → B
 no_some x s = absurd (cc)
@@ -45,13 +44,6 @@ pub spare_less : {A : Type 0} (o : Option A) (old new : ℕ) → o ≡ None → 
 spare_less o old new none is some =
     let less : new ≡ old - 1 = is ∙ ap (λ x. cond (is_some x) old (old - 1)) none in
     omega arith
-
-and_of : (a b c : Bool) → (c ≡ true → (a ≡ true) × (b ≡ true)) → (a ≡ true → b ≡ true → c ≡ true) → c ≡ (a && b)
-and_of true true c p q = q refl refl
-and_of true false true p q = sym (p refl).1
-and_of true false false p q = refl
-and_of false b true p q = sym (p refl).0
-and_of false b false p q = refl
 
 -- an address is told by its group and its page
 pub is_address : (p a lba : ℕ) → (a == lba) ≡ ((a / p == lba / p) && (a % p == lba % p))
@@ -68,13 +60,13 @@ module _ (g : Geometry) where
 
   -- ---- what stands at an address
 
-  get_block_list : (xs : List (ℕ × BlockPages)) (q : ℕ) → get (with_blocks g xs) q ≡ page_in (find nat_cmp (q / g.p) xs) (q % g.p)
+  get_block_list : (xs : List (ℕ × BlockPages)) (q : ℕ) → get (with_data_blocks g xs) q ≡ page_in (find nat_cmp (q / g.p) xs) (q % g.p)
   get_block_list [] q = get-empty nat_cmp q
   get_block_list (x ∷ xs) q =
       let new = page_of_group x.1.block x.1.present x.1.dirty (q % g.p) in
-      get-after g (block_record x) (with_blocks g xs) q ∙ elim (cases_Bool (q / g.p == x.0)) [
-        | inl t ↦ ap (λ b. cond b new (get (with_blocks g xs) q)) t ∙ sym (ap (λ b. page_in (cond b (Some x.1) (find nat_cmp (q / g.p) xs)) (q % g.p)) (eq_key (q / g.p) x.0 ∙ t))
-        | inr f ↦ ap (λ b. cond b new (get (with_blocks g xs) q)) f ∙ get_block_list xs q ∙ sym (ap (λ b. page_in (cond b (Some x.1) (find nat_cmp (q / g.p) xs)) (q % g.p)) (eq_key (q / g.p) x.0 ∙ f))
+      get-after g (block_record x) (with_data_blocks g xs) q ∙ elim (cases_Bool (q / g.p == x.0)) [
+        | inl t ↦ ap (λ b. cond b new (get (with_data_blocks g xs) q)) t ∙ sym (ap (λ b. page_in (cond b (Some x.1) (find nat_cmp (q / g.p) xs)) (q % g.p)) (eq_key (q / g.p) x.0 ∙ t))
+        | inr f ↦ ap (λ b. cond b new (get (with_data_blocks g xs) q)) f ∙ get_block_list xs q ∙ sym (ap (λ b. page_in (cond b (Some x.1) (find nat_cmp (q / g.p) xs)) (q % g.p)) (eq_key (q / g.p) x.0 ∙ f))
       ]
 
   get_log_list : (xs : List (ℕ × LogPage)) (m : Entries) (q : ℕ) → get (with_logs g xs m) q ≡ entry_in (find nat_cmp q xs) (get m q)
@@ -90,7 +82,7 @@ module _ (g : Geometry) where
   pub get_held : (pages : Pages) (blocks : Blocks) (q : ℕ) → get (entries_of g pages blocks) q ≡ entry_in (get pages q) (page_in (get blocks (q / g.p)) (q % g.p))
   unfolding entries_of
   get_held pages blocks q =
-      get_log_list (entries pages) (with_blocks g (entries blocks)) q
+      get_log_list (entries pages) (with_data_blocks g (entries blocks)) q
       ∙ ap (entry_in (find nat_cmp q (entries pages))) (get_block_list (entries blocks) q)
       ∙ ap₂ (λ x y. entry_in x (page_in y (q % g.p))) (sym (get-entries pages q)) (sym (get-entries blocks (q / g.p)))
 
@@ -183,10 +175,10 @@ module _ (g : Geometry) where
       | inr other ↦ ap (λ o. page_in o (a % g.p)) (block_there (a / g.p) ∙ ap (λ c. cond c (Some b) (get blocks (a / g.p))) (ne_eqb (a / g.p) k other)) ∙ apart a x at
     ]
 
-    pub blocks_more : IsSound b → ((i : ℕ) → g.p ≤ i → has_bit b.present i ≡ false) → AreBlocks g blocks → AreBlocks g blocks'
+    pub blocks_more : IsSoundBlock b → ((i : ℕ) → g.p ≤ i → has_bit b.present i ≡ false) → AreBlocks g blocks → AreBlocks g blocks'
     blocks_more sound below all = record {
       sound = λ j c at. elim (cases_eq j k) [
-        | inl same ↦ subst (λ (x : BlockPages). IsSound x) (here j c same at) sound
+        | inl same ↦ subst (λ (x : BlockPages). IsSoundBlock x) (here j c same at) sound
         | inr other ↦ all.sound j c (there j c other at)
       ];
       below = λ j c at. elim (cases_eq j k) [
@@ -203,7 +195,7 @@ module _ (g : Geometry) where
 
     -- ---- a block without one of its pages
 
-    pub left_some : (a : BlockPages) (page : ℕ) → get blocks k ≡ Some a → b.block ≡ a.block → IsLeftWithout a.present page b.present → IsLeftWithout a.dirty page b.dirty → IsSound b → IsLeftOut g blocks blocks' k page
+    pub left_some : (a : BlockPages) (page : ℕ) → get blocks k ≡ Some a → b.block ≡ a.block → IsLeftWithout a.present page b.present → IsLeftWithout a.dirty page b.dirty → IsSoundBlock b → IsLeftOut g blocks blocks' k page
     left_some a page at block present dirty sound = record {
       others = λ j i. ap (λ o. page_in o i) (block_there j) ∙ elim (cases_Bool (j == k)) [
         | inl t ↦
@@ -289,7 +281,7 @@ module _ (g : Geometry) where
         nothing true = refl
         nothing false = refl
 
-    pub block_cleaned_blocks : (a : BlockPages) → get blocks k ≡ Some a → b.present ≡ a.present → IsSound b → AreBlocks g blocks → AreBlocks g blocks'
+    pub block_cleaned_blocks : (a : BlockPages) → get blocks k ≡ Some a → b.present ≡ a.present → IsSoundBlock b → AreBlocks g blocks → AreBlocks g blocks'
     block_cleaned_blocks a at present sound all = blocks_more sound (λ i past. ap (λ n. has_bit n i) present ∙ all.below k a at i past) all
 
   fewer : (blocks blocks' : Blocks) (k : ℕ) → blocks' ≡ remove blocks k → AreBlocks g blocks → AreBlocks g blocks'

@@ -20,16 +20,11 @@ use Rattle.mapping.specs.Seeking.{IsFoundIn, IsNotIn, IsTaken, MayHave, log_bloc
 use Rattle.mapping.proofs.MarksLemmas.{ChangesGroup, may_have_fits}
 use Rattle.mapping.proofs.TallyLemmas.{not_there, others_there, tally_without, used_without, used_same, absent_same}
 use Rattle.mapping.proofs.FittingLemmas.{page_cases, page_here, page_other, page_fits, fits_page}
+use Rattle.mapping.proofs.SeekingLemmas.{none_some, some_is}
 
 -- what is refused where the fact doesn't hold
 pub refused : {P : Type 0} → (P → ⊥) → IsTrue false ↔ P
 refused not = (λ t. absurd (false≢true t), λ p. absurd (not p))
-
-pub some_is : {A : Type 0} (x y : A) → Some x ≡ Some y → x ≡ y
-some_is x y s = cc
-
-pub none_some : {A B : Type 0} (x : A) → None ≡ Some x → B
-none_some x s = absurd (cc)
 
 -- ---- log blocks beside an address
 

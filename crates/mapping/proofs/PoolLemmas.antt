@@ -9,8 +9,8 @@ use Rattle.ft_base.specs.Layout.{first_pool, blocks}
 use Rattle.cache_model.specs.declared.entry.Entry.{Entry}
 use Rattle.cache_model.specs.Entries.{each_once, IsMap}
 use Rattle.cache_model.proofs.CountLemmas.{member}
-use Rattle.mapping.specs.Ascending.{Ascends}
-use Rattle.mapping.specs.Fitting.{count_range}
+use Rattle.mapping.proofs.Words.{Ascends}
+use Rattle.mapping.proofs.Words.{count_range}
 use Rattle.mapping.proofs.AscendingLemmas.{Items, spare_item, get_here, keys_rise}
 use Rattle.mapping.proofs.MarksLemmas.{range_counts}
 

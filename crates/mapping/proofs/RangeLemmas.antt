@@ -8,7 +8,8 @@ use Rattle.ft_base.specs.declared.geometry.Geometry.{Geometry}
 use Rattle.ft_base.specs.declared.record.Record.{Record}
 use Rattle.ft_base.specs.declared.record.Record.TheVariants.{SetPage, Remove, Clean, SetGroup, RemoveGroup}
 use Rattle.cache_model.specs.declared.entry.Entry.{Entry}
-use Rattle.cache_model.specs.Records.{Entries, after, after_at}
+use Rattle.cache_model.specs.Records.{Entries, after}
+use Rattle.cache_model.proofs.Words.{after_at}
 use Rattle.cache_model.specs.Entries.{IsMap}
 use Rattle.cache_model.proofs.StepLemmas.{get-after}
 use Rattle.mapping.specs.declared.index.Index.{Index}

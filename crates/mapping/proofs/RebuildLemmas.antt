@@ -21,7 +21,8 @@ use Rattle.cache_model.proofs.MapLemmas.{all_entries}
 use Rattle.mapping.proofs.MarksLemmas.{member_from, member_to}
 use Rattle.mapping.specs.declared.bits.Choice.TheVariants.{Mapped, MappedDirty}
 use Rattle.mapping.specs.Bits.{chosen_of, is_chosen}
-use Rattle.mapping.specs.Checkpoint.{set_group_of, set_page_of, block_below, checkpoint_records, ListsGroups, ListsPages, IsCheckpointOf}
+use Rattle.mapping.specs.Checkpoint.{set_group_of, set_page_of, block_below, ListsGroups, ListsPages, IsCheckpointOf}
+use Rattle.mapping.proofs.Words.{checkpoint_records}
 use Rattle.mapping.proofs.BitsLemmas.{bit_of_set, set_below}
 use Rattle.mapping.proofs.CountsLemmas.{div_mono}
 use Rattle.mapping.proofs.ChosenLemmas.{block_is}

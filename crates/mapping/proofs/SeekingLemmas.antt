@@ -18,10 +18,10 @@ use Rattle.std.proofs.lemmas.Nat.{mod_below}
 use Rattle.mapping.proofs.ChosenLemmas.{own_address}
 use Rattle.mapping.proofs.NumbersLemmas.{number_tells}
 
-some_is : {A : Type 0} (x y : A) → Some x ≡ Some y → x ≡ y
+pub some_is : {A : Type 0} (x y : A) → Some x ≡ Some y → x ≡ y
 some_is x y s = cc
 
-none_some : {A B : Type 0} (x : A) → None ≡ Some x → B
+pub none_some : {A B : Type 0} (x : A) → None ≡ Some x → B
 none_some x s = absurd (cc)
 
 module _ (g : Geometry) (m : Entries) (is_map : IsMap g m) (owners : List (Option ℕ)) (all : OwnersAre g m owners) (at : Place) (pool : InPool g at) where

@@ -13,7 +13,7 @@ use Rattle.ft_base.specs.Layout.{first_pool, blocks}
 use Rattle.cache_model.specs.declared.entry.Entry.{Entry}
 use Rattle.cache_model.specs.Records.{Entries, no_entries}
 use Rattle.cache_model.specs.Entries.{each_once, groups_with, blocks_with, page_mapped, IsMap}
-use Rattle.cache_model.proofs.MapLemmas.{get_remove}
+use Rattle.cache_model.proofs.MapLemmas.{holds, get_remove}
 use Rattle.cache_model.proofs.FitsLemmas.{no_entries-nil}
 use Rattle.cache_model.proofs.CountLemmas.{member, numbers, same_number, each_once-same, counts_beside, less-map, member_of}
 use Rattle.ft_base.specs.declared.record.Record.{Record}
@@ -25,6 +25,7 @@ use Rattle.mapping.specs.Index.{tally, is_any, is_log_page_in, OwnersAre, LogsAr
 use Rattle.mapping.proofs.MarksLemmas.{same_bools, member_from, member_to}
 use Rattle.mapping.proofs.NumbersLemmas.{number_below, number_tells, pages_few}
 use Rattle.mapping.proofs.PoolLemmas.{few_entries}
+use Rattle.mapping.proofs.SeekingLemmas.{none_some, some_is}
 
 -- ---- how many numbers there are
 
@@ -39,7 +40,7 @@ pub counted_some : (ns : List ℕ) → 0 < length (each_once ns) → (n : ℕ) �
 counted_some [] some = absurd (omega arith)
 counted_some (k ∷ ns) some = (k, or_left (k == k) (member k ns) (same_number k))
 
-once_few : (ns : List ℕ) → length (each_once ns) ≤ length ns
+pub once_few : (ns : List ℕ) → length (each_once ns) ≤ length ns
 once_few [] = omega arith
 once_few (k ∷ ns) =
     let few = once_few ns in
@@ -50,12 +51,6 @@ once_few (k ∷ ns) =
 abbrev pub shows : (Entry → Bool) → Option Entry → Bool
 shows t None = false
 shows t (Some e) = t e
-
-some_is : (x y : Entry) → Some x ≡ Some y → x ≡ y
-some_is x y s = cc
-
-none_some : {A : Type 0} (x : Entry) → None ≡ Some x → A
-none_some x s = absurd (cc)
 
 pub member_is : (t : Entry → Bool) (m : Entries) (a : ℕ) → member a (numbers (λ x. x.0) t (entries m)) ≡ shows t (get m a)
 member_is t m a = by_entry (get m a) refl
@@ -100,10 +95,6 @@ tally_without t m a e is =
 -- a map has no more entries than the pool has pages
 pub from_its_entries : (m : Entries) → from_entries {R = nat_cmp} (entries m) ≡ m
 from_its_entries m = same_map nat_cmp_total nat_cmp-IsAntisymmetric (from_entries (entries m)) m (λ q. get-from_entries nat_cmp_total (entries m) q ∙ sym (get-entries m q))
-
-holds : (b : Bool) → T b → b ≡ true
-holds true h = refl
-holds false h = absurd h
 
 pub few_held : (g : Geometry) (m : Entries) → IsMap g m → length (entries m) ≤ 36928
 few_held g m is_map =

@@ -50,11 +50,6 @@ pub record IsCheckpointOf (g : Geometry) (m : Entries) (records : List Record) :
   pub of_groups : ListsGroups g m groups
   pub of_pages : ListsPages m pages
 
--- each group with a data block, and then each page-mapped entry, in ascending order
-abbrev pub checkpoint_records : Geometry → Entries → List Record
-checkpoint_records g m = map (set_group_of g m) (groups_with g (λ e. e.block_mapped) m)
-    ++ map set_page_of (filter (λ x. page_mapped x.1) (entries m))
-
 -- the list has those of these records that are numbered from here on, as far as it goes
 pub record HasWindow (records : List Record) (from : ℕ) (out : List Record) : Type 0 where
   pub at : (j : ℕ) (d : Record) → from ≤ j → j < length records → j < from + length out

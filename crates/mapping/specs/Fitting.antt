@@ -1,15 +1,10 @@
 -- What is looked for among the entries, before a change is taken.
-use Rattle.std.specs.Prelude.{◌≡◌, ℕ, zero, suc, ◌+◌, ◌*◌, ◌/◌, ◌<◌, ◌≤◌, true, Some, Bool, if◌then◌else◌}
+use Rattle.std.specs.Prelude.{◌≡◌, ℕ, ◌+◌, ◌*◌, ◌/◌, ◌<◌, ◌≤◌, true, Some}
 use Rattle.std.specs.FinMap.{get}
 use Rattle.ft_base.specs.declared.geometry.Geometry.{Geometry}
 use Rattle.ft_base.specs.Layout.{first_pool, blocks}
 use Rattle.cache_model.specs.Records.{Entries, has_bit}
 use Rattle.cache_model.specs.declared.entry.Entry.{Entry}
-
--- how many of the numbers from here on, so many, pass a test
-abbrev pub count_range : (ℕ → Bool) → ℕ → ℕ → ℕ
-count_range test from zero = 0
-count_range test from (suc n) = (if test from then 1 else 0) + count_range test (from + 1) n
 
 -- the set has one of the first pages
 abbrev pub HasPageBelow : ℕ → ℕ → Type 0

@@ -1,4 +1,3 @@
-pub mod Ascending
 pub mod MapValue
 pub mod Counts
 pub mod Fitting

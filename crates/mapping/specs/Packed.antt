@@ -1,13 +1,13 @@
 -- The entries of two packed maps: those in log blocks by address, and the data blocks by group.
-use Rattle.std.specs.Prelude.{◌≡◌, ℕ, ◌/◌, ◌%◌, ◌^◌, ◌≤◌, ◌==◌, ◌&&◌, false, if◌then◌else◌, List, [], ◌∷◌, ◌++◌, map, Option, None, Some}
+use Rattle.std.specs.Prelude.{[], ◌≡◌, ℕ, ◌/◌, ◌%◌, ◌^◌, ◌≤◌, ◌==◌, ◌&&◌, false, if◌then◌else◌, List, ◌∷◌, ◌++◌, map, Option, None, Some}
 use Rattle.std.specs.Ordering.{nat_cmp}
 use Rattle.std.specs.FinMap.{FinMap, get, entries}
 use Rattle.ft_base.specs.declared.geometry.Geometry.{Geometry}
 use Rattle.ft_base.specs.declared.record.Record.{Record}
 use Rattle.ft_base.specs.declared.record.Record.TheVariants.{SetPage, SetGroup}
 use Rattle.cache_model.specs.declared.entry.Entry.{Entry}
-use Rattle.cache_model.specs.Records.{Entries, no_entries, after, has_bit, in_log_block, page_of_group}
-use Rattle.block_map.specs.PageSets.{BlockPages, IsSound as IsSoundBlock}
+use Rattle.cache_model.specs.Records.{Entries, no_entries, after, has_bit, page_of_group}
+use Rattle.block_map.specs.PageSets.{BlockPages, IsSoundBlock}
 use Rattle.sparse_map.specs.Packed.{PackedTable, map_of, buckets_of, IsSound}
 use Rattle.mapping.specs.declared.log_page.LogPage.{LogPage}
 use Rattle.mapping.specs.Checkpoint.{set_group_of}
@@ -27,26 +27,21 @@ abbrev pub block_record : ℕ × BlockPages → Record
 block_record x = SetGroup x.0 x.1.block x.1.present x.1.dirty
 
 -- the entries once all of these are set
-abbrev pub with_blocks : Geometry → List (ℕ × BlockPages) → Entries
-with_blocks g [] = no_entries
-with_blocks g (x ∷ xs) = after g (block_record x) (with_blocks g xs)
+abbrev pub with_data_blocks : Geometry → List (ℕ × BlockPages) → Entries
+with_data_blocks g [] = no_entries
+with_data_blocks g (x ∷ xs) = after g (block_record x) (with_data_blocks g xs)
 
 abbrev pub with_logs : Geometry → List (ℕ × LogPage) → Entries → Entries
 with_logs g [] m = m
 with_logs g (x ∷ xs) m = after g (page_record x) (with_logs g xs m)
 
 unfoldable pub entries_of : Geometry → Pages → Blocks → Entries
-entries_of g pages blocks = with_logs g (entries pages) (with_blocks g (entries blocks))
+entries_of g pages blocks = with_logs g (entries pages) (with_data_blocks g (entries blocks))
 
 -- the entry of a page of a data block, where there is one
 abbrev pub page_in : Option BlockPages → ℕ → Option Entry
 page_in None i = None
 page_in (Some b) i = page_of_group b.block b.present b.dirty i
-
--- the entry of a log page, or else that of the data block
-abbrev pub entry_in : Option LogPage → Option Entry → Option Entry
-entry_in None o = o
-entry_in (Some x) o = Some (in_log_block x.place x.dirty)
 
 -- each data block has pages, all of them below P, and each dirty page of it is present
 pub record AreBlocks (g : Geometry) (blocks : Blocks) : Type 0 where

@@ -2,7 +2,6 @@
 ghost use Rattle.std.specs.Prelude.{◌≡◌, ◌<◌, ◌≤◌, ◌-◌, ◌/◌, ◌^◌, ◌↔◌, IsTrue};
 ghost use Rattle.ft_base.specs.declared.record.Record.TheVariants.{SetGroup};
 ghost use Rattle.cache_model.specs.Entries.{IsMap, Fits};
-ghost use Rattle.cache_model.specs.Spelling.{set_width};
 ghost use Rattle.mapping.specs.Counts.{dirty_group_count, data_block_count};
 ghost use Rattle.mapping.specs.Fitting.{HasPageBelow, EndsBelowSize, BlockMayCome};
 ghost use Rattle.mapping.specs.Index.{IsIndex};
@@ -12,14 +11,14 @@ use crate::held::Held;
 use crate::index::Index;
 use crate::marks::{Mark, may_have};
 use crate::seeking::{Sought, found_in};
+use block_map::page_set::PAGES;
 use ft_base::{Geometry, Record};
 
-/// Whether a set has one of the first pages.
-fn has_page(set: u64, pages: u32) -> bool
-    requires { pages ≤ set_width }
-    ensures { IsTrue result ↔ HasPageBelow set pages }
+/// Whether a set has one of the pages of an erase block.
+fn has_page(geometry: &Geometry, set: u64) -> bool
+    ensures { IsTrue result ↔ HasPageBelow set geometry.now.p }
 {
-    for page in 0..pages {
+    for page in 0..geometry.p {
         if (set >> page) & 1 == 1 {
             return true;
         }
@@ -27,15 +26,14 @@ fn has_page(set: u64, pages: u32) -> bool
     false
 }
 
-/// Whether a set has no pages but the first ones.
-fn is_set_below(set: u64, pages: u32) -> bool
-    requires { pages ≤ set_width }
-    ensures { IsTrue result ↔ (set < 2 ^ pages) }
+/// Whether a set has no pages but those of an erase block.
+fn is_set_below(geometry: &Geometry, set: u64) -> bool
+    ensures { IsTrue result ↔ (set < 2 ^ geometry.now.p) }
 {
-    if pages == 64 {
+    if geometry.p == PAGES {
         return true;
     }
-    set >> pages == 0
+    set >> geometry.p == 0
 }
 
 /// Whether the present pages of a group are below the volume's size.
@@ -67,7 +65,7 @@ fn may_come(
     requires index { IsIndex geometry.now held.now.entries index.now }
     ensures { IsTrue result ↔ BlockMayCome geometry.now group block present held.now.entries }
 {
-    if !has_page(present, geometry.p) {
+    if !has_page(geometry, present) {
         return true;
     }
     if block < geometry.first_pool() {
@@ -105,17 +103,17 @@ pub fn fits_group(
     if group > (geometry.size - 1) / geometry.p as u64 {
         return false;
     }
-    if !is_set_below(present, geometry.p) {
+    if !is_set_below(geometry, present) {
         return false;
     }
-    if !is_set_below(dirty, geometry.p) {
+    if !is_set_below(geometry, dirty) {
         return false;
     }
     if !may_come(held, index, geometry, group, block, present) {
         return false;
     }
     let near = group * geometry.p as u64;
-    let mapped = has_page(present, geometry.p);
+    let mapped = has_page(geometry, present);
     if !may_have(
         held,
         geometry,
@@ -127,7 +125,7 @@ pub fn fits_group(
     ) {
         return false;
     }
-    let marked = has_page(present & dirty, geometry.p);
+    let marked = has_page(geometry, present & dirty);
     may_have(
         held,
         geometry,

@@ -2,9 +2,8 @@
 ghost use Rattle.std.specs.Prelude.{◌≡◌, ◌<◌, ◌≤◌, ◌+◌, ◌-◌, ◌*◌, ◌/◌, ◌%◌, ◌^◌, ◌==◌, ℕ, None, false, length, max, IfSome, IfNone, OnOk, OnErr, if◌then◌else◌};
 ghost use Rattle.std.specs.FinMap as map;
 ghost use Rattle.cache_model.specs.Records.{no_entries, after, has_bit};
-ghost use Rattle.cache_model.specs.Spelling.{set_width};
 ghost use Rattle.ft_base.specs.declared.record.Record.TheVariants.{SetPage, Remove, Clean, SetGroup, RemoveGroup};
-ghost use Rattle.block_map.specs.PageSets.{IsSound as IsSoundBlock};
+ghost use Rattle.block_map.specs.PageSets.{IsSoundBlock};
 ghost use Rattle.sparse_map.specs.Packed.{map_of, buckets_of, IsSound};
 ghost use Rattle.mapping.specs.declared.bits.Choice.TheVariants.{Mapped};
 ghost use Rattle.mapping.specs.Bits.{chosen_of, IsDataBlock};
@@ -74,14 +73,13 @@ impl Held {
     pub fn entry(&self, lba: u64) -> Option<Entry>
         ensures { result ≡ map.get self.now.entries lba }
     {
-        let pages = self.geometry.p as u64;
         match log_page(&self.pages, lba) {
             Some(page) => Some(Entry {
                 place: page.place,
                 dirty: page.dirty,
                 block_mapped: false,
             }),
-            None => page_in(block_at(&self.blocks, lba / pages), (lba % pages) as u32),
+            None => entry_in_block(&self.geometry, &self.blocks, lba),
         }
     }
 
@@ -258,12 +256,13 @@ fn block_at(blocks: &SparseMap<BlockAt>, group: u64) -> Option<BlockAt>
     }
 }
 
-/// The entry of a page of a data block.
-fn page_in(block: Option<BlockAt>, page: u32) -> Option<Entry>
-    requires { page < set_width }
-    ensures { result ≡ page_in block page }
+/// The entry of an address in the data block of its group.
+fn entry_in_block(geometry: &Geometry, blocks: &SparseMap<BlockAt>, lba: u64) -> Option<Entry>
+    ensures { result ≡ page_in (map.get (map_of blocks.now) (lba / geometry.now.p)) (lba % geometry.now.p) }
 {
-    let found = block?;
+    let pages = geometry.p as u64;
+    let found = block_at(blocks, lba / pages)?;
+    let page = (lba % pages) as u32;
     if !found.has(page) {
         return None;
     }
@@ -279,7 +278,7 @@ fn page_in(block: Option<BlockAt>, page: u32) -> Option<Entry>
 
 /// Leaves a page out of the data block of a group.
 fn take_out(geometry: &Geometry, blocks: &mut SparseMap<BlockAt>, group: u64, page: u32)
-    requires page { page < set_width }
+    requires page { page < geometry.now.p }
     requires sound { IsSound blocks.old }
     ensures left { IsLeftOut geometry.now (map_of blocks.old) (map_of blocks.new) group page }
     ensures spare { blocks.new.spare ≡ blocks.old.spare }

@@ -13,7 +13,8 @@ use Rattle.ft_base.specs.Contents.{Contents, Flash, Values, IsOneOf, HasValue, f
 use Rattle.ft_base.proofs.Images.{set_here, set_other}
 use Rattle.ft_media.specs.declared.media.MediaError.TheVariants as error
 use Rattle.ft_media.specs.State.{State, Power}
-use Rattle.ft_media.specs.Media.{DiskStays, LeavesPage, PagesErased, DeviceWrite, KeepsReady, after_write}
+use Rattle.ft_media.specs.Media.{DiskStays, LeavesPage, PagesErased, DeviceWrite, after_write}
+use Rattle.ft_media.specs.Fitted.{KeepsReady}
 use Rattle.ft_media.specs.Rig.{Cut, SettledByStop}
 use Rattle.ft_base.specs.declared.power.Stop.{Stop}
 use Rattle.device_calls.specs.declared.ending.Ending.{Ending}
@@ -23,6 +24,7 @@ use Rattle.ft_media.specs.Rig.{after_cut, cut_value, flushed_value, oldest}
 use Rattle.disk_model.specs.Steps.{write_left, flush_left}
 use Rattle.mem_rig.specs.Power.{FellDue, PowerLeft, WasCounted}
 use Rattle.mem_rig.specs.Steps.{cut_contents, cut_bumped}
+use Rattle.mem_rig.proofs.OffLemmas.{on_off}
 
 -- a cut leaves one of the values
 oldest_is_one : (newest : Block) (earlier : List Block) → (oldest newest earlier ≡ newest) ⊎ IsOneOf earlier (oldest newest earlier)
@@ -49,9 +51,6 @@ disk_same old new was_lost same = record { stays = λ kept. same; values = λ lb
 
 pub disk_cut : (old new : Contents) (left : Outcome) → new.disk ≡ after_cut left old.disk → DiskStays old new true
 disk_cut old new left cut = record { stays = λ kept. cc; values = λ lba block has. settled_values left old.disk lba block (subst (λ (d : ℕ → Values). HasValue (d lba) block) cut has) }
-
-on_off : (on : Bool) → on ≡ true → on ≡ false → ⊥
-on_off on is_on is_off = cc
 
 -- the stop that cut a device write was the front one
 same_front : (front other : Stop) (later rest : List Stop) → front ∷ later ≡ other ∷ rest → front ≡ other

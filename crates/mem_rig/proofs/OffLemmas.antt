@@ -15,7 +15,7 @@ use Rattle.mem_rig.proofs.PowerLemmas.{power_left}
 abbrev WasLost : Ending → Power → Type 0
 WasLost how old = ((outcome : Outcome) × (how ≡ ending.Cut outcome)) ⊎ ((how ≡ ending.Off) × (old.on ≡ false))
 
-on_off : (on : Bool) → on ≡ true → on ≡ false → ⊥
+pub on_off : (on : Bool) → on ≡ true → on ≡ false → ⊥
 on_off on is_on is_off = cc
 
 was_lost : (how : Ending) (old new : Power) → PowerLeft how old new → new.on ≡ false → WasLost how old

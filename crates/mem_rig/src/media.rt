@@ -231,7 +231,8 @@ impl Media for MemRig {
 impl Rig for MemRig {
     ghost use Rattle.std.specs.Prelude.{◌<◌, ◌≤◌, length};
     ghost use Rattle.nand_model.specs.Nand.{HasRoom};
-    ghost use Rattle.ft_media.specs.Rig.{fitted, Armed, Cut, powered};
+    ghost use Rattle.ft_media.specs.Rig.{Armed, Cut, powered};
+    ghost use Rattle.ft_media.specs.Fitted.{fitted};
     ghost use Rattle.mem_rig.specs.Power.{power_after_arm};
     ghost use Rattle.mem_rig.specs.Steps.{cut_contents, cut_bumped};
 

@@ -1,6 +1,6 @@
 ghost use Rattle.std.specs.Prelude.{◌≡◌, ◌≤◌, ℕ, false, []};
 ghost use Rattle.ft_base.specs.Count.{last_count};
-ghost use Rattle.nand_model.specs.Nand.{flash_of, block_count, page_count, HasRoom};
+ghost use Rattle.nand_model.specs.Nand.{flash_of, nand_blocks, nand_pages, HasRoom};
 ghost use Rattle.nand_model.specs.Nand as nand_numbers;
 ghost use Rattle.disk_model.specs.Disk.{disk_of, size_of};
 ghost use Rattle.disk_model.specs.Disk as disk_numbers;
@@ -34,7 +34,8 @@ impl MemRig {
     ghost use Rattle.std.specs.Prelude.{◌<◌, ◌^◌, true, length, Some, OnOk, OnErr, IfOk};
     ghost use Rattle.std.specs.Result.{result_err};
     ghost use Rattle.ft_media.specs.Media.{Found, UnlessWhole};
-    ghost use Rattle.ft_media.specs.Rig.{new_contents, fitted, powered};
+    ghost use Rattle.ft_media.specs.Rig.{powered};
+    ghost use Rattle.ft_media.specs.Fitted.{new_contents, fitted};
     ghost use Rattle.device_calls.specs.Calls.{failing_numbers, calls_made};
     ghost use Rattle.nand_model.specs.Steps.{program_left, erase_left};
     ghost use Rattle.disk_model.specs.Steps.{write_left, flush_left, TakesMemory};
@@ -340,8 +341,8 @@ fn settle_beside(disk: &mut MemDisk, ending: Ending)
 /// The flash after a device write of the disk: no block is ready where that was cut.
 fn stop_beside(nand: &mut MemNand, ending: Ending)
     ensures flash { flash_of nand.new ≡ flash_beside ending (flash_of nand.old) }
-    ensures blocks { block_count nand.new ≡ block_count nand.old }
-    ensures pages { page_count nand.new ≡ page_count nand.old }
+    ensures blocks { nand_blocks nand.new ≡ nand_blocks nand.old }
+    ensures pages { nand_pages nand.new ≡ nand_pages nand.old }
     ensures numbers { nand_numbers.SameNumbers nand.old nand.new }
 {
     if let Ending::Cut(_) = ending {

@@ -11,8 +11,8 @@ use Rattle.ft_base.proofs.Images.{set_here, set_other}
 use Rattle.ft_media.specs.Media.{IsBlankAhead, LeavesPage, after_program}
 use Rattle.cache_model.specs.declared.entry.Entry.{Entry}
 use Rattle.cache_model.specs.Loading.{is_whole}
-use Rattle.cache_model.specs.Cache.{CacheList}
-use Rattle.checkpoint.proofs.MapsLemmas.{set_page-here}
+use Rattle.cache_model.specs.CacheList.{CacheList}
+use Rattle.cache_model.proofs.LogLemmas.{set_page-here}
 use Rattle.cache_model.specs.Spelling.{data_spare}
 use Rattle.log_blocks.specs.Logs.{LogBlocksValue, IsInUse, next_place}
 use Rattle.merge_engine.specs.declared.parts.Parts.{Parts}

@@ -18,8 +18,9 @@ use Rattle.cache_model.specs.Records.{Entries}
 use Rattle.cache_model.specs.Entries.{IsMap}
 use Rattle.cache_model.specs.Loading.{◌>>=◌, after_all, checkpoint_of, load, log_region, is_whole, wanted}
 use Rattle.cache_model.specs.Loading.Refusal.{NotFormatted}
-use Rattle.cache_model.specs.Laws.{ArePages, LoadsAlike, SameBut}
-use Rattle.cache_model.specs.Cache.{CacheList, held}
+use Rattle.cache_model.specs.Laws.{ArePages}
+use Rattle.cache_model.proofs.Alike.{LoadsAlike, SameBut}
+use Rattle.cache_model.specs.CacheList.{CacheList, held}
 use Rattle.cache_model.specs.Stands.{FlashStandsFor, held_at, held_in}
 use Rattle.cache_model.proofs.MapLemmas.{by_get}
 use Rattle.cache_model.proofs.LoadLemmas.{checkpoint_below, log_below, loaded_is, newest_below, newest_is, same_for, load_same, stands_but, set_page-other, pages_from-same}
@@ -138,7 +139,7 @@ module _ (parts : Parts) (old new : Contents) (agree : Agree parts old) (beside 
 
   -- the parts agree, whatever is used for what, where the regions are as ready as before
   pub agree_beside : (pool : PoolValue) (logs : LogBlocksValue) → new.shape ≡ old.shape → ((b : ℕ) → b < first_pool parts.geometry → new.flash.next b ≡ old.flash.next b)
-      → AreOfOne (record parts { pool = pool; logs = logs }) → RolesAgree (record parts { pool = pool; logs = logs }) → list.IsSound logs → IsOpenBlock logs new.flash
+      → AreOfOne (record parts { pool = pool; logs = logs }) → RolesAgree (record parts { pool = pool; logs = logs }) → list.AreSoundLogs logs → IsOpenBlock logs new.flash
       → Agree (record parts { pool = pool; logs = logs }) new
   agree_beside pool logs shape ready of_one roles sound opened =
       let s = agree.sound in

@@ -9,7 +9,7 @@ use Rattle.cache_model.specs.declared.entry.Entry.{Entry}
 use Rattle.cache_model.specs.Records.{Entries}
 use Rattle.cache_model.specs.Entries.{IsMap}
 use Rattle.cache_model.specs.Loading.{load, is_whole}
-use Rattle.cache_model.specs.Cache.{CacheList}
+use Rattle.cache_model.specs.CacheList.{CacheList}
 use Rattle.cache_model.specs.Stands.{FlashStandsFor}
 use Rattle.cache_model.proofs.FitsLemmas.{load-map}
 use Rattle.op_log.specs.Log.{LogValue, FitsOn}
@@ -19,7 +19,7 @@ use Rattle.log_blocks.specs.Logs.{next_place}
 use Rattle.merge_engine.specs.declared.parts.Parts.{Parts}
 use Rattle.merge_engine.proofs.BesideLemmas.{held_same}
 use Rattle.merge_engine.proofs.RoleLemmas.{open_in_use}
-use Rattle.merge_engine.specs.Agreement.{IsSound, Agree, Lists, IsListOn}
+use Rattle.merge_engine.specs.Agreement.{ArePartsSound, Agree, Lists, IsListOn}
 
 -- ---- the pool is as before
 
@@ -41,7 +41,7 @@ stands_as_before g page page' list stays same stands = stands_by_pool g page pag
 
 -- ---- after a commit
 
-module _ (old : Parts) (log : LogValue) (marks : Geometry) (before now : Contents) (sound : IsSound old before) (pool : PoolStays old.log.geometry before.flash.page now.flash.page) where
+module _ (old : Parts) (log : LogValue) (marks : Geometry) (before now : Contents) (sound : ArePartsSound old before) (pool : PoolStays old.log.geometry before.flash.page now.flash.page) where
   abbrev pub committed : Parts
   committed = record old { log = log; marks = marks }
 

@@ -23,7 +23,7 @@ use Rattle.cache_model.specs.Loading.{is_whole, load}
 use Rattle.mapping.specs.Counts.{place_and_mark}
 use Rattle.cache_model.specs.declared.format.SpareKind.TheVariants.{Filler}
 use Rattle.cache_model.specs.Spelling.{spelled_spare, spare_fields}
-use Rattle.cache_model.specs.Cache.{CacheList}
+use Rattle.cache_model.specs.CacheList.{CacheList}
 use Rattle.cache_model.proofs.LoadLemmas.{set_page-other}
 use Rattle.block_pool.specs.Pool.{IsFree, IsInPool}
 use Rattle.log_blocks.specs.Logs.{IsInUse, next_place}
@@ -35,7 +35,7 @@ use Rattle.merge_engine.specs.Agreement.{Agree, AreOfOne, Lists}
 use Rattle.merge_engine.specs.Merges.{ReachesTo, programs_counted}
 use Rattle.merge_engine.specs.Steps.{IsCopyOf, filler_page}
 use Rattle.merge_engine.proofs.BesideLemmas.{ChangedBeside, leaves_beside, lists_beside, agree_beside, loaded_whole, current_map}
-use Rattle.checkpoint.proofs.MapsLemmas.{set_page-here}
+use Rattle.cache_model.proofs.LogLemmas.{set_page-here}
 use Rattle.merge_engine.proofs.RoleLemmas.{free_in_pool, free_not_in_use, open_in_use}
 
 -- ---- the next page of a free erase block is programmed

@@ -157,7 +157,7 @@ free_or_used pool from (suc n) = elim (free_or_used pool (suc from) n) [
       | inr apart ↦ rest b (omega (arith, apart)) (omega arith)
     ])
 
-pub free_block : (parts : Parts) → AreOfOne parts → IsMap parts.geometry parts.map.entries → RolesAgree parts → list.IsSound parts.logs → (b : ℕ) × IsFree parts.pool b
+pub free_block : (parts : Parts) → AreOfOne parts → IsMap parts.geometry parts.map.entries → RolesAgree parts → list.AreSoundLogs parts.logs → (b : ℕ) × IsFree parts.pool b
 free_block parts of_one is_map roles sound =
     let g = parts.geometry in
     elim (free_or_used parts.pool (first_pool g) (g.c + g.l + 1)) [

@@ -9,7 +9,8 @@ use Rattle.ft_base.specs.declared.block.Page.{Page}
 use Rattle.cache_model.specs.declared.entry.Entry.{Entry}
 use Rattle.cache_model.specs.Records.{Entries, is_in_group}
 use Rattle.cache_model.specs.Entries.{each_once, IsMap}
-use Rattle.cache_model.specs.Cache.{CacheList, Held, held, IsWhollyClean, groups}
+use Rattle.cache_model.specs.Cache.{IsWhollyClean, groups}
+use Rattle.cache_model.specs.CacheList.{CacheList, Held, held}
 use Rattle.cache_model.specs.Stands.{held_at}
 use Rattle.cache_model.proofs.StandLemmas.{whole_held}
 use Rattle.cache_model.proofs.MapLemmas.{by_get, get_retain}
@@ -32,7 +33,7 @@ use Rattle.merge_engine.proofs.MovedLemmas.{dropped_here, dropped_other}
 abbrev pub mapped_numbers : Geometry → Entries → List ℕ
 mapped_numbers g m = numbers (λ (x : ℕ × Entry). x.0 / g.p) (λ (e : Entry). e.block_mapped) (entries m)
 
-abbrev dirty_numbers : Geometry → Entries → List ℕ
+abbrev pub dirty_numbers : Geometry → Entries → List ℕ
 dirty_numbers g m = numbers (λ (x : ℕ × Entry). x.0 / g.p) (λ (e : Entry). e.dirty) (entries m)
 
 is_there : (g : Geometry) (m : Entries) (group : ℕ) → HasDataBlock g m group → member group (mapped_numbers g m) ≡ true
@@ -99,7 +100,7 @@ module _ (g : Geometry) (m : Entries) (page : Place → Page) (s : CacheList) (w
           some_held x y e = cc
 
   -- a group that is wholly clean in the entries is so in the list
-  pub clean_listed : (group : ℕ) → entries_are.IsWhollyClean g m group → IsWhollyClean g s group
+  pub clean_listed : (group : ℕ) → entries_are.HoldsCleanAlone g m group → IsWhollyClean g s group
   clean_listed group is = record {
     some = let x = is.held in let y = listed x.0 x.1 x.2 in (x.0, y.0, y.1, x.3);
     clean = λ a h at same. let x = entered a h at in x.2 ∙ is.clean a x.0 x.1 same;
@@ -153,7 +154,7 @@ module _ (g : Geometry) (m : Entries) (page : Place → Page) (s : CacheList) (w
       let full = lacks.full in
       omega (arith, few, full)
 
-  gave_room : (group gone : ℕ) → LacksRoom g m group → IsGroupHeld g m group → entries_are.IsWhollyClean g m gone → g.c ≤ length (groups g (list_without g gone s)) → GaveRoom g s (list_without g gone s)
+  gave_room : (group gone : ℕ) → LacksRoom g m group → IsGroupHeld g m group → entries_are.HoldsCleanAlone g m gone → g.c ≤ length (groups g (list_without g gone s)) → GaveRoom g s (list_without g gone s)
   gave_room group gone lacks x clean left = record {
     gone = λ k. k == gone;
     stays = get_without gone;

@@ -7,7 +7,7 @@ use Rattle.cache_model.proofs.CountLemmas.{same_number}
 use Rattle.mapping.specs.MapValue.{MapValue}
 use Rattle.block_pool.specs.Pool.{PoolValue, IsInPool, role_of}
 use Rattle.block_pool.specs.declared.pool.Role.TheVariants.{Free, Data, Log}
-use Rattle.log_blocks.specs.Logs.{LogBlocksValue, IsInUse, is_in, is_open, released, without}
+use Rattle.log_blocks.specs.Logs.{LogBlocksValue, IsInUse, is_in, is_open, released, without_block}
 use Rattle.log_blocks.specs.Logs as list
 use Rattle.log_blocks.proofs.LogsLemmas.{is_in-at, is_in-without, length-without}
 use Rattle.merge_engine.specs.declared.parts.Parts.{Parts}
@@ -33,9 +33,9 @@ not_in_use logs block used =
 pub open_still : (logs : LogBlocksValue) (block : ℕ) (flash : Flash) → IsOpenBlock logs flash → IsOpenBlock (released block logs) flash
 open_still logs block flash opened = by_case (is_open logs block) refl
   where
-    by_case : (b : Bool) → is_open logs block ≡ b → IsOpenBlock (record logs { used = without block logs.used; open_block = cond (is_open logs block) None logs.open_block; room = cond (is_open logs block) 0 logs.room }) flash
-    by_case true is = subst (λ b. IsOpenBlock (record logs { used = without block logs.used; open_block = cond b None logs.open_block; room = cond b 0 logs.room }) flash) (sym is) (λ some. absurd (omega arith))
-    by_case false is = subst (λ b. IsOpenBlock (record logs { used = without block logs.used; open_block = cond b None logs.open_block; room = cond b 0 logs.room }) flash) (sym is) opened
+    by_case : (b : Bool) → is_open logs block ≡ b → IsOpenBlock (record logs { used = without_block block logs.used; open_block = cond (is_open logs block) None logs.open_block; room = cond (is_open logs block) 0 logs.room }) flash
+    by_case true is = subst (λ b. IsOpenBlock (record logs { used = without_block block logs.used; open_block = cond b None logs.open_block; room = cond b 0 logs.room }) flash) (sym is) (λ some. absurd (omega arith))
+    by_case false is = subst (λ b. IsOpenBlock (record logs { used = without_block block logs.used; open_block = cond b None logs.open_block; room = cond b 0 logs.room }) flash) (sym is) opened
 
 module _ (parts : Parts) (block : ℕ) (in_pool : IsInPool parts.geometry block) (unheld : IsUnheld parts.map.entries block) (pool : PoolValue)
     (role : role_of pool block ≡ Free) (others : (b : ℕ) → IsInPool parts.geometry b → (b ≡ block → ⊥) → role_of pool b ≡ role_of parts.pool b) where
@@ -65,7 +65,7 @@ module _ (parts : Parts) (block : ℕ) (in_pool : IsInPool parts.geometry block)
       apart : (b : ℕ) → (b == block) ≡ false → b ≡ block → ⊥
       apart b f same = let both : true ≡ false = sym (same_number block) ∙ ap (λ n. n == block) (sym same) ∙ f in cc
 
-  pub agree_given : (contents : Contents) → Agree parts contents → AreOfOne (record parts { pool = pool; logs = released block parts.logs }) → list.IsSound (released block parts.logs) → Agree (record parts { pool = pool; logs = released block parts.logs }) contents
+  pub agree_given : (contents : Contents) → Agree parts contents → AreOfOne (record parts { pool = pool; logs = released block parts.logs }) → list.AreSoundLogs (released block parts.logs) → Agree (record parts { pool = pool; logs = released block parts.logs }) contents
   agree_given contents agree of_one sound =
       agree_beside parts contents contents agree (same_beside parts.geometry parts.map.entries agree.sound.current.durable contents.flash.page contents.flash.page refl) pool (released block parts.logs) refl (λ b low. refl) of_one (roles_given agree.sound.roles) sound
       (open_still parts.logs block contents.flash agree.sound.open_block)
@@ -89,7 +89,7 @@ gave_back-more old mid new block gave is of_one unheld agree = record {
 }
 
 -- each is one fewer
-pub one_fewer : (mid new : Parts) (block : ℕ) → new ≡ record mid { pool = new.pool; logs = released block mid.logs } → list.IsSound mid.logs → IsInUse mid.logs block → length new.logs.used + 1 ≡ length mid.logs.used
+pub one_fewer : (mid new : Parts) (block : ℕ) → new ≡ record mid { pool = new.pool; logs = released block mid.logs } → list.AreSoundLogs mid.logs → IsInUse mid.logs block → length new.logs.used + 1 ≡ length mid.logs.used
 one_fewer mid new block is sound used = ap (λ (p : Parts). length p.logs.used + 1) is ∙ length-without block mid.logs.used sound.distinct used
 
 -- fewer are in use; or all that were, and something stands in each of the first so many
@@ -137,7 +137,7 @@ fewer_left old new i past (inr same) some =
     absurd (same.1 at.0 some.0 (omega arith) at.2 some.2)
 
 -- where one can be begun without a merge, fewer than L are left
-pub few_left : (old mid : Parts) → list.IsSound old.logs → old.logs.geometry ≡ old.geometry → mid.geometry ≡ old.geometry → length mid.logs.used ≤ length old.logs.used
+pub few_left : (old mid : Parts) → list.AreSoundLogs old.logs → old.logs.geometry ≡ old.geometry → mid.geometry ≡ old.geometry → length mid.logs.used ≤ length old.logs.used
     → (HasUnheldLog old → length mid.logs.used < length old.logs.used) → CanBeginLog old → length mid.logs.used < mid.geometry.l
 few_left old mid sound own same no_more fewer (inl few) = let l = ap (λ (h : Geometry). h.l) same in omega arith
 few_left old mid sound own same no_more fewer (inr some) =
@@ -148,7 +148,7 @@ few_left old mid sound own same no_more fewer (inr some) =
     omega arith
 
 -- once the oldest is out of use there is room for one more
-pub room_after : (logs new : LogBlocksValue) → list.IsSound logs → 1 ≤ length logs.used → ((oldest : ℕ) → slice_get logs.used 0 ≡ Some oldest → new ≡ released oldest logs) → length new.used < logs.geometry.l
+pub room_after : (logs new : LogBlocksValue) → list.AreSoundLogs logs → 1 ≤ length logs.used → ((oldest : ℕ) → slice_get logs.used 0 ≡ Some oldest → new ≡ released oldest logs) → length new.used < logs.geometry.l
 room_after logs new sound some gone = by_case logs.used refl
   where
     by_case : (used : List ℕ) → logs.used ≡ used → length new.used < logs.geometry.l

@@ -147,7 +147,7 @@ roles_all g m pool numbers i all past so_far = record {
 -- those below a number are in the list, and no others
 pub record AdoptedBelow (g : Geometry) (pool : PoolValue) (logs : LogBlocksValue) (block : ℕ) : Type 0 where
   pub geometry : logs.geometry ≡ g
-  pub sound : list.IsSound logs
+  pub sound : list.AreSoundLogs logs
   pub closed : logs.room ≡ 0
   pub used : (b : ℕ) → IsInUse logs b → IsInPool g b × (role_of pool b ≡ Log) × (b < block)
   pub each : (b : ℕ) → IsInPool g b → b < block → role_of pool b ≡ Log → IsInUse logs b

@@ -4,7 +4,7 @@ use Rattle.ft_base.specs.declared.geometry.Geometry.{Geometry}
 use Rattle.ft_base.specs.declared.block.Place.{Place}
 use Rattle.ft_base.specs.declared.block.Page.{Page}
 use Rattle.ft_media.specs.State.{State}
-use Rattle.cache_model.specs.Cache.{CacheList}
+use Rattle.cache_model.specs.CacheList.{CacheList}
 use Rattle.op_log.specs.Log.{LogValue}
 use Rattle.log_blocks.specs.Logs.{LogBlocksValue}
 use Rattle.merge_engine.specs.declared.parts.Parts.{Parts}

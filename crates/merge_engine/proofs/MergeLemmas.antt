@@ -6,7 +6,7 @@ use Rattle.ft_base.specs.declared.block.Place.{Place}
 use Rattle.ft_base.specs.declared.block.Page.{Page}
 use Rattle.ft_base.specs.Contents.{Contents}
 use Rattle.cache_model.specs.Records.{Entries}
-use Rattle.cache_model.specs.Cache.{CacheList}
+use Rattle.cache_model.specs.CacheList.{CacheList}
 use Rattle.block_map.specs.PageSets.{BlockPages}
 use Rattle.mapping.specs.declared.bits.Choice.TheVariants.{Mapped}
 use Rattle.mapping.specs.Bits.{chosen_of, IsDataBlock}

@@ -16,7 +16,7 @@ use Rattle.ft_base.specs.declared.record.Record.{Record}
 use Rattle.ft_media.proofs.DrivesLemmas.{drives_then}
 use Rattle.cache_model.specs.declared.entry.Entry.{Entry}
 use Rattle.cache_model.specs.Records.{Entries}
-use Rattle.cache_model.specs.Cache.{CacheList}
+use Rattle.cache_model.specs.CacheList.{CacheList}
 use Rattle.cache_model.specs.Stands.{FlashStandsFor}
 use Rattle.checkpoint.specs.Current.{PoolStays}
 use Rattle.block_pool.specs.Pool.{PoolValue, IsFree, IsInPool, role_of}

@@ -26,12 +26,10 @@ use Rattle.mapping.proofs.MarksLemmas.{member_from, member_to}
 use Rattle.silent_evict.specs.Candidates.{IsGroupHeld}
 use Rattle.merge_engine.specs.Merges.{move_record, moved, dropped, HasBlockOrRoom}
 use Rattle.merge_engine.specs.Steps.{IsUnheld}
+use Rattle.mapping.proofs.SeekingLemmas.{none_some}
 
 some_same : (x y : Entry) → Some x ≡ Some y → x ≡ y
 some_same x y s = cc
-
-none_some : {A : Type 0} (x : Entry) → None ≡ Some x → A
-none_some x s = absurd (cc)
 
 module _ (g : Geometry) (m : Entries) (group : ℕ) where
   some_pages : 0 < g.p

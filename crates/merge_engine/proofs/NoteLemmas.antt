@@ -15,8 +15,9 @@ use Rattle.cache_model.specs.declared.entry.Entry.{Entry}
 use Rattle.cache_model.specs.Records.{Entries, after, cleaned, in_log_block}
 use Rattle.cache_model.specs.Entries.{IsMap, Fits, fits}
 use Rattle.cache_model.specs.Loading.{after_all, is_whole}
-use Rattle.cache_model.specs.Laws.{IsLess, IsLessOf}
-use Rattle.cache_model.specs.Cache.{written_block, CacheList, marked_as, evicted, made_clean}
+use Rattle.cache_model.proofs.Alike.{IsLess, IsLessOf}
+use Rattle.cache_model.specs.Cache.{written_block, marked_as, evicted, made_clean}
+use Rattle.cache_model.specs.CacheList.{CacheList}
 use Rattle.cache_model.specs.Spelling.{data_spare}
 use Rattle.cache_model.specs.Stands.{held_at, held_in}
 use Rattle.cache_model.proofs.MapLemmas.{get_insert, get_remove}

@@ -45,7 +45,7 @@ log_page_mapped parts roles a e is used mapped =
     cc
 
 -- where the open log block has a page left, it is one of those in use
-pub open_in_use : (logs : LogBlocksValue) → list.IsSound logs → 1 ≤ logs.room → IsInUse logs (next_place logs).block
+pub open_in_use : (logs : LogBlocksValue) → list.AreSoundLogs logs → 1 ≤ logs.room → IsInUse logs (next_place logs).block
 open_in_use logs sound some = at logs.open_block refl sound.last
   where
     at : (o : Option ℕ) → logs.open_block ≡ o → IfSome o (λ b. last_of logs.used ≡ Some b) → IsInUse logs (unwrap_or logs.open_block 0)

@@ -4,7 +4,8 @@ use Rattle.std.specs.FinMap.{get, entries}
 use Rattle.std.proofs.lemmas.Bool.{cases_Bool, or_cases, or_right}
 use Rattle.ft_base.specs.declared.geometry.Geometry.{Geometry}
 use Rattle.cache_model.specs.Entries.{each_once}
-use Rattle.cache_model.specs.Cache.{CacheList, Held, IsWhollyClean, Vanish, groups, with_group}
+use Rattle.cache_model.specs.Cache.{IsWhollyClean, Vanish, groups, with_group}
+use Rattle.cache_model.specs.CacheList.{CacheList, Held}
 use Rattle.cache_model.proofs.CountLemmas.{member, each_once-le}
 use Rattle.merge_engine.specs.Room.{GaveRoom, GivesRoom}
 

@@ -14,7 +14,7 @@ use Rattle.cache_model.specs.Records.{Entries, after}
 use Rattle.cache_model.specs.Entries.{IsMap, Fits}
 use Rattle.cache_model.specs.Spelling.{may_stand_in}
 use Rattle.cache_model.specs.Loading.{is_whole}
-use Rattle.cache_model.specs.Cache.{CacheList, held}
+use Rattle.cache_model.specs.CacheList.{CacheList, held}
 use Rattle.cache_model.specs.Stands.{held_at, held_in}
 use Rattle.op_log.specs.Log.{LogValue, pushed}
 use Rattle.checkpoint.specs.Current.{IsCurrent}
@@ -63,7 +63,7 @@ module _ (parts : Parts) (group block present dirty : ℕ) (one : AreOfOne parts
       (one' : AreOfOne (switched_to parts map (SetGroup group block present dirty) pool' block))
       (follows : FollowsGroup parts.geometry group parts.map.entries map.entries parts.pool pool)
       (own : role_of pool' block ≡ Data) (rest : (b : ℕ) → IsInPool pool.geometry b → (b ≡ block → ⊥) → role_of pool' b ≡ role_of pool b)
-      (sound : list.IsSound (released block parts.logs)) where
+      (sound : list.AreSoundLogs (released block parts.logs)) where
     entries_are : map.entries ≡ moved parts.geometry parts.map.entries group block
     entries_are = switch_entries map.entries is
 
@@ -181,7 +181,7 @@ module _ (old noted : Parts) (pool : PoolValue) (logs : LogBlocksValue) (group b
     (is : noted ≡ record old { map = noted.map; log = noted.log; pool = noted.pool }) (log : noted.log ≡ pushed (SetGroup group block present dirty) old.log)
     (entries : noted.map.entries ≡ after old.geometry (SetGroup group block present dirty) old.map.entries)
     (one' : AreOfOne noted) (follows : FollowsGroup old.geometry group old.map.entries noted.map.entries old.pool noted.pool)
-    (out : logs ≡ released block noted.logs) (sound : list.IsSound logs)
+    (out : logs ≡ released block noted.logs) (sound : list.AreSoundLogs logs)
     (same : pool.geometry ≡ noted.pool.geometry) (own : role_of pool block ≡ Data) (rest : (b : ℕ) → IsInPool noted.pool.geometry b → (b ≡ block → ⊥) → role_of pool b ≡ role_of noted.pool b) where
   switched_is : record noted { pool = pool; logs = logs } ≡ switched_to old noted.map (SetGroup group block present dirty) pool block
   switched_is = as_switched old noted (SetGroup group block present dirty) pool logs block is log out
@@ -189,8 +189,8 @@ module _ (old noted : Parts) (pool : PoolValue) (logs : LogBlocksValue) (group b
   of_one_after : AreOfOne (switched_to old noted.map (SetGroup group block present dirty) pool block)
   of_one_after = subst (λ (p : Parts). AreOfOne p) switched_is (of_one_switched noted pool logs same (ap (λ (l : LogBlocksValue). l.geometry) out) one')
 
-  sound_after : list.IsSound (released block old.logs)
-  sound_after = subst (λ (l : LogBlocksValue). list.IsSound l) (out ∙ ap (λ (p : Parts). released block p.logs) is) sound
+  sound_after : list.AreSoundLogs (released block old.logs)
+  sound_after = subst (λ (l : LogBlocksValue). list.AreSoundLogs l) (out ∙ ap (λ (p : Parts). released block p.logs) is) sound
 
   pub agree_switch : (contents : Contents) → Agree old contents → Agree (record noted { pool = pool; logs = logs }) contents
   agree_switch contents agree =

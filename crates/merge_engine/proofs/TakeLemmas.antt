@@ -9,9 +9,9 @@ use Rattle.ft_base.proofs.Images.{set_here, set_other}
 use Rattle.ft_media.specs.Media.{PagesErased, after_erase}
 use Rattle.cache_model.specs.Records.{Entries}
 use Rattle.cache_model.specs.Entries.{IsMap}
-use Rattle.cache_model.specs.Cache.{CacheList}
+use Rattle.cache_model.specs.CacheList.{CacheList}
 use Rattle.block_pool.specs.Pool.{IsFree, IsInPool}
-use Rattle.log_blocks.specs.Logs.{begun, next_place}
+use Rattle.log_blocks.specs.Logs.{block_begun, next_place}
 use Rattle.log_blocks.specs.Logs as list
 use Rattle.merge_engine.specs.declared.parts.Parts.{Parts}
 use Rattle.merge_engine.specs.Agreement.{Agree, AreOfOne, IsOpenBlock, Lists, RolesAgree}
@@ -51,17 +51,17 @@ module _ (parts : Parts) (old new : Contents) (agree : Agree parts old) (none : 
   lists_taken = lists_beside parts old new agree beside
 
   -- with the block begun as the open log block
-  pub agree_begun : (begins : Parts) → begins ≡ record parts { pool = begins.pool; logs = begun block parts.logs } → new.shape ≡ old.shape → new.flash ≡ after_erase old.flash block
-      → AreOfOne begins → RolesAgree begins → list.IsSound begins.logs → Agree begins new
+  pub agree_begun : (begins : Parts) → begins ≡ record parts { pool = begins.pool; logs = block_begun block parts.logs } → new.shape ≡ old.shape → new.flash ≡ after_erase old.flash block
+      → AreOfOne begins → RolesAgree begins → list.AreSoundLogs begins.logs → Agree begins new
   agree_begun begins is shape ok of_one roles sound =
       subst (λ (p : Parts). Agree p new) (sym is)
-      (agree_beside parts old new agree beside begins.pool (begun block parts.logs) shape regions_ready
-      (subst (λ (p : Parts). AreOfOne p) is of_one) (subst (λ (p : Parts). RolesAgree p) is roles) (subst (λ (p : Parts). list.IsSound p.logs) is sound) opened)
+      (agree_beside parts old new agree beside begins.pool (block_begun block parts.logs) shape regions_ready
+      (subst (λ (p : Parts). AreOfOne p) is of_one) (subst (λ (p : Parts). RolesAgree p) is roles) (subst (λ (p : Parts). list.AreSoundLogs p.logs) is sound) opened)
     where
       regions_ready : (b : ℕ) → b < first_pool parts.geometry → new.flash.next b ≡ old.flash.next b
       regions_ready = λ b low. ap (λ (f : Flash). f.next b) ok ∙ set_other old.flash.next block b (Some 0) (λ same. let high = in_pool.0 in absurd (omega arith))
 
-      opened : IsOpenBlock (begun block parts.logs) new.flash
+      opened : IsOpenBlock (block_begun block parts.logs) new.flash
       opened = λ some.
-          let first : 0 ≡ (next_place (begun block parts.logs)).page = omega arith in
+          let first : 0 ≡ (next_place (block_begun block parts.logs)).page = omega arith in
           ap (λ (f : Flash). f.next block) ok ∙ set_here old.flash.next block (Some 0) ∙ ap Some first

@@ -8,7 +8,7 @@ use Rattle.ft_base.specs.declared.block.Page.{Page}
 use Rattle.ft_base.specs.Contents.{Contents, Flash}
 use Rattle.cache_model.specs.declared.entry.Entry.{Entry}
 use Rattle.cache_model.specs.Records.{Entries}
-use Rattle.cache_model.specs.Cache.{CacheList}
+use Rattle.cache_model.specs.CacheList.{CacheList}
 use Rattle.cache_model.specs.Stands.{FlashStandsFor, held_at}
 use Rattle.op_log.specs.Log.{FitsOn}
 use Rattle.checkpoint.specs.Current.{IsCurrent, AreWhole, IsOpenLog}
@@ -48,18 +48,18 @@ abbrev pub IsOpenBlock : LogBlocksValue → Flash → Type 0
 IsOpenBlock logs flash = 1 ≤ logs.room → flash.next (next_place logs).block ≡ Some (next_place logs).page
 
 -- the parts agree with the flash, but for the pages of the log that are left
-pub record IsSound (parts : Parts) (contents : Contents) : Type 0 where
+pub record ArePartsSound (parts : Parts) (contents : Contents) : Type 0 where
   pub of_one : AreOfOne parts
   pub shape : FitsOn parts.geometry contents.shape
   pub current : IsCurrent contents.flash.page parts.log parts.map.entries
   pub whole : AreWhole contents.flash.page parts.map.entries
   pub roles : RolesAgree parts
-  pub logs : list.IsSound parts.logs
+  pub logs : list.AreSoundLogs parts.logs
   pub open_block : IsOpenBlock parts.logs contents.flash
 
 -- the parts agree with the flash
 pub record Agree (parts : Parts) (contents : Contents) : Type 0 where
-  pub sound : IsSound parts contents
+  pub sound : ArePartsSound parts contents
   pub open_log : IsOpenLog contents.flash parts.log
 
 -- ---- the lists

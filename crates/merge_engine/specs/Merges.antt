@@ -10,7 +10,7 @@ use Rattle.ft_media.specs.declared.rig.Counts.{Counts}
 use Rattle.ft_media.specs.Media.{program_counted, erase_counted}
 use Rattle.cache_model.specs.declared.entry.Entry.{Entry}
 use Rattle.cache_model.specs.Records.{Entries, after, is_in_group}
-use Rattle.cache_model.specs.Cache.{CacheList}
+use Rattle.cache_model.specs.CacheList.{CacheList}
 use Rattle.cache_model.specs.Stands.{FlashStandsFor}
 use Rattle.mapping.specs.declared.bits.Choice.TheVariants.{Held, Dirty}
 use Rattle.mapping.specs.Bits.{chosen_of}

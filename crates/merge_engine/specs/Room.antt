@@ -5,7 +5,8 @@ use Rattle.ft_base.specs.declared.geometry.Geometry.{Geometry}
 use Rattle.ft_base.specs.declared.block.Place.{Place}
 use Rattle.ft_base.specs.declared.block.Page.{Page}
 use Rattle.cache_model.specs.Records.{Entries}
-use Rattle.cache_model.specs.Cache.{CacheList, IsWhollyClean, groups}
+use Rattle.cache_model.specs.Cache.{IsWhollyClean, groups}
+use Rattle.cache_model.specs.CacheList.{CacheList}
 use Rattle.cache_model.specs.Stands.{FlashStandsFor}
 use Rattle.mapping.specs.Counts.{data_block_count}
 use Rattle.silent_evict.specs.Candidates.{HasDataBlock, IsCandidate, IsVictim}

@@ -12,7 +12,8 @@ use Rattle.cache_model.specs.Spelling.{data_spare, spelled_spare, spare_fields}
 use Rattle.cache_model.specs.Loading.{is_whole}
 use Rattle.cache_model.specs.declared.entry.Entry.{Entry}
 use Rattle.cache_model.specs.Records.{Entries}
-use Rattle.cache_model.specs.Cache.{CacheList, with_group}
+use Rattle.cache_model.specs.Cache.{with_group}
+use Rattle.cache_model.specs.CacheList.{CacheList}
 use Rattle.cache_model.specs.Entries.{groups_with}
 use Rattle.op_log.specs.Log.{LogValue}
 use Rattle.log_blocks.specs.Logs.{IsInUse}

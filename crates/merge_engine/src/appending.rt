@@ -6,9 +6,9 @@ ghost use Rattle.ft_media.specs.Passes.{Spends};
 ghost use Rattle.ft_media.specs.Media.{program_counted};
 ghost use Rattle.ft_base.specs.Contents.{Contents};
 ghost use Rattle.ft_base.specs.Layout.{page_records};
-ghost use Rattle.cache_model.specs.Cache.{CacheList};
+ghost use Rattle.cache_model.specs.CacheList.{CacheList};
 ghost use Rattle.block_pool.specs.Pool.{IsFree, IsInPool};
-ghost use Rattle.log_blocks.specs.Logs.{IsInUse, IsSound, begun};
+ghost use Rattle.log_blocks.specs.Logs.{IsInUse, AreSoundLogs, block_begun};
 ghost use Rattle.merge_engine.specs.Merges.{FlashStandsForEither};
 ghost use Rattle.merge_engine.specs.Agreement.{Agree, AreOfOne, Lists, RolesAgree};
 ghost use Rattle.merge_engine.specs.Room.{FlashStandsForGiven};
@@ -169,10 +169,10 @@ fn begin_log_block(cache: &mut Parts, block: u32)
     requires roles { RolesAgree cache.old }
     requires free { IsFree cache.old.pool block }
     requires few { length cache.old.logs.used < cache.old.geometry.l }
-    ensures cache { cache.new ≡ record cache.old { pool = cache.new.pool; logs = begun block cache.old.logs } }
+    ensures cache { cache.new ≡ record cache.old { pool = cache.new.pool; logs = block_begun block cache.old.logs } }
     ensures of_one { AreOfOne cache.new }
     ensures roles { RolesAgree cache.new }
-    ensures sound { IsSound cache.new.logs }
+    ensures sound { AreSoundLogs cache.new.logs }
 {
     cache.pool.set_role(block, Role::Log);
     cache.logs.begin(block);

@@ -5,10 +5,10 @@ ghost use Rattle.ft_media.specs.State.{failed, lost};
 ghost use Rattle.ft_media.specs.Drives.{DrivesFlash};
 ghost use Rattle.ft_media.specs.Passes.{Spends};
 ghost use Rattle.ft_media.specs.Media.{program_counted};
-ghost use Rattle.cache_model.specs.Cache.{CacheList};
+ghost use Rattle.cache_model.specs.CacheList.{CacheList};
 ghost use Rattle.checkpoint.specs.Current.{PoolStays, PoolReadyStays, LoadsOneOf, log_committed, log_checkpointed};
 ghost use Rattle.merge_engine.specs.Merges.{FlashStandsForEither};
-ghost use Rattle.merge_engine.specs.Agreement.{Agree, IsSound, Lists};
+ghost use Rattle.merge_engine.specs.Agreement.{Agree, ArePartsSound, Lists};
 
 use crate::Parts;
 use ft_media::{Media, MediaError};
@@ -44,7 +44,7 @@ pub fn commit<M: Media>(cache: &mut Parts, media: &mut M) -> Result<(), MediaErr
 /// Makes a checkpoint of the whole map, with all that is buffered. The log need not have been open. It
 /// takes no memory.
 pub fn make_checkpoint<M: Media>(cache: &mut Parts, media: &mut M) -> Result<(), MediaError>
-    requires sound { IsSound cache.old (M.state media.old).contents }
+    requires sound { ArePartsSound cache.old (M.state media.old).contents }
     ensures cache { cache.new ≡ record cache.old { log = cache.new.log } }
     ensures log { OnOk result (cache.new.log ≡ log_checkpointed cache.old.log) }
     ensures refused { OnErr result (cache.new ≡ cache.old) }

@@ -6,7 +6,7 @@ ghost use Rattle.ft_media.specs.State.{failed, lost};
 ghost use Rattle.ft_media.specs.Drives.{DrivesFlash};
 ghost use Rattle.ft_media.specs.Media.{after_program, program_counted};
 ghost use Rattle.cache_model.specs.declared.entry.Entry.{Entry};
-ghost use Rattle.cache_model.specs.Cache.{CacheList};
+ghost use Rattle.cache_model.specs.CacheList.{CacheList};
 ghost use Rattle.cache_model.specs.Loading.{is_whole};
 ghost use Rattle.ft_base.specs.declared.block.Page.TheVariants.{Whole};
 ghost use Rattle.block_pool.specs.Pool.{IsFree};

@@ -1,7 +1,7 @@
 ghost use Rattle.std.specs.Prelude.{◌≡◌, ◌≤◌, ◌<◌, ◌+◌, [], length, ℕ, Some, slice_get, OnOk, OnErr, IsOk, IsErrOf};
 ghost use Rattle.ft_media.specs.State.{failed, lost};
 ghost use Rattle.ft_media.specs.Drives.{DrivesFlash};
-ghost use Rattle.cache_model.specs.Cache.{CacheList};
+ghost use Rattle.cache_model.specs.CacheList.{CacheList};
 ghost use Rattle.ft_base.specs.Contents.{Contents};
 ghost use Rattle.ft_base.specs.Layout.{page_records};
 ghost use Rattle.block_pool.specs.Pool.{IsInPool};

@@ -1,7 +1,8 @@
 //! Laws of the lists that the layer above rests on.
 ghost use Rattle.std.specs.Prelude.{◌≡◌, ℕ};
 ghost use Rattle.ft_base.specs.declared.geometry.Geometry.{Geometry};
-ghost use Rattle.cache_model.specs.Cache.{CacheList, Vanish};
+ghost use Rattle.cache_model.specs.Cache.{Vanish};
+ghost use Rattle.cache_model.specs.CacheList.{CacheList};
 ghost use Rattle.merge_engine.specs.Room.{GivesRoom};
 
 /// A list that gave room lost wholly clean groups alone, and only where the groups, with that of any

@@ -42,7 +42,7 @@ pub fn loaded(
       buffered = [];
     }) }
     ensures roles { IfOk result (λ parts. RolesAgree parts) }
-    ensures logs { IfOk result (λ parts. list.IsSound parts.logs) }
+    ensures logs { IfOk result (λ parts. list.AreSoundLogs parts.logs) }
     ensures ascending { IfOk result (λ parts. AreAscending parts.logs.used) }
     ensures none_open { IfOk result (λ parts. parts.logs.open_block ≡ None) }
     ensures closed { IfOk result (λ parts. parts.logs.room ≡ 0) }
@@ -148,7 +148,7 @@ fn adopt_log_blocks(parts: &mut Parts)
     ensures parts { parts.new ≡ record parts.old { logs = parts.new.logs } }
     ensures of_one { AreOfOne parts.new }
     ensures in_use { AreInUse parts.old.geometry parts.old.pool parts.new.logs }
-    ensures sound { list.IsSound parts.new.logs }
+    ensures sound { list.AreSoundLogs parts.new.logs }
     ensures ascending { AreAscending parts.new.logs.used }
     ensures none_open { parts.new.logs.open_block ≡ None }
     ensures closed { parts.new.logs.room ≡ 0 }

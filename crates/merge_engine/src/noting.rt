@@ -4,7 +4,8 @@ ghost use Rattle.ft_base.specs.declared.record.Record.TheVariants.{SetPage, Remo
 ghost use Rattle.ft_base.specs.declared.block.Block.{Block};
 ghost use Rattle.ft_base.specs.Contents.{Contents};
 ghost use Rattle.ft_base.specs.Layout.{page_records};
-ghost use Rattle.cache_model.specs.Cache.{CacheList, evicted, written_block, made_clean};
+ghost use Rattle.cache_model.specs.Cache.{evicted, written_block, made_clean};
+ghost use Rattle.cache_model.specs.CacheList.{CacheList};
 ghost use Rattle.cache_model.specs.Entries.{Fits, IsMap};
 ghost use Rattle.cache_model.specs.Records.{after};
 ghost use Rattle.std.specs.FinMap.{insert};

@@ -5,7 +5,7 @@ ghost use Rattle.ft_base.specs.Layout.{log_pages, page_records};
 ghost use Rattle.ft_media.specs.State.{failed, lost};
 ghost use Rattle.ft_media.specs.Drives.{DrivesFlash};
 ghost use Rattle.ft_media.specs.Media.{program_counted};
-ghost use Rattle.cache_model.specs.Cache.{CacheList};
+ghost use Rattle.cache_model.specs.CacheList.{CacheList};
 ghost use Rattle.cache_model.specs.Entries.{IsMap};
 ghost use Rattle.log_blocks.specs.Logs.{released};
 ghost use Rattle.log_blocks.specs.Logs as list;

@@ -7,7 +7,7 @@ use Rattle.ft_base.specs.declared.block.Place.{Place}
 use Rattle.ft_base.specs.declared.block.Page.{Page}
 use Rattle.ft_base.specs.Contents.{set, set_page}
 use Rattle.nand_model.specs.declared.erase_block.EraseBlock.{EraseBlock}
-use Rattle.nand_model.specs.Pages.{page_in}
+use Rattle.nand_model.specs.Pages.{block_page}
 use Rattle.nand_model.specs.Blocks.{page_of_block, page_at, pages_at, next_at}
 
 -- the block at an index after it was put there
@@ -49,12 +49,12 @@ get_push (y ∷ blocks) x (suc i) = get_push blocks x i ∙ ap (λ b. cond b (So
     same_test m n = grind (arith, nat_tests)
 
 module _ (blocks : List EraseBlock) (b : ℕ) (e new : EraseBlock) (within : b < length blocks) (is : e ≡ get_or blocks b e) where
-  at_put : (q : Place) → b ≡ q.block → page_at (put blocks b new) q ≡ page_in new q.page
+  at_put : (q : Place) → b ≡ q.block → page_at (put blocks b new) q ≡ block_page new q.page
   at_put q same =
       let test : b == q.block ≡ true = grind (arith, nat_tests) in
       ap (λ o. page_of_block o q.page) (get_put blocks b q.block new within ∙ ap (λ t. cond t (Some new) (slice_get blocks q.block)) test)
 
-  at_old : (q : Place) → b ≡ q.block → page_at blocks q ≡ page_in e q.page
+  at_old : (q : Place) → b ≡ q.block → page_at blocks q ≡ block_page e q.page
   at_old q same = ap (λ o. page_of_block o q.page) (ap (slice_get blocks) (sym same) ∙ block_there blocks b e within is)
 
   elsewhere : (q : Place) → (b ≡ q.block → ⊥) → page_at (put blocks b new) q ≡ page_at blocks q
@@ -63,7 +63,7 @@ module _ (blocks : List EraseBlock) (b : ℕ) (e new : EraseBlock) (within : b <
       ap (λ o. page_of_block o q.page) (get_put blocks b q.block new within ∙ ap (λ t. cond t (Some new) (slice_get blocks q.block)) test)
 
   -- each page of the block was changed
-  pub changed_block : (left : ℕ → Page → Page) → ((p : ℕ) → page_in new p ≡ left p (page_in e p)) → (q : Place) → page_at (put blocks b new) q ≡ cond (q.block == b) (left q.page (page_at blocks q)) (page_at blocks q)
+  pub changed_block : (left : ℕ → Page → Page) → ((p : ℕ) → block_page new p ≡ left p (block_page e p)) → (q : Place) → page_at (put blocks b new) q ≡ cond (q.block == b) (left q.page (page_at blocks q)) (page_at blocks q)
   changed_block left changed q = elim (cases_eq b q.block) [
     | inl same ↦
         let here : page_at (put blocks b new) q ≡ left q.page (page_at blocks q) = at_put q same ∙ changed q.page ∙ ap (left q.page) (sym (at_old q same)) in
@@ -76,7 +76,7 @@ module _ (blocks : List EraseBlock) (b : ℕ) (e new : EraseBlock) (within : b <
 
 -- one page of a block was changed
 pub changed_page : (blocks : List EraseBlock) (at : Place) (e new : EraseBlock) (value : Page) → at.block < length blocks → e ≡ get_or blocks at.block e
-    → ((p : ℕ) → page_in new p ≡ set (page_in e) at.page value p) → (q : Place) → page_at (put blocks at.block new) q ≡ set_page (page_at blocks) at value q
+    → ((p : ℕ) → block_page new p ≡ set (block_page e) at.page value p) → (q : Place) → page_at (put blocks at.block new) q ≡ set_page (page_at blocks) at value q
 changed_page blocks at e new value within is changed q =
     changed_block blocks at.block e new within is (λ p before. cond (at.page == p) value before) changed q ∙ by_tests (at.block == q.block) (q.block == at.block) (at.page == q.page) (grind (arith, nat_tests))
   where

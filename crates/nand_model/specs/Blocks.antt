@@ -7,12 +7,12 @@ use Rattle.ft_base.specs.declared.block.Page.{Page}
 use Rattle.ft_base.specs.declared.block.Page.TheVariants as page
 use Rattle.ft_base.specs.Contents.{zero_block}
 use Rattle.nand_model.specs.declared.erase_block.EraseBlock.{EraseBlock}
-use Rattle.nand_model.specs.Pages.{page_in, page_of, no_spare}
+use Rattle.nand_model.specs.Pages.{block_page, page_found, no_spare}
 
 -- page p of a block that may be there
 abbrev pub page_of_block : Option EraseBlock → ℕ → Page
 page_of_block None p = page.Blank
-page_of_block (Some block) p = page_in block p
+page_of_block (Some block) p = block_page block p
 
 abbrev pub page_at : List EraseBlock → Place → Page
 page_at blocks at = page_of_block (slice_get blocks at.block) at.page
@@ -55,5 +55,5 @@ ahead_at blocks at next ready ahead = ahead_in (slice_get blocks at.block) next 
   where
     ahead_in : (block : Option EraseBlock) (next p : ℕ) → next_of_block block ≡ Some next → next ≤ p → page_of_block block p ≡ page.Blank
     ahead_in None next p ready ahead = refl
-    ahead_in (Some block) next p ready ahead = ap (λ found. page_of found (slice_index_or block.blocks.items p zero_block)
+    ahead_in (Some block) next p ready ahead = ap (λ found. page_found found (slice_index_or block.blocks.items p zero_block)
         (slice_index_or block.spares.items p no_spare)) (block.ahead next p ready ahead)

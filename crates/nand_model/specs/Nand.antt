@@ -11,11 +11,11 @@ use Rattle.nand_model.specs.declared.nand.MemNand.{MemNand}
 use Rattle.nand_model.specs.Blocks.{page_at, next_of_block, next_at, ahead_at, block_room_at, spare_room_at}
 
 -- the erase blocks, and the pages of each
-abbrev pub block_count : MemNand → ℕ
-block_count nand = length nand.blocks.items
+abbrev pub nand_blocks : MemNand → ℕ
+nand_blocks nand = length nand.blocks.items
 
-abbrev pub page_count : MemNand → ℕ
-page_count nand = nand.pages
+abbrev pub nand_pages : MemNand → ℕ
+nand_pages nand = nand.pages
 
 -- its pages, and for each block the page to program next
 abbrev pub flash_of : MemNand → Flash
@@ -49,14 +49,14 @@ pub blank_ahead : (nand : MemNand) (at : Place) (next : ℕ) → (flash_of nand)
 blank_ahead nand at next = ahead_at nand.blocks.items at next
 
 -- what is ready is an erase block of the flash
-pub ready_inside : (nand : MemNand) (b : ℕ) → block_count nand ≤ b → (flash_of nand).next b ≡ None
+pub ready_inside : (nand : MemNand) (b : ℕ) → nand_blocks nand ≤ b → (flash_of nand).next b ≡ None
 ready_inside nand b outside = ap next_of_block (slice_get_past nand.blocks.items b outside)
 
 -- the numbers fit their types
-pub block_count_small : (nand : MemNand) → block_count nand < 2 ^ 32
+pub block_count_small : (nand : MemNand) → nand_blocks nand < 2 ^ 32
 block_count_small nand = nand.few
 
-pub page_count_small : (nand : MemNand) → page_count nand < 2 ^ 32
+pub page_count_small : (nand : MemNand) → nand_pages nand < 2 ^ 32
 page_count_small nand = nand.pages_small
 
 pub programs_small : (nand : MemNand) → programs_of nand ≤ last_count

@@ -14,12 +14,12 @@ unfoldable pub no_spare : Spare
 no_spare = record { 0 = replicate 32 0 }
 
 -- a page that a read finds so, with these bytes where it is whole
-abbrev pub page_of : PageRead → Block → Spare → Page
-page_of read.Blank block spare = page.Blank
-page_of read.Whole block spare = page.Whole block spare
-page_of read.Torn block spare = page.Torn
+abbrev pub page_found : PageRead → Block → Spare → Page
+page_found read.Blank block spare = page.Blank
+page_found read.Whole block spare = page.Whole block spare
+page_found read.Torn block spare = page.Torn
 
 -- page p of a block
-abbrev pub page_in : EraseBlock → ℕ → Page
-page_in block p = page_of (slice_index_or block.found.items p read.Blank) (slice_index_or block.blocks.items p zero_block)
+abbrev pub block_page : EraseBlock → ℕ → Page
+block_page block p = page_found (slice_index_or block.found.items p read.Blank) (slice_index_or block.blocks.items p zero_block)
     (slice_index_or block.spares.items p no_spare)

@@ -2,7 +2,7 @@ ghost use Rattle.std.specs.Prelude.{◌≡◌, ◌<◌, ℕ, length, slice_index
 ghost use Rattle.ft_media.specs.declared.media.PageRead.TheVariants as read;
 ghost use Rattle.ft_base.specs.declared.block.Block.{Block};
 ghost use Rattle.ft_base.specs.declared.block.Spare.{Spare};
-ghost use Rattle.nand_model.specs.Pages.{page_of};
+ghost use Rattle.nand_model.specs.Pages.{page_found};
 ghost use Rattle.nand_model.specs.Steps.{torn, in_thirds, cut_erase};
 
 use ft_base::Outcome;
@@ -20,8 +20,8 @@ pub(crate) fn blank_all(found: &mut Vec<PageRead>)
 
 /// Makes of each page what a cut erase leaves of it.
 pub(crate) fn cut_all(found: &mut Vec<PageRead>, outcome: Outcome)
-    ensures cut { (p : ℕ) (block : Block) (spare : Spare) → page_of (slice_index_or found.new.items p read.Blank) block spare
-        ≡ cut_erase outcome p (page_of (slice_index_or found.old.items p read.Blank) block spare) }
+    ensures cut { (p : ℕ) (block : Block) (spare : Spare) → page_found (slice_index_or found.new.items p read.Blank) block spare
+        ≡ cut_erase outcome p (page_found (slice_index_or found.old.items p read.Blank) block spare) }
     ensures whole { (p : ℕ) → slice_index_or found.new.items p read.Blank ≡ read.Whole
         → slice_index_or found.old.items p read.Blank ≡ read.Whole }
     ensures length { length found.new.items ≡ length found.old.items }
@@ -34,7 +34,7 @@ pub(crate) fn cut_all(found: &mut Vec<PageRead>, outcome: Outcome)
 
 /// What a cut erase leaves of page `p`.
 fn cut_one(outcome: Outcome, p: usize, found: PageRead) -> PageRead
-    ensures cut { (block : Block) (spare : Spare) → page_of result block spare ≡ cut_erase outcome p (page_of found block spare) }
+    ensures cut { (block : Block) (spare : Spare) → page_found result block spare ≡ cut_erase outcome p (page_found found block spare) }
     ensures whole { result ≡ read.Whole → found ≡ read.Whole }
 {
     match outcome {
@@ -46,7 +46,7 @@ fn cut_one(outcome: Outcome, p: usize, found: PageRead) -> PageRead
 }
 
 fn one_in_thirds(third: usize, found: PageRead) -> PageRead
-    ensures cut { (block : Block) (spare : Spare) → page_of result block spare ≡ in_thirds third (page_of found block spare) }
+    ensures cut { (block : Block) (spare : Spare) → page_found result block spare ≡ in_thirds third (page_found found block spare) }
     ensures whole { result ≡ read.Whole → found ≡ read.Whole }
 {
     match third {
@@ -57,7 +57,7 @@ fn one_in_thirds(third: usize, found: PageRead) -> PageRead
 }
 
 fn tear(found: PageRead) -> PageRead
-    ensures cut { (block : Block) (spare : Spare) → page_of result block spare ≡ torn (page_of found block spare) }
+    ensures cut { (block : Block) (spare : Spare) → page_found result block spare ≡ torn (page_found found block spare) }
     ensures whole { result ≡ read.Whole → found ≡ read.Whole }
 {
     match found {

@@ -32,13 +32,13 @@ impl EraseBlock {
     ghost use Rattle.ft_base.specs.declared.block.Page.TheVariants as content;
     ghost use Rattle.ft_base.specs.Contents.{set};
     ghost use Rattle.ft_media.specs.Media.{Found, UnlessWhole};
-    ghost use Rattle.nand_model.specs.Pages.{page_in};
+    ghost use Rattle.nand_model.specs.Pages.{block_page};
     ghost use Rattle.nand_model.specs.Steps.{cut_program, cut_erase};
 
     /// A block of blank pages, ready.
     pub(crate) fn new(alloc: Global, pages: u32) -> Result<EraseBlock, AllocError>
         ensures pages { IfOk result (λ b. b.pages ≡ pages) }
-        ensures blank { IfOk result (λ b. (p : ℕ) → page_in b p ≡ content.Blank) }
+        ensures blank { IfOk result (λ b. (p : ℕ) → block_page b p ≡ content.Blank) }
         ensures next { IfOk result (λ b. b.next ≡ Some 0) }
         ensures block_room { IfOk result (λ b. vec_capacity b.blocks ≡ pages) }
         ensures spare_room { IfOk result (λ b. vec_capacity b.spares ≡ pages) }
@@ -59,7 +59,7 @@ impl EraseBlock {
     /// Says what a page is, and fills the buffers where it is whole.
     pub(crate) fn read(&self, page: u32, block: &mut Block, spare: &mut Spare) -> PageRead
         requires { page < self.now.pages }
-        ensures found { Found (page_in self.now page) result block.new spare.new }
+        ensures found { Found (block_page self.now page) result block.new spare.new }
         ensures buffers { UnlessWhole (Ok result) ((block.new ≡ block.old) × (spare.new ≡ spare.old)) }
     {
         let at = page as usize;
@@ -75,8 +75,8 @@ impl EraseBlock {
     pub(crate) fn program(&mut self, page: u32, block: &Block, spare: &Spare)
         requires ready { self.old.next ≡ Some page }
         requires page { page < self.old.pages }
-        ensures page { (p : ℕ) → page_in self.new p
-            ≡ set (page_in self.old) page (content.Whole block.now spare.now) p }
+        ensures page { (p : ℕ) → block_page self.new p
+            ≡ set (block_page self.old) page (content.Whole block.now spare.now) p }
         ensures next { self.new.next ≡ Some (page + 1) }
         ensures pages { self.new.pages ≡ self.old.pages }
     {
@@ -88,8 +88,8 @@ impl EraseBlock {
     fn store(&mut self, page: u32, block: &Block, spare: &Spare)
         requires ready { self.old.next ≡ Some page }
         requires page { page < self.old.pages }
-        ensures page { (p : ℕ) → page_in self.new p
-            ≡ set (page_in self.old) page (content.Whole block.now spare.now) p }
+        ensures page { (p : ℕ) → block_page self.new p
+            ≡ set (block_page self.old) page (content.Whole block.now spare.now) p }
         ensures filled { page < vec_len self.new.blocks }
         ensures ahead { (p : ℕ) → page < p → slice_index_or self.new.found.items p read.Blank ≡ read.Blank }
         ensures next { self.new.next ≡ None }
@@ -105,8 +105,8 @@ impl EraseBlock {
     /// A program of the next page failed: the page is torn, and the block not ready.
     pub(crate) fn tear(&mut self, page: u32)
         requires { page < self.old.pages }
-        ensures page { (p : ℕ) → page_in self.new p
-            ≡ set (page_in self.old) page content.Torn p }
+        ensures page { (p : ℕ) → block_page self.new p
+            ≡ set (block_page self.old) page content.Torn p }
         ensures next { self.new.next ≡ None }
         ensures pages { self.new.pages ≡ self.old.pages }
     {
@@ -118,8 +118,8 @@ impl EraseBlock {
     pub(crate) fn cut_program(&mut self, page: u32, block: &Block, spare: &Spare, outcome: Outcome)
         requires ready { self.old.next ≡ Some page }
         requires page { page < self.old.pages }
-        ensures page { (p : ℕ) → page_in self.new p
-            ≡ set (page_in self.old) page (cut_program outcome block.now spare.now) p }
+        ensures page { (p : ℕ) → block_page self.new p
+            ≡ set (block_page self.old) page (cut_program outcome block.now spare.now) p }
         ensures next { self.new.next ≡ None }
         ensures pages { self.new.pages ≡ self.old.pages }
     {
@@ -133,7 +133,7 @@ impl EraseBlock {
 
     /// Makes each page blank, and the block ready or not.
     pub(crate) fn blank(&mut self, ready: bool)
-        ensures page { (p : ℕ) → page_in self.new p ≡ content.Blank }
+        ensures page { (p : ℕ) → block_page self.new p ≡ content.Blank }
         ensures next { self.new.next ≡ (if ready then Some 0 else None) }
         ensures pages { self.new.pages ≡ self.old.pages }
     {
@@ -146,8 +146,8 @@ impl EraseBlock {
 
     /// Power went off in an erase. The block is not ready.
     pub(crate) fn cut_erase(&mut self, outcome: Outcome)
-        ensures page { (p : ℕ) → page_in self.new p
-            ≡ cut_erase outcome p (page_in self.old p) }
+        ensures page { (p : ℕ) → block_page self.new p
+            ≡ cut_erase outcome p (block_page self.old p) }
         ensures next { self.new.next ≡ None }
         ensures pages { self.new.pages ≡ self.old.pages }
     {
@@ -157,7 +157,7 @@ impl EraseBlock {
 
     /// Makes the block not ready.
     pub(crate) fn stop(&mut self)
-        ensures page { (p : ℕ) → page_in self.new p ≡ page_in self.old p }
+        ensures page { (p : ℕ) → block_page self.new p ≡ block_page self.old p }
         ensures next { self.new.next ≡ None }
         ensures pages { self.new.pages ≡ self.old.pages }
     {

@@ -28,16 +28,16 @@ pub struct MemNand {
 impl MemNand {
     ghost use Rattle.std.specs.Prelude.{Some, IfOk, OnOk, OnErr, IsErr, IfErr, ◌↔◌, true};
     ghost use Rattle.ft_media.specs.Media.{Found, UnlessWhole};
-    ghost use Rattle.ft_media.specs.Rig.{new_contents};
+    ghost use Rattle.ft_media.specs.Fitted.{new_contents};
     ghost use Rattle.device_calls.specs.Calls.{calls_made, fault_count, failing_numbers, is_listed, ending_of, bumped_if_done, CountsRead, CountsWrite};
-    ghost use Rattle.nand_model.specs.Nand.{block_count, page_count, flash_of, calls_of, programs_of, erases_of, HasRoom, SameNumbers};
+    ghost use Rattle.nand_model.specs.Nand.{nand_blocks, nand_pages, flash_of, calls_of, programs_of, erases_of, HasRoom, SameNumbers};
     ghost use Rattle.nand_model.specs.Steps.{program_left, erase_left, unready};
 
     /// A flash without a block. The calls with these numbers will fail, from 1.
     pub fn new(alloc: Global, failing: Vec<u64>) -> MemNand
         ensures flash { flash_of result ≡ (new_contents 0 0 0).flash }
-        ensures blocks { block_count result ≡ 0 }
-        ensures pages { page_count result ≡ 0 }
+        ensures blocks { nand_blocks result ≡ 0 }
+        ensures pages { nand_pages result ≡ 0 }
         ensures failing { failing_numbers (calls_of result) ≡ failing.items }
         ensures made { calls_made (calls_of result) ≡ 0 }
         ensures faults { fault_count (calls_of result) ≡ 0 }
@@ -57,8 +57,8 @@ impl MemNand {
     /// is taken here, once. Refused, all is as before. No other call takes memory.
     pub fn fit(&mut self, alloc: Global, blocks: u32, pages: u32) -> Result<(), AllocError>
         ensures flash { OnOk result (flash_of self.new ≡ (new_contents blocks pages 0).flash) }
-        ensures blocks { OnOk result (block_count self.new ≡ blocks) }
-        ensures pages { OnOk result (page_count self.new ≡ pages) }
+        ensures blocks { OnOk result (nand_blocks self.new ≡ blocks) }
+        ensures pages { OnOk result (nand_pages self.new ≡ pages) }
         ensures numbers { SameNumbers self.old self.new }
         ensures room { OnOk result (HasRoom self.new blocks pages) }
         ensures err { OnErr result (self.new ≡ self.old) }
@@ -71,14 +71,14 @@ impl MemNand {
 
     /// Erase blocks.
     pub fn blocks(&self) -> u32
-        ensures { result ≡ block_count self.now }
+        ensures { result ≡ nand_blocks self.now }
     {
         self.blocks.len() as u32
     }
 
     /// Pages of an erase block.
     pub fn pages(&self) -> u32
-        ensures { result ≡ page_count self.now }
+        ensures { result ≡ nand_pages self.now }
     {
         self.pages
     }
@@ -86,7 +86,7 @@ impl MemNand {
     /// The page of a block to program next, where the block is ready. It may be one past the last.
     #[tactic(auto, using(crate::proofs::BlocksLemmas::block_there))]
     pub fn next_page(&self, block: u32) -> Option<u32>
-        requires { block < block_count self.now }
+        requires { block < nand_blocks self.now }
         ensures { result ≡ (flash_of self.now).next block }
     {
         self.blocks[block as usize].next
@@ -99,15 +99,15 @@ impl MemNand {
         block: &mut Block,
         spare: &mut Spare,
     ) -> Result<PageRead, MediaError>
-        requires block { at.block < block_count self.old }
-        requires page { at.page < page_count self.old }
+        requires block { at.block < nand_blocks self.old }
+        requires page { at.page < nand_pages self.old }
         ensures failed { IsErr result ↔ (is_listed (calls_of self.old) ≡ true) }
         ensures error { IfErr result (λ error. error ≡ MediaError.Failed) }
         ensures found { IfOk result (λ found. Found ((flash_of self.old).page at) found block.new spare.new) }
         ensures buffers { UnlessWhole result ((block.new ≡ block.old) × (spare.new ≡ spare.old)) }
         ensures flash { flash_of self.new ≡ flash_of self.old }
-        ensures blocks { block_count self.new ≡ block_count self.old }
-        ensures pages { page_count self.new ≡ page_count self.old }
+        ensures blocks { nand_blocks self.new ≡ nand_blocks self.old }
+        ensures pages { nand_pages self.new ≡ nand_pages self.old }
         ensures programs { programs_of self.new ≡ programs_of self.old }
         ensures erases { erases_of self.new ≡ erases_of self.old }
         ensures calls { CountsRead (is_listed (calls_of self.old)) (calls_of self.old) (calls_of self.new) }
@@ -121,11 +121,11 @@ impl MemNand {
     /// Programs the next page of a block that is ready.
     pub fn program(&mut self, at: Place, block: &Block, spare: &Spare, current: Current) -> Ending
         requires ready { (flash_of self.old).next at.block ≡ Some at.page }
-        requires page { at.page < page_count self.old }
+        requires page { at.page < nand_pages self.old }
         ensures ending { result ≡ ending_of current (is_listed (calls_of self.old)) }
         ensures flash { flash_of self.new ≡ program_left result (flash_of self.old) at block.now spare.now }
-        ensures blocks { block_count self.new ≡ block_count self.old }
-        ensures pages { page_count self.new ≡ page_count self.old }
+        ensures blocks { nand_blocks self.new ≡ nand_blocks self.old }
+        ensures pages { nand_pages self.new ≡ nand_pages self.old }
         ensures calls { CountsWrite result (calls_of self.old) (calls_of self.new) }
         ensures programs { programs_of self.new ≡ bumped_if_done result (programs_of self.old) }
         ensures erases { erases_of self.new ≡ erases_of self.old }
@@ -145,11 +145,11 @@ impl MemNand {
 
     /// Erases a block, which is then ready.
     pub fn erase(&mut self, block: u32, current: Current) -> Ending
-        requires { block < block_count self.old }
+        requires { block < nand_blocks self.old }
         ensures ending { result ≡ ending_of current (is_listed (calls_of self.old)) }
         ensures flash { flash_of self.new ≡ erase_left result (flash_of self.old) block }
-        ensures blocks { block_count self.new ≡ block_count self.old }
-        ensures pages { page_count self.new ≡ page_count self.old }
+        ensures blocks { nand_blocks self.new ≡ nand_blocks self.old }
+        ensures pages { nand_pages self.new ≡ nand_pages self.old }
         ensures calls { CountsWrite result (calls_of self.old) (calls_of self.new) }
         ensures programs { programs_of self.new ≡ programs_of self.old }
         ensures erases { erases_of self.new ≡ bumped_if_done result (erases_of self.old) }
@@ -170,8 +170,8 @@ impl MemNand {
     /// Power went off while the flash was not written: no block is ready.
     pub fn stop(&mut self)
         ensures flash { flash_of self.new ≡ unready (flash_of self.old) }
-        ensures blocks { block_count self.new ≡ block_count self.old }
-        ensures pages { page_count self.new ≡ page_count self.old }
+        ensures blocks { nand_blocks self.new ≡ nand_blocks self.old }
+        ensures pages { nand_pages self.new ≡ nand_pages self.old }
         ensures numbers { SameNumbers self.old self.new }
     {
         stop_all(&mut self.blocks);

@@ -19,7 +19,7 @@ use Rattle.cache_model.specs.Loading.Refusal.{Damaged}
 use Rattle.op_log.specs.declared.error.OpenError.{OpenError}
 use Rattle.op_log.specs.declared.error.OpenError.TheVariants as refused
 use Rattle.op_log.specs.Refusals.{IsOfFlash, IsRefusal}
-use Rattle.op_log.specs.Walk.{page_step, pages_of, Stepped, IsReadAs, after_records}
+use Rattle.op_log.specs.Walk.{page_step, pages_in_order, Stepped, IsReadAs, after_records}
 
 -- ---- one page
 
@@ -80,7 +80,7 @@ count_then (Some h) f n = refl
 -- the log pages before the i-th are applied
 pub record RolledSoFar (g : Geometry) (region era : ℕ) (page : Place → Page) (first : Entries) (i : ℕ) (now : Entries) : Type 0 where
   pub entries : after_pages g Log era (log_at g region) 0 (log_region g page region) first ≡ after_pages g Log era (log_at g region) i (pages_from page (log_at g region) i (log_pages g - i)) now
-  pub count : pages_of Log era 0 (log_region g page region) ≡ i + pages_of Log era i (pages_from page (log_at g region) i (log_pages g - i))
+  pub count : pages_in_order Log era 0 (log_region g page region) ≡ i + pages_in_order Log era i (pages_from page (log_at g region) i (log_pages g - i))
 
 module _ (g : Geometry) (region era : ℕ) (page : Place → Page) (first : Entries) where
   abbrev left : ℕ → List Page
@@ -95,7 +95,7 @@ module _ (g : Geometry) (region era : ℕ) (page : Place → Page) (first : Entr
       let same : log_region g page region ≡ left 0 = ap (λ n. pages_from page (log_at g region) 0 n) all in
       record {
         entries = ap (λ ps. after_pages g Log era (log_at g region) 0 ps first) same;
-        count = ap (λ ps. pages_of Log era 0 ps) same ∙ zero_plus (pages_of Log era 0 (left 0));
+        count = ap (λ ps. pages_in_order Log era 0 ps) same ∙ zero_plus (pages_in_order Log era 0 (left 0));
       }
     where
       zero_plus : (n : ℕ) → n ≡ 0 + n
@@ -110,35 +110,35 @@ module _ (g : Geometry) (region era : ℕ) (page : Place → Page) (first : Entr
       ∙ ap (λ ps. after_pages g Log era (log_at g region) i ps now) (left_more i within)
       ∙ map_then (header_at Log era i (page (log_at g region i))) (λ h. ok_or (option_and_then (λ rs. after_all g rs now) (said (read_records h) (page (log_at g region i)))) (Damaged (log_at g region i))) now (after_pages g Log era (log_at g region) (i + 1) (left (i + 1)))
 
-  count_more : (i : ℕ) (now : Entries) → i < log_pages g → RolledSoFar g region era page first i now → pages_of Log era 0 (log_region g page region) ≡ i + counts_on (step_at i now) (pages_of Log era (i + 1) (left (i + 1)))
+  count_more : (i : ℕ) (now : Entries) → i < log_pages g → RolledSoFar g region era page first i now → pages_in_order Log era 0 (log_region g page region) ≡ i + counts_on (step_at i now) (pages_in_order Log era (i + 1) (left (i + 1)))
   count_more i now within so =
       so.count
-      ∙ ap (λ ps. i + pages_of Log era i ps) (left_more i within)
-      ∙ ap (λ n. i + n) (count_then (header_at Log era i (page (log_at g region i))) (λ h. ok_or (option_and_then (λ rs. after_all g rs now) (said (read_records h) (page (log_at g region i)))) (Damaged (log_at g region i))) (pages_of Log era (i + 1) (left (i + 1))))
+      ∙ ap (λ ps. i + pages_in_order Log era i ps) (left_more i within)
+      ∙ ap (λ n. i + n) (count_then (header_at Log era i (page (log_at g region i))) (λ h. ok_or (option_and_then (λ rs. after_all g rs now) (said (read_records h) (page (log_at g region i)))) (Damaged (log_at g region i))) (pages_in_order Log era (i + 1) (left (i + 1))))
 
   pub rolled_more : (i : ℕ) (now next : Entries) → i < log_pages g → RolledSoFar g region era page first i now → step_at i now ≡ Some (Ok next) → RolledSoFar g region era page first (i + 1) next
   rolled_more i now next within so step = record {
     entries = entries_more i now within so ∙ ap (λ s. goes_on s now (after_pages g Log era (log_at g region) (i + 1) (left (i + 1)))) step;
-    count = count_more i now within so ∙ ap (λ s. i + counts_on s (pages_of Log era (i + 1) (left (i + 1)))) step ∙ plus_one i (pages_of Log era (i + 1) (left (i + 1)));
+    count = count_more i now within so ∙ ap (λ s. i + counts_on s (pages_in_order Log era (i + 1) (left (i + 1)))) step ∙ plus_one i (pages_in_order Log era (i + 1) (left (i + 1)));
   }
     where
       plus_one : (a b : ℕ) → a + suc b ≡ a + 1 + b
       plus_one a b = omega arith
 
   -- the log ends before page i
-  pub rolled_end : (i : ℕ) (now : Entries) → i < log_pages g → RolledSoFar g region era page first i now → step_at i now ≡ None → (after_pages g Log era (log_at g region) 0 (log_region g page region) first ≡ Ok now) × (i ≡ pages_of Log era 0 (log_region g page region))
+  pub rolled_end : (i : ℕ) (now : Entries) → i < log_pages g → RolledSoFar g region era page first i now → step_at i now ≡ None → (after_pages g Log era (log_at g region) 0 (log_region g page region) first ≡ Ok now) × (i ≡ pages_in_order Log era 0 (log_region g page region))
   rolled_end i now within so step = (
     entries_more i now within so ∙ ap (λ s. goes_on s now (after_pages g Log era (log_at g region) (i + 1) (left (i + 1)))) step,
-    sym (count_more i now within so ∙ ap (λ s. i + counts_on s (pages_of Log era (i + 1) (left (i + 1)))) step ∙ plus_zero i),
+    sym (count_more i now within so ∙ ap (λ s. i + counts_on s (pages_in_order Log era (i + 1) (left (i + 1)))) step ∙ plus_zero i),
   )
     where
       plus_zero : (a : ℕ) → a + 0 ≡ a
       plus_zero a = omega arith
 
-  pub rolled_all : (i : ℕ) (now : Entries) → i ≡ log_pages g → RolledSoFar g region era page first i now → (after_pages g Log era (log_at g region) 0 (log_region g page region) first ≡ Ok now) × (i ≡ pages_of Log era 0 (log_region g page region))
+  pub rolled_all : (i : ℕ) (now : Entries) → i ≡ log_pages g → RolledSoFar g region era page first i now → (after_pages g Log era (log_at g region) 0 (log_region g page region) first ≡ Ok now) × (i ≡ pages_in_order Log era 0 (log_region g page region))
   rolled_all i now all so =
       let none : left i ≡ [] = ap (λ n. pages_from page (log_at g region) i n) (let e : log_pages g - i ≡ 0 = omega arith in e) in
-      (so.entries ∙ ap (λ ps. after_pages g Log era (log_at g region) i ps now) none, sym (so.count ∙ ap (λ ps. i + pages_of Log era i ps) none ∙ plus_zero i))
+      (so.entries ∙ ap (λ ps. after_pages g Log era (log_at g region) i ps now) none, sym (so.count ∙ ap (λ ps. i + pages_in_order Log era i ps) none ∙ plus_zero i))
     where
       plus_zero : (a : ℕ) → a + 0 ≡ a
       plus_zero a = omega arith
@@ -164,7 +164,7 @@ module _ (g : Geometry) (region era : ℕ) (start here : Contents) (same : here 
   pub turn_more : (b : Bool) → b ≡ true → Stepped (Ok b) now new step_here → RolledSoFar g region era start.flash.page first (i + 1) new
   turn_more b is step = rolled_more g region era start.flash.page first i now new within so (sym step_same ∙ subst (λ (x : Bool). Stepped (Ok x) now new step_here) is step)
 
-  pub turn_end : (b : Bool) → b ≡ false → Stepped (Ok b) now new step_here → (after_pages g Log era (log_at g region) 0 (log_region g start.flash.page region) first ≡ Ok new) × (i ≡ pages_of Log era 0 (log_region g start.flash.page region))
+  pub turn_end : (b : Bool) → b ≡ false → Stepped (Ok b) now new step_here → (after_pages g Log era (log_at g region) 0 (log_region g start.flash.page region) first ≡ Ok new) × (i ≡ pages_in_order Log era 0 (log_region g start.flash.page region))
   turn_end b is step =
       let stops : (step_here ≡ None) × (new ≡ now) = subst (λ (x : Bool). Stepped (Ok x) now new step_here) is step in
       let ends = rolled_end g region era start.flash.page first i now within so (sym step_same ∙ stops.0) in

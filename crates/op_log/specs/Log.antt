@@ -49,8 +49,8 @@ if_buffered [] some none = none
 if_buffered (change ∷ changes) some none = some
 
 -- all that was buffered has a page
-abbrev pub flushed : LogValue → LogValue
-flushed log = if_buffered log.buffered (record log { next = log.next + 1; buffered = [] }) log
+abbrev pub log_flushed : LogValue → LogValue
+log_flushed log = if_buffered log.buffered (record log { next = log.next + 1; buffered = [] }) log
 
 -- the page to program next is the next one of an erase block that is ready
 abbrev pub IsNextReady : LogValue → Flash → Type 0
@@ -78,8 +78,8 @@ abbrev pub LeavesLog : LogValue → Flash → Flash → Type 0
 LeavesLog log old new = (new.page ≡ old.page) ⊎ (new.page ≡ set_page old.page (next_place log) Torn) ⊎ Appended log old new
 
 -- one program, where something is buffered
-abbrev pub flush_counted : LogValue → Counts → Counts
-flush_counted log counts = if_buffered log.buffered (program_counted counts) counts
+abbrev pub log_flush_counted : LogValue → Counts → Counts
+log_flush_counted log counts = if_buffered log.buffered (program_counted counts) counts
 
 -- the header of a page of a log with these records
 abbrev pub log_header : ℕ → ℕ → List Record → Header

@@ -35,10 +35,10 @@ IsRefusal g PowerLost loads = ⊤
 IsRefusal g OutOfMemory loads = ⊤
 
 -- what a refused read of the flash makes of an opening
-abbrev pub refusal_of : MediaError → OpenError
-refusal_of device.Failed = FlashFault
-refusal_of device.PowerLost = PowerLost
-refusal_of device.OutOfMemory = OutOfMemory
+abbrev pub opening_refusal : MediaError → OpenError
+opening_refusal device.Failed = FlashFault
+opening_refusal device.PowerLost = PowerLost
+opening_refusal device.OutOfMemory = OutOfMemory
 
 -- reading pages of records is refused so: they may be damaged, but they are no seal, and the disk isn't asked
 abbrev pub IsOfPages : OpenError → Type 0

@@ -26,9 +26,9 @@ page_step g kind era sequence at page m = option_map
     (header_at kind era sequence page)
 
 -- the pages of one kind and era, each at its own place, up to the first that is none
-abbrev pub pages_of : PageKind → ℕ → ℕ → List Page → ℕ
-pages_of kind era i [] = 0
-pages_of kind era i (page ∷ pages) = option_map_or (λ h. suc (pages_of kind era (i + 1) pages)) (header_at kind era i page) 0
+abbrev pub pages_in_order : PageKind → ℕ → ℕ → List Page → ℕ
+pages_in_order kind era i [] = 0
+pages_in_order kind era i (page ∷ pages) = option_map_or (λ h. suc (pages_in_order kind era (i + 1) pages)) (header_at kind era i page) 0
 
 -- the call answers what the step says: true and the new entries, false where there is no step, or its refusal; a fault, a cut and want of memory come by themselves
 abbrev pub Stepped : Result Bool OpenError → Entries → Entries → Option (Result Entries Refusal) → Type 0

@@ -1,5 +1,5 @@
 ghost use Rattle.std.specs.Prelude.{◌≡◌};
-ghost use Rattle.op_log.specs.Refusals.{refusal_of};
+ghost use Rattle.op_log.specs.Refusals.{opening_refusal};
 
 use cache_model::Seal;
 use ft_media::MediaError;
@@ -55,7 +55,7 @@ impl From<AllocError> for OpenError {
 
 /// A read of the flash was refused.
 pub(crate) fn of_media(error: MediaError) -> OpenError
-    ensures { result ≡ refusal_of error }
+    ensures { result ≡ opening_refusal error }
 {
     match error {
         MediaError::Failed => OpenError::FlashFault,

@@ -6,7 +6,7 @@ ghost use Rattle.ft_media.specs.Passes.{Spends};
 ghost use Rattle.ft_media.specs.Drives.{DrivesFlash};
 ghost use Rattle.cache_model.specs.declared.format.PageKind.TheVariants.{Log as log_page};
 ghost use Rattle.cache_model.specs.Spelling.{may_stand_in, IsPage};
-ghost use Rattle.op_log.specs.Log.{FitsOn, IsNextReady, LeavesLog, AppendedReady, log_header, next_place, log_spare, HasSpare, restarted, pushed, flushed, flush_counted};
+ghost use Rattle.op_log.specs.Log.{FitsOn, IsNextReady, LeavesLog, AppendedReady, log_header, next_place, log_spare, HasSpare, restarted, pushed, log_flushed, log_flush_counted};
 
 use crate::ring::{MOST, Ring};
 use cache_model::{Header, PageKind, SpareKind};
@@ -129,11 +129,11 @@ impl OpLog {
             → AppendedReady self.old (M.state media.old).contents.flash (M.state media.new).contents.flash) }
         ensures spare { OnOk result (self.old.buffered ≢ []
             → HasSpare (log_spare self.old.era self.old.next) ((M.state media.new).contents.flash.page (next_place self.old))) }
-        ensures log { OnOk result (self.new ≡ flushed self.old) }
+        ensures log { OnOk result (self.new ≡ log_flushed self.old) }
         ensures refused { OnErr result (self.new ≡ self.old) }
         // Whatever is answered, and wherever power went off, the page is whole or the log ends before it.
         ensures pages { LeavesLog self.old (M.state media.old).contents.flash (M.state media.new).contents.flash }
-        ensures counts { (M.state media.new).counts ≡ if_ok result (flush_counted self.old (M.state media.old).counts)
+        ensures counts { (M.state media.new).counts ≡ if_ok result (log_flush_counted self.old (M.state media.old).counts)
             (M.state media.old).counts }
         ensures spends { OnOk result (self.old.buffered ≢ [] → Spends 1 (M.state media.old) (M.state media.new)) }
         ensures memory { IsErrOf result MediaError.OutOfMemory → ⊥ }

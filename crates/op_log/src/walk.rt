@@ -8,7 +8,7 @@ ghost use Rattle.cache_model.specs.Loading.{after_all, after_pages, is_page, log
 ghost use Rattle.cache_model.specs.Reading.{read_page_header as header_read, read_records as records_read};
 ghost use Rattle.mapping.specs.MapValue.{pages_taken, groups_taken};
 ghost use Rattle.op_log.specs.Log.{FitsOn};
-ghost use Rattle.op_log.specs.Walk.{page_step, pages_of, Stepped, IsReadAs, found_whole, pages_needed, groups_needed, after_records, records_at, TakesRoom, HasNoMoreRoom};
+ghost use Rattle.op_log.specs.Walk.{page_step, pages_in_order, Stepped, IsReadAs, found_whole, pages_needed, groups_needed, after_records, records_at, TakesRoom, HasNoMoreRoom};
 ghost use Rattle.op_log.specs.Refusals.{open_failed, open_lost, IsRefusal, IsOfFlash, IsOfPages};
 
 use crate::OpenError;
@@ -184,7 +184,7 @@ pub fn roll<M: Media>(
     ensures geometry { map.new.geometry ≡ map.old.geometry }
     ensures applied { IfOk result (λ n. after_pages geometry.now log_page era (log_at geometry.now region) 0
         (log_region geometry.now (M.state media.old).contents.flash.page region) map.old.entries ≡ Ok map.new.entries) }
-    ensures count { IfOk result (λ n. n ≡ pages_of log_page era 0
+    ensures count { IfOk result (λ n. n ≡ pages_in_order log_page era 0
         (log_region geometry.now (M.state media.old).contents.flash.page region)) }
     ensures room { IfOk result (λ n. HasNoMoreRoom map.old map.new) }
     ensures refused { IfErr result (λ e. IsRefusal geometry.now e

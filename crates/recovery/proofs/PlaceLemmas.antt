@@ -21,7 +21,7 @@ use Rattle.cache_model.specs.Records.{Entries}
 use Rattle.cache_model.specs.Entries.{IsMap, InPool}
 use Rattle.cache_model.specs.Loading.{Refusal, is_whole, all_whole}
 use Rattle.cache_model.specs.Loading.Refusal.{Damaged as damaged}
-use Rattle.cache_model.proofs.MapLemmas.{eq_key, all_entries}
+use Rattle.cache_model.proofs.MapLemmas.{holds, eq_key, all_entries}
 use Rattle.mapping.specs.Counts.{place_and_mark}
 use Rattle.mapping.specs.Numbers.{number_of, HasNumber, HasNone, AreNumbered}
 use Rattle.op_log.specs.declared.error.OpenError.{OpenError}
@@ -172,10 +172,6 @@ module _ (page : Place → Page) (x : Entries) (a : ℕ) (v : Entry) where
             let rest = decided es parts.1 before.1 there in
             (rest.0, ap (λ b. cond b (all_whole page es x) (Err (damaged e.1.place))) (before.0 (find_above e.0 es parts.0 a v there)) ∙ rest.1)
       ]
-
-holds : (b : Bool) → T b → b ≡ true
-holds true h = refl
-holds false h = absurd h
 
 module _ (page : Place → Page) (m : Entries) (addresses : List ℕ) (has : HasAddresses m addresses) (i : ℕ) (looked : Looked page m addresses i) where
   pub looked_all : length addresses ≤ i → all_whole page (entries m) m ≡ Ok m

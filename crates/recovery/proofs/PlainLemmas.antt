@@ -18,10 +18,11 @@ use Rattle.cache_model.specs.Reading.{read_records}
 use Rattle.cache_model.specs.Loading.{Refusal, ◌>>=◌, Complete, complete, said, header_at, seal_at, sealed_from, era_in, checkpoint_in, checkpoint_region, pages_from, after_all, newest, is_wanted, wanted, checkpoint_of, replayed, all_whole, load}
 use Rattle.cache_model.specs.Loading.Refusal.{NotFormatted, OtherGeometry, Damaged as damaged}
 use Rattle.cache_model.proofs.FitsLemmas.{fits-true, fits-from}
-use Rattle.cache_model.proofs.LayoutLemmas.{checkpoint_fits}
+use Rattle.ft_base.proofs.LayoutLemmas.{k_holds}
 use Rattle.mapping.specs.MapValue.{MapValue}
 use Rattle.op_log.specs.Walk.{page_step}
 use Rattle.recovery.proofs.LoadLemmas.{maps_applied, log_applied, both_parts}
+use Rattle.op_log.proofs.ApplyLemmas.{applied_all}
 
 -- ---- a region
 
@@ -65,7 +66,7 @@ module _ (era : ℕ) (at : ℕ → Place) (page : Place → Page) (n : ℕ) wher
 
 -- the first page names the era
 pub some_page : (g : Geometry) → 0 < checkpoint_pages g
-some_page g = let fits = checkpoint_fits g in omega arith
+some_page g = let fits = k_holds g in omega arith
 
 first_page : (g : Geometry) (page : Place → Page) (region : ℕ) → (rest : List Page) × (checkpoint_region g page region ≡ page (checkpoint_at g region 0) ∷ rest)
 first_page g page region =
@@ -94,9 +95,6 @@ era_some g page region place p era left here read some is =
 pub record AppliedSoFar (changes : List Record) (i : ℕ) (first now : MapValue) : Type 0 where
   pub geometry : now.geometry ≡ first.geometry
   pub entries : after_all first.geometry changes first.entries ≡ after_all first.geometry (drop i changes) now.entries
-
-pub applied_all : (changes : List Record) (i : ℕ) (first now : MapValue) → length changes ≤ i → AppliedSoFar changes i first now → after_all first.geometry changes first.entries ≡ Some now.entries
-applied_all changes i first now past so = so.entries ∙ at_drop_all (λ rs. after_all first.geometry rs now.entries) changes i past
 
 module _ (changes : List Record) (i : ℕ) (d : Record) (within : i < length changes) (first now : MapValue) (so : AppliedSoFar changes i first now) where
   next_record : after_all first.geometry changes first.entries ≡ cond (fits first.geometry (get_or changes i d) now.entries) (after_all first.geometry (drop (i + 1) changes) (after first.geometry (get_or changes i d) now.entries)) None

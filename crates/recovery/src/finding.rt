@@ -14,7 +14,7 @@ use op_log::OpenError;
 
 /// A read of the flash was refused.
 pub(crate) fn of_media(error: MediaError) -> OpenError
-    ensures { result ≡ refusals.refusal_of error }
+    ensures { result ≡ refusals.opening_refusal error }
 {
     match error {
         MediaError::Failed => OpenError::FlashFault,

@@ -9,7 +9,7 @@ use Rattle.cache_model.specs.Records.{Entries}
 use Rattle.cache_model.specs.Entries.{IsMap}
 use Rattle.mapping.specs.declared.bits.Choice.TheVariants.{Mapped}
 use Rattle.mapping.specs.Numbers.{HasNumber, HasNone, AreNumbered}
-use Rattle.silent_evict.specs.Candidates.{IsWhollyClean, IsCandidate, IsVictim, IsDirtyAt, pages_held}
+use Rattle.silent_evict.specs.Candidates.{HoldsCleanAlone, IsCandidate, IsVictim, IsDirtyAt, pages_held}
 use Rattle.silent_evict.proofs.GroupLemmas.{chosen_some, pages_held-none}
 use Rattle.silent_evict.proofs.EntryLemmas.{EachBefore, each_none, each_more, each_passed, each_entry}
 
@@ -46,14 +46,14 @@ module _ (g : Geometry) (m : Entries) (is_map : IsMap g m) (group i lba : ℕ) (
     none = λ f. each_more g m is_map _ _ i lba at (so_far.none f) (λ a e was. was) has (λ e there here. other here);
   }
 
-pub never_clean : (g : Geometry) (m : Entries) (group lba : ℕ) → lba / g.p ≡ group → IsDirtyAt m lba → IsWhollyClean g m group → ⊥
+pub never_clean : (g : Geometry) (m : Entries) (group lba : ℕ) → lba / g.p ≡ group → IsDirtyAt m lba → HoldsCleanAlone g m group → ⊥
 never_clean g m group lba here dirty clean = both_ways dirty.0.dirty (clean.clean lba dirty.0 dirty.1 here) dirty.2
 
 module _ (g : Geometry) (m : Entries) (group i numbers : ℕ) (held : Bool) (all : AreNumbered g m numbers) (past : numbers ≤ i) (so_far : CleanSoFar g m group i held) where
-  pub clean_all : held ≡ true → IsWhollyClean g m group
+  pub clean_all : held ≡ true → HoldsCleanAlone g m group
   clean_all t = record { held = so_far.some t; clean = each_entry g m (λ a e. a / g.p ≡ group → e.dirty ≡ false) i numbers all past so_far.clean }
 
-  pub clean_held : IsWhollyClean g m group → held ≡ true
+  pub clean_held : HoldsCleanAlone g m group → held ≡ true
   clean_held clean = elim (cases_Bool held) [
     | inl t ↦ t
     | inr f ↦ let found = clean.held in absurd (each_entry g m (λ a e. a / g.p ≡ group → ⊥) i numbers all past (so_far.none f) found.0 found.1 found.2 found.3)
@@ -61,10 +61,10 @@ module _ (g : Geometry) (m : Entries) (group i numbers : ℕ) (held : Bool) (all
 
 -- ---- a candidate
 
-pub candidate_from_pages : (g : Geometry) (m : Entries) (group : ℕ) → 0 < pages_held g m group → IsWhollyClean g m group → IsCandidate g m group
+pub candidate_from_pages : (g : Geometry) (m : Entries) (group : ℕ) → 0 < pages_held g m group → HoldsCleanAlone g m group → IsCandidate g m group
 candidate_from_pages g m group some clean = record { some = chosen_some g m group Mapped (λ none. let empty = pages_held-none g m group none in omega arith); clean = clean.clean }
 
-pub clean_candidate : (g : Geometry) (m : Entries) (group : ℕ) → IsCandidate g m group → IsWhollyClean g m group
+pub clean_candidate : (g : Geometry) (m : Entries) (group : ℕ) → IsCandidate g m group → HoldsCleanAlone g m group
 clean_candidate g m group candidate = record { held = let found = candidate.some in (found.0, found.1, found.2, found.3); clean = candidate.clean }
 
 -- ---- a victim

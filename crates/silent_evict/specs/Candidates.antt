@@ -7,7 +7,7 @@ use Rattle.cache_model.specs.Records.{Entries}
 pub use Rattle.mapping.specs.Candidates.{IsGroupHeld, HasDataBlock, IsClean, IsCandidate, pages_held}
 
 -- something of the group is held, and nothing of the group is dirty
-pub record IsWhollyClean (g : Geometry) (m : Entries) (group : ℕ) : Type 0 where
+pub record HoldsCleanAlone (g : Geometry) (m : Entries) (group : ℕ) : Type 0 where
   pub held : IsGroupHeld g m group
   pub clean : IsClean g m group
 

@@ -3,11 +3,11 @@ ghost use Rattle.std.specs.Prelude.{ℕ, ◌≤◌, ◌-◌, ◌/◌};
 ghost use Rattle.ft_base.specs.declared.geometry.Geometry.{Geometry};
 ghost use Rattle.cache_model.specs.Records.{Entries};
 ghost use Rattle.cache_model.specs.Entries.{IsMap};
-ghost use Rattle.silent_evict.specs.Candidates.{IsCandidate, IsVictim, IsWhollyClean, pages_held};
+ghost use Rattle.silent_evict.specs.Candidates.{IsCandidate, IsVictim, HoldsCleanAlone, pages_held};
 
 /// A victim is a wholly clean group: something of it is held, and nothing that the disk lacks.
 pub fn a_victim_is_wholly_clean()
-    ensures { (g : Geometry) (m : Entries) (group : ℕ) → IsVictim g m group → IsWhollyClean g m group }
+    ensures { (g : Geometry) (m : Entries) (group : ℕ) → IsVictim g m group → HoldsCleanAlone g m group }
 {}
 
 /// The data block of a candidate has at least one held page, and at most P.

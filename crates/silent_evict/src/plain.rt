@@ -1,6 +1,6 @@
 //! The plain programs: one entry after another.
 ghost use Rattle.std.specs.Prelude.{◌≡◌, ◌↔◌, IsTrue};
-ghost use Rattle.silent_evict.specs.Candidates.{IsCandidate, IsVictim, IsWhollyClean, IsDirtyAt, GivesWayBefore, pages_held};
+ghost use Rattle.silent_evict.specs.Candidates.{IsCandidate, IsVictim, HoldsCleanAlone, IsDirtyAt, GivesWayBefore, pages_held};
 
 use ft_base::Geometry;
 use mapping::Map;
@@ -8,7 +8,7 @@ use mapping::Map;
 /// Whether an address of the group is held, and none that is held is dirty.
 pub fn is_wholly_clean(geometry: &Geometry, map: &Map, group: u64) -> bool
     requires { geometry.now ≡ map.now.geometry }
-    ensures { IsTrue result ↔ IsWhollyClean map.now.geometry map.now.entries group }
+    ensures { IsTrue result ↔ HoldsCleanAlone map.now.geometry map.now.entries group }
 {
     let mut held = false;
     for i in 0..map.numbers() {

@@ -20,7 +20,8 @@ use Rattle.ft_media.specs.declared.media.PageRead.TheVariants as read
 use Rattle.ft_media.specs.declared.media.MediaError.{MediaError}
 use Rattle.ft_media.specs.declared.media.MediaError.TheVariants as media
 use Rattle.cache_model.specs.declared.entry.Entry.{Entry}
-use Rattle.cache_model.specs.Cache.{Held, held, CacheList, evicted, made_clean, marked, marked_as}
+use Rattle.cache_model.specs.Cache.{evicted, made_clean, marked, marked_as}
+use Rattle.cache_model.specs.CacheList.{Held, held, CacheList}
 use Rattle.cache_model.specs.Loading.{is_whole}
 use Rattle.cache_model.proofs.MapLemmas.{get_insert, get_remove}
 use Rattle.mapping.specs.Counts.{place_and_mark}
@@ -32,6 +33,7 @@ use Rattle.ssc.specs.CacheState.{Holds, entries_of}
 use Rattle.ssc.specs.Commands.{FlashStandsForOne, AsUndone, AsBefore, AsAfter}
 use Rattle.ssc.specs.Steps.{FlashStandsForEither}
 use Rattle.ssc.proofs.HoldsLemmas.{held_none, held_some}
+use Rattle.merge_engine.proofs.CopyLemmas.{placed_entry}
 
 -- ---- images
 
@@ -118,13 +120,6 @@ entry_there None r b is there =
     let none : b ≡ false = there ∙ ap is_some is in
     (λ t. absurd (both_ways b none t), λ e. absurd (let both : None ≡ Some e.0 = e.1 in cc))
 entry_there (Some e) r b is there = (λ t. (e, refl), λ x. there ∙ ap is_some is)
-
--- the place of an address, of its entry
-placed_entry : (o : Option Entry) (at : Place) (dirty : Bool) → Some (at, dirty) ≡ option_map place_and_mark o → (e : Entry) × (o ≡ Some e) × (e.place ≡ at)
-placed_entry None at dirty is = absurd (cc)
-placed_entry (Some e) at dirty is =
-    let same : (at, dirty) ≡ place_and_mark e = cc in
-    (e, refl, sym (ap (λ (x : Place × Bool). x.0) same))
 
 -- ---- a block that is read
 

@@ -11,7 +11,8 @@ use Rattle.cache_model.specs.declared.entry.Entry.{Entry}
 use Rattle.cache_model.specs.Records.{Entries, has_bit}
 use Rattle.cache_model.specs.Entries.{each_once, groups_with}
 use Rattle.cache_model.specs.Loading.{is_whole}
-use Rattle.cache_model.specs.Cache.{Held, CacheList, with_group, dirty_groups}
+use Rattle.cache_model.specs.Cache.{with_group, dirty_groups}
+use Rattle.cache_model.specs.CacheList.{Held, CacheList}
 use Rattle.cache_model.specs.Stands.{held_at}
 use Rattle.cache_model.proofs.StandLemmas.{held_of, whole_held}
 use Rattle.cache_model.proofs.MapLemmas.{all_entries, by_get}
@@ -21,6 +22,7 @@ use Rattle.mapping.specs.Bits.{is_chosen, chosen_of}
 use Rattle.mapping.proofs.MarksLemmas.{same_bools}
 use Rattle.mapping.proofs.BitsLemmas.{bit_of_set, set_of_none}
 use Rattle.merge_engine.specs.Steps.{dirty_groups_with, HasRoomFor}
+use Rattle.merge_engine.proofs.GaveLemmas.{dirty_numbers}
 
 -- ---- lists of numbers, each once
 
@@ -58,9 +60,6 @@ module _ {X : Type 0} (f : ℕ × X → ℕ) (t : X → Bool) (m : FinMap nat_cm
 
   pub member_to : (n : ℕ) → member n (numbers f t (entries m)) ≡ true → (x : ℕ × X) × (get m x.0 ≡ Some x.1) × (t x.1 ≡ true) × (f x ≡ n)
   member_to n is = member_of f t (λ x. get m x.0 ≡ Some x.1) (entries m) n (all_entries m (λ a e. get m a ≡ Some e) (λ a e is. is)) is
-
-abbrev pub dirty_numbers : Geometry → Entries → List ℕ
-dirty_numbers g m = numbers (λ (x : ℕ × Entry). x.0 / g.p) (λ (e : Entry). e.dirty) (entries m)
 
 -- ---- the set of dirty pages of a group
 

@@ -12,3 +12,4 @@ pub mod WrittenLemmas
 pub mod SpendLemmas
 pub mod WriteLemmas
 pub mod OwnLemmas
+pub mod Words

@@ -9,7 +9,7 @@ use Rattle.ft_base.specs.declared.block.Page.{Page}
 use Rattle.cache_model.specs.declared.entry.Entry.{Entry}
 use Rattle.cache_model.specs.Records.{Entries}
 use Rattle.cache_model.specs.Loading.{load, is_whole}
-use Rattle.cache_model.specs.Cache.{CacheList, Held}
+use Rattle.cache_model.specs.CacheList.{CacheList, Held}
 use Rattle.cache_model.specs.Stands.{FlashStandsFor, held_at}
 use Rattle.cache_model.proofs.MapLemmas.{all_entries, eq_key, get_insert}
 use Rattle.cache_model.proofs.StandLemmas.{entry_whole, whole_held}

@@ -22,16 +22,19 @@ use Rattle.ft_base.specs.Contents.{Contents}
 use Rattle.cache_model.specs.declared.entry.Entry.{Entry}
 use Rattle.cache_model.specs.Records.{Entries}
 use Rattle.cache_model.specs.Entries.{IsMap}
-use Rattle.cache_model.specs.Cache.{Held, CacheList, dirty_between}
+use Rattle.cache_model.specs.Cache.{dirty_between}
+use Rattle.cache_model.specs.CacheList.{Held, CacheList}
 use Rattle.cache_model.proofs.MapLemmas.{eq_key}
 use Rattle.mapping.specs.Numbers.{number_of, HasNumber, AreNumbered}
 use Rattle.ssc.specs.declared.cache.Ssc.{Ssc}
 use Rattle.ssc.specs.CacheState.{Holds, entries_of}
 use Rattle.mapping.specs.declared.bits.Choice.TheVariants.{Dirty}
 use Rattle.mapping.specs.Bits.{chosen_of, is_chosen, set_of}
-use Rattle.ssc.specs.Listed.{dirty_pages, is_held_dirty, is_dirty_from, listed, times_listed, AddsListed, AddsNumber, IsListedAt}
+use Rattle.ssc.specs.Listed.{dirty_pages, is_held_dirty, is_dirty_from, times_listed, AddsListed, AddsNumber, IsListedAt}
+use Rattle.ssc.proofs.Words.{listed}
 use Rattle.ssc.proofs.HoldsLemmas.{held_none, held_some}
-use Rattle.ssc.proofs.NumberLemmas.{less_key, one_address, one_if, sorted_entries, the_entry}
+use Rattle.ssc.proofs.NumberLemmas.{one_address, one_if, sorted_entries, the_entry}
+use Rattle.cache_model.proofs.MapLemmas.{less_key}
 
 -- ---- one entry
 

@@ -14,7 +14,7 @@ use Rattle.ft_base.specs.Layout.{first_pool}
 use Rattle.cache_model.specs.declared.entry.Entry.{Entry}
 use Rattle.cache_model.specs.Records.{Entries}
 use Rattle.cache_model.specs.Entries.{InPool, IsMap}
-use Rattle.cache_model.proofs.MapLemmas.{all_entries, eq_key}
+use Rattle.cache_model.proofs.MapLemmas.{less_key, holds, all_entries, eq_key}
 use Rattle.mapping.specs.Numbers.{number_of, HasNumber}
 
 -- ---- one number, one place
@@ -50,13 +50,6 @@ the_entry g m is_map i a at has P here b f there number =
     subst (λ (n : ℕ). P (n, f)) address (subst (λ (e : Entry). P (a, e)) entry here)
 
 -- ---- ascending entries
-
-pub less_key : (x y : ℕ) → is_lt (nat_cmp x y) ≡ true → x < y
-less_key x y e = grind (arith, nat_tests)
-
-holds : (b : Bool) → T b → b ≡ true
-holds true h = refl
-holds false h = absurd h
 
 pub sorted_entries : {X : Type 0} (m : FinMap nat_cmp X) → is_sorted nat_cmp (entries m) ≡ true
 sorted_entries m = holds (is_sorted nat_cmp (entries m)) (entries_sorted m)

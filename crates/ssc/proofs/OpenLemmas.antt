@@ -15,7 +15,7 @@ use Rattle.ft_media.specs.Reads.{ReadsFlash}
 use Rattle.ft_media.specs.Drives.{DrivesFlash}
 use Rattle.cache_model.specs.Records.{Entries, no_entries}
 use Rattle.cache_model.specs.Loading.{Complete, checkpoint_in, checkpoint_region, chosen, load}
-use Rattle.cache_model.specs.Cache.{CacheList}
+use Rattle.cache_model.specs.CacheList.{CacheList}
 use Rattle.cache_model.specs.Stands.{FlashStandsFor, held_at}
 use Rattle.cache_model.proofs.RegionLemmas.{checkpoint_era}
 use Rattle.cache_model.proofs.LoadLemmas.{newest_below, newest_is}
@@ -26,7 +26,7 @@ use Rattle.checkpoint.specs.Current.{IsCurrent, LoadsOneOf}
 use Rattle.recovery.specs.declared.loading.Loaded.{Loaded}
 use Rattle.recovery.specs.Loaded.{IsLoaded}
 use Rattle.merge_engine.specs.declared.parts.Parts.{Parts}
-use Rattle.merge_engine.specs.Agreement.{IsListOn, IsSound, Lists}
+use Rattle.merge_engine.specs.Agreement.{IsListOn, ArePartsSound, Lists}
 use Rattle.merge_engine.proofs.BesideLemmas.{loaded_durable}
 use Rattle.ssc.specs.Steps.{IsLoadedAs, FlashStandsForEither}
 
@@ -84,8 +84,8 @@ module _ (g : Geometry) (old mid : Contents) (loaded : Loaded) (parts : Parts) (
   entries_is = ap (λ (m : MapValue). m.entries) as_is.map
 
   -- the parts agree with the flash, whose log is still closed
-  pub sound_loaded : FitsOn g old.shape → IsSound parts mid
-  sound_loaded shape = subst (λ (k : Contents). IsSound parts k) (sym read) (record {
+  pub sound_loaded : FitsOn g old.shape → ArePartsSound parts mid
+  sound_loaded shape = subst (λ (k : Contents). ArePartsSound parts k) (sym read) (record {
     of_one = as_is.of_one;
     shape = subst (λ (h : Geometry). FitsOn h old.shape) (sym as_is.geometry) shape;
     current = loaded_current g old.flash.page loaded parts.log parts.map.entries is entries_is as_is.log;

@@ -9,7 +9,8 @@ use Rattle.ft_base.specs.declared.block.Page.{Page}
 use Rattle.ft_base.specs.declared.geometry.Geometry.{Geometry}
 use Rattle.ft_base.specs.Contents.{Contents, Image, Now}
 use Rattle.cache_model.specs.Spelling.{data_spare}
-use Rattle.cache_model.specs.Cache.{AreOwn, Buffered, Inserted, Cleaned, CacheList, Held, Vanish, evicted, made_clean, marked, marked_as, undo, written_block}
+use Rattle.cache_model.specs.Cache.{AreOwn, Buffered, Inserted, Cleaned, Vanish, evicted, made_clean, marked, marked_as, undo, written_block}
+use Rattle.cache_model.specs.CacheList.{CacheList, Held}
 use Rattle.cache_model.specs.Stands.{FlashStandsFor}
 use Rattle.cache_model.proofs.MapLemmas.{get_insert, get_remove}
 use Rattle.cache_model.proofs.UndoLemmas.{back_at, get_undo, undone_at}

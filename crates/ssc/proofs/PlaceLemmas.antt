@@ -20,7 +20,8 @@ use Rattle.merge_engine.specs.Agreement.{Agree}
 use Rattle.merge_engine.specs.Steps.{IsNewPage, HasRoomFor}
 use Rattle.merge_engine.proofs.TakeLemmas.{agree_map}
 use Rattle.merge_engine.proofs.RoleLemmas.{log_page_mapped}
-use Rattle.ssc.proofs.DirtyLemmas.{member_once, member_from, member_to, dirty_numbers}
+use Rattle.ssc.proofs.DirtyLemmas.{member_once, member_from, member_to}
+use Rattle.merge_engine.proofs.GaveLemmas.{dirty_numbers}
 
 -- a list has no fewer numbers than each of them once
 once_most : (ns : List ℕ) → length (each_once ns) ≤ length ns

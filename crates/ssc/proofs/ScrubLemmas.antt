@@ -24,7 +24,8 @@ use Rattle.cache_model.specs.Entries.{IsMap}
 use Rattle.cache_model.specs.Spelling.{data_spare, spare_fields, spelled_spare}
 use Rattle.cache_model.specs.Loading.{is_whole}
 use Rattle.cache_model.specs.declared.entry.Entry.{Entry}
-use Rattle.cache_model.specs.Cache.{AreOwn, CacheList, Held, held}
+use Rattle.cache_model.specs.Cache.{AreOwn}
+use Rattle.cache_model.specs.CacheList.{CacheList, Held, held}
 use Rattle.cache_model.specs.Stands.{held_at, held_in}
 use Rattle.checkpoint.specs.Current.{AreWhole}
 use Rattle.merge_engine.specs.Agreement.{IsListOn}

@@ -6,7 +6,7 @@ use Rattle.ft_base.specs.declared.record.Record.{Record}
 use Rattle.ft_base.specs.declared.record.Record.TheVariants.{Remove, Clean}
 use Rattle.ft_base.specs.Contents.{Contents}
 use Rattle.cache_model.specs.Entries.{Fits}
-use Rattle.cache_model.specs.Cache.{CacheList}
+use Rattle.cache_model.specs.CacheList.{CacheList}
 use Rattle.cache_model.proofs.CountLemmas.{remove_fits, clean_fits}
 use Rattle.op_log.specs.Log.{LogValue, pushed}
 use Rattle.merge_engine.specs.declared.parts.Parts.{Parts}

@@ -16,7 +16,8 @@ use Rattle.ft_media.specs.declared.media.MediaError.{MediaError}
 use Rattle.ft_media.specs.declared.media.MediaError.TheVariants as media
 use Rattle.cache_model.specs.declared.entry.Entry.{Entry}
 use Rattle.cache_model.specs.Records.{Entries}
-use Rattle.cache_model.specs.Cache.{Inserted, CacheList, Held, written_block, IsFull, Vanish, dirty_groups, undo, with_group, written_clean}
+use Rattle.cache_model.specs.Cache.{Inserted, written_block, IsFull, Vanish, dirty_groups, undo, with_group, written_clean}
+use Rattle.cache_model.specs.CacheList.{CacheList, Held}
 use Rattle.op_log.specs.Log.{LogValue}
 use Rattle.merge_engine.specs.declared.parts.Parts.{Parts}
 use Rattle.merge_engine.specs.Agreement.{Agree, Lists}

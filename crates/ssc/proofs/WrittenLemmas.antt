@@ -17,7 +17,7 @@ use Rattle.ft_media.specs.declared.rig.Counts.{Counts}
 use Rattle.cache_model.specs.declared.entry.Entry.{Entry}
 use Rattle.cache_model.specs.Records.{Entries}
 use Rattle.cache_model.specs.Entries.{each_once}
-use Rattle.cache_model.specs.Cache.{CacheList, Held}
+use Rattle.cache_model.specs.CacheList.{CacheList, Held}
 use Rattle.cache_model.specs.Stands.{FlashStandsFor, held_at}
 use Rattle.cache_model.proofs.CountLemmas.{member, each_once-le}
 use Rattle.checkpoint.specs.Current.{AreWhole}
@@ -29,7 +29,8 @@ use Rattle.merge_engine.specs.Steps.{GoesOn, HasLogRoom, HasRoomFor}
 use Rattle.mapping.specs.MapValue.{MapValue}
 use Rattle.ssc.specs.Commands.{FlashStandsForOne, AsUndone, AsBefore, AsAfter}
 use Rattle.ssc.specs.Steps.{IsPushed, LeftOf, ListsAfter, ListsWritten, PutsBlock, FlashStandsForEither, FlashStandsForStep}
-use Rattle.ssc.proofs.DirtyLemmas.{dirty_numbers, member_from, member_once, member_to}
+use Rattle.ssc.proofs.DirtyLemmas.{member_from, member_once, member_to}
+use Rattle.merge_engine.proofs.GaveLemmas.{dirty_numbers}
 use Rattle.cache_model.proofs.StandLemmas.{held_of, whole_held}
 use Rattle.ssc.proofs.ListLemmas.{list_some, stands_some}
 

@@ -7,7 +7,8 @@ use Rattle.ft_base.specs.declared.record.Record.TheVariants.{SetPage, Remove, Cl
 use Rattle.ft_base.specs.Contents.{Contents}
 use Rattle.ft_base.specs.Layout.{log_pages}
 use Rattle.cache_model.specs.Records.{Entries}
-use Rattle.cache_model.specs.Cache.{Buffered, Inserted, Cleaned, CacheList, MayWait, undo}
+use Rattle.cache_model.specs.Cache.{Buffered, Inserted, Cleaned, MayWait, undo}
+use Rattle.cache_model.specs.CacheList.{CacheList}
 use Rattle.merge_engine.specs.declared.parts.Parts.{Parts}
 use Rattle.merge_engine.specs.Agreement.{Agree, Lists}
 use Rattle.ssc.specs.declared.cache.Ssc.{Ssc}

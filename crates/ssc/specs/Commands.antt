@@ -6,7 +6,8 @@ use Rattle.ft_base.specs.declared.block.Place.{Place}
 use Rattle.ft_base.specs.declared.block.Page.{Page}
 use Rattle.ft_base.specs.declared.geometry.Geometry.{Geometry}
 use Rattle.ft_base.specs.Contents.{Contents, Image, Now}
-use Rattle.cache_model.specs.Cache.{Buffered, CacheList, Held, IsFull, Vanish, dirty_groups, with_group, undo}
+use Rattle.cache_model.specs.Cache.{Buffered, IsFull, Vanish, dirty_groups, with_group, undo}
+use Rattle.cache_model.specs.CacheList.{CacheList, Held}
 use Rattle.cache_model.specs.Stands.{FlashStandsFor}
 use Rattle.ssc.specs.declared.cache.Ssc.{Ssc}
 use Rattle.ssc.specs.declared.error.SscError.{SscError}

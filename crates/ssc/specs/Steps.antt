@@ -6,7 +6,7 @@ use Rattle.ft_base.specs.declared.block.Page.{Page}
 use Rattle.ft_base.specs.declared.geometry.Geometry.{Geometry}
 use Rattle.ft_base.specs.declared.record.Record.{Record}
 use Rattle.ft_base.specs.declared.record.Record.TheVariants.{SetPage}
-use Rattle.cache_model.specs.Cache.{CacheList, Held}
+use Rattle.cache_model.specs.CacheList.{CacheList, Held}
 use Rattle.cache_model.specs.Stands.{FlashStandsFor}
 use Rattle.op_log.specs.Log.{pushed}
 use Rattle.log_blocks.specs.Logs as list
@@ -56,5 +56,5 @@ pub record IsLoadedAs (g : Geometry) (loaded : Loaded) (parts : Parts) : Type 0 
   pub map : parts.map ≡ loaded.map
   pub log : parts.log ≡ record { geometry = g; region = loaded.region; era = loaded.era; next = 0; buffered = [] }
   pub roles : RolesAgree parts
-  pub logs : list.IsSound parts.logs
+  pub logs : list.AreSoundLogs parts.logs
   pub closed : parts.logs.room ≡ 0

@@ -2,7 +2,8 @@ ghost use Rattle.std.specs.Prelude.{◌≡◌, true, false, IsOk, OnOk, OnErr, l
 ghost use Rattle.std.specs.FinMap.{entries};
 ghost use Rattle.ft_base.specs.Contents.{Contents};
 ghost use Rattle.cache_model.specs.Buckets.{AreBucketsFor};
-ghost use Rattle.cache_model.specs.Cache.{CacheList, dirty_groups};
+ghost use Rattle.cache_model.specs.Cache.{dirty_groups};
+ghost use Rattle.cache_model.specs.CacheList.{CacheList};
 ghost use Rattle.mapping.specs.Bits.{chosen_of};
 ghost use Rattle.mapping.specs.Counts.{held_count};
 ghost use Rattle.mapping.specs.declared.bits.Choice.TheVariants.{Dirty};

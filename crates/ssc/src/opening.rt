@@ -3,7 +3,7 @@ ghost use Rattle.ft_base.specs.Count.{Rose};
 ghost use Rattle.ft_base.specs.Contents.{Image, Now};
 ghost use Rattle.ft_base.specs.Layout.{log_pages};
 ghost use Rattle.ft_media.specs.Drives.{DrivesFlash};
-ghost use Rattle.cache_model.specs.Cache.{CacheList};
+ghost use Rattle.cache_model.specs.CacheList.{CacheList};
 ghost use Rattle.cache_model.specs.Entries.{IsMap};
 ghost use Rattle.cache_model.specs.Loading.{load};
 ghost use Rattle.cache_model.specs.Stands.{FlashStandsFor};

@@ -2,7 +2,8 @@
 ghost use Rattle.std.specs.Prelude.{◌≡◌, None, ◌+◌, ◌<◌, ◌^◌, ◌↔◌, ℕ, IfOk, IsErrOf, IsTrue};
 ghost use Rattle.ft_media.specs.Reads.{ReadsFlash};
 ghost use Rattle.ssc.specs.Errors.{ssc_failed, ssc_lost};
-ghost use Rattle.cache_model.specs.Cache.{AreOwn, CacheList};
+ghost use Rattle.cache_model.specs.Cache.{AreOwn};
+ghost use Rattle.cache_model.specs.CacheList.{CacheList};
 ghost use Rattle.ssc.specs.CacheState.{Holds, IsUp, entries_of, geometry_of};
 ghost use Rattle.ssc.specs.Scrubbed.{IsDataPage, IsScrub, IsScrubBelow, lowest_with};
 

@@ -1,7 +1,7 @@
 //! How many blocks the lines of a run write to the disk.
 ghost use Rattle.std.specs.Prelude.{◌≡◌, ◌≤◌, ◌<◌, ◌+◌, ◌-◌, ◌^◌, ◌/◌, IfOk, min};
 ghost use Rattle.ft_base.specs.Table as dirty;
-ghost use Rattle.trace_model.specs.PlainTable.{table_of};
+ghost use Rattle.trace_model.specs.PlainTable.{plain_table};
 ghost use Rattle.trace_model.specs.Plan.{told_of};
 ghost use Rattle.trace_model.specs.Backs as backs;
 ghost use Rattle.trace_model.specs.Plain.{AreAddressed, IsAddressed};
@@ -38,7 +38,7 @@ pub fn plain_backs(alloc: Global, plan: &Plan, run: &[Ran]) -> Result<u64, Alloc
 /// The table after these lines, and how many blocks they wrote to the disk in write-back.
 fn walk_lines(alloc: Global, plan: &Plan, run: &[Ran]) -> Result<Walk, AllocError>
     requires { AreAddressed run.now }
-    ensures table { IfOk result (λ w. table_of w.table.items ≡ backs.table_after (told_of plan.now) run.now) }
+    ensures table { IfOk result (λ w. plain_table w.table.items ≡ backs.table_after_lines (told_of plan.now) run.now) }
     ensures backs { IfOk result (λ w. w.backs ≡ min (backs.backs_in (told_of plan.now) run.now) (2 ^ 64 - 1)) }
 {
     match run {
@@ -55,9 +55,9 @@ fn walk_lines(alloc: Global, plan: &Plan, run: &[Ran]) -> Result<Walk, AllocErro
 
 fn walk_line(alloc: Global, plan: &Plan, line: &Line, before: Walk) -> Result<Walk, AllocError>
     requires { IsAddressed line.now }
-    ensures table { IfOk result (λ w. table_of w.table.items ≡ backs.table_line (told_of plan.now) line.now (table_of before.table.items)) }
+    ensures table { IfOk result (λ w. plain_table w.table.items ≡ backs.table_line (told_of plan.now) line.now (plain_table before.table.items)) }
     ensures backs { IfOk result (λ w. w.backs ≡ min (before.backs + backs.backs_line (told_of plan.now) line.now
-        (table_of before.table.items)) (2 ^ 64 - 1)) }
+        (plain_table before.table.items)) (2 ^ 64 - 1)) }
 {
     match *line {
         Line::Write { lba, count, .. } => walk_blocks(alloc, plan, lba, count, before),
@@ -74,10 +74,10 @@ fn walk_blocks(
     before: Walk,
 ) -> Result<Walk, AllocError>
     requires { lba + count < 2 ^ 64 }
-    ensures table { IfOk result (λ w. table_of w.table.items ≡ backs.table_blocks (told_of plan.now) lba count
-        (table_of before.table.items)) }
+    ensures table { IfOk result (λ w. plain_table w.table.items ≡ backs.table_blocks (told_of plan.now) lba count
+        (plain_table before.table.items)) }
     ensures backs { IfOk result (λ w. w.backs ≡ min (before.backs + backs.backs_blocks (told_of plan.now) lba count
-        (table_of before.table.items)) (2 ^ 64 - 1)) }
+        (plain_table before.table.items)) (2 ^ 64 - 1)) }
 {
     let mut walk = before;
     for i in 0..count {
@@ -88,10 +88,10 @@ fn walk_blocks(
 
 /// One block is written: where its group is new and there are as many as may be, the oldest goes first.
 fn write(alloc: Global, plan: &Plan, lba: u64, before: Walk) -> Result<Walk, AllocError>
-    ensures table { IfOk result (λ w. table_of w.table.items ≡ dirty.table_written plan.now.mode (told_of plan.now) lba
-        (table_of before.table.items)) }
+    ensures table { IfOk result (λ w. plain_table w.table.items ≡ dirty.table_written plan.now.mode (told_of plan.now) lba
+        (plain_table before.table.items)) }
     ensures backs { IfOk result (λ w. w.backs ≡ min (before.backs + dirty.backs_written plan.now.mode (told_of plan.now) lba
-        (table_of before.table.items)) (2 ^ 64 - 1)) }
+        (plain_table before.table.items)) (2 ^ 64 - 1)) }
 {
     match plan.mode {
         Mode::Back => write_back(alloc, plan, lba, before),
@@ -103,10 +103,10 @@ fn write(alloc: Global, plan: &Plan, lba: u64, before: Walk) -> Result<Walk, All
 }
 
 fn write_back(alloc: Global, plan: &Plan, lba: u64, before: Walk) -> Result<Walk, AllocError>
-    ensures table { IfOk result (λ w. table_of w.table.items ≡ dirty.table_written Mode.Back (told_of plan.now) lba
-        (table_of before.table.items)) }
+    ensures table { IfOk result (λ w. plain_table w.table.items ≡ dirty.table_written Mode.Back (told_of plan.now) lba
+        (plain_table before.table.items)) }
     ensures backs { IfOk result (λ w. w.backs ≡ min (before.backs + dirty.backs_written Mode.Back (told_of plan.now) lba
-        (table_of before.table.items)) (2 ^ 64 - 1)) }
+        (plain_table before.table.items)) (2 ^ 64 - 1)) }
 {
     let p = plan.geometry.p() as u64;
     let new = !has_group(before.table.as_slice(), lba / p);
@@ -119,7 +119,7 @@ fn write_back(alloc: Global, plan: &Plan, lba: u64, before: Walk) -> Result<Walk
 
 fn put(alloc: Global, p: u64, lba: u64, before: Walk) -> Result<Walk, AllocError>
     requires { 1 ≤ p }
-    ensures table { IfOk result (λ w. table_of w.table.items ≡ dirty.put_first (lba / p) lba (table_of before.table.items)) }
+    ensures table { IfOk result (λ w. plain_table w.table.items ≡ dirty.put_first (lba / p) lba (plain_table before.table.items)) }
     ensures backs { IfOk result (λ w. w.backs ≡ before.backs) }
 {
     let table = written_at(alloc, before.table.as_slice(), p, lba)?;
@@ -130,8 +130,8 @@ fn put(alloc: Global, p: u64, lba: u64, before: Walk) -> Result<Walk, AllocError
 }
 
 fn idle(alloc: Global, plan: &Plan, before: Walk) -> Result<Walk, AllocError>
-    ensures table { IfOk result (λ w. table_of w.table.items ≡ dirty.table_idled (told_of plan.now) (table_of before.table.items)) }
-    ensures backs { IfOk result (λ w. w.backs ≡ min (before.backs + dirty.backs_idled (told_of plan.now) (table_of before.table.items))
+    ensures table { IfOk result (λ w. plain_table w.table.items ≡ dirty.table_idled (told_of plan.now) (plain_table before.table.items)) }
+    ensures backs { IfOk result (λ w. w.backs ≡ min (before.backs + dirty.backs_idled (told_of plan.now) (plain_table before.table.items))
         (2 ^ 64 - 1)) }
 {
     if goes_back(plan, before.table.len()) {
@@ -152,8 +152,8 @@ fn goes_back(plan: &Plan, groups: usize) -> bool
 
 /// The oldest group is written to the disk.
 fn drop_oldest(alloc: Global, before: Walk) -> Result<Walk, AllocError>
-    ensures table { IfOk result (λ w. table_of w.table.items ≡ dirty.without_last (table_of before.table.items)) }
-    ensures backs { IfOk result (λ w. w.backs ≡ min (before.backs + dirty.last_size (table_of before.table.items)) (2 ^ 64 - 1)) }
+    ensures table { IfOk result (λ w. plain_table w.table.items ≡ dirty.without_last (plain_table before.table.items)) }
+    ensures backs { IfOk result (λ w. w.backs ≡ min (before.backs + dirty.last_size (plain_table before.table.items)) (2 ^ 64 - 1)) }
 {
     let count = oldest_count(before.table.as_slice()) as u64;
     let table = without_oldest(alloc, before.table.as_slice())?;

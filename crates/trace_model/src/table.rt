@@ -4,7 +4,7 @@ ghost use Rattle.std.specs.List.{list_any};
 ghost use Rattle.std.specs.Ordering.{nat_cmp};
 ghost use Rattle.std.specs.BTreeSet.{insert_key};
 ghost use Rattle.ft_base.specs.Table as dirty;
-ghost use Rattle.trace_model.specs.PlainTable.{group_of, table_of};
+ghost use Rattle.trace_model.specs.PlainTable.{plain_group, plain_table};
 
 use std::alloc::{AllocError, Global};
 
@@ -16,7 +16,7 @@ pub(crate) struct PlainGroup {
 }
 
 pub(crate) fn has_group(table: &[PlainGroup], group: u64) -> bool
-    ensures { result ≡ list_any (dirty.is_of group) (table_of table.now) }
+    ensures { result ≡ list_any (dirty.is_of group) (plain_table table.now) }
 {
     match table {
         [] => false,
@@ -31,7 +31,7 @@ pub(crate) fn has_group(table: &[PlainGroup], group: u64) -> bool
 
 /// How many addresses the group has whose last write is the oldest.
 pub(crate) fn oldest_count(table: &[PlainGroup]) -> usize
-    ensures { result ≡ dirty.last_size (table_of table.now) }
+    ensures { result ≡ dirty.last_size (plain_table table.now) }
 {
     match table {
         [] => 0,
@@ -51,7 +51,7 @@ fn copy_all(alloc: Global, addresses: &[u64]) -> Result<Vec<u64>, AllocError>
 }
 
 fn copy_group(alloc: Global, group: &PlainGroup) -> Result<PlainGroup, AllocError>
-    ensures { IfOk result (λ g. group_of g ≡ group_of group.now) }
+    ensures { IfOk result (λ g. plain_group g ≡ plain_group group.now) }
 {
     Ok(PlainGroup {
         group: group.group,
@@ -61,7 +61,7 @@ fn copy_group(alloc: Global, group: &PlainGroup) -> Result<PlainGroup, AllocErro
 
 /// The addresses of a group.
 fn addresses_in(alloc: Global, table: &[PlainGroup], group: u64) -> Result<Vec<u64>, AllocError>
-    ensures { IfOk result (λ v. v.items ≡ dirty.lbas_of group (table_of table.now)) }
+    ensures { IfOk result (λ v. v.items ≡ dirty.lbas_of group (plain_table table.now)) }
 {
     match table {
         [] => Ok(Vec::new(alloc)),
@@ -80,7 +80,7 @@ fn without_group(
     table: &[PlainGroup],
     group: u64,
 ) -> Result<Vec<PlainGroup>, AllocError>
-    ensures { IfOk result (λ v. table_of v.items ≡ filter (λ w. not (dirty.is_of group w)) (table_of table.now)) }
+    ensures { IfOk result (λ v. plain_table v.items ≡ filter (λ w. not (dirty.is_of group w)) (plain_table table.now)) }
 {
     match table {
         [] => Ok(Vec::new(alloc)),
@@ -100,7 +100,7 @@ pub(crate) fn without_oldest(
     alloc: Global,
     table: &[PlainGroup],
 ) -> Result<Vec<PlainGroup>, AllocError>
-    ensures { IfOk result (λ v. table_of v.items ≡ dirty.without_last (table_of table.now)) }
+    ensures { IfOk result (λ v. plain_table v.items ≡ dirty.without_last (plain_table table.now)) }
 {
     match table {
         [] => Ok(Vec::new(alloc)),
@@ -114,7 +114,7 @@ pub(crate) fn without_oldest(
 }
 
 fn put_first(table: &mut Vec<PlainGroup>, group: PlainGroup) -> Result<(), AllocError>
-    ensures { OnOk result (table_of table.new.items ≡ group_of group ∷ table_of table.old.items) }
+    ensures { OnOk result (plain_table table.new.items ≡ plain_group group ∷ plain_table table.old.items) }
 {
     match table.insert(0, group) {
         Ok(()) => Ok(()),
@@ -165,7 +165,7 @@ pub(crate) fn written_at(
     lba: u64,
 ) -> Result<Vec<PlainGroup>, AllocError>
     requires { 1 ≤ p }
-    ensures { IfOk result (λ v. table_of v.items ≡ dirty.put_first (lba / p) lba (table_of table.now)) }
+    ensures { IfOk result (λ v. plain_table v.items ≡ dirty.put_first (lba / p) lba (plain_table table.now)) }
 {
     let group = lba / p;
     let before = addresses_in(alloc, table, group)?;

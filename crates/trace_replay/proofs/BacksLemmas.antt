@@ -16,7 +16,7 @@ use Rattle.ft_volume.specs.Volume.{VolumeState}
 use Rattle.trace_model.specs.declared.line.Line.{Line}
 use Rattle.trace_model.specs.declared.line.Line.TheVariants as line
 use Rattle.trace_model.specs.declared.ran.Ran.{Ran}
-use Rattle.trace_model.specs.Backs.{AreUncut, ReadsFew, WritesBack, WritesNone, backs_blocks, backs_in, backs_line, groups_of, table_after, table_blocks, table_line, writing_to, written_after}
+use Rattle.trace_model.specs.Backs.{AreUncut, ReadsFew, WritesBack, WritesNone, backs_blocks, backs_in, backs_line, groups_of, table_after_lines, table_blocks, table_line, writing_to, written_after}
 use Rattle.trace_model.specs.Run.{touched_after, touching, with_each}
 use Rattle.trace_replay.specs.Spends.{SpendsAtMost, Spent, Step, backs_steps, fresh, held_after, misses_in, puts_of, steps_after, steps_of, table_steps, touches_each, touches_of}
 use Rattle.trace_replay.specs.Spends.Step.{Touches, Puts, Rests}
@@ -132,7 +132,7 @@ backs_of_line o (line.Stop after outcome) t = refl
 backs_of_line o (line.Cut outcome) t = refl
 backs_of_line o line.Nothing t = refl
 
-pub table_of_run : (o : Told) (run : List Ran) → table_steps o (steps_after run) [] ≡ table_after o run
+pub table_of_run : (o : Told) (run : List Ran) → table_steps o (steps_after run) [] ≡ table_after_lines o run
 table_of_run o [] = refl
 table_of_run o (ran ∷ earlier) =
     table_steps-append o (steps_of ran.line) (steps_after earlier) []

@@ -7,11 +7,12 @@ use Rattle.ft_base.specs.declared.told.Ack.TheVariants as ack
 use Rattle.ft_media.specs.Passes.{Passes}
 use Rattle.ft_media.specs.Rig.{powered}
 use Rattle.ft_media.specs.State.{State}
-use Rattle.ft_volume.specs.Volume.{Call, Done, Fixes, Goes, StandFor, VolumeState, WasOne, volume_lost}
+use Rattle.ft_volume.specs.Volume.{Call, Done, Fixes, Goes, VolumeState, WasOne, volume_lost}
+use Rattle.ft_volume.specs.Standing.{StandFor}
 use Rattle.ft_volume.specs.declared.volume.VolumeError.{VolumeError}
 use Rattle.ft_volume.specs.declared.volume.VolumeError.TheVariants as volume
 use Rattle.ft_volume.proofs.DoneLemmas.{one_disk}
-use Rattle.trace_replay.specs.Said.{lost_by}
+use Rattle.trace_replay.proofs.Words.{lost_by}
 use Rattle.trace_replay.proofs.WentLemmas.{WasCall, refused}
 
 -- each write is on the media when it answers

@@ -37,7 +37,7 @@ answers_then (Gave line ∷ xs) ys = answers_then xs ys
 answers_then (Took answer ∷ xs) ys = ap (λ (r : List Answer). answer ∷ r) (answers_then xs ys)
 answers_then (Touched lba block ∷ xs) ys = answers_then xs ys
 
-bytes_then : (xs ys : List Event) → told_bytes (xs ++ ys) ≡ told_bytes xs ++ told_bytes ys
+pub bytes_then : (xs ys : List Event) → told_bytes (xs ++ ys) ≡ told_bytes xs ++ told_bytes ys
 bytes_then [] ys = refl
 bytes_then (Gave line ∷ xs) ys = bytes_then xs ys
 bytes_then (Took answer ∷ xs) ys = bytes_then xs ys
@@ -113,7 +113,7 @@ walk_within size front a left rest keys all split step =
 -- ---- an end
 
 -- a call ended so
-abbrev failed_by : Ended → Result (Unit {0}) Ended
+abbrev pub failed_by : Ended → Result (Unit {0}) Ended
 failed_by e = Err e
 
 module _ {P : Type 0} (tells : P → ScriptState) (came : SourceState → SinkState → List Event → P → Type 0) (broke : SourceState → SinkState → List Event → Event → P → Type 0) (knows : SourceState → P → List Reading → Bool → Type 0) where

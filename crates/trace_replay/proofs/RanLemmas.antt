@@ -11,7 +11,8 @@ use Rattle.ft_base.specs.declared.power.Stop.{Stop}
 use Rattle.ft_base.specs.declared.told.Ack.{Ack}
 use Rattle.ft_base.specs.declared.told.Ack.TheVariants as ack
 use Rattle.ft_media.specs.State.{State, Power}
-use Rattle.ft_volume.specs.Volume.{StandFor, VolumeState}
+use Rattle.ft_volume.specs.Volume.{VolumeState}
+use Rattle.ft_volume.specs.Standing.{StandFor}
 use Rattle.trace_model.specs.declared.line.Line.{Line}
 use Rattle.trace_model.specs.declared.line.Line.TheVariants as line
 use Rattle.trace_model.specs.declared.line.LineError.TheVariants.{TooManyStops}

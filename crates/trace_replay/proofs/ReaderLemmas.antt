@@ -20,6 +20,7 @@ use Rattle.trace_replay.specs.Events.{refused_for}
 use Rattle.trace_replay.specs.Reader.{AreLines, CameTo, GivesLine, ReadAll, ReadSo, RefusesNext, first_given, known_so, left_in}
 use Rattle.trace_replay.proofs.InputLemmas.{consumes_then}
 use Rattle.trace_replay.proofs.PendingLemmas.{none_front}
+use Rattle.trace_text.proofs.SplitLemmas.{onto_line}
 
 pub limit_is : trace_limit ≡ 4294967296
 unfolding readings.trace_limit
@@ -30,10 +31,6 @@ accepted_then [] ys = refl
 accepted_then (x ∷ xs) ys = ap (λ (r : List Reading). accepted x ∷ r) (accepted_then xs ys)
 
 -- ---- a line with no line feed within, and what follows it
-
-onto_line : (whole : Bool) (b : ℕ) (line : List ℕ) (lines : List (List ℕ)) → (if whole then onto_first b (line ∷ lines) else onto_ended b (line ∷ lines)) ≡ (b ∷ line) ∷ lines
-onto_line true b line lines = refl
-onto_line false b line lines = refl
 
 -- more bytes at the front of the first of these lines
 abbrev onto_all : Bool → List ℕ → List (List ℕ) → List (List ℕ)

@@ -23,14 +23,9 @@ use Rattle.trace_replay.specs.Said.{Said, SaidPart, Takes}
 use Rattle.trace_replay.specs.Stream.{BrokeStream, CameStream}
 use Rattle.trace_replay.proofs.GivenLemmas.{answers_in-append, answers_in-run, answers_in-taking, lines_given-append, lines_given-taking, told_bytes-taking}
 use Rattle.trace_replay.proofs.SaidLemmas.{said_then, said_part-then}
+use Rattle.trace_replay.proofs.EndingLemmas.{bytes_then}
 
 -- ---- the bytes of the digest
-
-bytes_then : (xs ys : List Event) → told_bytes (xs ++ ys) ≡ told_bytes xs ++ told_bytes ys
-bytes_then [] ys = refl
-bytes_then (Gave l ∷ xs) ys = bytes_then xs ys
-bytes_then (Took a ∷ xs) ys = bytes_then xs ys
-bytes_then (Touched lba block ∷ xs) ys = ap (λ (r : List ℕ). to_be_bytes w64 lba ++ r) (ap (λ (r : List ℕ). block.0 ++ r) (bytes_then xs ys) ∙ sym (append_assoc block.0 (told_bytes xs) (told_bytes ys))) ∙ sym (append_assoc (to_be_bytes w64 lba) (block.0 ++ told_bytes xs) (told_bytes ys))
 
 -- an answer is in no digest, a line neither
 pub took_bytes : (e : List Event) (a : Answer) → told_bytes (e ++ Took a ∷ []) ≡ told_bytes e

@@ -8,7 +8,8 @@ use Rattle.ft_base.specs.Told.{Told}
 use Rattle.ft_base.specs.declared.power.Stop.{Stop}
 use Rattle.ft_base.specs.declared.told.Ack.TheVariants as ack
 use Rattle.ft_media.specs.State.{State}
-use Rattle.ft_volume.specs.Volume.{StandFor, VolumeState}
+use Rattle.ft_volume.specs.Volume.{VolumeState}
+use Rattle.ft_volume.specs.Standing.{StandFor}
 use Rattle.trace_model.specs.declared.answer.Answer.{Answer}
 use Rattle.trace_model.specs.declared.answer.Answer.TheVariants as answer
 use Rattle.trace_model.specs.declared.line.Line.{Line}

@@ -15,18 +15,15 @@ use Rattle.trace_model.specs.Readings.{Reading}
 use Rattle.trace_model.specs.Run.{stopped}
 use Rattle.trace_replay.specs.declared.ended.Ended.{Ended}
 use Rattle.trace_replay.specs.declared.ended.Ended.TheVariants as ended
-use Rattle.trace_replay.specs.Said.{Takes, ended_of, lost_by}
+use Rattle.trace_replay.specs.Said.{Takes, ended_of}
+use Rattle.trace_replay.proofs.Words.{lost_by}
 use Rattle.trace_replay.specs.Events as events
 use Rattle.trace_replay.specs.Events.{Event, ScriptState}
 use Rattle.trace_replay.specs.Went as went
 use Rattle.trace_replay.specs.Saying as saying
 use Rattle.trace_replay.proofs.CutsLemmas.{cuts_then, first_stop, front_none, left_after, stopped_add, stops_after, stops_told, stops_untold}
 use Rattle.trace_replay.proofs.EventsLemmas.{breaks_then, says_none, says_then}
-
--- what holds of the error that `?` gives back
-pub at_exit : {T : Type 0} (r : Result T Ended) (from : Ended) (q : Ended → Type 0) → IsErrAnd r (λ e. e ≡ from) → q from → IfErr r q
-at_exit (Ok value) from q is holds = tt
-at_exit (Err e) from q is holds = subst q (sym is) holds
+use Rattle.trace_replay.proofs.ExitLemmas.{at_exit}
 
 -- a call of a volume that answered so
 abbrev pub refused : VolumeError → Result (Unit {0}) VolumeError

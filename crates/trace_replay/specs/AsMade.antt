@@ -5,7 +5,8 @@ use Rattle.ft_base.specs.PlainDisk.{PlainDisk, empty}
 use Rattle.ft_base.specs.Told.{Told}
 use Rattle.ft_base.specs.declared.told.Ack.TheVariants as ack
 use Rattle.ft_media.specs.State.{State}
-use Rattle.ft_volume.specs.Volume.{StandFor, VolumeState}
+use Rattle.ft_volume.specs.Volume.{VolumeState}
+use Rattle.ft_volume.specs.Standing.{StandFor}
 
 -- a volume is as it was made: each write is on the media when it answers, power is on and no stop is armed, no more groups may stay dirty than the cache has, it is up, no block waits to be written back, its cache has no address, and whatever a crash leaves now stands for a plain disk of zero blocks
 pub record IsAsMade (stands : Told → Image → PlainDisk → Type 0) (v : VolumeState) (rig : State) : Type 0 where

@@ -1,6 +1,6 @@
 -- A state before a run began, from which its records can be told, too.
 use Rattle.std.specs.Prelude.{◌≡◌, ◌≤◌}
-use Rattle.ft_media.specs.Media.{KeepsReady}
+use Rattle.ft_media.specs.Fitted.{KeepsReady}
 use Rattle.ft_media.specs.State.{State}
 
 -- an earlier state of the same shape, since which no block of the disk was read or written, no count of cuts fell, and what was ready is ready

@@ -5,9 +5,10 @@ use Rattle.ft_base.specs.Count.{Rose}
 use Rattle.ft_base.specs.PlainDisk.{PlainDisk}
 use Rattle.ft_base.specs.Told.{Told}
 use Rattle.ft_base.specs.declared.power.Stop.{Stop}
-use Rattle.ft_media.specs.Media.{KeepsReady}
+use Rattle.ft_media.specs.Fitted.{KeepsReady}
 use Rattle.ft_media.specs.State.{State}
-use Rattle.ft_volume.specs.Volume.{StandFor, VolumeState}
+use Rattle.ft_volume.specs.Volume.{VolumeState}
+use Rattle.ft_volume.specs.Standing.{StandFor}
 use Rattle.trace_model.specs.declared.answer.Answer.{Answer}
 use Rattle.trace_model.specs.declared.line.Line.{Line}
 use Rattle.trace_model.specs.declared.ran.Ran.{Ran}

@@ -1,12 +1,11 @@
 -- What was said, and how a run ends while something is said.
-use Rattle.std.specs.Prelude.{◌≡◌, ◌≤◌, ◌<◌, ◌+◌, ℕ, Bool, List, [], ◌∷◌, ◌++◌, length, take, drop, Option, Some, None, Err, ⊤}
+use Rattle.std.specs.Prelude.{[], ◌≡◌, ◌≤◌, ◌<◌, ◌+◌, ℕ, List, ◌∷◌, ◌++◌, length, take, drop, Option, Some, None, ⊤}
 use Rattle.std.specs.Io.KnownBytes.{Appends}
 use Rattle.ft_base.specs.Count.{last_count}
 use Rattle.ft_base.specs.StreamState.{SinkState}
 use Rattle.ft_base.specs.declared.power.Stop.{Stop}
-use Rattle.ft_media.specs.Media.{KeepsReady}
+use Rattle.ft_media.specs.Fitted.{KeepsReady}
 use Rattle.ft_media.specs.State.{State}
-use Rattle.ft_volume.specs.Volume.{volume_lost}
 use Rattle.ft_volume.specs.declared.volume.VolumeError.{VolumeError}
 use Rattle.ft_volume.specs.declared.volume.VolumeError.TheVariants as volume
 use Rattle.trace_model.specs.declared.answer.Answer.{Answer}
@@ -22,10 +21,6 @@ abbrev pub ended_of : VolumeError → Ended
 ended_of volume.FlashFault = ended.Flash
 ended_of volume.DiskFault = ended.Disk
 ended_of other = ended.Memory
-
--- the answer is that power was lost
-abbrev pub lost_by : VolumeError → Bool
-lost_by error = volume_lost {T = Unit {0}} (Err error)
 
 -- ---- whoever takes the answers; all that is told of what was taken stands here
 

@@ -3,9 +3,9 @@ use Rattle.std.specs.Prelude.{◌≡◌, ◌+◌, ℕ, Bool, true, false, List, 
 use Rattle.ft_base.specs.Contents.{Contents, Image, Now}
 use Rattle.ft_base.specs.PlainDisk.{PlainDisk}
 use Rattle.ft_base.specs.Told.{Told}
-use Rattle.ft_media.specs.Media.{KeepsReady}
+use Rattle.ft_media.specs.Fitted.{KeepsReady}
 use Rattle.ft_media.specs.State.{State}
-use Rattle.ft_volume.specs.Volume.{StandFor}
+use Rattle.ft_volume.specs.Standing.{StandFor}
 use Rattle.trace_model.specs.declared.answer.Answer.{Answer}
 use Rattle.trace_model.specs.declared.line.LineError.{LineError}
 use Rattle.trace_model.specs.declared.ran.Ran.{Ran}

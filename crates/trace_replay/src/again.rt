@@ -5,13 +5,14 @@ ghost use Rattle.ft_base.specs.PlainDisk.{PlainDisk};
 ghost use Rattle.ft_base.specs.declared.told.Ack.TheVariants as ack;
 ghost use Rattle.ft_volume.specs.declared.volume.VolumeError.TheVariants as volume_error;
 ghost use Rattle.ft_media.specs.Rig.{powered};
-ghost use Rattle.ft_volume.specs.Volume.{StandFor, StandForEither, StandForOne};
+ghost use Rattle.ft_volume.specs.Volume.{StandForEither, StandForOne};
+ghost use Rattle.ft_volume.specs.Standing.{StandFor};
 ghost use Rattle.trace_model.specs.Run.{stopped};
 ghost use Rattle.trace_replay.specs.Said.{ended_of};
 ghost use Rattle.trace_replay.specs.Saying.{SaysSo};
 ghost use Rattle.trace_replay.specs.Spends.{SpendsSteps};
 ghost use Rattle.trace_replay.specs.Spends.Step.{Puts, Rests, Touches};
-ghost use Rattle.trace_replay.specs.Went.{EndsOnce, Keeps, Went, count_of};
+ghost use Rattle.trace_replay.specs.Went.{EndsOnce, Keeps, Went, cut_if};
 
 use crate::ended::end_at;
 use crate::saying::say;
@@ -61,7 +62,7 @@ pub(crate) fn read_once<P: Script, R: Rig, V: Volume<R>>(
         → StandFor (V.stands (V.state volume.old).told) (R.state rig.old).contents d → block.new ≡ d lba) }
     ensures kept { Keeps (V.stands (V.state volume.old).told) (V.stands (V.state volume.new).told) (R.state rig.old).contents
         (R.state rig.new).contents }
-    ensures went { Went P.state P.came P.broke P.knows count_of 0 script.old script.new (R.state rig.old) (R.state rig.new) result }
+    ensures went { Went P.state P.came P.broke P.knows cut_if 0 script.old script.new (R.state rig.old) (R.state rig.new) result }
     ensures spends { SpendsSteps (Touches lba ∷ []) (V.state volume.old) (V.state volume.new) (R.state rig.old) (R.state rig.new) result }
 {
     match volume.read(rig, lba, block) {
@@ -95,7 +96,7 @@ pub(crate) fn write_once<P: Script, R: Rig, V: Volume<R>>(
         → StandForOne (V.stands (V.state volume.new).told) (R.state rig.new).contents d (set d lba block.now)) }
     ensures images { (d : PlainDisk) → StandFor (V.stands (V.state volume.old).told) (R.state rig.old).contents d
         → StandForEither (V.stands (V.state volume.new).told) (R.state rig.new).contents d (set d lba block.now) }
-    ensures went { Went P.state P.came P.broke P.knows count_of 1 script.old script.new (R.state rig.old) (R.state rig.new) result }
+    ensures went { Went P.state P.came P.broke P.knows cut_if 1 script.old script.new (R.state rig.old) (R.state rig.new) result }
     ensures spends { SpendsSteps (Puts lba ∷ []) (V.state volume.old) (V.state volume.new) (R.state rig.old) (R.state rig.new) result }
 {
     match volume.write(rig, lba, block) {
@@ -120,7 +121,7 @@ pub(crate) fn flush_once<P: Script, R: Rig, V: Volume<R>>(
     ensures told { (V.state volume.new).told ≡ (V.state volume.old).told }
     ensures kept { Keeps (V.stands (V.state volume.old).told) (V.stands (V.state volume.new).told) (R.state rig.old).contents
         (R.state rig.new).contents }
-    ensures went { Went P.state P.came P.broke P.knows count_of 0 script.old script.new (R.state rig.old) (R.state rig.new) result }
+    ensures went { Went P.state P.came P.broke P.knows cut_if 0 script.old script.new (R.state rig.old) (R.state rig.new) result }
     ensures spends { SpendsSteps [] (V.state volume.old) (V.state volume.new) (R.state rig.old) (R.state rig.new) result }
 {
     match volume.flush(rig) {

@@ -2,7 +2,7 @@
 ghost use Rattle.std.specs.Prelude.{◌≡◌, ◌≤◌, true, IfOk, IfErr};
 ghost use Rattle.ft_base.specs.PlainDisk.{PlainDisk};
 ghost use Rattle.ft_base.specs.declared.told.Ack.TheVariants as ack;
-ghost use Rattle.ft_volume.specs.Volume.{StandFor};
+ghost use Rattle.ft_volume.specs.Standing.{StandFor};
 ghost use Rattle.trace_model.specs.declared.line.Line.TheVariants as line_kind;
 ghost use Rattle.trace_model.specs.Fits.{FitsLine};
 ghost use Rattle.trace_model.specs.Run.{after_line, answers_of};

@@ -39,11 +39,11 @@ pub(crate) struct Pending {
 }
 
 impl Pending {
-    ghost use Rattle.trace_replay.specs.Pending.{ahead, held, past_next, rest_of};
+    ghost use Rattle.trace_replay.specs.Pending.{ahead, line_so_far, past_next, rest_of};
 
     /// Nothing was read.
     pub(crate) fn new() -> Pending
-        ensures held { held result ≡ [] }
+        ensures held { line_so_far result ≡ [] }
         ensures ahead { ahead result ≡ [] }
     {
         Pending {
@@ -57,9 +57,9 @@ impl Pending {
 
     /// The bytes of the line that is gathered.
     pub(crate) fn line(&self) -> &[u8]
-        ensures held { result.now ≡ held self.now }
-        ensures unended { lines_in false (held self.now) ≡ [] }
-        ensures short { length (held self.now) ≤ 201 }
+        ensures held { result.now ≡ line_so_far self.now }
+        ensures unended { lines_in false (line_so_far self.now) ≡ [] }
+        ensures short { length (line_so_far self.now) ≤ 201 }
     {
         let all = &self.line[..];
         &all[..self.count]
@@ -70,8 +70,8 @@ impl Pending {
     pub(crate) fn gather(&mut self) -> Found
         ensures rest { rest_of self.new ≡ rest_of self.old }
         ensures feed { result ≡ Found.Feed → ahead self.new ≡ 10 ∷ past_next self.new }
-        ensures nothing { result ≡ Found.Nothing → (ahead self.new ≡ []) × (length (held self.new) ≤ 200) }
-        ensures long { result ≡ Found.Long → 200 < length (held self.new) }
+        ensures nothing { result ≡ Found.Nothing → (ahead self.new ≡ []) × (length (line_so_far self.new) ≤ 200) }
+        ensures long { result ≡ Found.Long → 200 < length (line_so_far self.new) }
     {
         while self.count <= LINE_LIMIT && self.at < self.end {
             let byte = self.piece[self.at];
@@ -106,7 +106,7 @@ impl Pending {
     pub(crate) fn fill<I: Source>(&mut self, source: &mut I, room: usize) -> Result<usize, Failed>
         requires gathered { ahead self.old ≡ [] }
         requires some { 0 < room }
-        ensures held { held self.new ≡ held self.old }
+        ensures held { line_so_far self.new ≡ line_so_far self.old }
         ensures bytes { IfOk result (λ n. Consumes (I.state source.old).left (I.state source.new).left (ahead self.new)) }
         ensures count { IfOk result (λ n. length (ahead self.new) ≡ n) }
         ensures room { IfOk result (λ n. n ≤ room) }

@@ -84,7 +84,7 @@ pub(crate) struct Reader {
 
 impl Reader {
     ghost use Rattle.trace_replay.specs.Reader.{CameTo, GivesLine, RefusesNext, Stands};
-    ghost use Rattle.trace_replay.specs.Pending.{held, past_next};
+    ghost use Rattle.trace_replay.specs.Pending.{line_so_far, past_next};
 
     /// Nothing was read.
     pub(crate) fn new(size: u64) -> Reader
@@ -195,7 +195,7 @@ impl Reader {
     fn refill<I: Source>(&mut self, source: &mut I) -> Option<Seen>
         requires within { self.old.ended ≡ false }
         requires gathered { ahead self.old.pending ≡ [] }
-        requires short { length (held self.old.pending) ≤ 200 }
+        requires short { length (line_so_far self.old.pending) ≤ 200 }
         ensures stands { IfSome result (λ seen. Stands seen self.new) }
         ensures within { IfNone result (self.new.ended ≡ false) }
         ensures more { IfNone result (length (rest_of self.old.pending) < length (rest_of self.new.pending)) }

@@ -1,7 +1,8 @@
 //! A trace that is read from a source.
 ghost use Rattle.std.specs.Prelude.{◌≡◌, ◌≢◌, OnOk, IfErr, IsErrOf};
 ghost use Rattle.trace_model.specs.Readings.{Reads};
-ghost use Rattle.trace_replay.specs.Causes.{EndHasCause, KeepsLent};
+ghost use Rattle.trace_replay.specs.Causes.{EndHasCause};
+ghost use Rattle.trace_replay.specs.Lent.{KeepsLent};
 ghost use Rattle.trace_replay.specs.AsMade.{IsAsMade};
 ghost use Rattle.trace_replay.specs.Said.{Tells, TellsPart};
 ghost use Rattle.trace_replay.specs.Theorem.{EndsPart, EndsRefused, EndsUnread, RunsWhole};

@@ -2,7 +2,7 @@
 ghost use Rattle.std.specs.Prelude.{◌≡◌, ◌+◌, ◌≤◌, ℕ, true, false, IfOk, IfErr, IfSome};
 ghost use Rattle.ft_base.specs.PlainDisk.{PlainDisk};
 ghost use Rattle.ft_base.specs.declared.told.Ack.TheVariants as ack;
-ghost use Rattle.ft_volume.specs.Volume.{StandFor};
+ghost use Rattle.ft_volume.specs.Standing.{StandFor};
 ghost use Rattle.trace_model.specs.declared.line.Line.TheVariants as line_kind;
 ghost use Rattle.trace_model.specs.Fits.{FitsLine};
 ghost use Rattle.trace_model.specs.Run.{after_blocks, after_line, answers_of};
@@ -12,7 +12,7 @@ ghost use Rattle.trace_replay.specs.Events.{Says};
 ghost use Rattle.trace_replay.specs.MayRun.{MayWrite};
 ghost use Rattle.trace_replay.specs.Saying.{count_unless};
 ghost use Rattle.trace_replay.specs.Spends.{SpendsSteps, SpendsLine, puts_of};
-ghost use Rattle.trace_replay.specs.Went.{KeepsFrame, Keeps, Went, count_of};
+ghost use Rattle.trace_replay.specs.Went.{KeepsFrame, Keeps, Went, cut_if};
 
 use crate::again::{read_once, write_once};
 use crate::saying::say;
@@ -54,7 +54,7 @@ pub(crate) fn write_blocks<P: Script, R: Rig, V: Volume<R>>(
         (after_blocks request.lba request.tag n d)) }
     ensures images { (d : PlainDisk) → StandFor (V.stands (V.state volume.old).told) (R.state rig.old).contents d
         → StandForFront (V.stands (V.state volume.new).told) (R.state rig.new).contents request.lba request.tag request.count d }
-    ensures went { Went P.state P.came P.broke P.knows count_of request.count script.old script.new (R.state rig.old) (R.state rig.new)
+    ensures went { Went P.state P.came P.broke P.knows cut_if request.count script.old script.new (R.state rig.old) (R.state rig.new)
         result }
     ensures spends { SpendsSteps (puts_of request.lba request.count) (V.state volume.old) (V.state volume.new) (R.state rig.old)
         (R.state rig.new) result }

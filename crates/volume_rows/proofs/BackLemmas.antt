@@ -8,7 +8,8 @@ use Rattle.ft_base.specs.Contents.{Contents, Values, HasValue}
 use Rattle.ft_volume.specs.declared.options.Options.{Options}
 use Rattle.ft_volume.specs.Opening.{MayOpen, nothing_held}
 use Rattle.ft_volume.specs.Volume.{told_for}
-use Rattle.cache_model.specs.Cache.{Agrees, Buffered, CacheList, Held, undo, written_block, written_clean}
+use Rattle.cache_model.specs.Cache.{Buffered, undo, written_block, written_clean}
+use Rattle.cache_model.specs.CacheList.{Agrees, CacheList, Held}
 use Rattle.cache_model.specs.Stands.{FlashStandsFor}
 use Rattle.cache_model.proofs.MapLemmas.{get_insert}
 use Rattle.ssc.specs.declared.cache.Ssc.{Ssc}

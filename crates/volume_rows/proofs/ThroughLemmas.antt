@@ -3,7 +3,7 @@ use Rattle.std.proofs.Common.{◌≡◌, subst}
 use Rattle.ft_base.specs.Contents.{Contents}
 use Rattle.ft_base.specs.Told.{Told}
 use Rattle.ft_volume.specs.Opening.{MayOpen, Suits}
-use Rattle.cache_model.specs.Cache.{Agrees, CacheList}
+use Rattle.cache_model.specs.CacheList.{Agrees, CacheList}
 use Rattle.cached_disk.specs.declared.disk.CachedDisk.{CachedDisk}
 use Rattle.cached_disk.specs.Kept.{IsLeft, told_of}
 use Rattle.cached_disk.proofs.DiskLemmas.{same_list}

@@ -19,7 +19,8 @@ use Rattle.ft_media.specs.State.{State}
 use Rattle.ft_media.specs.Drives.{DrivesFlash}
 use Rattle.ft_volume.specs.Opening.{Suits}
 use Rattle.ft_volume.specs.declared.volume.VolumeError.{VolumeError}
-use Rattle.cache_model.specs.Cache.{Agrees, CacheList, Held, dirty_between, held_or, made_clean, marked_as, undo}
+use Rattle.cache_model.specs.Cache.{dirty_between, made_clean, marked_as, undo}
+use Rattle.cache_model.specs.CacheList.{Agrees, CacheList, Held, held_or}
 use Rattle.cache_model.specs.Stands.{FlashStandsFor}
 use Rattle.cache_model.proofs.UndoLemmas.{get_marked}
 use Rattle.op_log.specs.Log.{FitsOn}

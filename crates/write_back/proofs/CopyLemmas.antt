@@ -17,10 +17,11 @@ use Rattle.ft_media.specs.State.{State, lost}
 use Rattle.ft_media.specs.Media.{FlashStays, after_write, flush_counted, write_counted}
 use Rattle.ft_media.specs.Reads.{ReadsFlash}
 use Rattle.ft_volume.specs.Opening.{ImageIs}
-use Rattle.ft_volume.specs.Volume.{StandFor}
+use Rattle.ft_volume.specs.Standing.{StandFor}
 use Rattle.ft_volume.specs.declared.volume.VolumeError.{VolumeError}
 use Rattle.ft_volume.specs.declared.volume.VolumeError.TheVariants as volume
-use Rattle.cache_model.specs.Cache.{Agrees, CacheList, Held, held_or, undo}
+use Rattle.cache_model.specs.Cache.{undo}
+use Rattle.cache_model.specs.CacheList.{Agrees, CacheList, Held, held_or}
 use Rattle.cache_model.specs.Stands.{FlashStandsFor}
 use Rattle.op_log.specs.Log.{FitsOn}
 use Rattle.ssc.specs.declared.cache.Ssc.{Ssc}

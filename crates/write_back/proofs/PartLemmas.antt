@@ -9,13 +9,15 @@ use Rattle.ft_media.specs.declared.media.MediaError.{MediaError}
 use Rattle.ft_media.specs.declared.media.MediaError.TheVariants as media
 use Rattle.ft_media.specs.declared.rig.Counts.{Counts}
 use Rattle.ft_media.specs.State.{Faults, State, failed, lost}
-use Rattle.ft_media.specs.Media.{DeviceWrite, DiskCause, FlashCause, FlashStays, KeepsReady}
+use Rattle.ft_media.specs.Media.{DeviceWrite, DiskCause, FlashCause, FlashStays}
+use Rattle.ft_media.specs.Fitted.{KeepsReady}
 use Rattle.ft_media.specs.Drives.{DrivesFlash}
 use Rattle.ft_media.specs.Reads.{ReadsFlash}
 use Rattle.ft_media.specs.Passes.{Passes}
 use Rattle.ft_media.proofs.PassesLemmas.{passes_none, passes_then}
 use Rattle.ft_volume.specs.Opening.{ImageIs}
-use Rattle.ft_volume.specs.Volume.{FaultDowns, Goes, HasCause, StandFor, volume_lost}
+use Rattle.ft_volume.specs.Volume.{FaultDowns, Goes, HasCause, volume_lost}
+use Rattle.ft_volume.specs.Standing.{StandFor}
 use Rattle.ft_volume.specs.declared.volume.VolumeError.{VolumeError}
 use Rattle.ft_volume.specs.declared.volume.VolumeError.TheVariants as volume
 use Rattle.ssc.specs.declared.cache.Ssc.{Ssc}

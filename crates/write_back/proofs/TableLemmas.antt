@@ -12,11 +12,12 @@ use Rattle.ft_base.specs.Table.{Table, Waiting, is_full, is_of, last_size, lbas_
 use Rattle.ft_volume.specs.Volume.{dirty_lbas}
 use Rattle.cache_model.specs.declared.entry.Entry.{Entry}
 use Rattle.cache_model.specs.Records.{Entries}
-use Rattle.cache_model.specs.Cache.{AreApart, CacheList, Held, IsFull, dirty_groups}
+use Rattle.cache_model.specs.Cache.{AreApart, IsFull, dirty_groups}
+use Rattle.cache_model.specs.CacheList.{CacheList, Held}
 use Rattle.cache_model.specs.Entries.{IsMap, each_once}
 use Rattle.cache_model.proofs.CountLemmas.{all_members, each_once-le, each_once-same, member, member_of, same_number}
 use Rattle.cache_model.proofs.MapLemmas.{all_entries, by_get}
-use Rattle.dirty_table.specs.Groups.{has, oldest_of, touched, without}
+use Rattle.dirty_table.specs.Groups.{has, oldest_of, touched, without_first}
 use Rattle.cached_disk.specs.Kept.{waiting_in}
 use Rattle.cached_disk.proofs.AddressLemmas.{IsAscending, ascending_same, filter_ascending, has_lba, has_lba-filter, has_lba-with, lbas_dirty, lbas_has, lbas_in, member_once, same_test, with_ascending}
 use Rattle.write_back.specs.Left.{IsExact, in_group, out_of_group}
@@ -35,38 +36,38 @@ pub once_apart : (xs : List ℕ) → AreApart xs → each_once xs ≡ xs
 once_apart [] apart = refl
 once_apart (x ∷ xs) apart = ap (λ b. cond b (each_once xs) (x ∷ each_once xs)) apart.0 ∙ ap (λ l. x ∷ l) (once_apart xs apart.1)
 
-has_without : (n q : ℕ) (xs : List ℕ) → (q == n) ≡ false → has q (without n xs) ≡ has q xs
+has_without : (n q : ℕ) (xs : List ℕ) → (q == n) ≡ false → has q (without_first n xs) ≡ has q xs
 has_without n q [] other = refl
 has_without n q (x ∷ xs) other = elim (cases_Bool (n == x)) [
-  | inl here ↦ ap (λ b. has q (cond b xs (x ∷ without n xs))) here ∙ sym (ap (λ b. b || has q xs) (ap (λ k. q == k) (sym (eqb-true n x here)) ∙ other))
-  | inr later ↦ ap (λ b. has q (cond b xs (x ∷ without n xs))) later ∙ ap (λ b. (q == x) || b) (has_without n q xs other)
+  | inl here ↦ ap (λ b. has q (cond b xs (x ∷ without_first n xs))) here ∙ sym (ap (λ b. b || has q xs) (ap (λ k. q == k) (sym (eqb-true n x here)) ∙ other))
+  | inr later ↦ ap (λ b. has q (cond b xs (x ∷ without_first n xs))) later ∙ ap (λ b. (q == x) || b) (has_without n q xs other)
 ]
 
-has_gone : (n : ℕ) (xs : List ℕ) → AreApart xs → has n (without n xs) ≡ false
+has_gone : (n : ℕ) (xs : List ℕ) → AreApart xs → has n (without_first n xs) ≡ false
 has_gone n [] apart = refl
 has_gone n (x ∷ xs) apart = elim (cases_Bool (n == x)) [
-  | inl here ↦ ap (λ b. has n (cond b xs (x ∷ without n xs))) here ∙ has_member n xs ∙ ap (λ k. member k xs) (eqb-true n x here) ∙ apart.0
-  | inr later ↦ ap (λ b. has n (cond b xs (x ∷ without n xs))) later ∙ ap (λ b. b || has n (without n xs)) later ∙ has_gone n xs apart.1
+  | inl here ↦ ap (λ b. has n (cond b xs (x ∷ without_first n xs))) here ∙ has_member n xs ∙ ap (λ k. member k xs) (eqb-true n x here) ∙ apart.0
+  | inr later ↦ ap (λ b. has n (cond b xs (x ∷ without_first n xs))) later ∙ ap (λ b. b || has n (without_first n xs)) later ∙ has_gone n xs apart.1
 ]
 
-has_other : (n q : ℕ) (xs : List ℕ) → AreApart xs → has q (without n xs) ≡ true → (q == n) ≡ false
-has_other n q xs apart there = false_from_ne_true (q == n) (λ here. false≢true (sym (has_gone n xs apart) ∙ ap (λ k. has k (without n xs)) (sym (eqb-true q n here)) ∙ there))
+has_other : (n q : ℕ) (xs : List ℕ) → AreApart xs → has q (without_first n xs) ≡ true → (q == n) ≡ false
+has_other n q xs apart there = false_from_ne_true (q == n) (λ here. false≢true (sym (has_gone n xs apart) ∙ ap (λ k. has k (without_first n xs)) (sym (eqb-true q n here)) ∙ there))
 
 has_touched : (n q : ℕ) (xs : List ℕ) → has q (touched n xs) ≡ ((q == n) || has q xs)
 has_touched n q xs = elim (cases_Bool (q == n)) [
-  | inl here ↦ ap (λ b. b || has q (without n xs)) here ∙ sym (ap (λ b. b || has q xs) here)
+  | inl here ↦ ap (λ b. b || has q (without_first n xs)) here ∙ sym (ap (λ b. b || has q xs) here)
   | inr other ↦ ap (λ b. (q == n) || b) (has_without n q xs other)
 ]
 
-pub without_apart : (n : ℕ) (xs : List ℕ) → AreApart xs → AreApart (without n xs)
+pub without_apart : (n : ℕ) (xs : List ℕ) → AreApart xs → AreApart (without_first n xs)
 without_apart n [] apart = tt
 without_apart n (x ∷ xs) apart = elim (cases_Bool (n == x)) [
-  | inl here ↦ subst (λ b. AreApart (cond b xs (x ∷ without n xs))) (sym here) apart.1
-  | inr later ↦ subst (λ b. AreApart (cond b xs (x ∷ without n xs))) (sym later) (sym (has_member x (without n xs)) ∙ has_without n x xs (turned x n ∙ later) ∙ has_member x xs ∙ apart.0, without_apart n xs apart.1)
+  | inl here ↦ subst (λ b. AreApart (cond b xs (x ∷ without_first n xs))) (sym here) apart.1
+  | inr later ↦ subst (λ b. AreApart (cond b xs (x ∷ without_first n xs))) (sym later) (sym (has_member x (without_first n xs)) ∙ has_without n x xs (turned x n ∙ later) ∙ has_member x xs ∙ apart.0, without_apart n xs apart.1)
 ]
 
 pub touched_apart : (n : ℕ) (xs : List ℕ) → AreApart xs → AreApart (touched n xs)
-touched_apart n xs apart = (sym (has_member n (without n xs)) ∙ has_gone n xs apart, without_apart n xs apart)
+touched_apart n xs apart = (sym (has_member n (without_first n xs)) ∙ has_gone n xs apart, without_apart n xs apart)
 
 -- ---- the groups of a list of addresses
 
@@ -82,7 +83,7 @@ exact_touched p order lbas a exact = record {
   ];
 }
 
-pub exact_without : (p : ℕ) (order lbas : List ℕ) (n : ℕ) → AreApart order → IsExact p order lbas → IsExact p (without n order) (out_of_group p n lbas)
+pub exact_without : (p : ℕ) (order lbas : List ℕ) (n : ℕ) → AreApart order → IsExact p order lbas → IsExact p (without_first n order) (out_of_group p n lbas)
 exact_without p order lbas n apart exact = record {
   all = λ x there.
       let parts = and_parts (has_lba x lbas) (not (x / p == n)) (sym (has_lba-filter (λ a. not (a / p == n)) x lbas) ∙ there) in
@@ -143,14 +144,14 @@ filter_within t u also (n ∷ ns) = elim (cases_Bool (u n)) [
 others_kept : (p x n : ℕ) (lbas : List ℕ) → (x == n) ≡ false → in_group p x (out_of_group p n lbas) ≡ in_group p x lbas
 others_kept p x n lbas other = filter_within (λ a. a / p == x) (λ a. not (a / p == n)) (λ a is. ap not (ap (λ k. k == n) (eqb-true (a / p) x is) ∙ other)) lbas
 
-pub last_waiting : (p : ℕ) (order lbas : List ℕ) (n : ℕ) → AreApart order → oldest_of order ≡ Some n → waiting_in p (without n order) (out_of_group p n lbas) ≡ without_last (waiting_in p order lbas)
+pub last_waiting : (p : ℕ) (order lbas : List ℕ) (n : ℕ) → AreApart order → oldest_of order ≡ Some n → waiting_in p (without_first n order) (out_of_group p n lbas) ≡ without_last (waiting_in p order lbas)
 last_waiting p [] lbas n apart is = absurd (cc)
 last_waiting p (x ∷ []) lbas n apart is = ap (λ b. waiting_in p (cond b [] (x ∷ [])) (out_of_group p n lbas)) (eq-eqb n x (sym (oldest_one x n is)))
 last_waiting p (x ∷ y ∷ order) lbas n apart is =
     let later : oldest_of (y ∷ order) ≡ Some n = sym (oldest_next x y order) ∙ is in
     let other : (x == n) ≡ false = false_from_ne_true (x == n) (λ here. false≢true (sym apart.0 ∙ ap (λ k. member k (y ∷ order)) (eqb-true x n here) ∙ oldest_has n (y ∷ order) later)) in
-    ap (λ b. waiting_in p (cond b (y ∷ order) (x ∷ without n (y ∷ order))) (out_of_group p n lbas)) (turned n x ∙ other)
-    ∙ ap (λ l. row x l ∷ waiting_in p (without n (y ∷ order)) (out_of_group p n lbas)) (others_kept p x n lbas other)
+    ap (λ b. waiting_in p (cond b (y ∷ order) (x ∷ without_first n (y ∷ order))) (out_of_group p n lbas)) (turned n x ∙ other)
+    ∙ ap (λ l. row x l ∷ waiting_in p (without_first n (y ∷ order)) (out_of_group p n lbas)) (others_kept p x n lbas other)
     ∙ ap (λ t. row x (in_group p x lbas) ∷ t) (last_waiting p (y ∷ order) lbas n apart.1 later)
 
 -- ---- a group gets an address
@@ -168,18 +169,18 @@ module _ (p n : ℕ) (lbas new : List ℕ) (same : (m : ℕ) → (m == n) ≡ fa
       ∙ ap (λ l. row x l ∷ others order) (same x parts.0)
       ∙ ap (λ t. row x (in_group p x new) ∷ t) (none_filtered order parts.1)
 
-  one_filtered : (order : List ℕ) → AreApart order → others order ≡ waiting_in p (without n order) new
+  one_filtered : (order : List ℕ) → AreApart order → others order ≡ waiting_in p (without_first n order) new
   one_filtered [] apart = refl
   one_filtered (x ∷ order) apart = elim (cases_Bool (x == n)) [
     | inl here ↦
         ap (λ b. cond (not b) (row x (in_group p x lbas) ∷ others order) (others order)) here
         ∙ none_filtered order (ap (λ k. member k order) (sym (eqb-true x n here)) ∙ apart.0)
-        ∙ sym (ap (λ b. waiting_in p (cond b order (x ∷ without n order)) new) (turned n x ∙ here))
+        ∙ sym (ap (λ b. waiting_in p (cond b order (x ∷ without_first n order)) new) (turned n x ∙ here))
     | inr other ↦
         ap (λ b. cond (not b) (row x (in_group p x lbas) ∷ others order) (others order)) other
         ∙ ap (λ l. row x l ∷ others order) (same x other)
         ∙ ap (λ t. row x (in_group p x new) ∷ t) (one_filtered order apart.1)
-        ∙ sym (ap (λ b. waiting_in p (cond b order (x ∷ without n order)) new) (turned n x ∙ other))
+        ∙ sym (ap (λ b. waiting_in p (cond b order (x ∷ without_first n order)) new) (turned n x ∙ other))
   ]
 
 -- the addresses of a group
@@ -396,7 +397,7 @@ module _ (p : ℕ) (lbas : List ℕ) (i : ℕ) (order : List ℕ) (so_far : IsTa
   pub so_far_order : length lbas ≤ i → waiting_in p order lbas ≡ table_of p [] lbas
   so_far_order past = subst (λ (l : List ℕ). waiting_in p order l ≡ table_of p [] l) (take_all i lbas past) so_far.order
 
-map_twice : {X : Type 0} (f : X → ℕ) (g : ℕ → ℕ) (es : List X) → map g (map f es) ≡ map (λ x. g (f x)) es
+pub map_twice : {X : Type 0} (f : X → ℕ) (g : ℕ → ℕ) (es : List X) → map g (map f es) ≡ map (λ x. g (f x)) es
 map_twice f g [] = refl
 map_twice f g (x ∷ es) = ap (λ l. g (f x) ∷ l) (map_twice f g es)
 

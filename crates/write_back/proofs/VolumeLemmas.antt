@@ -13,10 +13,11 @@ use Rattle.ft_volume.specs.Opening.{ImageIs}
 use Rattle.ft_volume.specs.Volume.{ComesUp, Costs, Idles, VolumeState, backs_of}
 use Rattle.ft_volume.specs.declared.volume.Idled.TheVariants.{Cleaned}
 use Rattle.ft_volume.proofs.OpenedLemmas.{opened_up}
-use Rattle.cache_model.specs.Cache.{CacheList, Held, dirty_between}
+use Rattle.cache_model.specs.Cache.{dirty_between}
+use Rattle.cache_model.specs.CacheList.{CacheList, Held}
 use Rattle.cache_model.specs.Entries.{IsMap, each_once}
 use Rattle.merge_engine.proofs.TakeLemmas.{agree_map}
-use Rattle.dirty_table.specs.Groups.{Groups, groups, has, touched}
+use Rattle.dirty_table.specs.Groups.{Groups, groups_in_order, has, touched}
 use Rattle.ssc.specs.CacheState.{Holds, entries_of}
 use Rattle.cached_disk.specs.declared.disk.CachedDisk.{CachedDisk}
 use Rattle.cached_disk.specs.Kept.{IsOrderOf, Loads, dirty_of, is_down, waiting_in}
@@ -35,7 +36,7 @@ pub record IsMade (g : Geometry) (lbas : List ℕ) (i : ℕ) (table : Groups) : 
   pub limit : table.limit ≡ g.c
   pub so_far : IsTableSoFar g.p lbas i table.order
 
-pub made_none : (g : Geometry) (lbas : List ℕ) (table : Groups) → table ≡ groups [] g.c → IsMade g lbas 0 table
+pub made_none : (g : Geometry) (lbas : List ℕ) (table : Groups) → table ≡ groups_in_order [] g.c → IsMade g lbas 0 table
 made_none g lbas table is = subst (λ (t : Groups). IsMade g lbas 0 t) (sym is) (record { limit = refl; so_far = so_far_none g.p lbas 0 [] refl refl })
 
 module _ (v : CachedDisk) (over : (contents : Contents) × kept.IsLeft v contents) (up : is_down v ≡ false) where
@@ -75,9 +76,9 @@ module _ (v : CachedDisk) (over : (contents : Contents) × kept.IsLeft v content
           (subst (λ (c : ℕ). IsTrue (has (get_or lbas i 0 / v.options.geometry.p) table.order) ⊎ (length table.order < c)) (sym made.limit)
           (so_far_room v.options.geometry.p lbas i table.order made.so_far v.options.geometry.c within few))
 
-      pub made_more : i < length lbas → (p : ℕ) → p ≡ v.options.geometry.p → (new : Groups) → new ≡ groups (touched (get_or lbas i 0 / p) table.order) table.limit → IsMade v.options.geometry lbas (i + 1) new
+      pub made_more : i < length lbas → (p : ℕ) → p ≡ v.options.geometry.p → (new : Groups) → new ≡ groups_in_order (touched (get_or lbas i 0 / p) table.order) table.limit → IsMade v.options.geometry lbas (i + 1) new
       made_more within p own new is_new =
-          subst (λ (t : Groups). IsMade v.options.geometry lbas (i + 1) t) (sym (is_new ∙ ap (λ (q : ℕ). groups (touched (get_or lbas i 0 / q) table.order) table.limit) own))
+          subst (λ (t : Groups). IsMade v.options.geometry lbas (i + 1) t) (sym (is_new ∙ ap (λ (q : ℕ). groups_in_order (touched (get_or lbas i 0 / q) table.order) table.limit) own))
           (record { limit = made.limit; so_far = so_far_more v.options.geometry.p lbas i table.order ascends within made.so_far })
 
       -- and at the end it is the table of the cache
@@ -132,7 +133,7 @@ pub cleaned_costs : (old new : VolumeState) (before after : State) → goes_back
     → WritesDisk (last_size old.table) before after (Ok tt) → Costs Idles old new before after (Ok Cleaned)
 cleaned_costs old new before after goes table same writes = record {
   table = table ∙ sym (ap (λ (b : Bool). if b then without_last old.table else old.table) goes);
-  held = record { own = λ a is. absurd is; only = λ a there. inl (sym (same a) ∙ there); stays = λ groups lie a was. same a ∙ was };
+  held = record { own = λ a is. absurd is; only = λ a there. inl (sym (same a) ∙ there); stays = λ groups_in_order lie a was. same a ∙ was };
   disk_writes = subst (λ (n : ℕ). RoseBy n before.counts.disk_writes after.counts.disk_writes) (sym back) writes.exact;
   most_writes = let most = writes.most in omega (arith, most, back);
   most_reads = let reads = writes.reads in omega (arith, reads);

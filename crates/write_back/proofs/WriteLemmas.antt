@@ -25,16 +25,18 @@ use Rattle.ft_media.proofs.PassesLemmas.{passes_then}
 use Rattle.ft_volume.specs.declared.volume.VolumeError.{VolumeError}
 use Rattle.ft_volume.specs.declared.volume.VolumeError.TheVariants as error
 use Rattle.ft_volume.specs.Opening.{ImageIs, Suits}
-use Rattle.ft_volume.specs.Volume.{Call, Costs, FaultDowns, Goes, HasCause, Programs, StandFor, VolumeState, WasDone, Writes, dirty_lbas, volume_lost}
+use Rattle.ft_volume.specs.Volume.{Call, Costs, FaultDowns, Goes, HasCause, Programs, VolumeState, WasDone, Writes, dirty_lbas, volume_lost}
+use Rattle.ft_volume.specs.Standing.{StandFor}
 use Rattle.ft_volume.specs.Volume as volume
 use Rattle.cache_model.specs.Records.{Entries}
 use Rattle.cache_model.specs.Entries.{IsMap, each_once}
-use Rattle.cache_model.specs.Cache.{Agrees, Buffered, CacheList, Held, IsFull, Vanish, undo, written_block, written_dirty}
+use Rattle.cache_model.specs.Cache.{Buffered, IsFull, Vanish, undo, written_block, written_dirty}
+use Rattle.cache_model.specs.CacheList.{Agrees, CacheList, Held}
 use Rattle.cache_model.specs.Stands.{FlashStandsFor}
 use Rattle.cache_model.proofs.CountLemmas.{same_number}
 use Rattle.merge_engine.proofs.TakeLemmas.{agree_map}
 use Rattle.op_log.specs.Log.{FitsOn}
-use Rattle.dirty_table.specs.Groups.{Groups, groups, has, oldest_of, touched, without}
+use Rattle.dirty_table.specs.Groups.{Groups, groups_in_order, has, oldest_of, touched, without_first}
 use Rattle.ssc.specs.declared.cache.Ssc.{Ssc}
 use Rattle.ssc.specs.CacheState.{Holds, entries_of, geometry_of, pending}
 use Rattle.ssc.specs.declared.error.SscError.{SscError}
@@ -52,12 +54,8 @@ use Rattle.cached_disk.proofs.StepLemmas.{over_same, vanish_agrees, vanish_dirty
 use Rattle.write_back.specs.declared.volume.WriteBack.{WriteBack}
 use Rattle.write_back.specs.Left.{IsExact, IsLeft, IsTable, WritesDisk, out_of_group, state_of}
 use Rattle.write_back.specs.Writing.{HasTableRoom, backs_made, room_made}
-use Rattle.write_back.proofs.TableLemmas.{exact_touched, exact_without, few_exact, few_lbas, full_waiting, length_waiting, not_full_exact, put_waiting, touched_apart, without_apart}
-
--- what comes with Ok, where it is no error, and else
-on_ok_of : {T E P : Type 0} (r : Result T E) → is_err r ≡ false → OnOk r P → P
-on_ok_of (Ok t) none p = p
-on_ok_of (Err e) none p = absurd (false≢true (sym none))
+use Rattle.write_back.proofs.TableLemmas.{map_twice, exact_touched, exact_without, few_exact, few_lbas, full_waiting, length_waiting, not_full_exact, put_waiting, touched_apart, without_apart}
+use Rattle.cached_disk.proofs.ReadLemmas.{on_ok_of}
 
 pub ok_then : {T E P Q : Type 0} (r : Result T E) → (P → Q) → OnOk r P → OnOk r Q
 ok_then (Ok t) step p = step p
@@ -107,10 +105,6 @@ pub none_back : (p c n : ℕ) (order lbas : List ℕ) (s : State) → (has n ord
 none_back p c n order lbas s room = subst (λ (b : Bool). WritesDisk (cond b (last_size (waiting_in p order lbas)) 0) s s (Ok tt)) (sym (full_not p c n order lbas room)) (record { exact = λ below. omega arith; most = omega arith; reads = refl })
 
 -- ---- a volume that is up
-
-map_twice : {X : Type 0} (f : X → ℕ) (g : ℕ → ℕ) (es : List X) → map g (map f es) ≡ map (λ x. g (f x)) es
-map_twice f g [] = refl
-map_twice f g (x ∷ es) = ap (λ l. g (f x) ∷ l) (map_twice f g es)
 
 module _ (v : WriteBack) (contents : Contents) (left : IsLeft v contents) (up : is_down v.disk ≡ false) where
   abbrev pub held_list : CacheList
@@ -171,7 +165,7 @@ room_left v w before after n left up now told table =
 
 -- and its table has exactly the groups that are left
 pub cleaned_left : (v : WriteBack) (disk : CachedDisk) (table : Groups) (before after : Contents) (n : ℕ) → IsLeft v before → is_down v.disk ≡ false → kept.IsLeft disk after → (disk.options ≡ v.disk.options) × (disk.mode ≡ v.disk.mode)
-    → dirty_of disk ≡ out_of_group v.disk.options.geometry.p n (dirty_of v.disk) → table ≡ groups (without n v.dirty.order) v.dirty.limit → IsLeft (record { disk = disk; dirty = table }) after
+    → dirty_of disk ≡ out_of_group v.disk.options.geometry.p n (dirty_of v.disk) → table ≡ groups_in_order (without_first n v.dirty.order) v.dirty.limit → IsLeft (record { disk = disk; dirty = table }) after
 cleaned_left v disk table before after n left up now made cleaned less = record {
   disk = now;
   mode = made.1 ∙ left.mode;
@@ -179,7 +173,7 @@ cleaned_left v disk table before after n left up now made cleaned less = record 
   exact = λ is.
       subst (λ (g : Geometry). IsExact g.p table.order (dirty_of disk)) (sym (ap (λ o. o.geometry) made.0))
       (subst (λ (t : Groups). IsExact v.disk.options.geometry.p t.order (dirty_of disk)) (sym less)
-      (subst (λ (l : List ℕ). IsExact v.disk.options.geometry.p (without n v.dirty.order) l) (sym cleaned)
+      (subst (λ (l : List ℕ). IsExact v.disk.options.geometry.p (without_first n v.dirty.order) l) (sym cleaned)
       (exact_without v.disk.options.geometry.p v.dirty.order (dirty_of v.disk) n left.table.apart (left.exact up))));
 }
 
@@ -305,10 +299,10 @@ module _ (v : CachedDisk) (old new : Contents) (s : CacheList) (own : geometry_o
 -- ---- its group is noted
 
 -- the table, touched where memory wasn't wanting
-pub noted_as : {T E : Type 0} (order : List ℕ) (limit lba own p : ℕ) (table : Groups) (r : Result T E) → false ≡ is_err r → own ≡ p → OnOk r (table ≡ groups (touched (lba / own) order) limit) → table ≡ groups (touched (lba / p) order) limit
-noted_as order limit lba own p table r none same is = on_ok_of r (sym none) is ∙ ap (λ k. groups (touched (lba / k) order) limit) same
+pub noted_as : {T E : Type 0} (order : List ℕ) (limit lba own p : ℕ) (table : Groups) (r : Result T E) → false ≡ is_err r → own ≡ p → OnOk r (table ≡ groups_in_order (touched (lba / own) order) limit) → table ≡ groups_in_order (touched (lba / p) order) limit
+noted_as order limit lba own p table r none same is = on_ok_of r (sym none) is ∙ ap (λ k. groups_in_order (touched (lba / k) order) limit) same
 
-module _ (v : WriteBack) (lba : ℕ) (c : Ssc) (table : Groups) (noted : table ≡ groups (touched (lba / v.disk.options.geometry.p) v.dirty.order) v.dirty.limit) where
+module _ (v : WriteBack) (lba : ℕ) (c : Ssc) (table : Groups) (noted : table ≡ groups_in_order (touched (lba / v.disk.options.geometry.p) v.dirty.order) v.dirty.limit) where
   abbrev pub written : WriteBack
   written = record { disk = record v.disk { cache = c }; dirty = table }
 

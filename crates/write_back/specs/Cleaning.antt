@@ -7,10 +7,11 @@ use Rattle.ft_base.specs.Contents.{Contents}
 use Rattle.ft_base.specs.PlainDisk.{PlainDisk}
 use Rattle.ft_media.specs.State.{State}
 use Rattle.ft_volume.specs.Opening.{ImageIs}
-use Rattle.ft_volume.specs.Volume.{FaultDowns, Goes, StandFor}
+use Rattle.ft_volume.specs.Volume.{FaultDowns, Goes}
+use Rattle.ft_volume.specs.Standing.{StandFor}
 use Rattle.ft_volume.specs.declared.volume.VolumeError.{VolumeError}
 use Rattle.ft_volume.specs.declared.volume.VolumeError.TheVariants.{OutOfVolume}
-use Rattle.cache_model.specs.Cache.{CacheList, Held}
+use Rattle.cache_model.specs.CacheList.{CacheList, Held}
 use Rattle.ssc.specs.CacheState.{Holds, entries_of}
 use Rattle.cached_disk.specs.declared.disk.CachedDisk.{CachedDisk}
 use Rattle.cached_disk.specs.Kept.{IsLeft, is_down, state_in, told_of}

@@ -2,7 +2,8 @@ ghost use Rattle.std.specs.Prelude.{◌≡◌, ◌<◌, ◌/◌, ℕ, length, tr
 ghost use Rattle.ft_base.specs.PlainDisk.{PlainDisk};
 ghost use Rattle.ft_base.specs.Table.{last_size, put_first, without_last};
 ghost use Rattle.ft_volume.specs.Opening.{ImageIs};
-ghost use Rattle.ft_volume.specs.Volume.{Costs, FaultDowns, Goes, HoldsAfter, Programs, StandFor, WasDone, Writes};
+ghost use Rattle.ft_volume.specs.Volume.{Costs, FaultDowns, Goes, HoldsAfter, Programs, WasDone, Writes};
+ghost use Rattle.ft_volume.specs.Standing.{StandFor};
 ghost use Rattle.cached_disk.specs.Kept as kept;
 ghost use Rattle.write_back.specs.Left.{IsLeft, WritesDisk, state_of};
 ghost use Rattle.write_back.specs.Writing.{HasTableRoom, backs_made, room_made};

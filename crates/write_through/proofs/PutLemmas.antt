@@ -12,10 +12,12 @@ use Rattle.ft_base.specs.Told.{Told}
 use Rattle.ft_base.proofs.Images.{set_here, set_other}
 use Rattle.ft_media.specs.Media.{Crashed, after_write}
 use Rattle.ft_volume.specs.Opening.{ImageIs}
-use Rattle.ft_volume.specs.Volume.{StandFor, StandForEither, StandForOne, VolumeState, WasDone, WasOne, Writes}
+use Rattle.ft_volume.specs.Volume.{StandForEither, StandForOne, VolumeState, WasDone, WasOne, Writes}
+use Rattle.ft_volume.specs.Standing.{StandFor}
 use Rattle.ft_volume.specs.declared.volume.VolumeError.TheVariants.{DiskFault, PowerLost}
 use Rattle.ft_volume.proofs.DoneLemmas.{done_of_one}
-use Rattle.cache_model.specs.Cache.{Agrees, Buffered, CacheList, Cleaned, Held, Inserted, held_or, undo}
+use Rattle.cache_model.specs.Cache.{Buffered, Cleaned, Inserted, undo}
+use Rattle.cache_model.specs.CacheList.{Agrees, CacheList, Held, held_or}
 use Rattle.cache_model.specs.Stands.{FlashStandsFor}
 use Rattle.cache_model.proofs.UndoLemmas.{back_at, get_undo, undone_at}
 use Rattle.op_log.specs.Log.{FitsOn}

@@ -10,7 +10,8 @@ use Rattle.ft_base.specs.declared.told.Mode.{Mode}
 use Rattle.ft_base.specs.declared.told.Mode.TheVariants.{Through}
 use Rattle.ft_base.specs.Contents.{Contents, Values}
 use Rattle.ft_volume.specs.Opening.{Suits}
-use Rattle.cache_model.specs.Cache.{Agrees, CacheList, Held, evicted, held_or, undo}
+use Rattle.cache_model.specs.Cache.{evicted, undo}
+use Rattle.cache_model.specs.CacheList.{Agrees, CacheList, Held, held_or}
 use Rattle.cache_model.specs.Stands.{FlashStandsFor}
 use Rattle.cache_model.proofs.MapLemmas.{get_remove}
 use Rattle.ssc.specs.declared.cache.Ssc.{Ssc}

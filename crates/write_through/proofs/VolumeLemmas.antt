@@ -8,7 +8,7 @@ use Rattle.ft_volume.specs.Opening.{ImageIs, IsOpened}
 use Rattle.ft_volume.specs.Volume.{ComesUp, StandForOneOf, told_for}
 use Rattle.ft_volume.specs.declared.options.Options.{Options}
 use Rattle.ft_volume.specs.declared.volume.VolumeError.{VolumeError}
-use Rattle.cache_model.specs.Cache.{CacheList}
+use Rattle.cache_model.specs.CacheList.{CacheList}
 use Rattle.cached_disk.specs.declared.disk.CachedDisk.{CachedDisk}
 use Rattle.cached_disk.specs.Kept.{IsFresh, IsLeft, Loads, Reopens, state_in, told_of}
 use Rattle.cached_disk.proofs.OpenedLemmas.{comes_up, fresh_opened, no_order, nothing_dirty, order_through}

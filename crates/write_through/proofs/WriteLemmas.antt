@@ -14,7 +14,8 @@ use Rattle.ft_media.specs.Passes.{Passes}
 use Rattle.ft_media.specs.State.{Faults, State}
 use Rattle.ft_media.proofs.PassesLemmas.{passes_then}
 use Rattle.ft_volume.specs.Opening.{ImageIs}
-use Rattle.ft_volume.specs.Volume.{Call, Costs, FaultDowns, Goes, HasCause, HoldsAfter, Programs, Reads, StandFor, VolumeState, WasDone, Writes, volume_lost}
+use Rattle.ft_volume.specs.Volume.{Call, Costs, FaultDowns, Goes, HasCause, HoldsAfter, Programs, Reads, VolumeState, WasDone, Writes, volume_lost}
+use Rattle.ft_volume.specs.Standing.{StandFor}
 use Rattle.ft_volume.specs.declared.volume.VolumeError.{VolumeError}
 use Rattle.ft_volume.specs.declared.volume.VolumeError.TheVariants as volume
 use Rattle.cached_disk.proofs.CallLemmas.{answered_write, refused_write}

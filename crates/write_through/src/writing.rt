@@ -7,7 +7,8 @@ ghost use Rattle.ft_media.specs.Media.{Crashed, DiskCause, FlashStays, after_wri
 ghost use Rattle.ft_media.specs.Passes.{Passes};
 ghost use Rattle.ft_media.specs.State.{failed, lost};
 ghost use Rattle.ft_volume.specs.Opening.{ImageIs};
-ghost use Rattle.ft_volume.specs.Volume.{Costs, FaultDowns, Goes, HoldsAfter, Programs, StandFor, WasDone, Writes};
+ghost use Rattle.ft_volume.specs.Volume.{Costs, FaultDowns, Goes, HoldsAfter, Programs, WasDone, Writes};
+ghost use Rattle.ft_volume.specs.Standing.{StandFor};
 ghost use Rattle.cached_disk.specs.Kept as kept;
 ghost use Rattle.write_through.specs.Left.{IsLeft, state_of};
 

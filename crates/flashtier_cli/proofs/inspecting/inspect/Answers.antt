@@ -1,8 +1,10 @@
 use Rattle.std.proofs.Common.{ap, ◌∙◌, subst}
 use Rattle.ft_base.specs.Told.{Told}
 use Rattle.flashtier_cli.specs.Inspected.{PrintsFront, PrintsReport}
-use Rattle.flashtier_cli.proofs.InspectLemmas.{at_end, failed_by, inspecting_line, inspecting_then, whole_then}
-use Rattle.flashtier_cli.proofs.AskLemmas.{if_err_is, on_both, rose_later}
+use Rattle.flashtier_cli.proofs.InspectLemmas.{at_end, inspecting_line, inspecting_then, whole_then}
+use Rattle.trace_replay.proofs.EndingLemmas.{failed_by}
+use Rattle.flashtier_cli.proofs.AskLemmas.{if_err_is, on_both}
+use Rattle.trace_replay.proofs.ExitLemmas.{rose_later}
 use Rattle.flashtier_cli.proofs.inspecting.inspect.Goals as goal
 
 -- ---- every line was run

@@ -2,7 +2,8 @@ use Rattle.std.proofs.Common.{refl, sym, ap, ◌∙◌, subst}
 use Rattle.ft_base.specs.Told.{Told}
 use Rattle.ft_media.specs.State.{State}
 use Rattle.ft_volume.proofs.DoneLemmas.{one_disk}
-use Rattle.ft_volume.specs.Volume.{Costs, Goes, StandFor, opened_of}
+use Rattle.ft_volume.specs.Volume.{Costs, Goes, opened_of}
+use Rattle.ft_volume.specs.Standing.{StandFor}
 use Rattle.ft_volume.specs.Volume.Call.{Reports}
 use Rattle.ft_volume.specs.declared.volume.VolumeError.{VolumeError}
 use Rattle.flashtier_cli.specs.Inspected.{Asks}

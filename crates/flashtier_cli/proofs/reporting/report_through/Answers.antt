@@ -1,12 +1,13 @@
 use Rattle.std.proofs.Common.{◌≡◌, ◌+◌, Option, Ok, Err, IfSome, IsErrOf, refl, ap, ◌∙◌, subst, arith}
 use Rattle.std.specs.Option.{OnSome}
 use Rattle.ft_base.specs.Told.{Told}
-use Rattle.ft_media.specs.Media.{KeepsReady}
+use Rattle.ft_media.specs.Fitted.{KeepsReady}
 use Rattle.ft_media.specs.State.{State}
 use Rattle.ft_volume.specs.declared.volume.Report.{Report}
 use Rattle.trace_replay.specs.declared.ended.Ended.{Ended}
 use Rattle.flashtier_cli.specs.Inspected.{Asks, IsReportOf, cuts_by}
-use Rattle.flashtier_cli.proofs.AskLemmas.{asks_none, asks_then, fewer_left, rose_later}
+use Rattle.flashtier_cli.proofs.AskLemmas.{asks_none, asks_then, fewer_left}
+use Rattle.trace_replay.proofs.ExitLemmas.{rose_later}
 use Rattle.flashtier_cli.proofs.reporting.report_through.Goals as goal
 
 -- an end is the same one, whatever would have been answered

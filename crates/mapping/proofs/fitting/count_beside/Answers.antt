@@ -1,5 +1,7 @@
 use Rattle.std.proofs.Common.{◌-◌, Some, ap, sym, ◌∙◌, arith}
-use Rattle.mapping.proofs.PageFits.{own_counted, beside_own, beside_other, count_read, some_is, none_some}
+use Rattle.mapping.proofs.PageFits.{own_counted, beside_own, beside_other, count_read}
+use Rattle.mapping.proofs.SeekingLemmas.{none_some}
+use Rattle.mapping.proofs.SeekingLemmas.{some_is}
 use Rattle.mapping.proofs.fitting.count_beside.Goals as goal
 
 pub overflow_sub-result : goal.overflow_sub-result

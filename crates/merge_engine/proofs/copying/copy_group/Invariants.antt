@@ -1,6 +1,6 @@
 use Rattle.std.proofs.Common.{◌≡◌, Some, false}
 use Rattle.ft_media.specs.Drives.{DrivesFlash}
-use Rattle.cache_model.specs.Cache.{CacheList}
+use Rattle.cache_model.specs.CacheList.{CacheList}
 use Rattle.merge_engine.specs.Agreement.{Agree, Lists}
 use Rattle.merge_engine.specs.Merges.{programs_counted}
 use Rattle.merge_engine.proofs.CopyLemmas.{IsCopiedBelow, IsFilledBelow}

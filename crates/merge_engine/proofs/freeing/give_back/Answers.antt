@@ -17,4 +17,4 @@ returns-clause-agree c = λ contents agree unheld.
     (λ b here apart. c.set_role.ensures.others b (subst (λ (g : Geometry). IsInPool g b) (sym one.pool) here) apart)
     contents agree
     (record { map = one.map; log = one.log; pool = c.set_role.ensures.geometry ∙ one.pool; victims = one.victims; logs = one.logs; marks = one.marks })
-    (subst (λ (l : LogBlocksValue). list.IsSound l) is c.release.ensures.sound))
+    (subst (λ (l : LogBlocksValue). list.AreSoundLogs l) is c.release.ensures.sound))

@@ -1,6 +1,6 @@
 use Rattle.std.proofs.Common.{◌≡◌, ◌≤◌, ◌<◌, ◌+◌, false, length}
 use Rattle.ft_media.specs.Drives.{DrivesFlash}
-use Rattle.cache_model.specs.Cache.{CacheList}
+use Rattle.cache_model.specs.CacheList.{CacheList}
 use Rattle.merge_engine.specs.Agreement.{Agree, Lists}
 use Rattle.merge_engine.specs.Steps.{GoesOn, IsUnheld}
 use Rattle.log_blocks.specs.Logs.{IsInUse}

@@ -1,6 +1,6 @@
 use Rattle.std.proofs.Common.{[], ◌≡◌, ap, refl, ◌∙◌, arith}
 use Rattle.ft_base.specs.Told.{Told}
-use Rattle.trace_replay.specs.Went.{count_of}
+use Rattle.trace_replay.specs.Went.{cut_if}
 use Rattle.trace_replay.proofs.WentLemmas.{ends_after, goes_then, went_ends, went_none, went_then}
 use Rattle.trace_replay.proofs.SpendsLemmas.{at_most_then, never_cut, spends_ends, spent_none, spent_then}
 use Rattle.trace_replay.proofs.again.flush_through.Goals as goal
@@ -21,14 +21,14 @@ again-init g c =
 
 pub again-preserved : goal.again-preserved
 again-preserved g c =
-    let one : count_of c.in_ok-cut.cut ≡ 1 = ap count_of c.if-not-cut.false in
+    let one : cut_if c.in_ok-cut.cut ≡ 1 = ap cut_if c.if-not-cut.false in
     record {
       owns = c.flush_once.ensures.owns;
       told = c.flush_once.ensures.told ∙ c.again.invariant.told;
       ack = ap (λ (t : Told). t.ack) c.flush_once.ensures.told ∙ c.again.invariant.ack;
       kept = λ d stood. c.flush_once.ensures.kept d (c.again.invariant.kept d stood);
-      went = went_then g.P.Script.state g.P.Script.came g.P.Script.broke g.P.Script.knows c.again.cuts (count_of c.in_ok-cut.cut) 0 0 _ 0 _ _ _ _ _ _ c.again.invariant.went c.in_ok-cut.ensures.went.done (omega (arith, one)) refl;
-      spent = λ quiet. absurd (never_cut (count_of c.in_ok-cut.cut) _ _ c.in_ok-cut.ensures.went.done.cut.few (omega (arith, one)) (c.again.invariant.spent quiet).quiet);
+      went = went_then g.P.Script.state g.P.Script.came g.P.Script.broke g.P.Script.knows c.again.cuts (cut_if c.in_ok-cut.cut) 0 0 _ 0 _ _ _ _ _ _ c.again.invariant.went c.in_ok-cut.ensures.went.done (omega (arith, one)) refl;
+      spent = λ quiet. absurd (never_cut (cut_if c.in_ok-cut.cut) _ _ c.in_ok-cut.ensures.went.done.cut.few (omega (arith, one)) (c.again.invariant.spent quiet).quiet);
       few = c.again.invariant.few;
     }
 

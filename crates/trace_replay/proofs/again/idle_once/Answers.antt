@@ -1,9 +1,10 @@
 use Rattle.std.proofs.Common.{◌∷◌, [], Err, refl, ap, subst}
 use Rattle.ft_base.specs.Contents.{Contents}
-use Rattle.ft_volume.specs.Volume.{StandFor}
+use Rattle.ft_volume.specs.Standing.{StandFor}
 use Rattle.ft_volume.specs.Volume.Call.{Idles}
 use Rattle.trace_replay.proofs.CallLemmas.{one_call, still_contents, was_call}
-use Rattle.trace_replay.proofs.WentLemmas.{at_exit, went_call, went_ends}
+use Rattle.trace_replay.proofs.WentLemmas.{went_call, went_ends}
+use Rattle.trace_replay.proofs.ExitLemmas.{at_exit}
 use Rattle.ft_volume.specs.declared.volume.Idled.{Idled}
 use Rattle.trace_replay.proofs.SpendsLemmas.{call_most, call_never_lost, call_spent, spends_ends}
 use Rattle.trace_replay.specs.Spends.Step.{Rests}

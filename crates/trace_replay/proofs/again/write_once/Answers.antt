@@ -2,7 +2,7 @@ use Rattle.std.proofs.Common.{◌∷◌, [], Err, ap, subst, arith}
 use Rattle.ft_base.specs.Contents.{Contents, set}
 use Rattle.ft_volume.specs.Volume.{StandForEither, StandForOne}
 use Rattle.ft_volume.specs.Volume.Call.{Writes}
-use Rattle.trace_replay.specs.Went.{count_of}
+use Rattle.trace_replay.specs.Went.{cut_if}
 use Rattle.trace_replay.proofs.CallLemmas.{one_call, still_contents, was_call}
 use Rattle.trace_replay.proofs.WentLemmas.{refused, went_call, went_ends}
 use Rattle.trace_replay.proofs.SpendsLemmas.{call_most, call_never_lost, call_spent, spends_ends}
@@ -16,7 +16,7 @@ returns-in_err-go_on-in-Err-clause-went g c =
     (λ is. let over = c.in-Err.ensures.outside.0 (ap refused is) in absurd (omega (arith, over, c.requires.within)))
     (λ lost. let said = c.in_err-go_on-in-Err.ensures.said lost in (c.go_on.ensures.powered lost, said.goes, said.ended))
     c.go_on.ensures.same c.in_err-go_on-in-Err.ensures.ended in
-    went_ends g.P.Script.state g.P.Script.came g.P.Script.broke g.P.Script.knows count_of 1 _ _ _ _ c.from_residual.result _ c.from_residual.ensures.1 went.0 went.1.0
+    went_ends g.P.Script.state g.P.Script.came g.P.Script.broke g.P.Script.knows cut_if 1 _ _ _ _ c.from_residual.result _ c.from_residual.ensures.1 went.0 went.1.0
 
 pub returns-in_err-go_on-in-Err-clause-images : goal.returns-in_err-go_on-in-Err-clause-images
 returns-in_err-go_on-in-Err-clause-images g c = λ d stood.

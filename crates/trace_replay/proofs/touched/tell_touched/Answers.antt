@@ -3,7 +3,8 @@ use Rattle.ft_base.specs.Told.{Told}
 use Rattle.trace_replay.specs.Saying.{SaysTouched}
 use Rattle.trace_replay.proofs.CutsLemmas.{cuts_then}
 use Rattle.trace_replay.proofs.EndingLemmas.{end_reading, ends_untold, touched_more, touched_none, walk_all, walk_more, walk_within}
-use Rattle.trace_replay.proofs.WentLemmas.{at_exit, goes_then, went_none}
+use Rattle.trace_replay.proofs.WentLemmas.{goes_then, went_none}
+use Rattle.trace_replay.proofs.ExitLemmas.{at_exit}
 use Rattle.trace_replay.proofs.WithinLemmas.{goes_script}
 use Rattle.trace_replay.specs.Spends.{Spent, touches_each}
 use Rattle.trace_replay.proofs.SpendsLemmas.{each_end, each_more, spends_ends, spent_none}

@@ -2,7 +2,7 @@ use Rattle.std.proofs.Common.{◌≡◌, ◌≢◌, ap, refl, ◌∙◌, arith}
 use Rattle.std.specs.Bool.{IsTrue}
 use Rattle.ft_base.specs.Told.{Told}
 use Rattle.trace_replay.specs.Saying.{count_unless}
-use Rattle.trace_replay.specs.Went.{count_of}
+use Rattle.trace_replay.specs.Went.{cut_if}
 use Rattle.trace_replay.proofs.BlocksLemmas.{kept_all, kept_here, same_more}
 use Rattle.trace_replay.proofs.WentLemmas.{ends_after, goes_then, went_ends, went_none, went_then}
 use Rattle.trace_replay.proofs.writing.kept_once.Goals as goal
@@ -19,7 +19,7 @@ loop-i-init g c = record {
 
 pub loop-i-preserved : goal.loop-i-preserved
 loop-i-preserved g c =
-    let none : count_of c.in_ok-cut.cut ≡ 0 = ap count_of c.if-cut.false in
+    let none : cut_if c.in_ok-cut.cut ≡ 0 = ap cut_if c.if-cut.false in
     let same : c.read_once.new.block ≡ c.pattern.new.out = c.is_same.ensures.0 c.if-not-is_same.false in
     record {
       owns = c.read_once.ensures.owns;
@@ -27,7 +27,7 @@ loop-i-preserved g c =
       ack = ap (λ (t : Told). t.ack) c.read_once.ensures.told ∙ c.loop-i.invariant.ack;
       found = λ d stood. same_more c.args.request.lba c.args.request.tag c.loop-i.i d c.read_once.new.block c.pattern.new.out (c.loop-i.invariant.found d stood) (c.in_ok-cut.ensures.found c.if-cut.false d (c.loop-i.invariant.kept d stood)) c.pattern.ensures same;
       kept = λ d stood. c.read_once.ensures.kept d (c.loop-i.invariant.kept d stood);
-      went = went_then g.P.Script.state g.P.Script.came g.P.Script.broke g.P.Script.knows 0 (count_of c.in_ok-cut.cut) 0 0 0 0 _ _ _ _ _ _ c.loop-i.invariant.went c.in_ok-cut.ensures.went.done (omega (arith, none)) refl;
+      went = went_then g.P.Script.state g.P.Script.came g.P.Script.broke g.P.Script.knows 0 (cut_if c.in_ok-cut.cut) 0 0 0 0 _ _ _ _ _ _ c.loop-i.invariant.went c.in_ok-cut.ensures.went.done (omega (arith, none)) refl;
     }
 
 pub returns-in_err-cut-clause-went : goal.returns-in_err-cut-clause-went

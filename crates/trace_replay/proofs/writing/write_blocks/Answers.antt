@@ -1,7 +1,7 @@
 use Rattle.std.proofs.Common.{◌≡◌, ◌+◌, ap, refl, ◌∙◌, arith}
 use Rattle.ft_base.specs.Told.{Told}
 use Rattle.trace_model.specs.Run.{after_blocks}
-use Rattle.trace_replay.specs.Went.{count_of}
+use Rattle.trace_replay.specs.Went.{cut_if}
 use Rattle.trace_replay.proofs.BlocksLemmas.{front_either, front_of, one_more}
 use Rattle.trace_replay.proofs.WentLemmas.{ends_after, goes_then, went_ends, went_none, went_then}
 use Rattle.trace_replay.specs.Spends.{puts_of}
@@ -20,7 +20,7 @@ loop-i-init g c = record {
 
 pub loop-i-preserved : goal.loop-i-preserved
 loop-i-preserved g c =
-    let none : count_of c.in_ok-cut.cut ≡ 0 = ap count_of c.if-cut.false in
+    let none : cut_if c.in_ok-cut.cut ≡ 0 = ap cut_if c.if-cut.false in
     record {
       owns = c.write_once.ensures.owns;
       told = c.write_once.ensures.told ∙ c.loop-i.invariant.told;
@@ -28,7 +28,7 @@ loop-i-preserved g c =
       disk = λ d stood. one_more (g.V.Volume.stands (g.V.Volume.state c.write_once.new.volume).told)
           (g.R.Media.state c.write_once.new.rig).contents c.args.request.lba c.args.request.tag c.loop-i.i c.args.request.count d c.pattern.new.out c.pattern.ensures
           (c.in_ok-cut.ensures.done c.if-cut.false (after_blocks c.args.request.lba c.args.request.tag c.loop-i.i d) (c.loop-i.invariant.disk d stood));
-      went = went_then g.P.Script.state g.P.Script.came g.P.Script.broke g.P.Script.knows 0 (count_of c.in_ok-cut.cut) c.loop-i.i 1 0 (c.loop-i.i + 1) _ _ _ _ _ _ c.loop-i.invariant.went c.in_ok-cut.ensures.went.done (omega (arith, none)) refl;
+      went = went_then g.P.Script.state g.P.Script.came g.P.Script.broke g.P.Script.knows 0 (cut_if c.in_ok-cut.cut) c.loop-i.i 1 0 (c.loop-i.i + 1) _ _ _ _ _ _ c.loop-i.invariant.went c.in_ok-cut.ensures.went.done (omega (arith, none)) refl;
       spent = λ quiet. let spent = c.loop-i.invariant.spent quiet in puts_more _ _ _ _ c.args.request.lba c.loop-i.i _ _ spent (c.in_ok-cut.ensures.spends.done spent.quiet);
     }
 
@@ -39,7 +39,7 @@ returns-in_err-cut-clause-images g c = λ d stood.
 
 pub returns-in_err-cut-clause-went : goal.returns-in_err-cut-clause-went
 returns-in_err-cut-clause-went g c =
-    went_ends g.P.Script.state g.P.Script.came g.P.Script.broke g.P.Script.knows count_of c.args.request.count _ _ _ _ c.from_residual.result _ c.from_residual.ensures.1
+    went_ends g.P.Script.state g.P.Script.came g.P.Script.broke g.P.Script.knows cut_if c.args.request.count _ _ _ _ c.from_residual.result _ c.from_residual.ensures.1
     (goes_then g.P.Script.state g.P.Script.came g.P.Script.broke g.P.Script.knows _ _ _ _ _ _ c.loop-i.invariant.went.goes c.write_once.ensures.went.goes)
     (ends_after g.P.Script.state g.P.Script.came g.P.Script.broke g.P.Script.knows _ 0 c.loop-i.i _ _ _ _ _ _ c.loop-i.invariant.went c.in_err-cut.ensures.went.ended)
 
@@ -60,8 +60,8 @@ returns-in_err-cut-clause-spends g c =
 
 pub returns-then-cut-clause-spends : goal.returns-then-cut-clause-spends
 returns-then-cut-clause-spends g c =
-    let one : count_of c.in_ok-cut.cut ≡ 1 = ap count_of c.if-cut.true in
+    let one : cut_if c.in_ok-cut.cut ≡ 1 = ap cut_if c.if-cut.true in
     record {
-      done = λ quiet. absurd (never_cut (count_of c.in_ok-cut.cut) _ _ c.in_ok-cut.ensures.went.done.cut.few (omega (arith, one)) (c.loop-i.invariant.spent quiet).quiet);
+      done = λ quiet. absurd (never_cut (cut_if c.in_ok-cut.cut) _ _ c.in_ok-cut.ensures.went.done.cut.few (omega (arith, one)) (c.loop-i.invariant.spent quiet).quiet);
       ended = tt;
     }

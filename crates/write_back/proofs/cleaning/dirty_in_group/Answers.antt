@@ -1,6 +1,7 @@
 use Rattle.std.proofs.Common.{◌≡◌, ℕ, ◌*◌, ◌-◌, ◌++◌, List, min, ◌∙◌, ap, ap₂}
 use Rattle.ft_base.specs.Contents.{Contents}
-use Rattle.cache_model.specs.Cache.{CacheList, dirty_between}
+use Rattle.cache_model.specs.Cache.{dirty_between}
+use Rattle.cache_model.specs.CacheList.{CacheList}
 use Rattle.ssc.specs.CacheState.{Holds}
 use Rattle.write_back.proofs.CleaningLemmas.{listed_group}
 use Rattle.write_back.proofs.cleaning.dirty_in_group.Goals as goal

@@ -1,5 +1,5 @@
 use Rattle.std.proofs.Common.{◌∙◌}
-use Rattle.cache_model.specs.Cache.{CacheList}
+use Rattle.cache_model.specs.CacheList.{CacheList}
 use Rattle.mem_rig.specs.Rig.{state_of}
 use Rattle.cache_rows.proofs.UpLemmas.{fit_after, up_of}
 use Rattle.cache_rows.proofs.bench.Bench.checkpoint.Goals as goal

@@ -1,7 +1,7 @@
 use Rattle.std.proofs.Common.{refl, sym, subst, false}
 use Rattle.ft_base.specs.Contents.{Shape}
 use Rattle.op_log.specs.Log.{FitsOn}
-use Rattle.cache_model.specs.Cache.{CacheList}
+use Rattle.cache_model.specs.CacheList.{CacheList}
 use Rattle.cache_model.specs.Stands.{FlashStandsFor}
 use Rattle.ssc.specs.CacheState.{entries_of}
 use Rattle.ssc.proofs.ListLemmas.{stands_some}

@@ -2,7 +2,8 @@ use Rattle.std.proofs.Common.{◌≡◌, Bool, true, false, refl, rules, sym, �
 use Rattle.std.specs.FinMap.{get}
 use Rattle.ft_base.specs.Contents.{Contents}
 use Rattle.ft_volume.specs.Opening.{ImageIs}
-use Rattle.ft_volume.specs.Volume.{Costs, Goes, Reads, StandFor, WasDone}
+use Rattle.ft_volume.specs.Volume.{Costs, Goes, Reads, WasDone}
+use Rattle.ft_volume.specs.Standing.{StandFor}
 use Rattle.ssc.specs.declared.cache.Ssc.{Ssc}
 use Rattle.ssc.specs.CacheState.{entries_of}
 use Rattle.ssc.specs.Commands.{ReadOf}

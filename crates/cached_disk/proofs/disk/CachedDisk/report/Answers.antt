@@ -1,7 +1,8 @@
 use Rattle.std.proofs.Common.{◌≡◌, false, [], Ok, Err, refl, sym, ◌∙◌, ap, subst}
 use Rattle.ft_base.specs.Contents.{Contents}
 use Rattle.ft_volume.specs.Opening.{ImageIs}
-use Rattle.ft_volume.specs.Volume.{Reports, StandFor, dirty_lbas}
+use Rattle.ft_volume.specs.Volume.{Reports, dirty_lbas}
+use Rattle.ft_volume.specs.Standing.{StandFor}
 use Rattle.ft_volume.specs.declared.volume.Report.{Report}
 use Rattle.mapping.specs.Counts.{held_count}
 use Rattle.ssc.specs.declared.cache.Ssc.{Ssc}

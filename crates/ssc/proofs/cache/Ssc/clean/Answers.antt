@@ -1,7 +1,8 @@
 use Rattle.std.proofs.Common.{refl, sym, subst, arith, ap}
 use Rattle.std.proofs.lemmas.Bool.{false≢true}
 use Rattle.ft_base.specs.declared.record.Record.TheVariants.{Clean}
-use Rattle.cache_model.specs.Cache.{CacheList, undo, made_clean}
+use Rattle.cache_model.specs.Cache.{undo, made_clean}
+use Rattle.cache_model.specs.CacheList.{CacheList}
 use Rattle.ssc.specs.CacheState.{Holds, pending, geometry_of}
 use Rattle.ssc.proofs.HoldsLemmas.{few_buffered, length_waiting, holds_cleaned, pends_after}
 use Rattle.ssc.proofs.CommandLemmas.{images_after, dirty_entry, no_dirty_entry}

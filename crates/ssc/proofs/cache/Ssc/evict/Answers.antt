@@ -1,6 +1,7 @@
 use Rattle.std.proofs.Common.{◌≡◌, ◌∙◌, None, Some, refl, sym, subst, arith, ap}
 use Rattle.std.proofs.lemmas.Bool.{false≢true}
-use Rattle.cache_model.specs.Cache.{CacheList, undo, evicted}
+use Rattle.cache_model.specs.Cache.{undo, evicted}
+use Rattle.cache_model.specs.CacheList.{CacheList}
 use Rattle.ssc.specs.CacheState.{Holds, pending, geometry_of}
 use Rattle.ssc.proofs.HoldsLemmas.{holds_committed, few_buffered}
 use Rattle.ssc.proofs.CommandLemmas.{images_after, evicted_absent, no_entry, an_entry}

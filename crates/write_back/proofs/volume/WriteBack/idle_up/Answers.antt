@@ -1,7 +1,8 @@
 use Rattle.std.proofs.Common.{rules, refl, sym, subst}
 use Rattle.ft_base.specs.Told.{Told}
 use Rattle.ft_volume.specs.Opening.{ImageIs}
-use Rattle.ft_volume.specs.Volume.{Idles, StandFor}
+use Rattle.ft_volume.specs.Volume.{Idles}
+use Rattle.ft_volume.specs.Standing.{StandFor}
 use Rattle.ft_volume.specs.declared.volume.Idled.TheVariants.{Cleaned}
 use Rattle.cached_disk.proofs.CallLemmas.{answered_same, refused_same}
 use Rattle.write_back.specs.Left.{state_of}

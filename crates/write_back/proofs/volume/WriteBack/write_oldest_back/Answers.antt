@@ -1,5 +1,5 @@
 use Rattle.std.proofs.Common.{ℕ, Ok, Err, sym, subst, ap, ◌∙◌, List}
-use Rattle.dirty_table.specs.Groups.{Groups, without}
+use Rattle.dirty_table.specs.Groups.{Groups, without_first}
 use Rattle.cached_disk.specs.Kept.{dirty_of, waiting_in}
 use Rattle.write_back.specs.Left.{WritesDisk}
 use Rattle.write_back.proofs.TableLemmas.{last_length, last_waiting}
@@ -24,7 +24,7 @@ returns-in-Ok-clause-table g c =
     let disk = c.write_group_back.new.disk in
     ap (λ o. waiting_in o.geometry.p c.remove-was_there.new.self.order (dirty_of disk)) c.write_group_back.ensures.made.0
     ∙ ap (λ (t : Groups). waiting_in p t.order (dirty_of disk)) c.remove-was_there.ensures.order
-    ∙ ap (λ (l : List ℕ). waiting_in p (without c.in-Some.group v.dirty.order) l) c.in-Ok.ensures.cleaned
+    ∙ ap (λ (l : List ℕ). waiting_in p (without_first c.in-Some.group v.dirty.order) l) c.in-Ok.ensures.cleaned
     ∙ last_waiting p v.dirty.order (dirty_of v.disk) c.in-Some.group c.requires.left.table.apart (sym c.in-Some.ensures)
 
 pub returns-in-Ok-clause-goes : goal.returns-in-Ok-clause-goes

@@ -3,7 +3,8 @@ use Rattle.std.specs.FinMap.{get}
 use Rattle.std.specs.Option.{is_some}
 use Rattle.ft_base.specs.Told.{Told}
 use Rattle.ft_volume.specs.Opening.{ImageIs}
-use Rattle.ft_volume.specs.Volume.{StandFor, Writes, dirty_lbas}
+use Rattle.ft_volume.specs.Volume.{Writes, dirty_lbas}
+use Rattle.ft_volume.specs.Standing.{StandFor}
 use Rattle.cache_model.specs.Records.{Entries}
 use Rattle.cached_disk.specs.Kept.{waiting_in}
 use Rattle.cached_disk.proofs.CallLemmas.{refused_same}

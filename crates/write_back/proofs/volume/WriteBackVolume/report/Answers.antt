@@ -2,7 +2,8 @@ use Rattle.std.proofs.Common.{subst}
 use Rattle.std.specs.Prelude.{IfOk}
 use Rattle.ft_base.specs.Told.{Told}
 use Rattle.ft_volume.specs.Opening.{ImageIs}
-use Rattle.ft_volume.specs.Volume.{IsReport, Reports}
+use Rattle.ft_volume.specs.Volume.{Reports}
+use Rattle.ft_volume.specs.Reported.{IsReport}
 use Rattle.ft_volume.proofs.UpLemmas.{costs_through, done_refused, done_through, goes_through}
 use Rattle.cache_model.specs.Records.{Entries}
 use Rattle.ssc.specs.CacheState.{entries_of}

@@ -2,7 +2,8 @@ use Rattle.std.proofs.Common.{Err, refl, true, sym, subst, ap, ◌∙◌}
 use Rattle.ft_base.specs.Contents.{Contents}
 use Rattle.ft_media.specs.State.{State, lost}
 use Rattle.ft_volume.specs.Opening.{ImageIs}
-use Rattle.ft_volume.specs.Volume.{StandFor, Writes}
+use Rattle.ft_volume.specs.Volume.{Writes}
+use Rattle.ft_volume.specs.Standing.{StandFor}
 use Rattle.ft_volume.specs.declared.volume.VolumeError.TheVariants.{OutOfMemory}
 use Rattle.cached_disk.proofs.CallLemmas.{answered_write, refused_same}
 use Rattle.write_through.specs.declared.volume.WriteThrough.{WriteThrough}
