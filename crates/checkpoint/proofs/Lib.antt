@@ -1,3 +1,4 @@
+pub mod OnlyLemmas
 pub mod PlacesLemmas
 pub mod CountsLemmas
 pub mod ListsLemmas

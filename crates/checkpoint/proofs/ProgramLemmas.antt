@@ -1,5 +1,5 @@
 -- A page of a checkpoint, and what a program of it leaves.
-use Rattle.std.proofs.Common.{◌≡◌, ℕ, ◌≤◌, inl, inr, true, false, cond, List, Some, None, Result, Err, option_map, refl, sym, ◌∙◌, ap, subst, arith}
+use Rattle.std.proofs.Common.{◌≡◌, ℕ, ◌≤◌, inl, inr, true, false, cond, List, Some, None, option_map, refl, sym, ◌∙◌, ap, subst, arith}
 use Rattle.std.proofs.lemmas.Bool.Decides.{nat_tests}
 use Rattle.ft_base.specs.declared.geometry.Geometry.{Geometry}
 use Rattle.ft_base.specs.declared.block.Block.{Block}
@@ -10,10 +10,7 @@ use Rattle.ft_base.specs.declared.block.Page.TheVariants.{Blank, Whole, Torn}
 use Rattle.ft_base.specs.declared.record.Record.{Record}
 use Rattle.ft_base.specs.Contents.{Flash}
 use Rattle.ft_base.specs.Count.{Rose}
-use Rattle.ft_media.specs.State.{State, failed, lost}
-use Rattle.ft_media.specs.declared.media.MediaError.{MediaError}
-use Rattle.ft_media.specs.Drives.{DrivesFlash}
-use Rattle.ft_media.proofs.DrivesLemmas.{drives_then}
+use Rattle.ft_media.specs.State.{State}
 use Rattle.ft_media.specs.Passes.{Passes, Spends}
 use Rattle.ft_media.specs.Media.{LeavesPage, after_program}
 use Rattle.cache_model.specs.declared.format.PageKind.TheVariants.{Map}
@@ -88,7 +85,3 @@ spends_after a b c passes spends on some =
 
 pub rose_after : (a b c : ℕ) → a ≤ b → Rose b c → Rose a c
 rose_after a b c le rose = omega arith
-
--- calls that drive the flash, the last of which was refused
-pub drives_err : (a b c : State) (e : MediaError) (r : Result (Unit {0}) MediaError) → DrivesFlash a b false false → DrivesFlash b c (failed {T = Unit {0}} (Err e)) (lost {T = Unit {0}} (Err e)) → r ≡ Err e → DrivesFlash a c (failed r) (lost r)
-drives_err a b c e r first then is = drives_then a b c (failed r) (lost r) first (subst (λ (q : Result (Unit {0}) MediaError). DrivesFlash b c (failed q) (lost q)) (sym is) then)

@@ -3,3 +3,4 @@ pub mod Current
 pub mod Found
 pub mod Regions
 pub mod Walk
+pub mod Commits

@@ -6,7 +6,7 @@ use Rattle.ft_base.specs.declared.block.Place.{Place}
 use Rattle.ft_base.specs.declared.block.Page.{Page}
 use Rattle.ft_base.specs.declared.block.Page.TheVariants.{Blank, Torn}
 use Rattle.ft_base.specs.declared.record.Record.{Record}
-use Rattle.ft_base.specs.Contents.{Flash, set, set_page}
+use Rattle.ft_base.specs.Contents.{Contents, Flash, set, set_page}
 use Rattle.ft_base.specs.Layout.{checkpoint_at, checkpoint_pages, first_log, k, page_records, up}
 use Rattle.cache_model.specs.declared.format.Header.{Header}
 use Rattle.cache_model.specs.declared.format.PageKind.TheVariants.{Map, Seal as SealPage}
@@ -15,7 +15,10 @@ use Rattle.cache_model.specs.Spelling.{spelled_spare, spare_fields}
 use Rattle.cache_model.specs.Reading.{read_records}
 use Rattle.cache_model.specs.Loading.{header_at, seal_at, said}
 use Rattle.cache_model.specs.Laws.{IsMapOrLost}
-use Rattle.op_log.specs.Log.{HasSpare}
+use Rattle.cache_model.specs.Entries.{IsMap}
+use Rattle.mapping.specs.Checkpoint.{IsCheckpointOf}
+use Rattle.mapping.specs.MapValue.{MapValue}
+use Rattle.op_log.specs.Log.{FitsOn, HasSpare}
 use Rattle.op_log.specs.Refusals.{seal_of}
 
 -- one of so many erase blocks from the first on
@@ -98,6 +101,13 @@ pub record IsMapPage (era sequence : ℕ) (changes : List Record) (page : Page) 
 pub record IsSealPage (g : Geometry) (era pages count : ℕ) (page : Page) : Type 0 where
   pub seal : seal_at era pages count page ≡ Some (seal_of g)
   pub spare : HasSpare (seal_spare era pages) page
+
+-- the flash fits, the map is one of the geometry, and its records are a checkpoint of it
+pub record CanProgram (g : Geometry) (m : MapValue) (contents : Contents) : Type 0 where
+  pub shape : FitsOn g contents.shape
+  pub map : m.geometry ≡ g
+  pub is_map : IsMap g m.entries
+  pub listing : IsCheckpointOf g m.entries m.records
 
 -- a page of this kind was programmed, the page after it is next, and nothing else changed
 pub record Programmed (kind : Page → Type 0) (at : Place) (old new : Flash) : Type 0 where

@@ -1,14 +1,10 @@
-ghost use Rattle.std.specs.Prelude.{◌≡◌, ◌≢◌, ◌<◌, ◌≤◌, ◌+◌, ◌-◌, ◌%◌, [], IfOk, OnOk, OnErr, IsOk, IsErrOf};
+ghost use Rattle.std.specs.Prelude.{◌≡◌, ◌≢◌, ◌<◌, ◌≤◌, [], IfOk, OnOk, IsOk};
 ghost use Rattle.ft_base.specs.Count.{Rose};
 ghost use Rattle.ft_base.specs.Layout.{log_pages};
-ghost use Rattle.ft_media.specs.State.{failed, lost};
-ghost use Rattle.ft_media.specs.Media.{program_counted};
 ghost use Rattle.ft_media.specs.Passes.{Spends};
-ghost use Rattle.ft_media.specs.Drives.{DrivesFlash};
-ghost use Rattle.op_log.specs.Log.{FitsOn, HasSpare, log_spare, next_place};
-ghost use Rattle.checkpoint.specs.Counts.{checkpoint_counted};
-ghost use Rattle.checkpoint.specs.Regions.{HasSpares, map_pages};
-ghost use Rattle.checkpoint.specs.Current.{IsCurrent, AreWhole, IsOpenLog, IsCommitted, PoolStays, PoolReadyStays, LoadsOneOf, LogGoesLast, log_committed, log_checkpointed};
+ghost use Rattle.ft_media.specs.Drives.{OnlyDrives};
+ghost use Rattle.checkpoint.specs.Commits.{CanCheckpoint, LogGoesOn, LeavesPool, AddsLogPage, AddsCheckpoint};
+ghost use Rattle.checkpoint.specs.Current.{IsOpenLog, IsCommitted, LogGoesLast, log_committed, log_checkpointed};
 
 use crate::writing::{Target, write_checkpoint};
 use ft_base::{Block, Geometry, zero_block};
@@ -55,38 +51,22 @@ impl Checkpoints {
         map: &Map,
         log: &mut OpLog,
     ) -> Result<(), MediaError>
-        requires shape { FitsOn log.old.geometry (M.state media.old).contents.shape }
-        requires own { self.old ≡ log.old.geometry }
-        requires map { map.now.geometry ≡ log.old.geometry }
-        requires current { IsCurrent (M.state media.old).contents.flash.page log.old map.now.entries }
-        requires whole { AreWhole (M.state media.old).contents.flash.page map.now.entries }
+        requires can { CanCheckpoint self.old map.now log.old (M.state media.old).contents }
         requires open { IsOpenLog (M.state media.old).contents.flash log.old }
         ensures own { self.new ≡ self.old }
-        ensures geometry { log.new.geometry ≡ log.old.geometry }
         ensures nothing { log.old.buffered ≡ [] → IsOk result × (log.new ≡ log.old) × (M.state media.new ≡ M.state media.old) }
         ensures done { OnOk result (IsCommitted (M.state media.new).contents.flash log.new map.now.entries) }
-        ensures log { OnOk result (log.new ≡ log_committed log.old) }
-        ensures refused { OnErr result (log.new ≡ log.old) }
-        ensures stands { LoadsOneOf log.old.geometry (M.state media.old).contents.flash.page
-            (M.state media.new).contents.flash.page map.now.entries }
-        ensures pool { PoolStays log.old.geometry (M.state media.old).contents.flash.page (M.state media.new).contents.flash.page }
-        ensures pool_ready { OnOk result (PoolReadyStays log.old.geometry (M.state media.old).contents.flash
-            (M.state media.new).contents.flash) }
-        ensures spare { OnOk result (log.old.buffered ≢ [] → log.old.next < log_pages log.old.geometry
-            → HasSpare (log_spare log.old.era log.old.next) ((M.state media.new).contents.flash.page (next_place log.old))) }
-        ensures spares { OnOk result (log.old.buffered ≢ [] → log_pages log.old.geometry ≤ log.old.next
-            → HasSpares log.old.geometry (1 - log.old.region) ((log.old.era + 1) % 3) (map_pages log.old.geometry map.now.records)
-            (M.state media.new).contents.flash.page) }
+        ensures log { LogGoesOn (log_committed log.old) log.old log.new result }
+        ensures flash { LeavesPool log.old.geometry map.now.entries (M.state media.old).contents.flash (M.state media.new).contents.flash
+            result }
         ensures one_page { OnOk result (log.old.buffered ≢ [] → log.old.next < log_pages log.old.geometry
-            → (M.state media.new).counts ≡ program_counted (M.state media.old).counts) }
+            → AddsLogPage log.old (M.state media.old) (M.state media.new)) }
         ensures whole_checkpoint { OnOk result (log.old.buffered ≢ [] → log_pages log.old.geometry ≤ log.old.next
-            → (M.state media.new).counts ≡ checkpoint_counted log.old.geometry (map_pages log.old.geometry map.now.records)
-            (M.state media.old).counts) }
+            → AddsCheckpoint log.old map.now.records (M.state media.old) (M.state media.new)) }
         ensures programs { OnOk result (log.old.buffered ≢ []
             → Rose (M.state media.old).counts.programs (M.state media.new).counts.programs) }
         ensures spends { OnOk result (log.old.buffered ≢ [] → Spends 1 (M.state media.old) (M.state media.new)) }
-        ensures memory { IsErrOf result MediaError.OutOfMemory → ⊥ }
-        ensures drives { DrivesFlash (M.state media.old) (M.state media.new) (failed result) (lost result) }
+        ensures drives { OnlyDrives (M.state media.old) (M.state media.new) result }
     {
         if log.buffered() == 0 {
             return Ok(());
@@ -105,30 +85,17 @@ impl Checkpoints {
         map: &Map,
         log: &mut OpLog,
     ) -> Result<(), MediaError>
-        requires shape { FitsOn log.old.geometry (M.state media.old).contents.shape }
-        requires own { self.old ≡ log.old.geometry }
-        requires map { map.now.geometry ≡ log.old.geometry }
-        requires current { IsCurrent (M.state media.old).contents.flash.page log.old map.now.entries }
-        requires whole { AreWhole (M.state media.old).contents.flash.page map.now.entries }
+        requires can { CanCheckpoint self.old map.now log.old (M.state media.old).contents }
         ensures own { self.new ≡ self.old }
-        ensures geometry { log.new.geometry ≡ log.old.geometry }
         ensures done { OnOk result (IsCommitted (M.state media.new).contents.flash log.new map.now.entries) }
-        ensures log { OnOk result (log.new ≡ log_checkpointed log.old) }
-        ensures refused { OnErr result (log.new ≡ log.old) }
-        ensures stands { LoadsOneOf log.old.geometry (M.state media.old).contents.flash.page
-            (M.state media.new).contents.flash.page map.now.entries }
+        ensures log { LogGoesOn (log_checkpointed log.old) log.old log.new result }
+        ensures flash { LeavesPool log.old.geometry map.now.entries (M.state media.old).contents.flash (M.state media.new).contents.flash
+            result }
         ensures log_last { LogGoesLast log.old (M.state media.old).contents.flash.page (M.state media.new).contents.flash.page }
-        ensures pool { PoolStays log.old.geometry (M.state media.old).contents.flash.page (M.state media.new).contents.flash.page }
-        ensures pool_ready { OnOk result (PoolReadyStays log.old.geometry (M.state media.old).contents.flash
-            (M.state media.new).contents.flash) }
-        ensures spares { OnOk result (HasSpares log.old.geometry (1 - log.old.region) ((log.old.era + 1) % 3)
-            (map_pages log.old.geometry map.now.records) (M.state media.new).contents.flash.page) }
-        ensures counts { OnOk result ((M.state media.new).counts ≡ checkpoint_counted log.old.geometry
-            (map_pages log.old.geometry map.now.records) (M.state media.old).counts) }
+        ensures whole_checkpoint { OnOk result (AddsCheckpoint log.old map.now.records (M.state media.old) (M.state media.new)) }
         ensures programs { OnOk result (Rose (M.state media.old).counts.programs (M.state media.new).counts.programs) }
         ensures spends { OnOk result (Spends 1 (M.state media.old) (M.state media.new)) }
-        ensures memory { IsErrOf result MediaError.OutOfMemory → ⊥ }
-        ensures drives { DrivesFlash (M.state media.old) (M.state media.new) (failed result) (lost result) }
+        ensures drives { OnlyDrives (M.state media.old) (M.state media.new) result }
     {
         let target = Target {
             region: 1 - log.region(),

@@ -1,15 +1,14 @@
-ghost use Rattle.std.specs.Prelude.{◌≡◌, ◌⊎◌, ◌<◌, ◌≤◌, ◌+◌, ◌*◌, length, OnOk, IsErrOf};
+ghost use Rattle.std.specs.Prelude.{◌≡◌, ◌⊎◌, ◌<◌, ◌≤◌, ◌+◌, ◌*◌, length, OnOk};
 ghost use Rattle.ft_base.specs.Count.{Rose};
 ghost use Rattle.ft_base.specs.Layout.{checkpoint_at, checkpoint_pages, k, page_records};
-ghost use Rattle.ft_media.specs.State.{failed, lost};
 ghost use Rattle.ft_media.specs.Media.{program_counted};
 ghost use Rattle.ft_media.specs.Passes.{Spends};
-ghost use Rattle.ft_media.specs.Drives.{DrivesFlash};
+ghost use Rattle.ft_media.specs.Drives.{OnlyDrives};
 ghost use Rattle.cache_model.specs.Entries.{IsMap};
 ghost use Rattle.mapping.specs.Checkpoint.{IsCheckpointOf};
 ghost use Rattle.op_log.specs.Log.{FitsOn};
 ghost use Rattle.checkpoint.specs.Counts.{programs_counted, checkpoint_counted};
-ghost use Rattle.checkpoint.specs.Regions.{AreBlank, IsReadyAt, IsMapPage, IsSealPage, Programmed, LeavesOne, MapsWritten, LeavesMaps, IsUnsealed, IsSealed, IsWritten, part, map_pages};
+ghost use Rattle.checkpoint.specs.Regions.{AreBlank, CanProgram, IsReadyAt, IsMapPage, IsSealPage, Programmed, LeavesOne, MapsWritten, LeavesMaps, IsUnsealed, IsSealed, IsWritten, part, map_pages};
 
 use crate::erasing::erase_regions;
 use crate::pages::{MOST, write_map, write_numbers};
@@ -37,10 +36,7 @@ fn program_map<M: Media>(
     target: &Target,
     sequence: u32,
 ) -> Result<(), MediaError>
-    requires shape { FitsOn geometry.now (M.state media.old).contents.shape }
-    requires map { map.now.geometry ≡ geometry.now }
-    requires is_map { IsMap geometry.now map.now.entries }
-    requires listing { IsCheckpointOf geometry.now map.now.entries map.now.records }
+    requires can { CanProgram geometry.now map.now (M.state media.old).contents }
     requires region { target.now.region < 2 }
     requires era { target.now.era ≤ 2 }
     requires some { page_records geometry.now * sequence < length map.now.records }
@@ -52,8 +48,7 @@ fn program_map<M: Media>(
     ensures pages { LeavesOne (IsMapPage target.now.era sequence (part geometry.now map.now.records sequence))
         (checkpoint_at geometry.now target.now.region sequence) (M.state media.old).contents.flash (M.state media.new).contents.flash }
     ensures programs { OnOk result (Rose (M.state media.old).counts.programs (M.state media.new).counts.programs) }
-    ensures memory { IsErrOf result MediaError.OutOfMemory → ⊥ }
-    ensures drives { DrivesFlash (M.state media.old) (M.state media.new) (failed result) (lost result) }
+    ensures drives { OnlyDrives (M.state media.old) (M.state media.new) result }
 {
     write_map(page, map, target.era, sequence);
     let at = geometry.checkpoint_at(target.region, sequence);
@@ -71,10 +66,7 @@ fn program_maps<M: Media>(
     target: &Target,
     pages: u32,
 ) -> Result<(), MediaError>
-    requires shape { FitsOn geometry.now (M.state media.old).contents.shape }
-    requires map { map.now.geometry ≡ geometry.now }
-    requires is_map { IsMap geometry.now map.now.entries }
-    requires listing { IsCheckpointOf geometry.now map.now.entries map.now.records }
+    requires can { CanProgram geometry.now map.now (M.state media.old).contents }
     requires region { target.now.region < 2 }
     requires era { target.now.era ≤ 2 }
     requires all { pages ≡ map_pages geometry.now map.now.records }
@@ -85,8 +77,7 @@ fn program_maps<M: Media>(
     ensures counts { OnOk result ((M.state media.new).counts ≡ programs_counted pages (M.state media.old).counts) }
     ensures pages { LeavesMaps geometry.now target.now.region (M.state media.old).contents.flash.page
         (M.state media.new).contents.flash.page }
-    ensures memory { IsErrOf result MediaError.OutOfMemory → ⊥ }
-    ensures drives { DrivesFlash (M.state media.old) (M.state media.new) (failed result) (lost result) }
+    ensures drives { OnlyDrives (M.state media.old) (M.state media.new) result }
 {
     for sequence in 0..pages {
         program_map(media, page, geometry, map, target, sequence)?;
@@ -115,8 +106,7 @@ pub(crate) fn program_seal<M: Media>(
         (M.state media.old).contents.flash (M.state media.new).contents.flash }
     ensures programs { OnOk result (Rose (M.state media.old).counts.programs (M.state media.new).counts.programs) }
     ensures spends { OnOk result (Spends 1 (M.state media.old) (M.state media.new)) }
-    ensures memory { IsErrOf result MediaError.OutOfMemory → ⊥ }
-    ensures drives { DrivesFlash (M.state media.old) (M.state media.new) (failed result) (lost result) }
+    ensures drives { OnlyDrives (M.state media.old) (M.state media.new) result }
 {
     write_numbers(page, geometry, target.era, pages, records);
     let at = geometry.checkpoint_at(target.region, pages);
@@ -149,8 +139,7 @@ pub(crate) fn write_checkpoint<M: Media>(
         (M.state media.new).contents.flash.page }
     ensures programs { OnOk result (Rose (M.state media.old).counts.programs (M.state media.new).counts.programs) }
     ensures spends { OnOk result (Spends 1 (M.state media.old) (M.state media.new)) }
-    ensures memory { IsErrOf result MediaError.OutOfMemory → ⊥ }
-    ensures drives { DrivesFlash (M.state media.old) (M.state media.new) (failed result) (lost result) }
+    ensures drives { OnlyDrives (M.state media.old) (M.state media.new) result }
 {
     let records = map.checkpoint_len();
     let pages = (records + MOST - 1) / MOST;

@@ -20,7 +20,7 @@ use Rattle.cache_model.specs.Loading.{◌>>=◌, after_all, checkpoint_of, load,
 use Rattle.cache_model.specs.Loading.Refusal.{NotFormatted}
 use Rattle.cache_model.specs.Laws.{ArePages}
 use Rattle.cache_model.proofs.Alike.{LoadsAlike, SameBut}
-use Rattle.cache_model.specs.CacheList.{CacheList, held}
+use Rattle.cache_model.specs.CacheList.{CacheList}
 use Rattle.cache_model.specs.Stands.{FlashStandsFor, held_at, held_in}
 use Rattle.cache_model.proofs.MapLemmas.{by_get}
 use Rattle.cache_model.proofs.LoadLemmas.{checkpoint_below, log_below, loaded_is, newest_below, newest_is, same_for, load_same, stands_but, set_page-other, pages_from-same}

@@ -13,6 +13,7 @@ use Rattle.cache_model.specs.CacheList.{CacheList}
 use Rattle.cache_model.specs.Stands.{FlashStandsFor}
 use Rattle.cache_model.proofs.FitsLemmas.{load-map}
 use Rattle.op_log.specs.Log.{LogValue, FitsOn}
+use Rattle.checkpoint.specs.Commits.{CanCheckpoint}
 use Rattle.checkpoint.specs.Current.{IsCommitted, PoolStays, PoolReadyStays, LoadsOneOf}
 use Rattle.checkpoint.proofs.SealedLemmas.{current_map}
 use Rattle.log_blocks.specs.Logs.{next_place}
@@ -38,6 +39,16 @@ stands_by_pool g page page' m list is_map stays loads on = record {
 -- flash that is loaded as before, with its pool as before, stands for what it stood for
 pub stands_as_before : (g : Geometry) (page page' : Place → Page) (list : CacheList) → PoolStays g page page' → load g page' ≡ load g page → FlashStandsFor g page list → FlashStandsFor g page' list
 stands_as_before g page page' list stays same stands = stands_by_pool g page page' stands.loaded list (load-map g page stands.loaded stands.loads) stays (same ∙ stands.loads) stands.held
+
+-- sound parts can be put on the flash
+pub can_checkpoint : (parts : Parts) (contents : Contents) → ArePartsSound parts contents → CanCheckpoint parts.marks parts.map parts.log contents
+can_checkpoint parts contents sound = record {
+  shape = subst (λ (h : Geometry). FitsOn h contents.shape) (sym sound.of_one.log) sound.shape;
+  own = sound.of_one.marks ∙ sym sound.of_one.log;
+  map = sound.of_one.map ∙ sym sound.of_one.log;
+  current = sound.current;
+  whole = sound.whole;
+}
 
 -- ---- after a commit
 

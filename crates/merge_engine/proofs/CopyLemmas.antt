@@ -1,5 +1,5 @@
 -- The pages of a group are copied into an erase block in which nothing stands.
-use Rattle.std.proofs.Common.{◌≡◌, ℕ, zero, suc, ◌+◌, ◌-◌, ◌*◌, ◌/◌, ◌%◌, ◌^◌, ◌<◌, ◌≤◌, inl, inr, Bool, true, false, cond, Option, Some, None, Ok, refl, sym, ◌∙◌, ap, subst, arith, add-one, pow-suc}
+use Rattle.std.proofs.Common.{◌≡◌, ℕ, zero, suc, ◌+◌, ◌-◌, ◌*◌, ◌/◌, ◌%◌, ◌^◌, ◌<◌, ◌≤◌, inl, inr, Bool, true, false, cond, Option, Some, None, Ok, refl, sym, ◌∙◌, ap, subst, arith, pow-suc}
 use Rattle.std.specs.Option.{option_map}
 use Rattle.std.specs.FinMap.{get}
 use Rattle.std.specs.Int.Count.{count_leading_zeros}
@@ -14,8 +14,7 @@ use Rattle.ft_base.specs.declared.block.Page.{Page}
 use Rattle.ft_base.specs.declared.block.Page.TheVariants.{Blank, Whole}
 use Rattle.ft_base.specs.Contents.{Contents, Flash, zero_block}
 use Rattle.ft_base.proofs.Images.{set_other}
-use Rattle.ft_media.specs.declared.rig.Counts.{Counts}
-use Rattle.ft_media.specs.Media.{IsBlankAhead, LeavesPage, after_program, program_counted}
+use Rattle.ft_media.specs.Media.{IsBlankAhead, LeavesPage, after_program}
 use Rattle.cache_model.specs.declared.entry.Entry.{Entry}
 use Rattle.cache_model.specs.Records.{Entries}
 use Rattle.cache_model.specs.Entries.{IsMap, InPool}
@@ -32,7 +31,7 @@ use Rattle.mapping.specs.Bits.{set_of, is_chosen, chosen_of}
 use Rattle.mapping.proofs.BitsLemmas.{set_below}
 use Rattle.merge_engine.specs.declared.parts.Parts.{Parts}
 use Rattle.merge_engine.specs.Agreement.{Agree, AreOfOne, Lists}
-use Rattle.merge_engine.specs.Merges.{ReachesTo, programs_counted}
+use Rattle.merge_engine.specs.Merges.{ReachesTo}
 use Rattle.merge_engine.specs.Steps.{IsCopyOf, filler_page}
 use Rattle.merge_engine.proofs.BesideLemmas.{ChangedBeside, leaves_beside, lists_beside, agree_beside, loaded_whole, current_map}
 use Rattle.cache_model.proofs.LogLemmas.{set_page-here}
@@ -283,7 +282,3 @@ is_page_of_group parts contents group held page agree is low =
 
 pub pages_of_group : (parts : Parts) (group held pages : ℕ) → AreOfOne parts → held ≡ chosen_of Held parts.map.geometry parts.map.entries group → ReachesTo parts.geometry parts.map.entries group pages → 64 - count_leading_zeros 64 held ≡ pages
 pages_of_group parts group held pages of_one is reach = pages_are parts.geometry parts.map.entries group held (subst (λ (g : Geometry). held ≡ chosen_of Held g parts.map.entries group) of_one.map is) pages reach
-
--- one more program
-pub counted_more : (n : ℕ) (old was new : Counts) → was ≡ programs_counted n old → new ≡ program_counted was → new ≡ programs_counted (n + 1) old
-counted_more n old was new so_far more = more ∙ ap program_counted so_far ∙ ap (λ k. programs_counted k old) (sym (add-one n))

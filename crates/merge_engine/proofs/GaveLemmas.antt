@@ -9,8 +9,8 @@ use Rattle.ft_base.specs.declared.block.Page.{Page}
 use Rattle.cache_model.specs.declared.entry.Entry.{Entry}
 use Rattle.cache_model.specs.Records.{Entries, is_in_group}
 use Rattle.cache_model.specs.Entries.{each_once, IsMap}
+use Rattle.cache_model.specs.CacheList.{CacheList, Held}
 use Rattle.cache_model.specs.Cache.{IsWhollyClean, groups}
-use Rattle.cache_model.specs.CacheList.{CacheList, Held, held}
 use Rattle.cache_model.specs.Stands.{held_at}
 use Rattle.cache_model.proofs.StandLemmas.{whole_held}
 use Rattle.cache_model.proofs.MapLemmas.{by_get, get_retain}

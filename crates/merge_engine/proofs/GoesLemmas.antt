@@ -1,8 +1,10 @@
 -- Steps that go on, one after another.
-use Rattle.std.proofs.Common.{◌≡◌, inl, inr, sym, ◌∙◌, ap, subst}
+use Rattle.std.proofs.Common.{◌≡◌, ◌<◌, List, [], length, inl, inr, sym, ◌∙◌, ap, subst, arith}
 use Rattle.ft_base.specs.declared.geometry.Geometry.{Geometry}
 use Rattle.ft_base.specs.declared.block.Place.{Place}
 use Rattle.ft_base.specs.declared.block.Page.{Page}
+use Rattle.ft_base.specs.declared.record.Record.{Record}
+use Rattle.ft_base.specs.Layout.{page_records}
 use Rattle.cache_model.specs.CacheList.{CacheList}
 use Rattle.op_log.specs.Log.{LogValue}
 use Rattle.merge_engine.specs.declared.parts.Parts.{Parts}
@@ -11,6 +13,12 @@ use Rattle.merge_engine.specs.Room.{GivesRoom, FlashStandsForGiven}
 use Rattle.merge_engine.specs.Steps.{GoesOn}
 use Rattle.merge_engine.proofs.BesideLemmas.{lists_as}
 use Rattle.merge_engine.proofs.RoomLemmas.{gives_again}
+
+-- where nothing is buffered, one more record may be
+pub room_for_one : (log : LogValue) → log.buffered ≡ [] → length log.buffered < page_records log.geometry
+room_for_one log none =
+    let count : length log.buffered ≡ 0 = ap (λ (l : List Record). length l) none in
+    omega arith
 
 -- the parts may be used for something else
 pub goes_as : (log : LogValue) (p q : Parts) (page : Place → Page) (list durable : CacheList) → q.map ≡ p.map → q.geometry ≡ p.geometry → q.log ≡ p.log → GoesOn log p page list durable → GoesOn log q page list durable

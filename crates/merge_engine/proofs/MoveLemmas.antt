@@ -1,5 +1,5 @@
 -- What a group's move leaves, step by step.
-use Rattle.std.proofs.Common.{◌≡◌, ℕ, ◌/◌, ◌%◌, ◌≤◌, false, List, [], ◌∷◌, ◌++◌, Result, Err, Option, None, Some, refl, sym, ◌∙◌, ap, ap₂, subst, arith, inl, inr}
+use Rattle.std.proofs.Common.{◌≡◌, ℕ, ◌/◌, ◌%◌, ◌≤◌, List, [], ◌∷◌, ◌++◌, Option, None, Some, refl, sym, ◌∙◌, ap, ap₂, subst, arith, inl, inr}
 use Rattle.std.specs.FinMap.{get}
 use Rattle.ft_base.specs.declared.geometry.Geometry.{Geometry}
 use Rattle.ft_base.specs.declared.block.Place.{Place}
@@ -7,24 +7,21 @@ use Rattle.ft_base.specs.declared.block.Page.{Page}
 use Rattle.ft_base.specs.Contents.{Contents, Flash}
 use Rattle.ft_base.specs.Layout.{first_pool}
 use Rattle.ft_base.proofs.Images.{set_other}
-use Rattle.ft_media.specs.declared.media.MediaError.{MediaError}
-use Rattle.ft_media.specs.declared.media.MediaError.TheVariants.{Failed, PowerLost, OutOfMemory}
-use Rattle.ft_media.specs.State.{State, failed, lost}
-use Rattle.ft_media.specs.Drives.{DrivesFlash}
+use Rattle.ft_media.specs.State.{State}
 use Rattle.ft_media.specs.Media.{after_erase, erase_counted, program_counted}
 use Rattle.ft_base.specs.declared.record.Record.{Record}
-use Rattle.ft_media.proofs.DrivesLemmas.{drives_then}
 use Rattle.cache_model.specs.declared.entry.Entry.{Entry}
 use Rattle.cache_model.specs.Records.{Entries}
 use Rattle.cache_model.specs.CacheList.{CacheList}
 use Rattle.cache_model.specs.Stands.{FlashStandsFor}
+use Rattle.checkpoint.specs.Counts.{programs_counted}
 use Rattle.checkpoint.specs.Current.{PoolStays}
 use Rattle.block_pool.specs.Pool.{PoolValue, IsFree, IsInPool, role_of}
 use Rattle.log_blocks.specs.Logs.{IsInUse, next_place}
 use Rattle.silent_evict.specs.Candidates.{IsGroupHeld}
 use Rattle.merge_engine.specs.declared.parts.Parts.{Parts}
 use Rattle.merge_engine.specs.Agreement.{Agree, IsOpenBlock, Lists, RolesAgree}
-use Rattle.merge_engine.specs.Merges.{HasBlockOrRoom, OthersStay, ReachesTo, FlashStandsForEither, dropped, move_counted, moved, programs_counted}
+use Rattle.merge_engine.specs.Merges.{HasBlockOrRoom, OthersStay, ReachesTo, FlashStandsForEither, dropped, move_counted, moved}
 use Rattle.merge_engine.specs.Room.{LacksRoom}
 use Rattle.merge_engine.specs.Steps.{HasFillers, IsCopied, IsFilledUp, IsMerged, IsUnheld, filler_page}
 use Rattle.merge_engine.proofs.BesideLemmas.{ChangedBeside, erased_beside, agree_beside, nothing_buffered}
@@ -149,11 +146,3 @@ moved_counts pages old mid now last same copied page = page ∙ ap program_count
 pub room_not_lacked : (g : Geometry) (m : Entries) (group : ℕ) → LacksRoom g m group → HasBlockOrRoom g m group → ⊥
 room_not_lacked g m group lacks (inl has) = lacks.none has
 room_not_lacked g m group lacks (inr low) = let full = lacks.full in absurd (omega arith)
-
--- ---- calls of the flash
-
--- a call failed after another, which did not
-pub drives_failed : {T : Type 0} (U : Type 0) (a b c : State) (e : MediaError) (r : Result T MediaError) → DrivesFlash a b false false → DrivesFlash b c (failed {T = U} (Err e)) (lost {T = U} (Err e)) → r ≡ Err e → DrivesFlash a c (failed r) (lost r)
-drives_failed {T} U a b c Failed r first then is = drives_then a b c (failed r) (lost r) first (subst (λ (q : Result T MediaError). DrivesFlash b c (failed q) (lost q)) (sym is) then)
-drives_failed {T} U a b c PowerLost r first then is = drives_then a b c (failed r) (lost r) first (subst (λ (q : Result T MediaError). DrivesFlash b c (failed q) (lost q)) (sym is) then)
-drives_failed {T} U a b c OutOfMemory r first then is = drives_then a b c (failed r) (lost r) first (subst (λ (q : Result T MediaError). DrivesFlash b c (failed q) (lost q)) (sym is) then)

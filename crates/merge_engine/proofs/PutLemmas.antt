@@ -15,7 +15,7 @@ use Rattle.cache_model.specs.Records.{Entries, after, is_in_group}
 use Rattle.cache_model.specs.Entries.{IsMap, Fits}
 use Rattle.cache_model.specs.Spelling.{may_stand_in}
 use Rattle.cache_model.specs.Loading.{is_whole}
-use Rattle.cache_model.specs.CacheList.{CacheList, held}
+use Rattle.cache_model.specs.CacheList.{CacheList}
 use Rattle.cache_model.specs.Stands.{held_at, held_in}
 use Rattle.cache_model.proofs.MapLemmas.{get_retain}
 use Rattle.op_log.specs.Log.{LogValue, pushed}

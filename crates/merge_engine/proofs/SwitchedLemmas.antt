@@ -14,7 +14,7 @@ use Rattle.cache_model.specs.Records.{Entries, after}
 use Rattle.cache_model.specs.Entries.{IsMap, Fits}
 use Rattle.cache_model.specs.Spelling.{may_stand_in}
 use Rattle.cache_model.specs.Loading.{is_whole}
-use Rattle.cache_model.specs.CacheList.{CacheList, held}
+use Rattle.cache_model.specs.CacheList.{CacheList}
 use Rattle.cache_model.specs.Stands.{held_at, held_in}
 use Rattle.op_log.specs.Log.{LogValue, pushed}
 use Rattle.checkpoint.specs.Current.{IsCurrent}

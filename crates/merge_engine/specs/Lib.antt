@@ -4,3 +4,4 @@ pub mod Steps
 pub mod Merges
 pub mod Switch
 pub mod Loaded
+pub mod Kept

@@ -1,5 +1,5 @@
 -- What the erase blocks of a map that was loaded are used for.
-use Rattle.std.specs.Prelude.{◌≡◌, ◌⊎◌, ◌↔◌, ◌<◌, ℕ, Bool, false, List, [], ◌∷◌, Some, if◌then◌else◌}
+use Rattle.std.specs.Prelude.{◌≡◌, ◌⊎◌, ◌↔◌, ◌<◌, ℕ, Bool, false, List, [], ◌∷◌, None, Some, if◌then◌else◌}
 use Rattle.std.specs.List.{AllByRecursion}
 use Rattle.std.specs.FinMap.{get}
 use Rattle.ft_base.specs.declared.geometry.Geometry.{Geometry}
@@ -9,7 +9,7 @@ use Rattle.mapping.specs.Numbers.{number_of}
 use Rattle.block_pool.specs.Pool.{PoolValue, IsInPool, role_of}
 use Rattle.block_pool.specs.declared.pool.Role.{Role}
 use Rattle.block_pool.specs.declared.pool.Role.TheVariants.{Free, Data, Log}
-use Rattle.log_blocks.specs.Logs.{LogBlocksValue, IsInUse}
+use Rattle.log_blocks.specs.Logs.{LogBlocksValue, AreSoundLogs, IsInUse}
 use Rattle.merge_engine.specs.Agreement.{IsDataBlockOf}
 
 -- something stands in the erase block as in a log block
@@ -42,3 +42,10 @@ AreInUse g pool logs = (b : ℕ) → IsInUse logs b ↔ (IsInPool g b × (role_o
 abbrev pub AreAscending : List ℕ → Type 0
 AreAscending [] = Unit {0}
 AreAscending (n ∷ ns) = AllByRecursion (λ k. n < k) ns × AreAscending ns
+
+-- log blocks as a load finds them: in the order of their numbers, and none is open
+pub record AreFoundLogs (logs : LogBlocksValue) : Type 0 where
+  pub sound : AreSoundLogs logs
+  pub ascending : AreAscending logs.used
+  pub none_open : logs.open_block ≡ None
+  pub closed : logs.room ≡ 0

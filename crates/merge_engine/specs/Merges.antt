@@ -1,5 +1,5 @@
 -- What a merge makes of the entries and of the list.
-use Rattle.std.specs.Prelude.{◌≡◌, ◌⊎◌, ◌<◌, ◌/◌, ◌%◌, ◌+◌, ℕ, zero, suc, Some, not}
+use Rattle.std.specs.Prelude.{◌≡◌, ◌⊎◌, ◌<◌, ◌/◌, ◌%◌, ◌+◌, ℕ, Some, not}
 use Rattle.std.specs.FinMap.{get, retain_keys}
 use Rattle.ft_base.specs.declared.geometry.Geometry.{Geometry}
 use Rattle.ft_base.specs.declared.block.Place.{Place}
@@ -12,6 +12,7 @@ use Rattle.cache_model.specs.declared.entry.Entry.{Entry}
 use Rattle.cache_model.specs.Records.{Entries, after, is_in_group}
 use Rattle.cache_model.specs.CacheList.{CacheList}
 use Rattle.cache_model.specs.Stands.{FlashStandsFor}
+use Rattle.checkpoint.specs.Counts.{programs_counted}
 use Rattle.mapping.specs.declared.bits.Choice.TheVariants.{Held, Dirty}
 use Rattle.mapping.specs.Bits.{chosen_of}
 use Rattle.mapping.specs.Counts.{data_block_count}
@@ -55,11 +56,6 @@ pub record ReachesTo (g : Geometry) (m : Entries) (group pages : ℕ) : Type 0 w
   pub in_group : last / g.p ≡ group
   pub number : last % g.p + 1 ≡ pages
   pub all : (a : ℕ) (e : Entry) → get m a ≡ Some e → a / g.p ≡ group → a % g.p < pages
-
--- the counts after so many programs
-abbrev pub programs_counted : ℕ → Counts → Counts
-programs_counted zero counts = counts
-programs_counted (suc n) counts = program_counted (programs_counted n counts)
 
 -- the counts after a group of so many pages was moved: one erase, a program for each page, and one for the log page
 abbrev pub move_counted : ℕ → Counts → Counts

@@ -1,18 +1,15 @@
-ghost use Rattle.std.specs.Prelude.{◌≡◌, ◌≤◌, ◌<◌, ◌+◌, ◌-◌, [], length, ℕ, OnOk, OnErr, IfOk, IsOk, IsErrOf};
+ghost use Rattle.std.specs.Prelude.{◌≡◌, ◌≤◌, ◌<◌, ◌-◌, [], length, ℕ, OnOk, OnErr, IfOk, IsOk};
 ghost use Rattle.ft_base.specs.Count.{Rose};
-ghost use Rattle.ft_media.specs.State.{failed, lost};
-ghost use Rattle.ft_media.specs.Drives.{DrivesFlash};
+ghost use Rattle.ft_base.specs.Contents.{Contents};
 ghost use Rattle.ft_media.specs.Passes.{Spends};
 ghost use Rattle.ft_media.specs.Media.{program_counted};
-ghost use Rattle.ft_base.specs.Contents.{Contents};
-ghost use Rattle.ft_base.specs.Layout.{page_records};
+ghost use Rattle.ft_media.specs.Drives.{OnlyDrives};
 ghost use Rattle.cache_model.specs.CacheList.{CacheList};
 ghost use Rattle.block_pool.specs.Pool.{IsFree, IsInPool};
 ghost use Rattle.log_blocks.specs.Logs.{IsInUse, AreSoundLogs, block_begun};
-ghost use Rattle.merge_engine.specs.Merges.{FlashStandsForEither};
 ghost use Rattle.merge_engine.specs.Agreement.{Agree, AreOfOne, Lists, RolesAgree};
-ghost use Rattle.merge_engine.specs.Room.{FlashStandsForGiven};
-ghost use Rattle.merge_engine.specs.Steps.{CanBeginLog, GoesOn, HasLogRoom, HasUnheldLog, IsNewPage, KeepsList};
+ghost use Rattle.merge_engine.specs.Steps.{CanBeginLog, HasLogRoom, HasUnheldLog, IsNewPage};
+ghost use Rattle.merge_engine.specs.Kept.{CanGoOn, KeepsRoom, CommitsList, KeepsOrGives, NothingGivesWay};
 
 use crate::Parts;
 use crate::committing::commit;
@@ -30,36 +27,21 @@ pub fn append<M: Media>(
     lba: u64,
     block: &Block,
 ) -> Result<Place, MediaError>
-    requires agree { Agree cache.old (M.state media.old).contents }
-    requires groups { cache.old.geometry.p ≤ cache.old.map.spare_groups }
-    requires room { length cache.old.log.buffered < page_records cache.old.log.geometry }
+    requires can { CanGoOn cache.old (M.state media.old).contents cache.old.geometry.p }
     ensures geometry { cache.new.geometry ≡ cache.old.geometry }
-    ensures pages { cache.new.map.spare_pages ≡ cache.old.map.spare_pages }
-    ensures groups { cache.old.map.spare_groups ≤ cache.new.map.spare_groups + cache.old.geometry.p }
-    ensures agree { OnOk result (Agree cache.new (M.state media.new).contents) }
-    ensures room { OnOk result (length cache.new.log.buffered < page_records cache.new.log.geometry) }
+    ensures room { KeepsRoom cache.old.map cache.new.map cache.old.geometry.p }
+    ensures goes { KeepsOrGives cache.old cache.new (M.state media.old).contents (M.state media.new).contents result }
     ensures place { IfOk result (λ at. IsNewPage cache.new (M.state media.new).contents.flash.page at lba block.now) }
-    ensures lists { OnOk result ((list durable : CacheList) → Lists cache.old (M.state media.old).contents.flash.page list durable
-        → GoesOn cache.old.log cache.new (M.state media.new).contents.flash.page list durable) }
-    // Whatever is answered, and wherever power went off.
-    ensures stands { (list durable : CacheList) → Lists cache.old (M.state media.old).contents.flash.page list durable
-        → FlashStandsForGiven cache.old.geometry (M.state media.new).contents.flash.page durable list }
-    // Where a log block can be had without a merge, the map stays and nothing gives way.
-    ensures map_stays { HasLogRoom cache.old → cache.new.map ≡ cache.old.map }
-    ensures list_stands { HasLogRoom cache.old → (list durable : CacheList)
-        → Lists cache.old (M.state media.old).contents.flash.page list durable
-        → FlashStandsForEither cache.old.geometry (M.state media.new).contents.flash.page durable list }
-    ensures list_stays { OnOk result (HasLogRoom cache.old → (list durable : CacheList)
-        → Lists cache.old (M.state media.old).contents.flash.page list durable
-        → KeepsList cache.old.log cache.new (M.state media.new).contents.flash.page list durable) }
+    // Where a log block can be had without a merge.
+    ensures no_merge { HasLogRoom cache.old
+        → NothingGivesWay cache.old cache.new (M.state media.old).contents (M.state media.new).contents result }
     // Where the open log block has a page left: one program, no erase, and nothing gives way.
     ensures one_program { OnOk result (1 ≤ cache.old.logs.room
         → (cache.new ≡ record cache.old { logs = record cache.old.logs { room = cache.old.logs.room - 1 } })
         × ((M.state media.new).counts ≡ program_counted (M.state media.old).counts)) }
     ensures rises { OnOk result (Rose (M.state media.old).counts.programs (M.state media.new).counts.programs) }
     ensures spends { OnOk result (Spends 1 (M.state media.old) (M.state media.new)) }
-    ensures memory { IsErrOf result MediaError.OutOfMemory → ⊥ }
-    ensures drives { DrivesFlash (M.state media.old) (M.state media.new) (failed result) (lost result) }
+    ensures drives { OnlyDrives (M.state media.old) (M.state media.new) result }
 {
     open_if_closed(cache, media)?;
     program_next(cache, media, lba, block)
@@ -84,37 +66,23 @@ fn program_next<M: Media>(
         → Lists cache.old (M.state media.new).contents.flash.page list durable }
     ensures counts { OnOk result ((M.state media.new).counts ≡ program_counted (M.state media.old).counts) }
     ensures spends { OnOk result (Spends 1 (M.state media.old) (M.state media.new)) }
-    ensures memory { IsErrOf result MediaError.OutOfMemory → ⊥ }
-    ensures drives { DrivesFlash (M.state media.old) (M.state media.new) (failed result) (lost result) }
+    ensures drives { OnlyDrives (M.state media.old) (M.state media.new) result }
 {
     cache.logs.append(media, lba, block)
 }
 
 /// Opens a log block where none has a page left.
 fn open_if_closed<M: Media>(cache: &mut Parts, media: &mut M) -> Result<(), MediaError>
-    requires agree { Agree cache.old (M.state media.old).contents }
-    requires groups { cache.old.geometry.p ≤ cache.old.map.spare_groups }
-    requires room { length cache.old.log.buffered < page_records cache.old.log.geometry }
+    requires can { CanGoOn cache.old (M.state media.old).contents cache.old.geometry.p }
     ensures inside { 1 ≤ cache.old.logs.room → IsOk result × (cache.new ≡ cache.old) × (M.state media.new ≡ M.state media.old) }
     ensures geometry { cache.new.geometry ≡ cache.old.geometry }
-    ensures pages { cache.new.map.spare_pages ≡ cache.old.map.spare_pages }
-    ensures groups { cache.old.map.spare_groups ≤ cache.new.map.spare_groups + cache.old.geometry.p }
+    ensures room { KeepsRoom cache.old.map cache.new.map cache.old.geometry.p }
     ensures opened { OnOk result (1 ≤ cache.new.logs.room) }
-    ensures agree { OnOk result (Agree cache.new (M.state media.new).contents) }
-    ensures room { OnOk result (length cache.new.log.buffered < page_records cache.new.log.geometry) }
-    ensures lists { OnOk result ((list durable : CacheList) → Lists cache.old (M.state media.old).contents.flash.page list durable
-        → GoesOn cache.old.log cache.new (M.state media.new).contents.flash.page list durable) }
-    ensures stands { (list durable : CacheList) → Lists cache.old (M.state media.old).contents.flash.page list durable
-        → FlashStandsForGiven cache.old.geometry (M.state media.new).contents.flash.page durable list }
-    ensures map_stays { HasLogRoom cache.old → cache.new.map ≡ cache.old.map }
-    ensures list_stands { HasLogRoom cache.old → (list durable : CacheList)
-        → Lists cache.old (M.state media.old).contents.flash.page list durable
-        → FlashStandsForEither cache.old.geometry (M.state media.new).contents.flash.page durable list }
-    ensures list_stays { OnOk result (HasLogRoom cache.old → (list durable : CacheList)
-        → Lists cache.old (M.state media.old).contents.flash.page list durable
-        → KeepsList cache.old.log cache.new (M.state media.new).contents.flash.page list durable) }
-    ensures memory { IsErrOf result MediaError.OutOfMemory → ⊥ }
-    ensures drives { DrivesFlash (M.state media.old) (M.state media.new) (failed result) (lost result) }
+    ensures goes { KeepsOrGives cache.old cache.new (M.state media.old).contents (M.state media.new).contents result }
+    // Where a log block can be had without a merge.
+    ensures no_merge { HasLogRoom cache.old
+        → NothingGivesWay cache.old cache.new (M.state media.old).contents (M.state media.new).contents result }
+    ensures drives { OnlyDrives (M.state media.old) (M.state media.new) result }
 {
     if cache.logs.room() > 0 {
         return Ok(());
@@ -129,15 +97,9 @@ fn commit_and_take<M: Media>(cache: &mut Parts, media: &mut M) -> Result<(), Med
     requires few { length cache.old.logs.used < cache.old.geometry.l }
     ensures geometry { cache.new.geometry ≡ cache.old.geometry }
     ensures map { cache.new.map ≡ cache.old.map }
-    ensures nothing_waits { OnOk result (cache.new.log.buffered ≡ []) }
     ensures opened { OnOk result (1 ≤ cache.new.logs.room) }
-    ensures agree { OnOk result (Agree cache.new (M.state media.new).contents) }
-    ensures lists { OnOk result ((list durable : CacheList) → Lists cache.old (M.state media.old).contents.flash.page list durable
-        → Lists cache.new (M.state media.new).contents.flash.page list list) }
-    ensures stands { (list durable : CacheList) → Lists cache.old (M.state media.old).contents.flash.page list durable
-        → FlashStandsForEither cache.old.geometry (M.state media.new).contents.flash.page durable list }
-    ensures memory { IsErrOf result MediaError.OutOfMemory → ⊥ }
-    ensures drives { DrivesFlash (M.state media.old) (M.state media.new) (failed result) (lost result) }
+    ensures kept { CommitsList cache.old cache.new (M.state media.old).contents (M.state media.new).contents result }
+    ensures drives { OnlyDrives (M.state media.old) (M.state media.new) result }
 {
     commit(cache, media)?;
     take_log_block(cache, media)
@@ -155,8 +117,7 @@ fn take_log_block<M: Media>(cache: &mut Parts, media: &mut M) -> Result<(), Medi
     ensures lists { (list durable : CacheList) → Lists cache.old (M.state media.old).contents.flash.page list durable
         → Lists cache.old (M.state media.new).contents.flash.page list durable }
     ensures programs { (M.state media.new).counts.programs ≡ (M.state media.old).counts.programs }
-    ensures memory { IsErrOf result MediaError.OutOfMemory → ⊥ }
-    ensures drives { DrivesFlash (M.state media.old) (M.state media.new) (failed result) (lost result) }
+    ensures drives { OnlyDrives (M.state media.old) (M.state media.new) result }
 {
     let block = cache.pool.take(media)?;
     begin_log_block(cache, block);
@@ -181,23 +142,14 @@ fn begin_log_block(cache: &mut Parts, block: u32)
 /// Makes room for one more log block: those that nothing stands in are free, and where L are still in
 /// use, the oldest is freed.
 fn make_room<M: Media>(cache: &mut Parts, media: &mut M) -> Result<(), MediaError>
-    requires agree { Agree cache.old (M.state media.old).contents }
-    requires groups { cache.old.geometry.p ≤ cache.old.map.spare_groups }
-    requires room { length cache.old.log.buffered < page_records cache.old.log.geometry }
+    requires can { CanGoOn cache.old (M.state media.old).contents cache.old.geometry.p }
     ensures geometry { cache.new.geometry ≡ cache.old.geometry }
-    ensures pages { cache.new.map.spare_pages ≡ cache.old.map.spare_pages }
-    ensures groups { cache.old.map.spare_groups ≤ cache.new.map.spare_groups + cache.old.geometry.p }
+    ensures room { KeepsRoom cache.old.map cache.new.map cache.old.geometry.p }
     ensures few { OnOk result (length cache.new.logs.used < cache.new.geometry.l) }
-    ensures agree { OnOk result (Agree cache.new (M.state media.new).contents) }
-    ensures room { OnOk result (length cache.new.log.buffered < page_records cache.new.log.geometry) }
-    ensures lists { OnOk result ((list durable : CacheList) → Lists cache.old (M.state media.old).contents.flash.page list durable
-        → GoesOn cache.old.log cache.new (M.state media.new).contents.flash.page list durable) }
-    ensures stands { (list durable : CacheList) → Lists cache.old (M.state media.old).contents.flash.page list durable
-        → FlashStandsForGiven cache.old.geometry (M.state media.new).contents.flash.page durable list }
+    ensures goes { KeepsOrGives cache.old cache.new (M.state media.old).contents (M.state media.new).contents result }
     ensures no_merge { CanBeginLog cache.old → IsOk result × (cache.new ≡ record cache.old { pool = cache.new.pool; logs = cache.new.logs })
         × (M.state media.new ≡ M.state media.old) }
-    ensures memory { IsErrOf result MediaError.OutOfMemory → ⊥ }
-    ensures drives { DrivesFlash (M.state media.old) (M.state media.new) (failed result) (lost result) }
+    ensures drives { OnlyDrives (M.state media.old) (M.state media.new) result }
 {
     free_unheld(cache);
     if cache.logs.used() < cache.geometry.l {

@@ -1,14 +1,12 @@
-ghost use Rattle.std.specs.Prelude.{◌≡◌, ◌≢◌, ◌≤◌, ◌<◌, [], OnOk, OnErr, IsOk, IsErrOf};
+ghost use Rattle.std.specs.Prelude.{◌≡◌, ◌≢◌, ◌<◌, [], OnOk, OnErr, IsOk};
 ghost use Rattle.ft_base.specs.Count.{Rose};
 ghost use Rattle.ft_base.specs.Layout.{log_pages};
-ghost use Rattle.ft_media.specs.State.{failed, lost};
-ghost use Rattle.ft_media.specs.Drives.{DrivesFlash};
 ghost use Rattle.ft_media.specs.Passes.{Spends};
 ghost use Rattle.ft_media.specs.Media.{program_counted};
-ghost use Rattle.cache_model.specs.CacheList.{CacheList};
+ghost use Rattle.ft_media.specs.Drives.{OnlyDrives};
 ghost use Rattle.checkpoint.specs.Current.{PoolStays, PoolReadyStays, LoadsOneOf, log_committed, log_checkpointed};
-ghost use Rattle.merge_engine.specs.Merges.{FlashStandsForEither};
-ghost use Rattle.merge_engine.specs.Agreement.{Agree, ArePartsSound, Lists};
+ghost use Rattle.merge_engine.specs.Agreement.{Agree, ArePartsSound};
+ghost use Rattle.merge_engine.specs.Kept.{CommitsList};
 
 use crate::Parts;
 use ft_media::{Media, MediaError};
@@ -20,13 +18,8 @@ pub fn commit<M: Media>(cache: &mut Parts, media: &mut M) -> Result<(), MediaErr
     ensures cache { cache.new ≡ record cache.old { log = cache.new.log } }
     ensures nothing { cache.old.log.buffered ≡ [] → IsOk result × (cache.new ≡ cache.old) × (M.state media.new ≡ M.state media.old) }
     ensures log { OnOk result (cache.new.log ≡ log_committed cache.old.log) }
-    ensures nothing_waits { OnOk result (cache.new.log.buffered ≡ []) }
     ensures refused { OnErr result (cache.new ≡ cache.old) }
-    ensures agree { OnOk result (Agree cache.new (M.state media.new).contents) }
-    ensures lists { OnOk result ((list durable : CacheList) → Lists cache.old (M.state media.old).contents.flash.page list durable
-        → Lists cache.new (M.state media.new).contents.flash.page list list) }
-    ensures stands { (list durable : CacheList) → Lists cache.old (M.state media.old).contents.flash.page list durable
-        → FlashStandsForEither cache.old.geometry (M.state media.new).contents.flash.page durable list }
+    ensures kept { CommitsList cache.old cache.new (M.state media.old).contents (M.state media.new).contents result }
     ensures pool { PoolStays cache.old.geometry (M.state media.old).contents.flash.page (M.state media.new).contents.flash.page }
     ensures pool_ready { OnOk result (PoolReadyStays cache.old.geometry (M.state media.old).contents.flash
         (M.state media.new).contents.flash) }
@@ -35,8 +28,7 @@ pub fn commit<M: Media>(cache: &mut Parts, media: &mut M) -> Result<(), MediaErr
     ensures rises { OnOk result (cache.old.log.buffered ≢ []
         → Rose (M.state media.old).counts.programs (M.state media.new).counts.programs) }
     ensures spends { OnOk result (cache.old.log.buffered ≢ [] → Spends 1 (M.state media.old) (M.state media.new)) }
-    ensures memory { IsErrOf result MediaError.OutOfMemory → ⊥ }
-    ensures drives { DrivesFlash (M.state media.old) (M.state media.new) (failed result) (lost result) }
+    ensures drives { OnlyDrives (M.state media.old) (M.state media.new) result }
 {
     cache.marks.commit(media, &cache.map, &mut cache.log)
 }
@@ -48,18 +40,13 @@ pub fn make_checkpoint<M: Media>(cache: &mut Parts, media: &mut M) -> Result<(),
     ensures cache { cache.new ≡ record cache.old { log = cache.new.log } }
     ensures log { OnOk result (cache.new.log ≡ log_checkpointed cache.old.log) }
     ensures refused { OnErr result (cache.new ≡ cache.old) }
-    ensures agree { OnOk result (Agree cache.new (M.state media.new).contents) }
-    ensures lists { OnOk result ((list durable : CacheList) → Lists cache.old (M.state media.old).contents.flash.page list durable
-        → Lists cache.new (M.state media.new).contents.flash.page list list) }
-    ensures stands { (list durable : CacheList) → Lists cache.old (M.state media.old).contents.flash.page list durable
-        → FlashStandsForEither cache.old.geometry (M.state media.new).contents.flash.page durable list }
+    ensures kept { CommitsList cache.old cache.new (M.state media.old).contents (M.state media.new).contents result }
     ensures loads { LoadsOneOf cache.old.geometry (M.state media.old).contents.flash.page
         (M.state media.new).contents.flash.page cache.old.map.entries }
     ensures pool { PoolStays cache.old.geometry (M.state media.old).contents.flash.page (M.state media.new).contents.flash.page }
     ensures rises { OnOk result (Rose (M.state media.old).counts.programs (M.state media.new).counts.programs) }
     ensures spends { OnOk result (Spends 1 (M.state media.old) (M.state media.new)) }
-    ensures memory { IsErrOf result MediaError.OutOfMemory → ⊥ }
-    ensures drives { DrivesFlash (M.state media.old) (M.state media.new) (failed result) (lost result) }
+    ensures drives { OnlyDrives (M.state media.old) (M.state media.new) result }
 {
     cache.marks.checkpoint(media, &cache.map, &mut cache.log)
 }

@@ -1,17 +1,17 @@
 //! The pages of a group are copied into one erase block.
-ghost use Rattle.std.specs.Prelude.{◌≡◌, ◌<◌, ◌+◌, [], ℕ, true, None, Some, OnOk, IsErrOf};
+ghost use Rattle.std.specs.Prelude.{◌≡◌, ◌<◌, ◌+◌, [], ℕ, true, None, Some, OnOk};
 ghost use Rattle.std.specs.FinMap.{get};
 ghost use Rattle.ft_base.specs.declared.block.Place.{Place as PlaceValue};
-ghost use Rattle.ft_media.specs.State.{failed, lost};
-ghost use Rattle.ft_media.specs.Drives.{DrivesFlash};
+ghost use Rattle.ft_base.specs.declared.block.Page.TheVariants.{Whole};
 ghost use Rattle.ft_media.specs.Media.{after_program, program_counted};
+ghost use Rattle.ft_media.specs.Drives.{OnlyDrives};
 ghost use Rattle.cache_model.specs.declared.entry.Entry.{Entry};
 ghost use Rattle.cache_model.specs.CacheList.{CacheList};
 ghost use Rattle.cache_model.specs.Loading.{is_whole};
-ghost use Rattle.ft_base.specs.declared.block.Page.TheVariants.{Whole};
+ghost use Rattle.checkpoint.specs.Counts.{programs_counted};
 ghost use Rattle.block_pool.specs.Pool.{IsFree};
 ghost use Rattle.merge_engine.specs.Agreement.{Agree, Lists};
-ghost use Rattle.merge_engine.specs.Merges.{ReachesTo, programs_counted};
+ghost use Rattle.merge_engine.specs.Merges.{ReachesTo};
 ghost use Rattle.merge_engine.specs.Steps.{IsCopied, IsCopyOf, IsFilledUp, filler_page};
 
 use crate::Parts;
@@ -40,8 +40,7 @@ pub(crate) fn copy_group<M: Media>(
     ensures filled { OnOk result (IsFilledUp cache.now.geometry cache.now.map.entries group block (M.state media.new).contents.flash.page) }
     ensures counts { OnOk result ((pages : ℕ) → ReachesTo cache.now.geometry cache.now.map.entries group pages
         → (M.state media.new).counts ≡ programs_counted pages (M.state media.old).counts) }
-    ensures memory { IsErrOf result MediaError.OutOfMemory → ⊥ }
-    ensures drives { DrivesFlash (M.state media.old) (M.state media.new) (failed result) (lost result) }
+    ensures drives { OnlyDrives (M.state media.old) (M.state media.new) result }
 {
     let held = cache.map.held_bits(group);
     let mut buffer = zero_block();
@@ -75,8 +74,7 @@ fn copy_page<M: Media>(
         → (M.state media.new).contents.flash.page at ≡ (M.state media.old).contents.flash.page at) }
     ensures next { OnOk result ((M.state media.new).contents.flash.next to.block ≡ Some (to.page + 1)) }
     ensures counts { OnOk result ((M.state media.new).counts ≡ program_counted (M.state media.old).counts) }
-    ensures memory { IsErrOf result MediaError.OutOfMemory → ⊥ }
-    ensures drives { DrivesFlash (M.state media.old) (M.state media.new) (failed result) (lost result) }
+    ensures drives { OnlyDrives (M.state media.old) (M.state media.new) result }
 {
     let Some((from, _)) = cache.map.place(lba) else {
         let spare = write_spare(SpareKind::Filler, 0, 0);
@@ -105,8 +103,7 @@ fn program_unheld<M: Media>(
     ensures lists { (list durable : CacheList) → Lists cache.now (M.state media.old).contents.flash.page list durable
         → Lists cache.now (M.state media.new).contents.flash.page list durable }
     ensures counts { OnOk result ((M.state media.new).counts ≡ program_counted (M.state media.old).counts) }
-    ensures memory { IsErrOf result MediaError.OutOfMemory → ⊥ }
-    ensures drives { DrivesFlash (M.state media.old) (M.state media.new) (failed result) (lost result) }
+    ensures drives { OnlyDrives (M.state media.old) (M.state media.new) result }
 {
     media.program(at, block, spare)
 }
@@ -124,8 +121,7 @@ fn read_whole<M: Media>(
     ensures found { OnOk result ((M.state media.old).contents.flash.page at ≡ Whole buffer.new spare.new) }
     ensures contents { (M.state media.new).contents ≡ (M.state media.old).contents }
     ensures counts { (M.state media.new).counts ≡ (M.state media.old).counts }
-    ensures memory { IsErrOf result MediaError.OutOfMemory → ⊥ }
-    ensures drives { DrivesFlash (M.state media.old) (M.state media.new) (failed result) (lost result) }
+    ensures drives { OnlyDrives (M.state media.old) (M.state media.new) result }
 {
     match media.read_page(at, buffer, spare)? {
         PageRead::Whole => Ok(()),

@@ -1,15 +1,12 @@
-ghost use Rattle.std.specs.Prelude.{◌≡◌, ◌≤◌, ◌<◌, ◌+◌, [], length, ℕ, Some, slice_get, OnOk, OnErr, IsOk, IsErrOf};
-ghost use Rattle.ft_media.specs.State.{failed, lost};
-ghost use Rattle.ft_media.specs.Drives.{DrivesFlash};
-ghost use Rattle.cache_model.specs.CacheList.{CacheList};
+ghost use Rattle.std.specs.Prelude.{◌≡◌, ◌≤◌, length, ℕ, Some, slice_get, OnOk, IsOk};
 ghost use Rattle.ft_base.specs.Contents.{Contents};
-ghost use Rattle.ft_base.specs.Layout.{page_records};
+ghost use Rattle.ft_media.specs.Drives.{OnlyDrives};
 ghost use Rattle.block_pool.specs.Pool.{IsInPool};
 ghost use Rattle.log_blocks.specs.Logs.{IsInUse, released};
-ghost use Rattle.merge_engine.specs.Agreement.{Agree, AreOfOne, Lists, RolesAgree};
-ghost use Rattle.merge_engine.specs.Room.{FlashStandsForGiven};
-ghost use Rattle.merge_engine.specs.Steps.{GoesOn, IsUnheld, IsUnowned, PageMappedStay};
+ghost use Rattle.merge_engine.specs.Agreement.{Agree, AreOfOne, RolesAgree};
+ghost use Rattle.merge_engine.specs.Steps.{IsUnheld, IsUnowned, PageMappedStay};
 ghost use Rattle.merge_engine.specs.Switch.{LogsStayOrLose};
+ghost use Rattle.merge_engine.specs.Kept.{CanGoOn, KeepsRoom, KeepsOrGives};
 
 use crate::Parts;
 use crate::merging::merge_group;
@@ -21,10 +18,8 @@ use ft_media::{Media, MediaError};
 /// the pages. It is no log block then: it is free, or a data block where it held a group in order. Where
 /// nothing stands in it no call of the media is made. It takes no memory.
 pub fn free_log_block<M: Media>(cache: &mut Parts, media: &mut M) -> Result<(), MediaError>
-    requires agree { Agree cache.old (M.state media.old).contents }
+    requires can { CanGoOn cache.old (M.state media.old).contents cache.old.geometry.p }
     requires used { 1 ≤ length cache.old.logs.used }
-    requires groups { cache.old.geometry.p ≤ cache.old.map.spare_groups }
-    requires room { length cache.old.log.buffered < page_records cache.old.log.geometry }
     ensures geometry { cache.new.geometry ≡ cache.old.geometry }
     ensures logs { OnOk result ((oldest : ℕ) → slice_get cache.old.logs.used 0 ≡ Some oldest
         → cache.new.logs ≡ released oldest cache.old.logs) }
@@ -33,17 +28,9 @@ pub fn free_log_block<M: Media>(cache: &mut Parts, media: &mut M) -> Result<(), 
     ensures unheld { (oldest : ℕ) → slice_get cache.old.logs.used 0 ≡ Some oldest → IsUnheld cache.old.map.entries oldest
         → IsOk result × (cache.new ≡ record cache.old { pool = cache.new.pool; logs = cache.new.logs })
         × (M.state media.new ≡ M.state media.old) }
-    ensures pages { cache.new.map.spare_pages ≡ cache.old.map.spare_pages }
-    ensures groups { cache.old.map.spare_groups ≤ cache.new.map.spare_groups + cache.old.geometry.p }
-    ensures agree { OnOk result (Agree cache.new (M.state media.new).contents) }
-    ensures room { OnOk result (length cache.new.log.buffered < page_records cache.new.log.geometry) }
-    ensures lists { OnOk result ((list durable : CacheList) → Lists cache.old (M.state media.old).contents.flash.page list durable
-        → GoesOn cache.old.log cache.new (M.state media.new).contents.flash.page list durable) }
-    // Whatever is answered, and wherever power went off.
-    ensures stands { (list durable : CacheList) → Lists cache.old (M.state media.old).contents.flash.page list durable
-        → FlashStandsForGiven cache.old.geometry (M.state media.new).contents.flash.page durable list }
-    ensures memory { IsErrOf result MediaError.OutOfMemory → ⊥ }
-    ensures drives { DrivesFlash (M.state media.old) (M.state media.new) (failed result) (lost result) }
+    ensures room { KeepsRoom cache.old.map cache.new.map cache.old.geometry.p }
+    ensures goes { KeepsOrGives cache.old cache.new (M.state media.old).contents (M.state media.new).contents result }
+    ensures drives { OnlyDrives (M.state media.old) (M.state media.new) result }
 {
     let Some(block) = cache.logs.oldest() else {
         return Ok(());
@@ -55,25 +42,16 @@ pub fn free_log_block<M: Media>(cache: &mut Parts, media: &mut M) -> Result<(), 
 
 /// Merges each group with a page in a log block, in the order of the pages, as long as it is a log block.
 fn merge_owners<M: Media>(cache: &mut Parts, media: &mut M, block: u32) -> Result<(), MediaError>
-    requires agree { Agree cache.old (M.state media.old).contents }
+    requires can { CanGoOn cache.old (M.state media.old).contents cache.old.geometry.p }
     requires in_use { IsInUse cache.old.logs block }
-    requires groups { cache.old.geometry.p ≤ cache.old.map.spare_groups }
-    requires room { length cache.old.log.buffered < page_records cache.old.log.geometry }
     ensures geometry { cache.new.geometry ≡ cache.old.geometry }
     ensures nothing { IsUnheld cache.old.map.entries block → IsOk result × (cache.new ≡ cache.old)
         × (M.state media.new ≡ M.state media.old) }
     ensures logs { LogsStayOrLose block cache.old.logs cache.new.logs }
-    ensures pages { cache.new.map.spare_pages ≡ cache.old.map.spare_pages }
-    ensures groups { cache.old.map.spare_groups ≤ cache.new.map.spare_groups + cache.old.geometry.p }
-    ensures agree { OnOk result (Agree cache.new (M.state media.new).contents) }
-    ensures room { OnOk result (length cache.new.log.buffered < page_records cache.new.log.geometry) }
+    ensures room { KeepsRoom cache.old.map cache.new.map cache.old.geometry.p }
+    ensures goes { KeepsOrGives cache.old cache.new (M.state media.old).contents (M.state media.new).contents result }
     ensures unheld { OnOk result (IsInUse cache.new.logs block → IsUnheld cache.new.map.entries block) }
-    ensures lists { OnOk result ((list durable : CacheList) → Lists cache.old (M.state media.old).contents.flash.page list durable
-        → GoesOn cache.old.log cache.new (M.state media.new).contents.flash.page list durable) }
-    ensures stands { (list durable : CacheList) → Lists cache.old (M.state media.old).contents.flash.page list durable
-        → FlashStandsForGiven cache.old.geometry (M.state media.new).contents.flash.page durable list }
-    ensures memory { IsErrOf result MediaError.OutOfMemory → ⊥ }
-    ensures drives { DrivesFlash (M.state media.old) (M.state media.new) (failed result) (lost result) }
+    ensures drives { OnlyDrives (M.state media.old) (M.state media.new) result }
 {
     for page in 0..cache.geometry.p {
         merge_owner(cache, media, Place { block, page })?;
@@ -84,25 +62,16 @@ fn merge_owners<M: Media>(cache: &mut Parts, media: &mut M, block: u32) -> Resul
 /// Merges the group whose address stands at a page of a log block, where one does. Where the block is a
 /// data block since a merge, it stays.
 fn merge_owner<M: Media>(cache: &mut Parts, media: &mut M, at: Place) -> Result<(), MediaError>
-    requires agree { Agree cache.old (M.state media.old).contents }
+    requires can { CanGoOn cache.old (M.state media.old).contents 1 }
     requires in_pool { IsInPool cache.old.geometry at.block }
-    requires groups { 1 ≤ cache.old.map.spare_groups }
-    requires room { length cache.old.log.buffered < page_records cache.old.log.geometry }
     ensures geometry { cache.new.geometry ≡ cache.old.geometry }
     ensures nothing { IsUnowned cache.old.map.entries at → IsOk result × (cache.new ≡ cache.old) × (M.state media.new ≡ M.state media.old) }
     ensures logs { LogsStayOrLose at.block cache.old.logs cache.new.logs }
-    ensures pages { cache.new.map.spare_pages ≡ cache.old.map.spare_pages }
-    ensures groups { cache.old.map.spare_groups ≤ cache.new.map.spare_groups + 1 }
-    ensures agree { OnOk result (Agree cache.new (M.state media.new).contents) }
-    ensures room { OnOk result (length cache.new.log.buffered < page_records cache.new.log.geometry) }
+    ensures room { KeepsRoom cache.old.map cache.new.map 1 }
+    ensures goes { KeepsOrGives cache.old cache.new (M.state media.old).contents (M.state media.new).contents result }
     ensures unowned { OnOk result (IsInUse cache.new.logs at.block → IsUnowned cache.new.map.entries at) }
     ensures page_mapped { OnOk result (PageMappedStay cache.old.map.entries cache.new.map.entries) }
-    ensures lists { OnOk result ((list durable : CacheList) → Lists cache.old (M.state media.old).contents.flash.page list durable
-        → GoesOn cache.old.log cache.new (M.state media.new).contents.flash.page list durable) }
-    ensures stands { (list durable : CacheList) → Lists cache.old (M.state media.old).contents.flash.page list durable
-        → FlashStandsForGiven cache.old.geometry (M.state media.new).contents.flash.page durable list }
-    ensures memory { IsErrOf result MediaError.OutOfMemory → ⊥ }
-    ensures drives { DrivesFlash (M.state media.old) (M.state media.new) (failed result) (lost result) }
+    ensures drives { OnlyDrives (M.state media.old) (M.state media.new) result }
 {
     if cache.pool.role(at.block) != Role::Log {
         return Ok(());

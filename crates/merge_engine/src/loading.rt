@@ -3,9 +3,8 @@ ghost use Rattle.std.specs.FinMap.{get};
 ghost use Rattle.cache_model.specs.declared.entry.Entry.{Entry};
 ghost use Rattle.cache_model.specs.Entries.{IsMap};
 ghost use Rattle.block_pool.specs.Pool.{IsFree, IsInPool};
-ghost use Rattle.log_blocks.specs.Logs as list;
 ghost use Rattle.merge_engine.specs.Agreement.{AreOfOne, RolesAgree};
-ghost use Rattle.merge_engine.specs.Loaded.{AreAscending, AreInUse, RolesOf, RolesSoFar, role_for};
+ghost use Rattle.merge_engine.specs.Loaded.{AreInUse, RolesOf, RolesSoFar, role_for, AreFoundLogs};
 
 use crate::Parts;
 use block_pool::{Pool, Role};
@@ -42,10 +41,7 @@ pub fn loaded(
       buffered = [];
     }) }
     ensures roles { IfOk result (λ parts. RolesAgree parts) }
-    ensures logs { IfOk result (λ parts. list.AreSoundLogs parts.logs) }
-    ensures ascending { IfOk result (λ parts. AreAscending parts.logs.used) }
-    ensures none_open { IfOk result (λ parts. parts.logs.open_block ≡ None) }
-    ensures closed { IfOk result (λ parts. parts.logs.room ≡ 0) }
+    ensures logs { IfOk result (λ parts. AreFoundLogs parts.logs) }
 {
     let mut parts = unused(alloc, geometry, map, region, era)?;
     set_roles(&mut parts);
@@ -148,10 +144,7 @@ fn adopt_log_blocks(parts: &mut Parts)
     ensures parts { parts.new ≡ record parts.old { logs = parts.new.logs } }
     ensures of_one { AreOfOne parts.new }
     ensures in_use { AreInUse parts.old.geometry parts.old.pool parts.new.logs }
-    ensures sound { list.AreSoundLogs parts.new.logs }
-    ensures ascending { AreAscending parts.new.logs.used }
-    ensures none_open { parts.new.logs.open_block ≡ None }
-    ensures closed { parts.new.logs.room ≡ 0 }
+    ensures logs { AreFoundLogs parts.new.logs }
 {
     for block in parts.geometry.first_pool()..parts.geometry.blocks() {
         if parts.pool.role(block) == Role::Log {

@@ -1,18 +1,19 @@
-ghost use Rattle.std.specs.Prelude.{◌≡◌, ◌≢◌, ◌≤◌, ◌<◌, ◌+◌, ℕ, [], length, OnOk, IfOk, IsErrOf};
+ghost use Rattle.std.specs.Prelude.{◌≡◌, ◌≢◌, ◌≤◌, ◌<◌, ℕ, [], OnOk, IfOk};
 ghost use Rattle.ft_base.specs.Contents.{Contents};
-ghost use Rattle.ft_media.specs.State.{failed, lost};
-ghost use Rattle.ft_base.specs.Layout.{log_pages, page_records};
-ghost use Rattle.ft_media.specs.Media.{erase_counted, program_counted};
-ghost use Rattle.ft_media.specs.Drives.{DrivesFlash};
+ghost use Rattle.ft_base.specs.Layout.{log_pages};
+ghost use Rattle.ft_base.specs.declared.record.Record.TheVariants.{RemoveGroup};
+ghost use Rattle.ft_media.specs.Media.{erase_counted};
+ghost use Rattle.ft_media.specs.Drives.{OnlyDrives};
 ghost use Rattle.cache_model.specs.CacheList.{CacheList};
 ghost use Rattle.cache_model.specs.Entries.{IsMap};
+ghost use Rattle.checkpoint.specs.Counts.{programs_counted};
 ghost use Rattle.block_pool.specs.Pool.{IsFree};
 ghost use Rattle.silent_evict.specs.Candidates.{IsGroupHeld};
 ghost use Rattle.merge_engine.specs.Agreement.{Agree, AreOfOne, Lists, RolesAgree};
-ghost use Rattle.merge_engine.specs.Merges.{HasBlockOrRoom, OthersStay, ReachesTo, FlashStandsForEither, dropped, list_without, move_counted, moved, programs_counted};
-ghost use Rattle.merge_engine.specs.Room.{GaveWay, FlashStandsForGiven};
-ghost use Rattle.merge_engine.specs.Steps.{HasFillers, IsCopied, IsFilledUp, IsMerged, OthersStayOrGo, PageMappedStay};
-ghost use Rattle.merge_engine.specs.Switch.{CanSwitch, CannotSwitch, IsSwitched, LogsStayOrSwitch};
+ghost use Rattle.merge_engine.specs.Merges.{HasBlockOrRoom, OthersStay, ReachesTo, FlashStandsForEither, list_without, move_counted, move_record};
+ghost use Rattle.merge_engine.specs.Steps.{IsCopied, IsFilledUp, OthersStayOrGo, PageMappedStay};
+ghost use Rattle.merge_engine.specs.Switch.{LogsStayOrSwitch};
+ghost use Rattle.merge_engine.specs.Kept.{CanNote, CanGoOn, IsNoted, KeepsRoom, StaysOn, CommitsList, MergesList, IsGathered, CostsOfMove};
 
 use crate::Parts;
 use crate::committing::commit;
@@ -28,41 +29,20 @@ use ft_media::{Media, MediaError};
 /// none and C groups have one, a clean group gives way first; where there is none, the group itself, which
 /// is clean then, is dropped. What was buffered is committed with it. It takes no memory.
 pub fn merge_group<M: Media>(cache: &mut Parts, media: &mut M, group: u64) -> Result<(), MediaError>
-    requires agree { Agree cache.old (M.state media.old).contents }
+    requires can { CanGoOn cache.old (M.state media.old).contents 1 }
     requires held { IsGroupHeld cache.old.geometry cache.old.map.entries group }
-    requires groups { 1 ≤ cache.old.map.spare_groups }
-    requires room { length cache.old.log.buffered < page_records cache.old.log.geometry }
     ensures geometry { cache.new.geometry ≡ cache.old.geometry }
     // Whatever is answered.
     ensures logs { LogsStayOrSwitch cache.old group cache.new.logs }
-    ensures pages { cache.new.map.spare_pages ≡ cache.old.map.spare_pages }
-    ensures groups { cache.old.map.spare_groups ≤ cache.new.map.spare_groups + 1 }
-    ensures agree { OnOk result (Agree cache.new (M.state media.new).contents) }
-    ensures nothing_waits { OnOk result (cache.new.log.buffered ≡ []) }
-    ensures lists { OnOk result ((list durable : CacheList) → Lists cache.old (M.state media.old).contents.flash.page list durable
-        → (v : CacheList) × GaveWay cache.old.geometry cache.old.map.entries group list v
-        × Lists cache.new (M.state media.new).contents.flash.page v v) }
-    ensures merged { OnOk result (IsMerged cache.old.geometry cache.new.map.entries group) }
-    ensures filled { OnOk result (HasFillers cache.old.geometry cache.new.map.entries group (M.state media.new).contents.flash.page) }
+    ensures room { KeepsRoom cache.old.map cache.new.map 1 }
+    ensures merges { MergesList cache.old cache.new group (M.state media.old).contents (M.state media.new).contents result }
+    ensures gathered { OnOk result (IsGathered cache.old.geometry cache.new.map.entries group (M.state media.new).contents.flash.page) }
     ensures others { OnOk result (OthersStayOrGo cache.old.geometry group cache.old.map.entries cache.new.map.entries) }
     ensures page_mapped { OnOk result (PageMappedStay cache.old.map.entries cache.new.map.entries) }
-    // Where no group gives way and a log block can become the data block, it does: with one program and no erase.
-    ensures switched { OnOk result (HasBlockOrRoom cache.old.geometry cache.old.map.entries group → (block : ℕ)
-        → CanSwitch cache.old group block
-        → IsSwitched cache.old cache.new group block) }
-    ensures one_program { OnOk result (HasBlockOrRoom cache.old.geometry cache.old.map.entries group → (block : ℕ)
-        → CanSwitch cache.old group block
-        → cache.old.log.next < log_pages cache.old.geometry → (M.state media.new).counts ≡ program_counted (M.state media.old).counts) }
-    // Where none can: one erase, a program for each page up to the last held one, and one for the log page.
-    ensures counts { OnOk result (HasBlockOrRoom cache.old.geometry cache.old.map.entries group → CannotSwitch cache.old group
-        → cache.old.log.buffered ≡ [] → cache.old.log.next < log_pages cache.old.geometry
-        → (pages : ℕ) → ReachesTo cache.old.geometry cache.old.map.entries group pages
-        → (M.state media.new).counts ≡ move_counted pages (M.state media.old).counts) }
-    // Whatever is answered, and wherever power went off.
-    ensures stands { (list durable : CacheList) → Lists cache.old (M.state media.old).contents.flash.page list durable
-        → FlashStandsForGiven cache.old.geometry (M.state media.new).contents.flash.page durable list }
-    ensures memory { IsErrOf result MediaError.OutOfMemory → ⊥ }
-    ensures drives { DrivesFlash (M.state media.old) (M.state media.new) (failed result) (lost result) }
+    // Where no group gives way.
+    ensures costs { OnOk result (HasBlockOrRoom cache.old.geometry cache.old.map.entries group
+        → CostsOfMove cache.old cache.new group (M.state media.old).counts (M.state media.new).counts) }
+    ensures drives { OnlyDrives (M.state media.old) (M.state media.new) result }
 {
     let own = cache.map.block_of(group).is_some();
     if own || cache.map.data_blocks() < cache.geometry.c {
@@ -79,13 +59,10 @@ pub fn merge_group<M: Media>(cache: &mut Parts, media: &mut M, group: u64) -> Re
 
 /// Drops a group, and commits that.
 fn drop_group<M: Media>(cache: &mut Parts, media: &mut M, group: u64) -> Result<(), MediaError>
-    requires agree { Agree cache.old (M.state media.old).contents }
+    requires can { CanGoOn cache.old (M.state media.old).contents 0 }
     requires held { IsGroupHeld cache.old.geometry cache.old.map.entries group }
-    requires room { length cache.old.log.buffered < page_records cache.old.log.geometry }
     ensures cache { cache.new ≡ record cache.old { map = cache.new.map; log = cache.new.log; pool = cache.new.pool } }
-    ensures entries { cache.new.map.entries ≡ dropped cache.old.geometry cache.old.map.entries group }
-    ensures pages { cache.new.map.spare_pages ≡ cache.old.map.spare_pages }
-    ensures groups { cache.new.map.spare_groups ≡ cache.old.map.spare_groups }
+    ensures map { IsNoted cache.old.geometry (RemoveGroup group) cache.old.map cache.new.map }
     ensures agree { OnOk result (Agree cache.new (M.state media.new).contents) }
     ensures nothing_waits { OnOk result (cache.new.log.buffered ≡ []) }
     ensures lists { OnOk result ((list durable : CacheList) → Lists cache.old (M.state media.old).contents.flash.page list durable
@@ -95,8 +72,7 @@ fn drop_group<M: Media>(cache: &mut Parts, media: &mut M, group: u64) -> Result<
     ensures stands { (list durable : CacheList) → Lists cache.old (M.state media.old).contents.flash.page list durable
         → FlashStandsForEither cache.old.geometry (M.state media.new).contents.flash.page durable
         (list_without cache.old.geometry group list) }
-    ensures memory { IsErrOf result MediaError.OutOfMemory → ⊥ }
-    ensures drives { DrivesFlash (M.state media.old) (M.state media.new) (failed result) (lost result) }
+    ensures drives { OnlyDrives (M.state media.old) (M.state media.new) result }
 {
     note(cache, &Record::RemoveGroup { group }, group);
     commit(cache, media)
@@ -105,11 +81,9 @@ fn drop_group<M: Media>(cache: &mut Parts, media: &mut M, group: u64) -> Result<
 /// Moves a group into a data block of its own, and commits that: a log block that holds the group in order
 /// becomes its data block as it is; where there is none, the group is copied.
 fn move_group<M: Media>(cache: &mut Parts, media: &mut M, group: u64) -> Result<(), MediaError>
-    requires agree { Agree cache.old (M.state media.old).contents }
+    requires can { CanGoOn cache.old (M.state media.old).contents 1 }
     requires held { IsGroupHeld cache.old.geometry cache.old.map.entries group }
     requires block { HasBlockOrRoom cache.old.geometry cache.old.map.entries group }
-    requires groups { 1 ≤ cache.old.map.spare_groups }
-    requires room { length cache.old.log.buffered < page_records cache.old.log.geometry }
     ensures cache { cache.new ≡ record cache.old {
       map = cache.new.map;
       log = cache.new.log;
@@ -117,27 +91,12 @@ fn move_group<M: Media>(cache: &mut Parts, media: &mut M, group: u64) -> Result<
       logs = cache.new.logs;
     } }
     ensures logs { LogsStayOrSwitch cache.old group cache.new.logs }
-    ensures pages { cache.new.map.spare_pages ≡ cache.old.map.spare_pages }
-    ensures groups { cache.old.map.spare_groups ≤ cache.new.map.spare_groups + 1 }
-    ensures agree { OnOk result (Agree cache.new (M.state media.new).contents) }
-    ensures nothing_waits { OnOk result (cache.new.log.buffered ≡ []) }
-    ensures lists { OnOk result ((list durable : CacheList) → Lists cache.old (M.state media.old).contents.flash.page list durable
-        → Lists cache.new (M.state media.new).contents.flash.page list list) }
-    ensures merged { OnOk result (IsMerged cache.old.geometry cache.new.map.entries group) }
-    ensures filled { OnOk result (HasFillers cache.old.geometry cache.new.map.entries group (M.state media.new).contents.flash.page) }
+    ensures room { KeepsRoom cache.old.map cache.new.map 1 }
+    ensures kept { CommitsList cache.old cache.new (M.state media.old).contents (M.state media.new).contents result }
+    ensures gathered { OnOk result (IsGathered cache.old.geometry cache.new.map.entries group (M.state media.new).contents.flash.page) }
     ensures others { OnOk result (OthersStay cache.old.geometry group cache.old.map.entries cache.new.map.entries) }
-    ensures switched { OnOk result ((block : ℕ) → CanSwitch cache.old group block → IsSwitched cache.old cache.new group block) }
-    ensures one_program { OnOk result ((block : ℕ) → CanSwitch cache.old group block → cache.old.log.next < log_pages cache.old.geometry
-        → (M.state media.new).counts ≡ program_counted (M.state media.old).counts) }
-    ensures counts { OnOk result (CannotSwitch cache.old group → cache.old.log.buffered ≡ []
-        → cache.old.log.next < log_pages cache.old.geometry
-        → (pages : ℕ) → ReachesTo cache.old.geometry cache.old.map.entries group pages
-        → (M.state media.new).counts ≡ move_counted pages (M.state media.old).counts) }
-    // Whatever is answered, and wherever power went off.
-    ensures stands { (list durable : CacheList) → Lists cache.old (M.state media.old).contents.flash.page list durable
-        → FlashStandsForEither cache.old.geometry (M.state media.new).contents.flash.page durable list }
-    ensures memory { IsErrOf result MediaError.OutOfMemory → ⊥ }
-    ensures drives { DrivesFlash (M.state media.old) (M.state media.new) (failed result) (lost result) }
+    ensures costs { OnOk result (CostsOfMove cache.old cache.new group (M.state media.old).counts (M.state media.new).counts) }
+    ensures drives { OnlyDrives (M.state media.old) (M.state media.new) result }
 {
     match log_block_in_order(cache, group) {
         Some(block) => switch_group(cache, media, group, block),
@@ -152,23 +111,14 @@ fn gather_group<M: Media>(cache: &mut Parts, media: &mut M, group: u64) -> Resul
     requires block { HasBlockOrRoom cache.old.geometry cache.old.map.entries group }
     requires groups { 1 ≤ cache.old.map.spare_groups }
     ensures cache { cache.new ≡ record cache.old { map = cache.new.map; log = cache.new.log; pool = cache.new.pool } }
-    ensures pages { cache.new.map.spare_pages ≡ cache.old.map.spare_pages }
-    ensures groups { cache.old.map.spare_groups ≤ cache.new.map.spare_groups + 1 }
-    ensures agree { OnOk result (Agree cache.new (M.state media.new).contents) }
-    ensures nothing_waits { OnOk result (cache.new.log.buffered ≡ []) }
-    ensures lists { OnOk result ((list durable : CacheList) → Lists cache.old (M.state media.old).contents.flash.page list durable
-        → Lists cache.new (M.state media.new).contents.flash.page list list) }
-    ensures merged { OnOk result (IsMerged cache.old.geometry cache.new.map.entries group) }
-    ensures filled { OnOk result (HasFillers cache.old.geometry cache.new.map.entries group (M.state media.new).contents.flash.page) }
+    ensures room { KeepsRoom cache.old.map cache.new.map 1 }
+    ensures kept { CommitsList cache.old cache.new (M.state media.old).contents (M.state media.new).contents result }
+    ensures gathered { OnOk result (IsGathered cache.old.geometry cache.new.map.entries group (M.state media.new).contents.flash.page) }
     ensures others { OnOk result (OthersStay cache.old.geometry group cache.old.map.entries cache.new.map.entries) }
     ensures counts { OnOk result (cache.old.log.buffered ≡ [] → cache.old.log.next < log_pages cache.old.geometry
         → (pages : ℕ) → ReachesTo cache.old.geometry cache.old.map.entries group pages
         → (M.state media.new).counts ≡ move_counted pages (M.state media.old).counts) }
-    // Whatever is answered, and wherever power went off.
-    ensures stands { (list durable : CacheList) → Lists cache.old (M.state media.old).contents.flash.page list durable
-        → FlashStandsForEither cache.old.geometry (M.state media.new).contents.flash.page durable list }
-    ensures memory { IsErrOf result MediaError.OutOfMemory → ⊥ }
-    ensures drives { DrivesFlash (M.state media.old) (M.state media.new) (failed result) (lost result) }
+    ensures drives { OnlyDrives (M.state media.old) (M.state media.new) result }
 {
     commit(cache, media)?;
     let block = copy_out(cache, media, group)?;
@@ -192,8 +142,7 @@ fn copy_out<M: Media>(cache: &mut Parts, media: &mut M, group: u64) -> Result<u3
         (M.state media.new).contents.flash.page) }
     ensures counts { OnOk result ((pages : ℕ) → ReachesTo cache.old.geometry cache.old.map.entries group pages
         → (M.state media.new).counts ≡ programs_counted pages (erase_counted (M.state media.old).counts)) }
-    ensures memory { IsErrOf result MediaError.OutOfMemory → ⊥ }
-    ensures drives { DrivesFlash (M.state media.old) (M.state media.new) (failed result) (lost result) }
+    ensures drives { OnlyDrives (M.state media.old) (M.state media.new) result }
 {
     let block = cache.pool.take(media)?;
     copy_group(cache, media, group, block)?;
@@ -208,19 +157,14 @@ fn put_group(cache: &mut Parts, group: u64, block: u32)
     requires held { IsGroupHeld cache.old.geometry cache.old.map.entries group }
     requires block { HasBlockOrRoom cache.old.geometry cache.old.map.entries group }
     requires free { IsFree cache.old.pool block }
-    requires groups { 1 ≤ cache.old.map.spare_groups }
-    requires room { length cache.old.log.buffered < page_records cache.old.log.geometry }
+    requires room { CanNote cache.old 0 1 }
     ensures cache { cache.new ≡ record cache.old { map = cache.new.map; log = cache.new.log; pool = cache.new.pool } }
-    ensures entries { cache.new.map.entries ≡ moved cache.old.geometry cache.old.map.entries group block }
-    ensures pages { cache.new.map.spare_pages ≡ cache.old.map.spare_pages }
-    ensures groups { cache.new.map.spare_groups + 1 ≡ cache.old.map.spare_groups }
+    ensures map { IsNoted cache.old.geometry (move_record cache.old.geometry cache.old.map.entries group block) cache.old.map
+        cache.new.map }
     ensures waits { cache.new.log.buffered ≢ [] }
     ensures next { cache.new.log.next ≡ cache.old.log.next }
-    ensures agree { (contents : Contents) → IsCopied cache.old.geometry cache.old.map.entries group block contents.flash.page
-        → Agree cache.old contents → Agree cache.new contents }
-    ensures lists { (contents : Contents) (list durable : CacheList)
-        → IsCopied cache.old.geometry cache.old.map.entries group block contents.flash.page
-        → Lists cache.old contents.flash.page list durable → Lists cache.new contents.flash.page list durable }
+    ensures stays { (contents : Contents) → IsCopied cache.old.geometry cache.old.map.entries group block contents.flash.page
+        → StaysOn cache.old cache.new contents }
 {
     let change = Record::SetGroup {
         group,

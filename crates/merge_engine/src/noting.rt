@@ -1,5 +1,6 @@
 //! Changes of the map: each is buffered, made in the map, and followed by the roles of the pool.
-ghost use Rattle.std.specs.Prelude.{◌≡◌, ◌≤◌, ◌<◌, ◌/◌, ◌+◌, length, IsTrue};
+ghost use Rattle.std.specs.Prelude.{◌≡◌, ◌<◌, ◌/◌, length, IsTrue};
+ghost use Rattle.std.specs.FinMap.{insert};
 ghost use Rattle.ft_base.specs.declared.record.Record.TheVariants.{SetPage, Remove, Clean};
 ghost use Rattle.ft_base.specs.declared.block.Block.{Block};
 ghost use Rattle.ft_base.specs.Contents.{Contents};
@@ -8,13 +9,13 @@ ghost use Rattle.cache_model.specs.Cache.{evicted, written_block, made_clean};
 ghost use Rattle.cache_model.specs.CacheList.{CacheList};
 ghost use Rattle.cache_model.specs.Entries.{Fits, IsMap};
 ghost use Rattle.cache_model.specs.Records.{after};
-ghost use Rattle.std.specs.FinMap.{insert};
-ghost use Rattle.op_log.specs.Log.{pushed};
-ghost use Rattle.merge_engine.specs.Agreement.{Agree, Lists, RolesAgree, AreOfOne};
-ghost use Rattle.mapping.specs.MapValue.{pages_taken, groups_taken};
 ghost use Rattle.cache_model.specs.Spelling.{may_stand_in};
 ghost use Rattle.cache_model.specs.declared.format.PageKind.TheVariants.{Log as log_page};
+ghost use Rattle.mapping.specs.MapValue.{pages_taken, groups_taken};
+ghost use Rattle.op_log.specs.Log.{pushed};
+ghost use Rattle.merge_engine.specs.Agreement.{Agree, Lists, RolesAgree, AreOfOne};
 ghost use Rattle.merge_engine.specs.Steps.{FollowsGroup, IsNewPage};
+ghost use Rattle.merge_engine.specs.Kept.{CanNote, IsNoted};
 
 use crate::Parts;
 use block_pool::Role;
@@ -26,13 +27,10 @@ pub fn put_page(cache: &mut Parts, lba: u64, place: Place, dirty: bool)
     requires is_map { IsMap cache.old.geometry cache.old.map.entries }
     requires roles { RolesAgree cache.old }
     requires fits { Fits cache.old.geometry (SetPage lba place dirty) cache.old.map.entries }
-    requires pages { 1 ≤ cache.old.map.spare_pages }
-    requires room { length cache.old.log.buffered < page_records cache.old.log.geometry }
+    requires room { CanNote cache.old 1 0 }
     ensures cache { cache.new ≡ record cache.old { map = cache.new.map; log = cache.new.log; pool = cache.new.pool } }
-    ensures entries { cache.new.map.entries ≡ after cache.old.geometry (SetPage lba place dirty) cache.old.map.entries }
+    ensures map { IsNoted cache.old.geometry (SetPage lba place dirty) cache.old.map cache.new.map }
     ensures log { cache.new.log ≡ pushed (SetPage lba place dirty) cache.old.log }
-    ensures pages { cache.new.map.spare_pages + 1 ≡ cache.old.map.spare_pages }
-    ensures groups { cache.new.map.spare_groups ≡ cache.old.map.spare_groups }
     ensures agree { (contents : Contents) (block : Block) → Agree cache.old contents
         → IsNewPage cache.old contents.flash.page place lba block → Agree cache.new contents }
     ensures lists { (contents : Contents) (block : Block) (list durable : CacheList)
@@ -92,16 +90,10 @@ pub(crate) fn note(cache: &mut Parts, change: &Record, group: u64)
     requires is_map { IsMap cache.old.geometry cache.old.map.entries }
     requires fits { Fits cache.old.geometry change.now cache.old.map.entries }
     requires sound { IsTrue (may_stand_in log_page change.now) }
-    requires pages { pages_taken change.now ≤ cache.old.map.spare_pages }
-    requires groups { groups_taken change.now ≤ cache.old.map.spare_groups }
-    requires room { length cache.old.log.buffered < page_records cache.old.log.geometry }
+    requires room { CanNote cache.old (pages_taken change.now) (groups_taken change.now) }
     ensures cache { cache.new ≡ record cache.old { map = cache.new.map; log = cache.new.log; pool = cache.new.pool } }
     ensures of_one { AreOfOne cache.new }
-    ensures entries { cache.new.map.entries ≡ after cache.old.geometry change.now cache.old.map.entries }
-    ensures pages { cache.new.map.spare_pages + pages_taken change.now ≡ cache.old.map.spare_pages }
-    ensures groups { cache.new.map.spare_groups + groups_taken change.now ≡ cache.old.map.spare_groups }
-    ensures buckets { cache.new.map.buckets ≡ cache.old.map.buckets }
-    ensures group_buckets { cache.new.map.group_buckets ≡ cache.old.map.group_buckets }
+    ensures map { IsNoted cache.old.geometry change.now cache.old.map cache.new.map }
     ensures log { cache.new.log ≡ pushed change.now cache.old.log }
     ensures roles { FollowsGroup cache.old.geometry group cache.old.map.entries cache.new.map.entries cache.old.pool cache.new.pool }
 {

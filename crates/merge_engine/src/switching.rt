@@ -1,19 +1,17 @@
 //! Switch merges: a log block whose pages hold a group in order becomes its data block, with no copy.
-ghost use Rattle.std.specs.Prelude.{◌≡◌, ◌≢◌, ◌≤◌, ◌<◌, ◌+◌, ◌↔◌, ◌^◌, ℕ, [], length, OnOk, IfSome, IfNone, IsTrue, IsErrOf};
+ghost use Rattle.std.specs.Prelude.{◌≡◌, ◌≢◌, ◌≤◌, ◌<◌, ◌+◌, ◌↔◌, ◌^◌, [], OnOk, IfSome, IfNone, IsTrue};
 ghost use Rattle.ft_base.specs.Contents.{Contents};
-ghost use Rattle.ft_base.specs.Layout.{log_pages, page_records};
-ghost use Rattle.ft_media.specs.State.{failed, lost};
-ghost use Rattle.ft_media.specs.Drives.{DrivesFlash};
+ghost use Rattle.ft_base.specs.Layout.{log_pages};
 ghost use Rattle.ft_media.specs.Media.{program_counted};
-ghost use Rattle.cache_model.specs.CacheList.{CacheList};
+ghost use Rattle.ft_media.specs.Drives.{OnlyDrives};
 ghost use Rattle.cache_model.specs.Entries.{IsMap};
-ghost use Rattle.log_blocks.specs.Logs.{released};
-ghost use Rattle.log_blocks.specs.Logs as list;
 ghost use Rattle.mapping.specs.Counts.{Owns};
+ghost use Rattle.log_blocks.specs.Logs.{released};
 ghost use Rattle.silent_evict.specs.Candidates.{IsGroupHeld};
-ghost use Rattle.merge_engine.specs.Agreement.{Agree, AreOfOne, Lists, RolesAgree};
-ghost use Rattle.merge_engine.specs.Merges.{HasBlockOrRoom, FlashStandsForEither, moved};
+ghost use Rattle.merge_engine.specs.Agreement.{AreOfOne, RolesAgree};
+ghost use Rattle.merge_engine.specs.Merges.{HasBlockOrRoom, move_record};
 ghost use Rattle.merge_engine.specs.Switch.{CanSwitch, CannotSwitch, IsInOrderUpTo};
+ghost use Rattle.merge_engine.specs.Kept.{CanNote, CanGoOn, IsNoted, StaysOn, CommitsList};
 
 use crate::Parts;
 use crate::committing::commit;
@@ -75,32 +73,22 @@ pub(crate) fn switch_group<M: Media>(
     group: u64,
     block: u32,
 ) -> Result<(), MediaError>
-    requires agree { Agree cache.old (M.state media.old).contents }
+    requires can { CanGoOn cache.old (M.state media.old).contents 1 }
     requires held { IsGroupHeld cache.old.geometry cache.old.map.entries group }
     requires block { HasBlockOrRoom cache.old.geometry cache.old.map.entries group }
     requires switch { CanSwitch cache.old group block }
-    requires groups { 1 ≤ cache.old.map.spare_groups }
-    requires room { length cache.old.log.buffered < page_records cache.old.log.geometry }
     ensures cache { cache.new ≡ record cache.old {
       map = cache.new.map;
       log = cache.new.log;
       pool = cache.new.pool;
       logs = released block cache.old.logs;
     } }
-    ensures entries { cache.new.map.entries ≡ moved cache.old.geometry cache.old.map.entries group block }
-    ensures pages { cache.new.map.spare_pages ≡ cache.old.map.spare_pages }
-    ensures groups { cache.new.map.spare_groups + 1 ≡ cache.old.map.spare_groups }
-    ensures agree { OnOk result (Agree cache.new (M.state media.new).contents) }
-    ensures nothing_waits { OnOk result (cache.new.log.buffered ≡ []) }
-    ensures lists { OnOk result ((list durable : CacheList) → Lists cache.old (M.state media.old).contents.flash.page list durable
-        → Lists cache.new (M.state media.new).contents.flash.page list list) }
+    ensures map { IsNoted cache.old.geometry (move_record cache.old.geometry cache.old.map.entries group block) cache.old.map
+        cache.new.map }
+    ensures kept { CommitsList cache.old cache.new (M.state media.old).contents (M.state media.new).contents result }
     ensures one_program { OnOk result (cache.old.log.next < log_pages cache.old.geometry
         → (M.state media.new).counts ≡ program_counted (M.state media.old).counts) }
-    // Whatever is answered, and wherever power went off.
-    ensures stands { (list durable : CacheList) → Lists cache.old (M.state media.old).contents.flash.page list durable
-        → FlashStandsForEither cache.old.geometry (M.state media.new).contents.flash.page durable list }
-    ensures memory { IsErrOf result MediaError.OutOfMemory → ⊥ }
-    ensures drives { DrivesFlash (M.state media.old) (M.state media.new) (failed result) (lost result) }
+    ensures drives { OnlyDrives (M.state media.old) (M.state media.new) result }
 {
     switch_block(cache, group, block);
     commit(cache, media)
@@ -114,22 +102,18 @@ fn switch_block(cache: &mut Parts, group: u64, block: u32)
     requires held { IsGroupHeld cache.old.geometry cache.old.map.entries group }
     requires block { HasBlockOrRoom cache.old.geometry cache.old.map.entries group }
     requires switch { CanSwitch cache.old group block }
-    requires groups { 1 ≤ cache.old.map.spare_groups }
-    requires room { length cache.old.log.buffered < page_records cache.old.log.geometry }
+    requires room { CanNote cache.old 0 1 }
     ensures cache { cache.new ≡ record cache.old {
       map = cache.new.map;
       log = cache.new.log;
       pool = cache.new.pool;
       logs = released block cache.old.logs;
     } }
-    ensures entries { cache.new.map.entries ≡ moved cache.old.geometry cache.old.map.entries group block }
-    ensures pages { cache.new.map.spare_pages ≡ cache.old.map.spare_pages }
-    ensures groups { cache.new.map.spare_groups + 1 ≡ cache.old.map.spare_groups }
+    ensures map { IsNoted cache.old.geometry (move_record cache.old.geometry cache.old.map.entries group block) cache.old.map
+        cache.new.map }
     ensures waits { cache.new.log.buffered ≢ [] }
     ensures next { cache.new.log.next ≡ cache.old.log.next }
-    ensures agree { (contents : Contents) → Agree cache.old contents → Agree cache.new contents }
-    ensures lists { (contents : Contents) (list durable : CacheList) → Lists cache.old contents.flash.page list durable
-        → Lists cache.new contents.flash.page list durable }
+    ensures stays { (contents : Contents) → StaysOn cache.old cache.new contents }
 {
     let change = Record::SetGroup {
         group,

@@ -5,4 +5,4 @@ use Rattle.checkpoint.proofs.tests.put.Goals as goal
 pub returns-clause-whole : goal.returns-clause-whole
 returns-clause-whole g c =
     whole_still c.hold.new.cache.log.geometry c.hold.new.cache.map.entries (g.M.Media.state c.hold.new.media).contents.flash.page (g.M.Media.state c.commit.new.media).contents.flash.page
-    (current_map c.hold.new.cache.log (g.M.Media.state c.hold.new.media).contents.flash.page c.hold.new.cache.map.entries c.in_ok-hold.ensures.current) c.in_ok-hold.ensures.whole c.commit.ensures.pool
+    (current_map c.hold.new.cache.log (g.M.Media.state c.hold.new.media).contents.flash.page c.hold.new.cache.map.entries c.in_ok-hold.ensures.current) c.in_ok-hold.ensures.whole c.commit.ensures.flash.pool

@@ -17,7 +17,7 @@ returns-in_err-program-clause-pages g c =
     let x = c.args.geometry.now in
     leaves_one (IsMapPage c.args.target.now.era c.args.sequence (part x rs c.args.sequence)) (g.M.Media.state c.args.media.now).contents.flash (g.M.Media.state c.program.new.self).contents.flash _ c.checkpoint_at-at.result c.checkpoint_at-at.ensures c.write_map.new.out c.write_spare-spare.result
     (is_map_page c.args.target.now.era c.args.sequence (part x rs c.args.sequence) c.write_map.new.out c.write_spare-spare.result
-    (page_of c.args.geometry.now c.args.map.now.geometry c.args.map.now.records c.args.target.now.era c.args.sequence c.write_map.new.out c.requires.map c.write_map.ensures) c.write_spare-spare.ensures) c.program.ensures.page
+    (page_of c.args.geometry.now c.args.map.now.geometry c.args.map.now.records c.args.target.now.era c.args.sequence c.write_map.new.out c.requires.can.map c.write_map.ensures) c.write_spare-spare.ensures) c.program.ensures.page
 
 pub returns-clause-done : goal.returns-clause-done
 returns-clause-done g c =
@@ -25,7 +25,7 @@ returns-clause-done g c =
     let x = c.args.geometry.now in
     programmed (IsMapPage c.args.target.now.era c.args.sequence (part x rs c.args.sequence)) (g.M.Media.state c.args.media.now).contents.flash (g.M.Media.state c.program.new.self).contents.flash _ c.checkpoint_at-at.result c.checkpoint_at-at.ensures c.write_map.new.out c.write_spare-spare.result
     (is_map_page c.args.target.now.era c.args.sequence (part x rs c.args.sequence) c.write_map.new.out c.write_spare-spare.result
-    (page_of c.args.geometry.now c.args.map.now.geometry c.args.map.now.records c.args.target.now.era c.args.sequence c.write_map.new.out c.requires.map c.write_map.ensures) c.write_spare-spare.ensures) c.in_ok-program.ensures.ok
+    (page_of c.args.geometry.now c.args.map.now.geometry c.args.map.now.records c.args.target.now.era c.args.sequence c.write_map.new.out c.requires.can.map c.write_map.ensures) c.write_spare-spare.ensures) c.in_ok-program.ensures.ok
 
 pub returns-clause-pages : goal.returns-clause-pages
 returns-clause-pages g c =
@@ -33,4 +33,4 @@ returns-clause-pages g c =
     let x = c.args.geometry.now in
     leaves_one (IsMapPage c.args.target.now.era c.args.sequence (part x rs c.args.sequence)) (g.M.Media.state c.args.media.now).contents.flash (g.M.Media.state c.program.new.self).contents.flash _ c.checkpoint_at-at.result c.checkpoint_at-at.ensures c.write_map.new.out c.write_spare-spare.result
     (is_map_page c.args.target.now.era c.args.sequence (part x rs c.args.sequence) c.write_map.new.out c.write_spare-spare.result
-    (page_of c.args.geometry.now c.args.map.now.geometry c.args.map.now.records c.args.target.now.era c.args.sequence c.write_map.new.out c.requires.map c.write_map.ensures) c.write_spare-spare.ensures) c.program.ensures.page
+    (page_of c.args.geometry.now c.args.map.now.geometry c.args.map.now.records c.args.target.now.era c.args.sequence c.write_map.new.out c.requires.can.map c.write_map.ensures) c.write_spare-spare.ensures) c.program.ensures.page

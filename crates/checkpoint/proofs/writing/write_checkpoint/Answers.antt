@@ -1,8 +1,10 @@
-use Rattle.std.proofs.Common.{◌+◌, ◌-◌, ◌/◌, arith, rules, ap, inl}
-use Rattle.ft_media.proofs.DrivesLemmas.{drives_then}
+use Rattle.std.proofs.Common.{◌+◌, ◌-◌, ◌/◌, arith, rules, sym, ap, subst, inl}
+use Rattle.ft_base.specs.Contents.{Shape}
+use Rattle.ft_media.proofs.DrivesLemmas.{drives_then, only_then}
+use Rattle.op_log.specs.Log.{FitsOn}
 use Rattle.checkpoint.proofs.CountsLemmas.{checkpoint_made}
 use Rattle.checkpoint.proofs.CountingLemmas.{records_bounded, listing_here, pages_fit}
-use Rattle.checkpoint.proofs.ProgramLemmas.{drives_err}
+use Rattle.checkpoint.proofs.OnlyLemmas.{only_failed}
 use Rattle.checkpoint.proofs.MapsLemmas.{maps_ready}
 use Rattle.checkpoint.proofs.WrittenLemmas.{maps_unsealed, seal_left, seal_done}
 use Rattle.checkpoint.proofs.writing.write_checkpoint.Goals as goal
@@ -13,6 +15,14 @@ overflow_add-pages g c =
     let same = c.checkpoint_len-records.ensures.count in
     omega arith
 
+pub program_maps-requires-clause-can : goal.program_maps-requires-clause-can
+program_maps-requires-clause-can g c = record {
+  shape = subst (λ (s : Shape). FitsOn c.args.geometry.now s) (sym c.in_ok-erase_regions.ensures.drives.passes.shape) c.requires.shape;
+  map = c.requires.map;
+  is_map = c.requires.is_map;
+  listing = listing_here c.args.map.now.geometry c.args.geometry.now c.args.map.now.entries c.args.map.now.records c.requires.map c.checkpoint_len-records.ensures.listing;
+}
+
 pub program_maps-requires-clause-room : goal.program_maps-requires-clause-room
 program_maps-requires-clause-room g c =
     pages_fit c.args.map.now.geometry c.args.geometry.now c.args.map.now.entries c.args.map.now.records c.checkpoint_len-records.result c.requires.map c.requires.is_map c.checkpoint_len-records.ensures.listing c.checkpoint_len-records.ensures.count
@@ -22,8 +32,7 @@ returns-in_err-program_maps-clause-pages g c =
     inl (maps_unsealed c.args.geometry.now c.args.target.now.region (g.M.Media.state c.args.media.now).contents.flash (g.M.Media.state c.erase_regions.new.media).contents.flash (g.M.Media.state c.program_maps.new.media).contents.flash c.in_ok-erase_regions.ensures.done c.program_maps.ensures.pages)
 
 pub returns-in_err-program_maps-clause-drives : goal.returns-in_err-program_maps-clause-drives
-returns-in_err-program_maps-clause-drives g c =
-    drives_err (g.M.Media.state c.args.media.now) (g.M.Media.state c.erase_regions.new.media) (g.M.Media.state c.program_maps.new.media) c.in_err-program_maps.field-0.0 _ c.in_ok-erase_regions.ensures.drives c.in_err-program_maps.ensures.drives (search rules)
+returns-in_err-program_maps-clause-drives g c = only_failed _ _ _ _ _ c.in_ok-erase_regions.ensures.drives c.in_err-program_maps.ensures.drives (search rules)
 
 pub program_seal-requires-clause-room : goal.program_seal-requires-clause-room
 program_seal-requires-clause-room g c =
@@ -43,9 +52,8 @@ returns-in_err-program_seal-clause-pages g c =
     (g.M.Media.state c.program_seal.new.media).contents.flash c.in_ok-erase_regions.ensures.done c.in_ok-program_maps.ensures.done c.program_seal.ensures.pages
 
 pub returns-in_err-program_seal-clause-drives : goal.returns-in_err-program_seal-clause-drives
-returns-in_err-program_seal-clause-drives g c =
-    drives_err (g.M.Media.state c.args.media.now) (g.M.Media.state c.program_maps.new.media) (g.M.Media.state c.program_seal.new.media) c.in_err-program_seal.field-0.0 _
-    (drives_then (g.M.Media.state c.args.media.now) (g.M.Media.state c.erase_regions.new.media) (g.M.Media.state c.program_maps.new.media) _ _ c.in_ok-erase_regions.ensures.drives c.in_ok-program_maps.ensures.drives)
+returns-in_err-program_seal-clause-drives g c = only_failed _ _ _ _ _
+    (drives_then _ _ _ _ _ c.in_ok-erase_regions.ensures.drives c.in_ok-program_maps.ensures.drives.flash)
     c.in_err-program_seal.ensures.drives (search rules)
 
 pub returns-clause-done : goal.returns-clause-done
@@ -70,7 +78,6 @@ returns-clause-counts g c =
     (ap (λ n. (n + 127 - 1) / 127) c.checkpoint_len-records.ensures.count) c.in_ok-erase_regions.ensures.counts c.in_ok-program_maps.ensures.counts c.in_ok-program_seal.ensures.counts
 
 pub returns-clause-drives : goal.returns-clause-drives
-returns-clause-drives g c =
-    drives_then (g.M.Media.state c.args.media.now) (g.M.Media.state c.program_maps.new.media) (g.M.Media.state c.program_seal.new.media) _ _
-    (drives_then (g.M.Media.state c.args.media.now) (g.M.Media.state c.erase_regions.new.media) (g.M.Media.state c.program_maps.new.media) _ _ c.in_ok-erase_regions.ensures.drives c.in_ok-program_maps.ensures.drives)
+returns-clause-drives g c = only_then _ _ _ _
+    (drives_then _ _ _ _ _ c.in_ok-erase_regions.ensures.drives c.in_ok-program_maps.ensures.drives.flash)
     c.in_ok-program_seal.ensures.drives

@@ -1,22 +1,24 @@
-use Rattle.std.proofs.Common.{◌≡◌, inr, ap, subst}
+use Rattle.std.proofs.Common.{◌≡◌, inr, ◌∙◌, ap, subst}
 use Rattle.ft_base.specs.declared.geometry.Geometry.{Geometry}
-use Rattle.ft_media.proofs.DrivesLemmas.{drives_then}
+use Rattle.ft_media.proofs.DrivesLemmas.{only_then}
 use Rattle.cache_model.specs.Stands.{FlashStandsFor}
 use Rattle.merge_engine.specs.declared.parts.Parts.{Parts}
 use Rattle.merge_engine.proofs.ResultLemmas.{on_ok_from}
 use Rattle.merge_engine.proofs.BesideLemmas.{lists_as}
 use Rattle.merge_engine.proofs.appending.commit_and_take.Goals as goal
 
-pub returns-clause-lists : goal.returns-clause-lists
-returns-clause-lists g c = on_ok_from c.take_log_block.result (λ v is. λ list durable lists.
-    lists_as c.commit.new.cache c.take_log_block.new.cache _ list list (ap (λ (p : Parts). p.map) c.take_log_block.ensures.cache) (ap (λ (p : Parts). p.geometry) c.take_log_block.ensures.cache)
-    (c.take_log_block.ensures.lists list list (c.in_ok-commit.ensures.lists list durable lists)))
-
-pub returns-clause-stands : goal.returns-clause-stands
-returns-clause-stands g c = λ list durable lists.
-    let same : c.commit.new.cache.geometry ≡ c.args.cache.now.geometry = ap (λ (p : Parts). p.geometry) c.commit.ensures.cache in
-    inr (subst (λ (h : Geometry). FlashStandsFor h (g.M.Media.state c.take_log_block.new.media).contents.flash.page list) same
-    (c.take_log_block.ensures.lists list list (c.in_ok-commit.ensures.lists list durable lists)).stands)
+pub returns-clause-kept : goal.returns-clause-kept
+returns-clause-kept g c = record {
+  agree = c.take_log_block.ensures.agree;
+  nothing_waits = on_ok_from c.take_log_block.result (λ v is. ap (λ (p : Parts). p.log.buffered) c.take_log_block.ensures.cache ∙ c.in_ok-commit.ensures.kept.nothing_waits);
+  lists = on_ok_from c.take_log_block.result (λ v is. λ list durable lists.
+      lists_as c.commit.new.cache c.take_log_block.new.cache _ list list (ap (λ (p : Parts). p.map) c.take_log_block.ensures.cache) (ap (λ (p : Parts). p.geometry) c.take_log_block.ensures.cache)
+      (c.take_log_block.ensures.lists list list (c.in_ok-commit.ensures.kept.lists list durable lists)));
+  stands = λ list durable lists.
+      let same : c.commit.new.cache.geometry ≡ c.args.cache.now.geometry = ap (λ (p : Parts). p.geometry) c.commit.ensures.cache in
+      inr (subst (λ (h : Geometry). FlashStandsFor h (g.M.Media.state c.take_log_block.new.media).contents.flash.page list) same
+      (c.take_log_block.ensures.lists list list (c.in_ok-commit.ensures.kept.lists list durable lists)).stands);
+}
 
 pub returns-clause-drives : goal.returns-clause-drives
-returns-clause-drives g c = drives_then _ _ _ _ _ c.in_ok-commit.ensures.drives c.take_log_block.ensures.drives
+returns-clause-drives g c = only_then _ _ _ _ c.in_ok-commit.ensures.drives.flash c.take_log_block.ensures.drives

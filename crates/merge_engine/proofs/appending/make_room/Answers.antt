@@ -13,32 +13,34 @@ pub returns-clause-few : goal.returns-clause-few
 returns-clause-few g c = on_ok_from c.free_log_block.result (λ v is.
     let mid = c.free_unheld.new.cache in
     let new = c.free_log_block.new.cache in
-    let agree = c.free_unheld.ensures.agree (g.M.Media.state c.args.media.now).contents c.requires.agree in
+    let agree = c.free_unheld.ensures.agree (g.M.Media.state c.args.media.now).contents c.requires.can.agree in
     let low = room_after mid.logs new.logs c.used.ensures.sound (omega (arith, c.used.ensures.used, c.if-used-cache.false, mid.geometry.in_range.l_low)) (ok_at c.free_log_block.result v is c.free_log_block.ensures.logs) in
     let first = ap (λ (h : Geometry). h.l) agree.sound.of_one.logs in
     let then = ap (λ (h : Geometry). h.l) c.free_log_block.ensures.geometry in
     omega arith)
 
-pub returns-clause-lists : goal.returns-clause-lists
-returns-clause-lists g c = on_ok_from c.free_log_block.result (λ v is. λ list durable lists.
-    let mid = c.free_unheld.new.cache in
-    let gave = c.free_unheld.ensures.cache in
-    subst (λ (l : LogValue). GoesOn l c.free_log_block.new.cache (g.M.Media.state c.free_log_block.new.media).contents.flash.page list durable) (ap (λ (p : Parts). p.log) gave)
-    ((ok_at c.free_log_block.result v is c.free_log_block.ensures.lists) list durable
-    (lists_as c.args.cache.now mid (g.M.Media.state c.args.media.now).contents.flash.page list durable (ap (λ (p : Parts). p.map) gave) (ap (λ (p : Parts). p.geometry) gave) lists)))
-
-pub returns-clause-stands : goal.returns-clause-stands
-returns-clause-stands g c = λ list durable lists.
-    let mid = c.free_unheld.new.cache in
-    let gave = c.free_unheld.ensures.cache in
-    subst (λ (h : Geometry). FlashStandsForGiven h (g.M.Media.state c.free_log_block.new.media).contents.flash.page durable list) (ap (λ (p : Parts). p.geometry) gave)
-    (c.free_log_block.ensures.stands list durable
-    (lists_as c.args.cache.now mid (g.M.Media.state c.args.media.now).contents.flash.page list durable (ap (λ (p : Parts). p.map) gave) (ap (λ (p : Parts). p.geometry) gave) lists))
+pub returns-clause-goes : goal.returns-clause-goes
+returns-clause-goes g c = record {
+  agree = c.free_log_block.ensures.goes.agree;
+  room = c.free_log_block.ensures.goes.room;
+  lists = on_ok_from c.free_log_block.result (λ v is. λ list durable lists.
+      let mid = c.free_unheld.new.cache in
+      let gave = c.free_unheld.ensures.cache in
+      subst (λ (l : LogValue). GoesOn l c.free_log_block.new.cache (g.M.Media.state c.free_log_block.new.media).contents.flash.page list durable) (ap (λ (p : Parts). p.log) gave)
+      ((ok_at c.free_log_block.result v is c.free_log_block.ensures.goes.lists) list durable
+      (lists_as c.args.cache.now mid (g.M.Media.state c.args.media.now).contents.flash.page list durable (ap (λ (p : Parts). p.map) gave) (ap (λ (p : Parts). p.geometry) gave) lists)));
+  stands = λ list durable lists.
+      let mid = c.free_unheld.new.cache in
+      let gave = c.free_unheld.ensures.cache in
+      subst (λ (h : Geometry). FlashStandsForGiven h (g.M.Media.state c.free_log_block.new.media).contents.flash.page durable list) (ap (λ (p : Parts). p.geometry) gave)
+      (c.free_log_block.ensures.goes.stands list durable
+      (lists_as c.args.cache.now mid (g.M.Media.state c.args.media.now).contents.flash.page list durable (ap (λ (p : Parts). p.map) gave) (ap (λ (p : Parts). p.geometry) gave) lists));
+}
 
 pub returns-clause-no_merge : goal.returns-clause-no_merge
 returns-clause-no_merge g c = λ can.
     let old = c.args.cache.now in
     let mid = c.free_unheld.new.cache in
-    let s = c.requires.agree.sound in
+    let s = c.requires.can.agree.sound in
     let few = few_left old mid s.logs s.of_one.logs (ap (λ (p : Parts). p.geometry) c.free_unheld.ensures.cache) c.free_unheld.ensures.no_more c.free_unheld.ensures.fewer can in
     absurd (omega (arith, c.used.ensures.used, c.if-used-cache.false))

@@ -1,20 +1,21 @@
 use Rattle.merge_engine.proofs.ResultLemmas.{on_ok_from, ok_at}
-use Rattle.merge_engine.proofs.CommitLemmas.{committed_stands, committed_lists, committed_agree}
+use Rattle.merge_engine.proofs.CommitLemmas.{can_checkpoint, committed_stands, committed_lists, committed_agree}
 use Rattle.merge_engine.proofs.committing.make_checkpoint.Goals as goal
 
-pub returns-clause-agree : goal.returns-clause-agree
-returns-clause-agree g c = on_ok_from c.checkpoint.result (λ v is.
-    let done = c.checkpoint.ensures in
-    committed_agree c.args.cache.now c.checkpoint.new.log c.checkpoint.new.self (g.M.Media.state c.args.media.now).contents (g.M.Media.state c.checkpoint.new.media).contents c.requires.sound done.pool
-    done.geometry done.own done.drives.passes.shape (ok_at c.checkpoint.result v is done.pool_ready) (ok_at c.checkpoint.result v is done.done))
+pub checkpoint-requires : goal.checkpoint-requires
+checkpoint-requires g c = record { can = can_checkpoint c.args.cache.now (g.M.Media.state c.args.media.now).contents c.requires.sound }
 
-pub returns-clause-lists : goal.returns-clause-lists
-returns-clause-lists g c = on_ok_from c.checkpoint.result (λ v is.
-    let done = c.checkpoint.ensures in
-    committed_lists c.args.cache.now c.checkpoint.new.log c.checkpoint.new.self (g.M.Media.state c.args.media.now).contents (g.M.Media.state c.checkpoint.new.media).contents c.requires.sound done.pool
-    done.geometry (ok_at c.checkpoint.result v is done.done))
-
-pub returns-clause-stands : goal.returns-clause-stands
-returns-clause-stands g c =
-    let done = c.checkpoint.ensures in
-    committed_stands c.args.cache.now c.checkpoint.new.log c.checkpoint.new.self (g.M.Media.state c.args.media.now).contents (g.M.Media.state c.checkpoint.new.media).contents c.requires.sound done.pool done.stands
+pub returns-clause-kept : goal.returns-clause-kept
+returns-clause-kept g c = record {
+  agree = on_ok_from c.checkpoint.result (λ v is.
+      let done = c.checkpoint.ensures in
+      committed_agree c.args.cache.now c.checkpoint.new.log c.checkpoint.new.self (g.M.Media.state c.args.media.now).contents (g.M.Media.state c.checkpoint.new.media).contents c.requires.sound done.flash.pool
+      done.log.geometry done.own done.drives.flash.passes.shape (ok_at c.checkpoint.result v is done.flash.pool_ready) (ok_at c.checkpoint.result v is done.done));
+  nothing_waits = on_ok_from c.checkpoint.result (λ v is. (ok_at c.checkpoint.result v is c.checkpoint.ensures.done).nothing);
+  lists = on_ok_from c.checkpoint.result (λ v is.
+      let done = c.checkpoint.ensures in
+      committed_lists c.args.cache.now c.checkpoint.new.log c.checkpoint.new.self (g.M.Media.state c.args.media.now).contents (g.M.Media.state c.checkpoint.new.media).contents c.requires.sound done.flash.pool
+      done.log.geometry (ok_at c.checkpoint.result v is done.done));
+  stands = let done = c.checkpoint.ensures in
+      committed_stands c.args.cache.now c.checkpoint.new.log c.checkpoint.new.self (g.M.Media.state c.args.media.now).contents (g.M.Media.state c.checkpoint.new.media).contents c.requires.sound done.flash.pool done.flash.stands;
+}

@@ -1,8 +1,9 @@
 use Rattle.std.proofs.Common.{◌≡◌, ap, ◌∙◌, ◌+◌, ◌*◌, arith, rules, refl}
-use Rattle.ft_media.proofs.DrivesLemmas.{drives_then}
-use Rattle.checkpoint.proofs.ProgramLemmas.{drives_err}
-use Rattle.merge_engine.specs.Merges.{programs_counted}
-use Rattle.merge_engine.proofs.CopyLemmas.{copied_more, counted_more, filled_more, held_is_below, is_page_of_group, page_before, pages_of_group}
+use Rattle.ft_media.proofs.DrivesLemmas.{drives_none, drives_then}
+use Rattle.checkpoint.specs.Counts.{programs_counted}
+use Rattle.checkpoint.proofs.CountsLemmas.{programs_none, programs_more}
+use Rattle.checkpoint.proofs.OnlyLemmas.{only_failed}
+use Rattle.merge_engine.proofs.CopyLemmas.{copied_more, filled_more, held_is_below, is_page_of_group, page_before, pages_of_group}
 use Rattle.merge_engine.proofs.copying.copy_group.Goals as goal
 
 pub overflow_mul-lba : goal.overflow_mul-lba
@@ -22,8 +23,18 @@ pub returns-in_err-copy_page-clause-lists : goal.returns-in_err-copy_page-clause
 returns-in_err-copy_page-clause-lists g c list durable lists = c.copy_page.ensures.lists list durable (c.loop-page.invariant.lists list durable lists)
 
 pub returns-in_err-copy_page-clause-drives : goal.returns-in_err-copy_page-clause-drives
-returns-in_err-copy_page-clause-drives g c =
-    drives_err (g.M.Media.state c.args.media.now) (g.M.Media.state c.loop-page.media) (g.M.Media.state c.copy_page.new.media) c.in_err-copy_page.field-0.0 _ c.loop-page.invariant.drives c.in_err-copy_page.ensures.drives (search rules)
+returns-in_err-copy_page-clause-drives g c = only_failed _ _ _ _ _ c.loop-page.invariant.drives c.in_err-copy_page.ensures.drives (search rules)
+
+pub loop-page-init : goal.loop-page-init
+loop-page-init g c = record {
+  agree = c.requires.agree;
+  lists = λ list durable lists. lists;
+  next = c.requires.erased;
+  copied = search rules;
+  filled = search rules;
+  counts = programs_none (g.M.Media.state c.args.media.now).counts (g.met.M.Media.is_small c.args.media.now).counts.programs;
+  drives = drives_none (g.M.Media.state c.args.media.now);
+}
 
 pub loop-page-preserved : goal.loop-page-preserved
 loop-page-preserved g c = record {
@@ -37,8 +48,8 @@ loop-page-preserved g c = record {
       (g.M.Media.state c.copy_page.new.media).contents.flash c.args.group c.args.block (c.args.group * c.args.cache.now.geometry.p + c.loop-page.page) c.loop-page.page
       (record { block = c.args.block; page = c.loop-page.page })
       refl refl c.loop-page.invariant.filled c.in_ok-copy_page.ensures.others c.in_ok-copy_page.ensures.filler;
-  counts = counted_more c.loop-page.page (g.M.Media.state c.args.media.now).counts (g.M.Media.state c.loop-page.media).counts (g.M.Media.state c.copy_page.new.media).counts c.loop-page.invariant.counts c.in_ok-copy_page.ensures.counts;
-  drives = drives_then (g.M.Media.state c.args.media.now) (g.M.Media.state c.loop-page.media) (g.M.Media.state c.copy_page.new.media) _ _ c.loop-page.invariant.drives c.in_ok-copy_page.ensures.drives;
+  counts = programs_more c.loop-page.page (g.M.Media.state c.args.media.now).counts (g.M.Media.state c.loop-page.media).counts (g.M.Media.state c.copy_page.new.media).counts c.loop-page.invariant.counts c.in_ok-copy_page.ensures.counts;
+  drives = drives_then (g.M.Media.state c.args.media.now) (g.M.Media.state c.loop-page.media) (g.M.Media.state c.copy_page.new.media) _ _ c.loop-page.invariant.drives c.in_ok-copy_page.ensures.drives.flash;
 }
 
 pub returns-clause-copied : goal.returns-clause-copied

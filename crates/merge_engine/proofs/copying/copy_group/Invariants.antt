@@ -2,7 +2,7 @@ use Rattle.std.proofs.Common.{◌≡◌, Some, false}
 use Rattle.ft_media.specs.Drives.{DrivesFlash}
 use Rattle.cache_model.specs.CacheList.{CacheList}
 use Rattle.merge_engine.specs.Agreement.{Agree, Lists}
-use Rattle.merge_engine.specs.Merges.{programs_counted}
+use Rattle.checkpoint.specs.Counts.{programs_counted}
 use Rattle.merge_engine.proofs.CopyLemmas.{IsCopiedBelow, IsFilledBelow}
 use Rattle.merge_engine.proofs.copying.copy_group.Given as goal
 

@@ -1,4 +1,5 @@
-use Rattle.std.proofs.Common.{◌≡◌, Some, false, true, refl, sym, ◌∙◌, ap, subst}
+use Rattle.std.proofs.Common.{◌≡◌, ◌<◌, length, Some, false, true, refl, sym, ◌∙◌, ap, subst}
+use Rattle.ft_base.specs.Layout.{page_records}
 use Rattle.log_blocks.specs.Logs.{LogBlocksValue, IsInUse, released}
 use Rattle.merge_engine.specs.declared.parts.Parts.{Parts}
 use Rattle.merge_engine.proofs.GoesLemmas.{goes_as}
@@ -7,12 +8,6 @@ use Rattle.merge_engine.proofs.LogRoomLemmas.{given_same}
 use Rattle.merge_engine.proofs.GiveBackLemmas.{was_in_use}
 use Rattle.merge_engine.proofs.SwitchLemmas.{lost_at_last, used_before}
 use Rattle.merge_engine.proofs.freeing.free_log_block.Goals as goal
-
-pub returns-clause-lists : goal.returns-clause-lists
-returns-clause-lists g c = λ list durable lists.
-    let is = c.give_back_used.ensures.cache in
-    goes_as c.args.cache.now.log c.merge_owners.new.cache c.give_back_used.new.cache (g.M.Media.state c.merge_owners.new.media).contents.flash.page list durable
-    (ap (λ (p : Parts). p.map) is) (ap (λ (p : Parts). p.geometry) is) (ap (λ (p : Parts). p.log) is) (c.in_ok-merge_owners.ensures.lists list durable lists)
 
 pub returns-in_err-merge_owners-clause-unheld : goal.returns-in_err-merge_owners-clause-unheld
 returns-in_err-merge_owners-clause-unheld g c = λ oldest is unheld.
@@ -44,5 +39,13 @@ returns-clause-used g c = λ b used.
     let is = lost_at_last c.in-Some.block c.args.cache.now.logs c.merge_owners.new.cache.logs c.give_back_used.new.cache.logs c.merge_owners.ensures.logs c.in-Some.ensures.in_use c.give_back_used.ensures.used c.give_back_used.ensures.switched in
     was_in_use c.args.cache.now.logs c.in-Some.block b (subst (λ (l : LogBlocksValue). IsInUse l b) is used)
 
-pub returns-clause-agree : goal.returns-clause-agree
-returns-clause-agree g c = c.give_back_used.ensures.agree (g.M.Media.state c.merge_owners.new.media).contents c.in_ok-merge_owners.ensures.agree c.in_ok-merge_owners.ensures.unheld
+pub returns-clause-goes : goal.returns-clause-goes
+returns-clause-goes g c = record {
+  agree = c.give_back_used.ensures.agree (g.M.Media.state c.merge_owners.new.media).contents c.in_ok-merge_owners.ensures.goes.agree c.in_ok-merge_owners.ensures.unheld;
+  room = subst (λ (p : Parts). length p.log.buffered < page_records p.log.geometry) (sym c.give_back_used.ensures.cache) c.in_ok-merge_owners.ensures.goes.room;
+  lists = λ list durable lists.
+      let is = c.give_back_used.ensures.cache in
+      goes_as c.args.cache.now.log c.merge_owners.new.cache c.give_back_used.new.cache (g.M.Media.state c.merge_owners.new.media).contents.flash.page list durable
+      (ap (λ (p : Parts). p.map) is) (ap (λ (p : Parts). p.geometry) is) (ap (λ (p : Parts). p.log) is) (c.in_ok-merge_owners.ensures.goes.lists list durable lists);
+  stands = c.merge_owners.ensures.goes.stands;
+}

@@ -1,22 +1,26 @@
 use Rattle.std.proofs.Common.{◌≡◌, false, true, rules, ◌∙◌, ap, arith}
 use Rattle.ft_base.specs.declared.geometry.Geometry.{Geometry}
 use Rattle.ft_media.proofs.DrivesLemmas.{drives_then}
-use Rattle.checkpoint.proofs.ProgramLemmas.{drives_err}
 use Rattle.merge_engine.proofs.GoesLemmas.{given_then, given_from, goes_then}
+use Rattle.checkpoint.proofs.OnlyLemmas.{only_failed}
 use Rattle.merge_engine.proofs.OwnerLemmas.{unowned_in, none_before-more, none_before-all, unowned_still}
 use Rattle.merge_engine.proofs.SwitchLemmas.{lose_then, used_before}
 use Rattle.merge_engine.proofs.TakeLemmas.{agree_map}
 use Rattle.merge_engine.proofs.freeing.merge_owners.Goals as goal
 
-pub returns-in_err-merge_owner-clause-stands : goal.returns-in_err-merge_owner-clause-stands
-returns-in_err-merge_owner-clause-stands g c = λ list durable lists.
-    let l = c.loop-page in
-    given_then c.args.cache.now.log l.cache (g.M.Media.state l.media).contents.flash.page c.args.cache.now.geometry l.invariant.geometry list durable (g.M.Media.state c.merge_owner.new.media).contents.flash.page
-    (l.invariant.lists list durable lists) c.merge_owner.ensures.stands
+pub returns-in_err-merge_owner-clause-goes : goal.returns-in_err-merge_owner-clause-goes
+returns-in_err-merge_owner-clause-goes g c = record {
+  agree = search rules;
+  room = search rules;
+  lists = search rules;
+  stands = λ list durable lists.
+      let l = c.loop-page in
+      given_then c.args.cache.now.log l.cache (g.M.Media.state l.media).contents.flash.page c.args.cache.now.geometry l.invariant.geometry list durable (g.M.Media.state c.merge_owner.new.media).contents.flash.page
+      (l.invariant.lists list durable lists) c.merge_owner.ensures.goes.stands;
+}
 
 pub returns-in_err-merge_owner-clause-drives : goal.returns-in_err-merge_owner-clause-drives
-returns-in_err-merge_owner-clause-drives g c =
-    drives_err (g.M.Media.state c.args.media.now) (g.M.Media.state c.loop-page.media) (g.M.Media.state c.merge_owner.new.media) c.in_err-merge_owner.field-0.0 _ c.loop-page.invariant.drives c.in_err-merge_owner.ensures.drives (search rules)
+returns-in_err-merge_owner-clause-drives g c = only_failed _ _ _ _ _ c.loop-page.invariant.drives c.in_err-merge_owner.ensures.drives (search rules)
 
 pub loop-page-preserved : goal.loop-page-preserved
 loop-page-preserved g c =
@@ -27,18 +31,18 @@ loop-page-preserved g c =
     record {
       geometry = c.merge_owner.ensures.geometry ∙ k.geometry;
       logs = logs;
-      pages = c.merge_owner.ensures.pages ∙ k.pages;
-      groups = let first = k.groups in let then = c.merge_owner.ensures.groups in omega arith;
-      agree = e.agree;
-      room = e.room;
+      pages = c.merge_owner.ensures.room.pages ∙ k.pages;
+      groups = let first = k.groups in let then = c.merge_owner.ensures.room.groups in omega arith;
+      agree = e.goes.agree;
+      room = e.goes.room;
       nothing = λ unheld. let was = k.nothing unheld in let now = c.merge_owner.ensures.nothing (unowned_in c.args.cache.now l.cache c.args.block l.page was.0 unheld) in (now.1 ∙ was.0, now.2 ∙ was.1);
       unowned = λ used. none_before-more c.merge_owner.new.cache.map.entries c.args.block l.page
-          (λ page low. unowned_still l.cache.map.entries c.merge_owner.new.cache (record { block = c.args.block; page = page }) e.agree.sound.roles used e.page_mapped
+          (λ page low. unowned_still l.cache.map.entries c.merge_owner.new.cache (record { block = c.args.block; page = page }) e.goes.agree.sound.roles used e.page_mapped
           (k.unowned (used_before c.args.block l.cache.logs c.merge_owner.new.cache.logs c.merge_owner.ensures.logs c.args.block used) page low))
           (e.unowned used);
       lists = λ list durable lists. goes_then c.args.cache.now.log l.cache (g.M.Media.state l.media).contents.flash.page c.args.cache.now.geometry k.geometry list durable c.merge_owner.new.cache (g.M.Media.state c.merge_owner.new.media).contents.flash.page
-          (c.merge_owner.ensures.geometry ∙ k.geometry) (k.lists list durable lists) e.lists;
-      drives = drives_then _ _ _ _ _ k.drives e.drives;
+          (c.merge_owner.ensures.geometry ∙ k.geometry) (k.lists list durable lists) e.goes.lists;
+      drives = drives_then _ _ _ _ _ k.drives e.drives.flash;
     }
 
 pub returns-clause-unheld : goal.returns-clause-unheld
@@ -49,10 +53,15 @@ returns-clause-unheld g c = λ used.
     none_before-all l.cache.geometry l.cache.map.entries c.args.block (agree_map l.cache (g.M.Media.state l.media).contents l.invariant.agree)
     (λ page low. l.invariant.unowned used page (omega arith))
 
-pub returns-clause-stands : goal.returns-clause-stands
-returns-clause-stands g c = λ list durable lists.
-    let l = c.loop-page in
-    given_from c.args.cache.now.log l.cache (g.M.Media.state l.media).contents.flash.page c.args.cache.now.geometry l.invariant.geometry list durable (l.invariant.lists list durable lists)
+pub returns-clause-goes : goal.returns-clause-goes
+returns-clause-goes g c = record {
+  agree = c.loop-page.invariant.agree;
+  room = c.loop-page.invariant.room;
+  lists = c.loop-page.invariant.lists;
+  stands = λ list durable lists.
+      let l = c.loop-page in
+      given_from c.args.cache.now.log l.cache (g.M.Media.state l.media).contents.flash.page c.args.cache.now.geometry l.invariant.geometry list durable (l.invariant.lists list durable lists);
+}
 
 pub returns-in_err-merge_owner-clause-nothing : goal.returns-in_err-merge_owner-clause-nothing
 returns-in_err-merge_owner-clause-nothing g c = λ unheld.

@@ -1,8 +1,9 @@
 use Rattle.std.proofs.Common.{rules, ◌∙◌, ap}
 use Rattle.ft_media.proofs.DrivesLemmas.{drives_then}
-use Rattle.merge_engine.specs.Merges.{programs_counted}
+use Rattle.checkpoint.specs.Counts.{programs_counted}
+use Rattle.checkpoint.proofs.OnlyLemmas.{only_failed}
 use Rattle.merge_engine.proofs.TakeLemmas.{one_is_free, lists_taken}
-use Rattle.merge_engine.proofs.MoveLemmas.{agree_taken, lists_roles, drives_failed}
+use Rattle.merge_engine.proofs.MoveLemmas.{agree_taken, lists_roles}
 use Rattle.merge_engine.proofs.merging.copy_out.Goals as goal
 
 pub take-requires-clause-free : goal.take-requires-clause-free
@@ -29,8 +30,7 @@ returns-in_err-copy_group-clause-lists g c = λ list durable lists.
     (lists_taken c.args.cache.now (g.M.Media.state c.args.media.now).contents mid c.requires.agree c.requires.nothing p.block p.taken.free p.pages list durable lists))
 
 pub returns-in_err-copy_group-clause-drives : goal.returns-in_err-copy_group-clause-drives
-returns-in_err-copy_group-clause-drives g c =
-    drives_failed (Unit {0}) (g.M.Media.state c.args.media.now) (g.M.Media.state c.take.new.media) (g.M.Media.state c.copy_group.new.media) c.in_err-copy_group.field-0.0 _ c.in_ok-block.ensures.drives c.in_err-copy_group.ensures.drives (search rules)
+returns-in_err-copy_group-clause-drives g c = only_failed _ _ _ _ _ c.in_ok-block.ensures.drives c.in_err-copy_group.ensures.drives (search rules)
 
 pub returns-clause-lists : goal.returns-clause-lists
 returns-clause-lists g c = λ list durable lists.
@@ -41,7 +41,7 @@ returns-clause-lists g c = λ list durable lists.
     (lists_taken c.args.cache.now (g.M.Media.state c.args.media.now).contents mid c.requires.agree c.requires.nothing p.block p.taken.free p.pages list durable lists))
 
 pub returns-clause-drives : goal.returns-clause-drives
-returns-clause-drives g c = drives_then (g.M.Media.state c.args.media.now) (g.M.Media.state c.take.new.media) (g.M.Media.state c.copy_group.new.media) _ _ c.in_ok-block.ensures.drives c.in_ok-copy_group.ensures.drives
+returns-clause-drives g c = record { memory = λ is. cc; flash = drives_then _ _ _ _ _ c.in_ok-block.ensures.drives c.in_ok-copy_group.ensures.drives.flash }
 
 pub returns-clause-counts : goal.returns-clause-counts
 returns-clause-counts g c = λ pages reach. c.in_ok-copy_group.ensures.counts pages reach ∙ ap (programs_counted pages) c.in_ok-block.ensures.counts

@@ -1,26 +1,31 @@
-use Rattle.std.proofs.Common.{rules, ℕ, ◌≤◌, ◌<◌, sym, ◌∙◌, ap, subst, inr}
+use Rattle.std.proofs.Common.{rules, ◌≤◌, ◌<◌, sym, ◌∙◌, ap, subst, inr}
 use Rattle.ft_base.specs.declared.geometry.Geometry.{Geometry}
 use Rattle.ft_base.specs.Layout.{first_pool, log_pages}
-use Rattle.ft_media.proofs.DrivesLemmas.{drives_then}
+use Rattle.ft_media.proofs.DrivesLemmas.{drives_then, only_then}
 use Rattle.checkpoint.specs.Current.{PoolStays}
 use Rattle.merge_engine.specs.declared.parts.Parts.{Parts}
 use Rattle.merge_engine.proofs.RoleLemmas.{free_in_pool}
 use Rattle.merge_engine.proofs.ResultLemmas.{on_ok_from, ok_at}
+use Rattle.checkpoint.proofs.OnlyLemmas.{only_failed}
 use Rattle.merge_engine.proofs.TakeLemmas.{agree_map}
-use Rattle.merge_engine.proofs.MoveLemmas.{room_still, held_still, stands_listed, copied_still, moved_still, stands_still, either_same, merged_moved, others_moved, filled_still, fillers_moved, moved_counts, reach_still, drives_failed}
+use Rattle.merge_engine.proofs.MoveLemmas.{room_still, held_still, stands_listed, copied_still, moved_still, stands_still, either_same, merged_moved, others_moved, filled_still, fillers_moved, moved_counts, reach_still}
 use Rattle.merge_engine.proofs.merging.gather_group.Goals as goal
 
 pub returns-in_err-block-clause-drives : goal.returns-in_err-block-clause-drives
-returns-in_err-block-clause-drives g c =
-    drives_failed ℕ (g.M.Media.state c.args.media.now) (g.M.Media.state c.commit.new.media) (g.M.Media.state c.copy_out.new.media) c.in_err-block.field-0.0 _ c.in_ok-commit.ensures.drives c.in_err-block.ensures.drives (search rules)
+returns-in_err-block-clause-drives g c = only_failed _ _ _ _ _ c.in_ok-commit.ensures.drives.flash c.in_err-block.ensures.drives (search rules)
 
 pub put_group-requires-clause-is_map : goal.put_group-requires-clause-is_map
 put_group-requires-clause-is_map g c = agree_map c.copy_out.new.cache (g.M.Media.state c.copy_out.new.media).contents c.in_ok-block.ensures.agree
 
-pub returns-in_err-block-clause-stands : goal.returns-in_err-block-clause-stands
-returns-in_err-block-clause-stands g c = λ list durable lists.
-    let same = ap (λ (p : Parts). p.geometry) c.copy_out.ensures.cache ∙ ap (λ (p : Parts). p.geometry) c.commit.ensures.cache in
-    stands_listed c.args.cache.now.geometry c.copy_out.new.cache (g.M.Media.state c.copy_out.new.media).contents.flash.page durable list same (c.copy_out.ensures.lists list list (c.in_ok-commit.ensures.lists list durable lists))
+pub returns-in_err-block-clause-kept : goal.returns-in_err-block-clause-kept
+returns-in_err-block-clause-kept g c = record {
+  agree = search rules;
+  nothing_waits = search rules;
+  lists = search rules;
+  stands = λ list durable lists.
+      let same = ap (λ (p : Parts). p.geometry) c.copy_out.ensures.cache ∙ ap (λ (p : Parts). p.geometry) c.commit.ensures.cache in
+      stands_listed c.args.cache.now.geometry c.copy_out.new.cache (g.M.Media.state c.copy_out.new.media).contents.flash.page durable list same (c.copy_out.ensures.lists list list (c.in_ok-commit.ensures.kept.lists list durable lists));
+}
 
 pub put_group-requires-clause-held : goal.put_group-requires-clause-held
 put_group-requires-clause-held g c =
@@ -45,27 +50,58 @@ commit-requires-2 g c =
     let contents = (g.M.Media.state c.copy_out.new.media).contents in
     let same = ap (λ (p : Parts). p.geometry) c.copy_out.ensures.cache in
     let is = ap (λ (p : Parts). p.map.entries) c.copy_out.ensures.cache in
-    record { agree = c.put_group.ensures.agree contents (copied_still mid.geometry now.geometry mid.map.entries now.map.entries c.args.group same is c.in_ok-block.block contents.flash.page c.in_ok-block.ensures.copied) c.in_ok-block.ensures.agree }
+    record { agree = (c.put_group.ensures.stays contents (copied_still mid.geometry now.geometry mid.map.entries now.map.entries c.args.group same is c.in_ok-block.block contents.flash.page c.in_ok-block.ensures.copied)).agree c.in_ok-block.ensures.agree }
 
-pub returns-clause-lists : goal.returns-clause-lists
-returns-clause-lists g c = on_ok_from c.commit-2.result (λ v is. λ list durable lists.
-    let mid = c.commit.new.cache in
-    let now = c.copy_out.new.cache in
-    let contents = (g.M.Media.state c.copy_out.new.media).contents in
-    let same = ap (λ (p : Parts). p.geometry) c.copy_out.ensures.cache in
-    let entries = ap (λ (p : Parts). p.map.entries) c.copy_out.ensures.cache in
-    let copied = copied_still mid.geometry now.geometry mid.map.entries now.map.entries c.args.group same entries c.in_ok-block.block contents.flash.page c.in_ok-block.ensures.copied in
-    ok_at c.commit-2.result v is c.commit-2.ensures.lists list list
-    (c.put_group.ensures.lists contents list list copied (c.copy_out.ensures.lists list list (c.in_ok-commit.ensures.lists list durable lists))))
+pub returns-clause-kept : goal.returns-clause-kept
+returns-clause-kept g c = record {
+  agree = c.commit-2.ensures.kept.agree;
+  nothing_waits = c.commit-2.ensures.kept.nothing_waits;
+  lists = on_ok_from c.commit-2.result (λ v is. λ list durable lists.
+      let mid = c.commit.new.cache in
+      let now = c.copy_out.new.cache in
+      let contents = (g.M.Media.state c.copy_out.new.media).contents in
+      let same = ap (λ (p : Parts). p.geometry) c.copy_out.ensures.cache in
+      let entries = ap (λ (p : Parts). p.map.entries) c.copy_out.ensures.cache in
+      let copied = copied_still mid.geometry now.geometry mid.map.entries now.map.entries c.args.group same entries c.in_ok-block.block contents.flash.page c.in_ok-block.ensures.copied in
+      ok_at c.commit-2.result v is c.commit-2.ensures.kept.lists list list
+      ((c.put_group.ensures.stays contents copied).lists list list (c.copy_out.ensures.lists list list (c.in_ok-commit.ensures.kept.lists list durable lists))));
+  stands = λ list durable lists.
+      let mid = c.commit.new.cache in
+      let now = c.copy_out.new.cache in
+      let contents = (g.M.Media.state c.copy_out.new.media).contents in
+      let same = ap (λ (p : Parts). p.geometry) c.copy_out.ensures.cache in
+      let entries = ap (λ (p : Parts). p.map.entries) c.copy_out.ensures.cache in
+      let copied = copied_still mid.geometry now.geometry mid.map.entries now.map.entries c.args.group same entries c.in_ok-block.block contents.flash.page c.in_ok-block.ensures.copied in
+      let geometry = ap (λ (p : Parts). p.geometry) c.put_group.ensures.cache ∙ same ∙ ap (λ (p : Parts). p.geometry) c.commit.ensures.cache in
+      inr (either_same c.args.cache.now.geometry (g.M.Media.state c.commit-2.new.media).contents.flash.page list
+      (stands_still c.args.cache.now.geometry c.put_group.new.cache.geometry (g.M.Media.state c.commit-2.new.media).contents.flash.page list list geometry
+      (c.commit-2.ensures.kept.stands list list ((c.put_group.ensures.stays contents copied).lists list list (c.copy_out.ensures.lists list list (c.in_ok-commit.ensures.kept.lists list durable lists))))));
+}
 
-pub returns-clause-merged : goal.returns-clause-merged
-returns-clause-merged g c = on_ok_from c.commit-2.result (λ v is.
-    let old = c.args.cache.now in
-    let now = c.copy_out.new.cache in
-    let same = ap (λ (p : Parts). p.geometry) c.copy_out.ensures.cache ∙ ap (λ (p : Parts). p.geometry) c.commit.ensures.cache in
-    let entries = ap (λ (p : Parts). p.map.entries) c.copy_out.ensures.cache ∙ ap (λ (p : Parts). p.map.entries) c.commit.ensures.cache in
-    merged_moved old.geometry old.map.entries c.commit-2.new.cache.map.entries c.args.group c.in_ok-block.block
-    (ap (λ (p : Parts). p.map.entries) c.commit-2.ensures.cache ∙ c.put_group.ensures.entries ∙ moved_still old.geometry now.geometry old.map.entries now.map.entries c.args.group same entries c.in_ok-block.block))
+pub returns-clause-gathered : goal.returns-clause-gathered
+returns-clause-gathered g c = on_ok_from c.commit-2.result (λ v is. record {
+  merged = let old = c.args.cache.now in
+      let now = c.copy_out.new.cache in
+      let same = ap (λ (p : Parts). p.geometry) c.copy_out.ensures.cache ∙ ap (λ (p : Parts). p.geometry) c.commit.ensures.cache in
+      let entries = ap (λ (p : Parts). p.map.entries) c.copy_out.ensures.cache ∙ ap (λ (p : Parts). p.map.entries) c.commit.ensures.cache in
+      merged_moved old.geometry old.map.entries c.commit-2.new.cache.map.entries c.args.group c.in_ok-block.block
+      (ap (λ (p : Parts). p.map.entries) c.commit-2.ensures.cache ∙ c.put_group.ensures.map.entries ∙ moved_still old.geometry now.geometry old.map.entries now.map.entries c.args.group same entries c.in_ok-block.block);
+  filled = let old = c.args.cache.now in
+      let mid = c.commit.new.cache in
+      let now = c.copy_out.new.cache in
+      let page = (g.M.Media.state c.copy_out.new.media).contents.flash.page in
+      let page' = (g.M.Media.state c.commit-2.new.media).contents.flash.page in
+      let first = ap (λ (p : Parts). p.geometry) c.commit.ensures.cache in
+      let first_entries = ap (λ (p : Parts). p.map.entries) c.commit.ensures.cache in
+      let same = ap (λ (p : Parts). p.geometry) c.copy_out.ensures.cache ∙ first in
+      let entries = ap (λ (p : Parts). p.map.entries) c.copy_out.ensures.cache ∙ first_entries in
+      let put = ap (λ (p : Parts). p.geometry) c.put_group.ensures.cache ∙ same in
+      let high = (free_in_pool now c.in_ok-block.ensures.agree.sound.of_one c.in_ok-block.block c.in_ok-block.ensures.free).0 in
+      fillers_moved old.geometry old.map.entries c.commit-2.new.cache.map.entries c.args.group c.in_ok-block.block
+      (ap (λ (p : Parts). p.map.entries) c.commit-2.ensures.cache ∙ c.put_group.ensures.map.entries ∙ moved_still old.geometry now.geometry old.map.entries now.map.entries c.args.group same entries c.in_ok-block.block)
+      page page' (subst (λ (h : Geometry). first_pool h ≤ c.in_ok-block.block) same high) (subst (λ (h : Geometry). PoolStays h page page') put c.commit-2.ensures.pool)
+      (filled_still old.geometry mid.geometry old.map.entries mid.map.entries c.args.group c.in_ok-block.block page first first_entries c.in_ok-block.ensures.filled);
+})
 
 pub returns-clause-others : goal.returns-clause-others
 returns-clause-others g c = on_ok_from c.commit-2.result (λ v is.
@@ -74,44 +110,11 @@ returns-clause-others g c = on_ok_from c.commit-2.result (λ v is.
     let same = ap (λ (p : Parts). p.geometry) c.copy_out.ensures.cache ∙ ap (λ (p : Parts). p.geometry) c.commit.ensures.cache in
     let entries = ap (λ (p : Parts). p.map.entries) c.copy_out.ensures.cache ∙ ap (λ (p : Parts). p.map.entries) c.commit.ensures.cache in
     others_moved old.geometry old.map.entries c.commit-2.new.cache.map.entries c.args.group c.in_ok-block.block
-    (ap (λ (p : Parts). p.map.entries) c.commit-2.ensures.cache ∙ c.put_group.ensures.entries ∙ moved_still old.geometry now.geometry old.map.entries now.map.entries c.args.group same entries c.in_ok-block.block))
-
-pub returns-clause-stands : goal.returns-clause-stands
-returns-clause-stands g c = λ list durable lists.
-    let mid = c.commit.new.cache in
-    let now = c.copy_out.new.cache in
-    let contents = (g.M.Media.state c.copy_out.new.media).contents in
-    let same = ap (λ (p : Parts). p.geometry) c.copy_out.ensures.cache in
-    let entries = ap (λ (p : Parts). p.map.entries) c.copy_out.ensures.cache in
-    let copied = copied_still mid.geometry now.geometry mid.map.entries now.map.entries c.args.group same entries c.in_ok-block.block contents.flash.page c.in_ok-block.ensures.copied in
-    let geometry = ap (λ (p : Parts). p.geometry) c.put_group.ensures.cache ∙ same ∙ ap (λ (p : Parts). p.geometry) c.commit.ensures.cache in
-    inr (either_same c.args.cache.now.geometry (g.M.Media.state c.commit-2.new.media).contents.flash.page list
-    (stands_still c.args.cache.now.geometry c.put_group.new.cache.geometry (g.M.Media.state c.commit-2.new.media).contents.flash.page list list geometry
-    (c.commit-2.ensures.stands list list (c.put_group.ensures.lists contents list list copied (c.copy_out.ensures.lists list list (c.in_ok-commit.ensures.lists list durable lists))))))
+    (ap (λ (p : Parts). p.map.entries) c.commit-2.ensures.cache ∙ c.put_group.ensures.map.entries ∙ moved_still old.geometry now.geometry old.map.entries now.map.entries c.args.group same entries c.in_ok-block.block))
 
 pub returns-clause-drives : goal.returns-clause-drives
-returns-clause-drives g c =
-    drives_then (g.M.Media.state c.args.media.now) (g.M.Media.state c.copy_out.new.media) (g.M.Media.state c.commit-2.new.media) _ _
-    (drives_then (g.M.Media.state c.args.media.now) (g.M.Media.state c.commit.new.media) (g.M.Media.state c.copy_out.new.media) _ _ c.in_ok-commit.ensures.drives c.in_ok-block.ensures.drives)
-    c.commit-2.ensures.drives
-
-pub returns-clause-filled : goal.returns-clause-filled
-returns-clause-filled g c = on_ok_from c.commit-2.result (λ v is.
-    let old = c.args.cache.now in
-    let mid = c.commit.new.cache in
-    let now = c.copy_out.new.cache in
-    let page = (g.M.Media.state c.copy_out.new.media).contents.flash.page in
-    let page' = (g.M.Media.state c.commit-2.new.media).contents.flash.page in
-    let first = ap (λ (p : Parts). p.geometry) c.commit.ensures.cache in
-    let first_entries = ap (λ (p : Parts). p.map.entries) c.commit.ensures.cache in
-    let same = ap (λ (p : Parts). p.geometry) c.copy_out.ensures.cache ∙ first in
-    let entries = ap (λ (p : Parts). p.map.entries) c.copy_out.ensures.cache ∙ first_entries in
-    let put = ap (λ (p : Parts). p.geometry) c.put_group.ensures.cache ∙ same in
-    let high = (free_in_pool now c.in_ok-block.ensures.agree.sound.of_one c.in_ok-block.block c.in_ok-block.ensures.free).0 in
-    fillers_moved old.geometry old.map.entries c.commit-2.new.cache.map.entries c.args.group c.in_ok-block.block
-    (ap (λ (p : Parts). p.map.entries) c.commit-2.ensures.cache ∙ c.put_group.ensures.entries ∙ moved_still old.geometry now.geometry old.map.entries now.map.entries c.args.group same entries c.in_ok-block.block)
-    page page' (subst (λ (h : Geometry). first_pool h ≤ c.in_ok-block.block) same high) (subst (λ (h : Geometry). PoolStays h page page') put c.commit-2.ensures.pool)
-    (filled_still old.geometry mid.geometry old.map.entries mid.map.entries c.args.group c.in_ok-block.block page first first_entries c.in_ok-block.ensures.filled))
+returns-clause-drives g c = only_then _ _ _ _
+    (drives_then _ _ _ _ _ c.in_ok-commit.ensures.drives.flash c.in_ok-block.ensures.drives.flash) c.commit-2.ensures.drives
 
 pub returns-clause-counts : goal.returns-clause-counts
 returns-clause-counts g c = on_ok_from c.commit-2.result (λ v is. λ none room pages reach.

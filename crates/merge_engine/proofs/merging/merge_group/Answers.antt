@@ -1,5 +1,5 @@
-use Rattle.std.proofs.Common.{ap, inl}
-use Rattle.ft_media.proofs.DrivesLemmas.{drives_then}
+use Rattle.std.proofs.Common.{rules, ap, inl}
+use Rattle.ft_media.proofs.DrivesLemmas.{only_then}
 use Rattle.merge_engine.specs.declared.parts.Parts.{Parts}
 use Rattle.merge_engine.specs.Merges.{HasBlockOrRoom, list_without}
 use Rattle.merge_engine.proofs.ResultLemmas.{on_ok_from, ok_at}
@@ -14,189 +14,161 @@ use Rattle.merge_engine.proofs.merging.merge_group.Goals as goal
 pub move_group-requires-clause-block : goal.move_group-requires-clause-block
 move_group-requires-clause-block g c =
     let room : HasBlockOrRoom c.args.cache.now.geometry c.args.cache.now.map.entries c.args.group = elim c.then-own.branch [
-      | then-own-via-then-own w ↦ has_own c.args.cache.now.geometry c.args.cache.now.map.geometry c.args.cache.now.map.entries c.args.group c.requires.agree.sound.of_one.map c.block_of.result c.is_some-own.result c.is_some-own.ensures w.if-own.true c.block_of.ensures.some
-      | then-own-via-else-own+then-data_blocks-cache w ↦ has_room c.args.cache.now.geometry c.args.cache.now.map.geometry c.args.cache.now.map.entries c.args.group c.requires.agree.sound.of_one.map w.data_blocks.result w.data_blocks.ensures.count w.if-data_blocks-cache.true
+      | then-own-via-then-own w ↦ has_own c.args.cache.now.geometry c.args.cache.now.map.geometry c.args.cache.now.map.entries c.args.group c.requires.can.agree.sound.of_one.map c.block_of.result c.is_some-own.result c.is_some-own.ensures w.if-own.true c.block_of.ensures.some
+      | then-own-via-else-own+then-data_blocks-cache w ↦ has_room c.args.cache.now.geometry c.args.cache.now.map.geometry c.args.cache.now.map.entries c.args.group c.requires.can.agree.sound.of_one.map w.data_blocks.result w.data_blocks.ensures.count w.if-data_blocks-cache.true
     ] in
     room
 
-pub returns-then-own-clause-lists : goal.returns-then-own-clause-lists
-returns-then-own-clause-lists g c =
-    let room : HasBlockOrRoom c.args.cache.now.geometry c.args.cache.now.map.entries c.args.group = elim c.then-own.branch [
-      | then-own-via-then-own w ↦ has_own c.args.cache.now.geometry c.args.cache.now.map.geometry c.args.cache.now.map.entries c.args.group c.requires.agree.sound.of_one.map c.block_of.result c.is_some-own.result c.is_some-own.ensures w.if-own.true c.block_of.ensures.some
-      | then-own-via-else-own+then-data_blocks-cache w ↦ has_room c.args.cache.now.geometry c.args.cache.now.map.geometry c.args.cache.now.map.entries c.args.group c.requires.agree.sound.of_one.map w.data_blocks.result w.data_blocks.ensures.count w.if-data_blocks-cache.true
-    ] in
-    on_ok_from c.move_group.result (λ v is. λ list durable lists.
-    (list, stays_way c.args.cache.now (g.M.Media.state c.args.media.now).contents c.args.group list durable c.requires.agree room lists, ok_at c.move_group.result v is c.move_group.ensures.lists list durable lists))
+pub returns-then-own-clause-merges : goal.returns-then-own-clause-merges
+returns-then-own-clause-merges g c = let room : HasBlockOrRoom c.args.cache.now.geometry c.args.cache.now.map.entries c.args.group = elim c.then-own.branch [
+  | then-own-via-then-own w ↦ has_own c.args.cache.now.geometry c.args.cache.now.map.geometry c.args.cache.now.map.entries c.args.group c.requires.can.agree.sound.of_one.map c.block_of.result c.is_some-own.result c.is_some-own.ensures w.if-own.true c.block_of.ensures.some
+  | then-own-via-else-own+then-data_blocks-cache w ↦ has_room c.args.cache.now.geometry c.args.cache.now.map.geometry c.args.cache.now.map.entries c.args.group c.requires.can.agree.sound.of_one.map w.data_blocks.result w.data_blocks.ensures.count w.if-data_blocks-cache.true
+] in
+    record {
+      agree = c.move_group.ensures.kept.agree;
+      nothing_waits = c.move_group.ensures.kept.nothing_waits;
+      lists = on_ok_from c.move_group.result (λ v is. λ list durable lists.
+          (list, stays_way c.args.cache.now (g.M.Media.state c.args.media.now).contents c.args.group list durable c.requires.can.agree room lists, ok_at c.move_group.result v is c.move_group.ensures.kept.lists list durable lists));
+      stands = λ list durable lists. given_itself c.args.cache.now.geometry (g.M.Media.state c.move_group.new.media).contents.flash.page durable list (c.move_group.ensures.kept.stands list durable lists);
+    }
 
 pub returns-then-own-clause-page_mapped : goal.returns-then-own-clause-page_mapped
 returns-then-own-clause-page_mapped g c =
     on_ok_from c.move_group.result (λ v is.
-    page_mapped_stay c.args.cache.now.geometry c.args.cache.now.map.entries c.args.group c.move_group.new.cache.map.entries (ok_at c.move_group.result v is c.move_group.ensures.merged) (ok_at c.move_group.result v is c.move_group.ensures.others))
+    page_mapped_stay c.args.cache.now.geometry c.args.cache.now.map.entries c.args.group c.move_group.new.cache.map.entries (ok_at c.move_group.result v is c.move_group.ensures.gathered).merged (ok_at c.move_group.result v is c.move_group.ensures.others))
 
-pub returns-then-own-clause-stands : goal.returns-then-own-clause-stands
-returns-then-own-clause-stands g c =
-    λ list durable lists. given_itself c.args.cache.now.geometry (g.M.Media.state c.move_group.new.media).contents.flash.page durable list (c.move_group.ensures.stands list durable lists)
-
-pub returns-in_err-drop_group-in-Some-clause-stands : goal.returns-in_err-drop_group-in-Some-clause-stands
-returns-in_err-drop_group-in-Some-clause-stands g c =
-    let lacks = lacks_room c.args.cache.now.geometry c.args.cache.now.map.geometry c.args.cache.now.map.entries c.args.group c.requires.agree.sound.of_one.map c.block_of.result c.is_some-own.result
-    c.data_blocks.result c.is_some-own.ensures c.if-own.false c.block_of.ensures.none c.data_blocks.ensures.count c.data_blocks.ensures.most c.if-data_blocks-cache.false in
-    let victim = victim_is c.args.cache.now.geometry c.args.cache.now.map.geometry c.args.cache.now.map.entries c.args.group c.requires.agree.sound.of_one.map c.in-Some.victim c.in-Some.ensures.some in
-    λ list durable lists.
-    given_either c.args.cache.now.geometry (g.M.Media.state c.drop_group.new.media).contents.flash.page durable list (list_without c.args.cache.now.geometry c.in-Some.victim list)
-    (victim_gave c.args.cache.now (g.M.Media.state c.args.media.now).contents c.requires.agree c.args.group lacks c.requires.held c.in-Some.victim list durable victim lists)
-    (c.drop_group.ensures.stands list durable (lists_victims c.args.cache.now c.victim.new.self (g.M.Media.state c.args.media.now).contents.flash.page list durable lists))
+pub returns-in_err-drop_group-in-Some-clause-merges : goal.returns-in_err-drop_group-in-Some-clause-merges
+returns-in_err-drop_group-in-Some-clause-merges g c = record {
+  agree = search rules;
+  nothing_waits = search rules;
+  lists = search rules;
+  stands = let lacks = lacks_room c.args.cache.now.geometry c.args.cache.now.map.geometry c.args.cache.now.map.entries c.args.group c.requires.can.agree.sound.of_one.map c.block_of.result c.is_some-own.result
+      c.data_blocks.result c.is_some-own.ensures c.if-own.false c.block_of.ensures.none c.data_blocks.ensures.count c.data_blocks.ensures.most c.if-data_blocks-cache.false in
+      let victim = victim_is c.args.cache.now.geometry c.args.cache.now.map.geometry c.args.cache.now.map.entries c.args.group c.requires.can.agree.sound.of_one.map c.in-Some.victim c.in-Some.ensures.some in
+      λ list durable lists.
+      given_either c.args.cache.now.geometry (g.M.Media.state c.drop_group.new.media).contents.flash.page durable list (list_without c.args.cache.now.geometry c.in-Some.victim list)
+      (victim_gave c.args.cache.now (g.M.Media.state c.args.media.now).contents c.requires.can.agree c.args.group lacks c.requires.held c.in-Some.victim list durable victim lists)
+      (c.drop_group.ensures.stands list durable (lists_victims c.args.cache.now c.victim.new.self (g.M.Media.state c.args.media.now).contents.flash.page list durable lists));
+}
 
 pub move_group-requires-in-Some-clause-held : goal.move_group-requires-in-Some-clause-held
 move_group-requires-in-Some-clause-held g c =
-    let lacks = lacks_room c.args.cache.now.geometry c.args.cache.now.map.geometry c.args.cache.now.map.entries c.args.group c.requires.agree.sound.of_one.map c.block_of.result c.is_some-own.result
+    let lacks = lacks_room c.args.cache.now.geometry c.args.cache.now.map.geometry c.args.cache.now.map.entries c.args.group c.requires.can.agree.sound.of_one.map c.block_of.result c.is_some-own.result
     c.data_blocks.result c.is_some-own.ensures c.if-own.false c.block_of.ensures.none c.data_blocks.ensures.count c.data_blocks.ensures.most c.if-data_blocks-cache.false in
-    let victim = victim_is c.args.cache.now.geometry c.args.cache.now.map.geometry c.args.cache.now.map.entries c.args.group c.requires.agree.sound.of_one.map c.in-Some.victim c.in-Some.ensures.some in
+    let victim = victim_is c.args.cache.now.geometry c.args.cache.now.map.geometry c.args.cache.now.map.entries c.args.group c.requires.can.agree.sound.of_one.map c.in-Some.victim c.in-Some.ensures.some in
     let same = ap (λ (p : Parts). p.geometry) c.drop_group.ensures.cache in
-    held_then c.args.cache.now.geometry c.drop_group.new.cache.geometry c.args.cache.now.map.entries c.drop_group.new.cache.map.entries c.args.group c.in-Some.victim same c.drop_group.ensures.entries lacks victim c.requires.held
+    held_then c.args.cache.now.geometry c.drop_group.new.cache.geometry c.args.cache.now.map.entries c.drop_group.new.cache.map.entries c.args.group c.in-Some.victim same c.drop_group.ensures.map.entries lacks victim c.requires.held
 
 pub move_group-requires-in-Some-clause-block : goal.move_group-requires-in-Some-clause-block
 move_group-requires-in-Some-clause-block g c =
-    let lacks = lacks_room c.args.cache.now.geometry c.args.cache.now.map.geometry c.args.cache.now.map.entries c.args.group c.requires.agree.sound.of_one.map c.block_of.result c.is_some-own.result
+    let lacks = lacks_room c.args.cache.now.geometry c.args.cache.now.map.geometry c.args.cache.now.map.entries c.args.group c.requires.can.agree.sound.of_one.map c.block_of.result c.is_some-own.result
     c.data_blocks.result c.is_some-own.ensures c.if-own.false c.block_of.ensures.none c.data_blocks.ensures.count c.data_blocks.ensures.most c.if-data_blocks-cache.false in
-    let victim = victim_is c.args.cache.now.geometry c.args.cache.now.map.geometry c.args.cache.now.map.entries c.args.group c.requires.agree.sound.of_one.map c.in-Some.victim c.in-Some.ensures.some in
+    let victim = victim_is c.args.cache.now.geometry c.args.cache.now.map.geometry c.args.cache.now.map.entries c.args.group c.requires.can.agree.sound.of_one.map c.in-Some.victim c.in-Some.ensures.some in
     let same = ap (λ (p : Parts). p.geometry) c.drop_group.ensures.cache in
-    room_then c.args.cache.now.geometry c.drop_group.new.cache.geometry c.args.cache.now.map.entries c.drop_group.new.cache.map.entries c.args.group c.in-Some.victim same c.drop_group.ensures.entries lacks victim
+    room_then c.args.cache.now.geometry c.drop_group.new.cache.geometry c.args.cache.now.map.entries c.drop_group.new.cache.map.entries c.args.group c.in-Some.victim same c.drop_group.ensures.map.entries lacks victim
 
-pub returns-in_ok-drop_group-in-Some-clause-lists : goal.returns-in_ok-drop_group-in-Some-clause-lists
-returns-in_ok-drop_group-in-Some-clause-lists g c =
-    let lacks = lacks_room c.args.cache.now.geometry c.args.cache.now.map.geometry c.args.cache.now.map.entries c.args.group c.requires.agree.sound.of_one.map c.block_of.result c.is_some-own.result
-    c.data_blocks.result c.is_some-own.ensures c.if-own.false c.block_of.ensures.none c.data_blocks.ensures.count c.data_blocks.ensures.most c.if-data_blocks-cache.false in
-    let victim = victim_is c.args.cache.now.geometry c.args.cache.now.map.geometry c.args.cache.now.map.entries c.args.group c.requires.agree.sound.of_one.map c.in-Some.victim c.in-Some.ensures.some in
-    on_ok_from c.move_group-in-Some.result (λ v is. λ list durable lists. (
-      list_without c.args.cache.now.geometry c.in-Some.victim list,
-      victim_way c.args.cache.now (g.M.Media.state c.args.media.now).contents c.requires.agree c.args.group lacks c.requires.held c.in-Some.victim list durable victim lists,
-      ok_at c.move_group-in-Some.result v is c.move_group-in-Some.ensures.lists (list_without c.args.cache.now.geometry c.in-Some.victim list)
-          (list_without c.args.cache.now.geometry c.in-Some.victim list) (c.in_ok-drop_group-in-Some.ensures.lists list durable
-          (lists_victims c.args.cache.now c.victim.new.self (g.M.Media.state c.args.media.now).contents.flash.page list durable lists)),
-    ))
+pub returns-in_ok-drop_group-in-Some-clause-merges : goal.returns-in_ok-drop_group-in-Some-clause-merges
+returns-in_ok-drop_group-in-Some-clause-merges g c = record {
+  agree = c.move_group-in-Some.ensures.kept.agree;
+  nothing_waits = c.move_group-in-Some.ensures.kept.nothing_waits;
+  lists = let lacks = lacks_room c.args.cache.now.geometry c.args.cache.now.map.geometry c.args.cache.now.map.entries c.args.group c.requires.can.agree.sound.of_one.map c.block_of.result c.is_some-own.result
+      c.data_blocks.result c.is_some-own.ensures c.if-own.false c.block_of.ensures.none c.data_blocks.ensures.count c.data_blocks.ensures.most c.if-data_blocks-cache.false in
+      let victim = victim_is c.args.cache.now.geometry c.args.cache.now.map.geometry c.args.cache.now.map.entries c.args.group c.requires.can.agree.sound.of_one.map c.in-Some.victim c.in-Some.ensures.some in
+      on_ok_from c.move_group-in-Some.result (λ v is. λ list durable lists. (
+        list_without c.args.cache.now.geometry c.in-Some.victim list,
+        victim_way c.args.cache.now (g.M.Media.state c.args.media.now).contents c.requires.can.agree c.args.group lacks c.requires.held c.in-Some.victim list durable victim lists,
+        ok_at c.move_group-in-Some.result v is c.move_group-in-Some.ensures.kept.lists (list_without c.args.cache.now.geometry c.in-Some.victim list)
+            (list_without c.args.cache.now.geometry c.in-Some.victim list) (c.in_ok-drop_group-in-Some.ensures.lists list durable
+            (lists_victims c.args.cache.now c.victim.new.self (g.M.Media.state c.args.media.now).contents.flash.page list durable lists)),
+      ));
+  stands = let lacks = lacks_room c.args.cache.now.geometry c.args.cache.now.map.geometry c.args.cache.now.map.entries c.args.group c.requires.can.agree.sound.of_one.map c.block_of.result c.is_some-own.result
+      c.data_blocks.result c.is_some-own.ensures c.if-own.false c.block_of.ensures.none c.data_blocks.ensures.count c.data_blocks.ensures.most c.if-data_blocks-cache.false in
+      let victim = victim_is c.args.cache.now.geometry c.args.cache.now.map.geometry c.args.cache.now.map.entries c.args.group c.requires.can.agree.sound.of_one.map c.in-Some.victim c.in-Some.ensures.some in
+      let same = ap (λ (p : Parts). p.geometry) c.drop_group.ensures.cache in
+      λ list durable lists.
+      given_after c.args.cache.now.geometry c.drop_group.new.cache.geometry (g.M.Media.state c.move_group-in-Some.new.media).contents.flash.page durable list (list_without c.args.cache.now.geometry c.in-Some.victim list) same
+      (victim_gave c.args.cache.now (g.M.Media.state c.args.media.now).contents c.requires.can.agree c.args.group lacks c.requires.held c.in-Some.victim list durable victim lists)
+      (c.move_group-in-Some.ensures.kept.stands (list_without c.args.cache.now.geometry c.in-Some.victim list) (list_without c.args.cache.now.geometry c.in-Some.victim list)
+      (c.in_ok-drop_group-in-Some.ensures.lists list durable (lists_victims c.args.cache.now c.victim.new.self (g.M.Media.state c.args.media.now).contents.flash.page list durable lists)));
+}
 
-pub returns-in_ok-drop_group-in-Some-clause-merged : goal.returns-in_ok-drop_group-in-Some-clause-merged
-returns-in_ok-drop_group-in-Some-clause-merged g c =
-    let same = ap (λ (p : Parts). p.geometry) c.drop_group.ensures.cache in
-    on_ok_from c.move_group-in-Some.result (λ v is. merged_then c.args.cache.now.geometry c.drop_group.new.cache.geometry c.args.cache.now.map.entries c.drop_group.new.cache.map.entries c.args.group
-    c.in-Some.victim same c.drop_group.ensures.entries c.move_group-in-Some.new.cache.map.entries (ok_at c.move_group-in-Some.result v is c.move_group-in-Some.ensures.merged))
+pub returns-in_ok-drop_group-in-Some-clause-gathered : goal.returns-in_ok-drop_group-in-Some-clause-gathered
+returns-in_ok-drop_group-in-Some-clause-gathered g c = let same = ap (λ (p : Parts). p.geometry) c.drop_group.ensures.cache in
+    on_ok_from c.move_group-in-Some.result (λ v is. record {
+      merged = merged_then c.args.cache.now.geometry c.drop_group.new.cache.geometry c.args.cache.now.map.entries c.drop_group.new.cache.map.entries c.args.group
+          c.in-Some.victim same c.drop_group.ensures.map.entries c.move_group-in-Some.new.cache.map.entries (ok_at c.move_group-in-Some.result v is c.move_group-in-Some.ensures.gathered).merged;
+      filled = fillers_still c.args.cache.now.geometry c.drop_group.new.cache.geometry c.move_group-in-Some.new.cache.map.entries c.args.group
+          (g.M.Media.state c.move_group-in-Some.new.media).contents.flash.page same (ok_at c.move_group-in-Some.result v is c.move_group-in-Some.ensures.gathered).filled;
+    })
 
 pub returns-in_ok-drop_group-in-Some-clause-others : goal.returns-in_ok-drop_group-in-Some-clause-others
 returns-in_ok-drop_group-in-Some-clause-others g c =
     let same = ap (λ (p : Parts). p.geometry) c.drop_group.ensures.cache in
     on_ok_from c.move_group-in-Some.result (λ v is. others_after c.args.cache.now.geometry c.drop_group.new.cache.geometry c.args.cache.now.map.entries c.drop_group.new.cache.map.entries c.args.group
-    c.in-Some.victim same c.drop_group.ensures.entries c.move_group-in-Some.new.cache.map.entries (ok_at c.move_group-in-Some.result v is c.move_group-in-Some.ensures.others))
+    c.in-Some.victim same c.drop_group.ensures.map.entries c.move_group-in-Some.new.cache.map.entries (ok_at c.move_group-in-Some.result v is c.move_group-in-Some.ensures.others))
 
 pub returns-in_ok-drop_group-in-Some-clause-page_mapped : goal.returns-in_ok-drop_group-in-Some-clause-page_mapped
 returns-in_ok-drop_group-in-Some-clause-page_mapped g c =
     let same = ap (λ (p : Parts). p.geometry) c.drop_group.ensures.cache in
     on_ok_from c.move_group-in-Some.result (λ v is. mapped_after c.args.cache.now.geometry c.drop_group.new.cache.geometry c.args.cache.now.map.entries c.drop_group.new.cache.map.entries c.args.group
-    c.in-Some.victim same c.drop_group.ensures.entries c.move_group-in-Some.new.cache.map.entries (ok_at c.move_group-in-Some.result v is c.move_group-in-Some.ensures.merged)
+    c.in-Some.victim same c.drop_group.ensures.map.entries c.move_group-in-Some.new.cache.map.entries (ok_at c.move_group-in-Some.result v is c.move_group-in-Some.ensures.gathered).merged
     (ok_at c.move_group-in-Some.result v is c.move_group-in-Some.ensures.others))
 
-pub returns-in_ok-drop_group-in-Some-clause-stands : goal.returns-in_ok-drop_group-in-Some-clause-stands
-returns-in_ok-drop_group-in-Some-clause-stands g c =
-    let lacks = lacks_room c.args.cache.now.geometry c.args.cache.now.map.geometry c.args.cache.now.map.entries c.args.group c.requires.agree.sound.of_one.map c.block_of.result c.is_some-own.result
-    c.data_blocks.result c.is_some-own.ensures c.if-own.false c.block_of.ensures.none c.data_blocks.ensures.count c.data_blocks.ensures.most c.if-data_blocks-cache.false in
-    let victim = victim_is c.args.cache.now.geometry c.args.cache.now.map.geometry c.args.cache.now.map.entries c.args.group c.requires.agree.sound.of_one.map c.in-Some.victim c.in-Some.ensures.some in
-    let same = ap (λ (p : Parts). p.geometry) c.drop_group.ensures.cache in
-    λ list durable lists.
-    given_after c.args.cache.now.geometry c.drop_group.new.cache.geometry (g.M.Media.state c.move_group-in-Some.new.media).contents.flash.page durable list (list_without c.args.cache.now.geometry c.in-Some.victim list) same
-    (victim_gave c.args.cache.now (g.M.Media.state c.args.media.now).contents c.requires.agree c.args.group lacks c.requires.held c.in-Some.victim list durable victim lists)
-    (c.move_group-in-Some.ensures.stands (list_without c.args.cache.now.geometry c.in-Some.victim list) (list_without c.args.cache.now.geometry c.in-Some.victim list)
-    (c.in_ok-drop_group-in-Some.ensures.lists list durable (lists_victims c.args.cache.now c.victim.new.self (g.M.Media.state c.args.media.now).contents.flash.page list durable lists)))
-
 pub returns-in_ok-drop_group-in-Some-clause-drives : goal.returns-in_ok-drop_group-in-Some-clause-drives
-returns-in_ok-drop_group-in-Some-clause-drives g c =
-    drives_then (g.M.Media.state c.args.media.now) (g.M.Media.state c.drop_group.new.media) (g.M.Media.state c.move_group-in-Some.new.media) _ _ c.in_ok-drop_group-in-Some.ensures.drives c.move_group-in-Some.ensures.drives
+returns-in_ok-drop_group-in-Some-clause-drives g c = only_then _ _ _ _ c.in_ok-drop_group-in-Some.ensures.drives.flash c.move_group-in-Some.ensures.drives
 
-pub returns-in-None-clause-lists : goal.returns-in-None-clause-lists
-returns-in-None-clause-lists g c =
-    let lacks = lacks_room c.args.cache.now.geometry c.args.cache.now.map.geometry c.args.cache.now.map.entries c.args.group c.requires.agree.sound.of_one.map c.block_of.result c.is_some-own.result
-    c.data_blocks.result c.is_some-own.ensures c.if-own.false c.block_of.ensures.none c.data_blocks.ensures.count c.data_blocks.ensures.most c.if-data_blocks-cache.false in
-    let none = no_candidate c.args.cache.now.geometry c.args.cache.now.map.geometry c.args.cache.now.map.entries c.args.group c.requires.agree.sound.of_one.map c.in-None.ensures.none in
-    on_ok_from c.drop_group-in-None.result (λ v is. λ list durable lists. (
-      list_without c.args.cache.now.geometry c.args.group list,
-      group_way c.args.cache.now (g.M.Media.state c.args.media.now).contents c.requires.agree c.args.group lacks c.requires.held list durable none lists,
-      ok_at c.drop_group-in-None.result v is c.drop_group-in-None.ensures.lists list durable (lists_victims c.args.cache.now c.victim.new.self (g.M.Media.state c.args.media.now).contents.flash.page list durable lists),
-    ))
+pub returns-in-None-clause-merges : goal.returns-in-None-clause-merges
+returns-in-None-clause-merges g c = record {
+  agree = c.drop_group-in-None.ensures.agree;
+  nothing_waits = c.drop_group-in-None.ensures.nothing_waits;
+  lists = let lacks = lacks_room c.args.cache.now.geometry c.args.cache.now.map.geometry c.args.cache.now.map.entries c.args.group c.requires.can.agree.sound.of_one.map c.block_of.result c.is_some-own.result
+      c.data_blocks.result c.is_some-own.ensures c.if-own.false c.block_of.ensures.none c.data_blocks.ensures.count c.data_blocks.ensures.most c.if-data_blocks-cache.false in
+      let none = no_candidate c.args.cache.now.geometry c.args.cache.now.map.geometry c.args.cache.now.map.entries c.args.group c.requires.can.agree.sound.of_one.map c.in-None.ensures.none in
+      on_ok_from c.drop_group-in-None.result (λ v is. λ list durable lists. (
+        list_without c.args.cache.now.geometry c.args.group list,
+        group_way c.args.cache.now (g.M.Media.state c.args.media.now).contents c.requires.can.agree c.args.group lacks c.requires.held list durable none lists,
+        ok_at c.drop_group-in-None.result v is c.drop_group-in-None.ensures.lists list durable (lists_victims c.args.cache.now c.victim.new.self (g.M.Media.state c.args.media.now).contents.flash.page list durable lists),
+      ));
+  stands = let lacks = lacks_room c.args.cache.now.geometry c.args.cache.now.map.geometry c.args.cache.now.map.entries c.args.group c.requires.can.agree.sound.of_one.map c.block_of.result c.is_some-own.result
+      c.data_blocks.result c.is_some-own.ensures c.if-own.false c.block_of.ensures.none c.data_blocks.ensures.count c.data_blocks.ensures.most c.if-data_blocks-cache.false in
+      let none = no_candidate c.args.cache.now.geometry c.args.cache.now.map.geometry c.args.cache.now.map.entries c.args.group c.requires.can.agree.sound.of_one.map c.in-None.ensures.none in
+      λ list durable lists.
+      given_either c.args.cache.now.geometry (g.M.Media.state c.drop_group-in-None.new.media).contents.flash.page durable list (list_without c.args.cache.now.geometry c.args.group list)
+      (group_gave c.args.cache.now (g.M.Media.state c.args.media.now).contents c.requires.can.agree c.args.group lacks c.requires.held list durable none lists)
+      (c.drop_group-in-None.ensures.stands list durable (lists_victims c.args.cache.now c.victim.new.self (g.M.Media.state c.args.media.now).contents.flash.page list durable lists));
+}
 
-pub returns-in-None-clause-merged : goal.returns-in-None-clause-merged
-returns-in-None-clause-merged g c =
-    on_ok_from c.drop_group-in-None.result (λ v is. merged_gone c.args.cache.now.geometry c.args.cache.now.map.entries c.drop_group-in-None.new.cache.map.entries c.args.group c.drop_group-in-None.ensures.entries)
+pub returns-in-None-clause-gathered : goal.returns-in-None-clause-gathered
+returns-in-None-clause-gathered g c = on_ok_from c.drop_group-in-None.result (λ v is. record {
+  merged = merged_gone c.args.cache.now.geometry c.args.cache.now.map.entries c.drop_group-in-None.new.cache.map.entries c.args.group c.drop_group-in-None.ensures.map.entries;
+  filled = fillers_gone c.args.cache.now.geometry c.args.cache.now.map.entries c.drop_group-in-None.new.cache.map.entries c.args.group (g.M.Media.state c.drop_group-in-None.new.media).contents.flash.page c.drop_group-in-None.ensures.map.entries;
+})
 
 pub returns-in-None-clause-others : goal.returns-in-None-clause-others
 returns-in-None-clause-others g c =
-    on_ok_from c.drop_group-in-None.result (λ v is. others_gone c.args.cache.now.geometry c.args.cache.now.map.entries c.drop_group-in-None.new.cache.map.entries c.args.group c.drop_group-in-None.ensures.entries)
+    on_ok_from c.drop_group-in-None.result (λ v is. others_gone c.args.cache.now.geometry c.args.cache.now.map.entries c.drop_group-in-None.new.cache.map.entries c.args.group c.drop_group-in-None.ensures.map.entries)
 
 pub returns-in-None-clause-page_mapped : goal.returns-in-None-clause-page_mapped
 returns-in-None-clause-page_mapped g c =
-    on_ok_from c.drop_group-in-None.result (λ v is. mapped_gone c.args.cache.now.geometry c.args.cache.now.map.entries c.drop_group-in-None.new.cache.map.entries c.args.group c.drop_group-in-None.ensures.entries)
+    on_ok_from c.drop_group-in-None.result (λ v is. mapped_gone c.args.cache.now.geometry c.args.cache.now.map.entries c.drop_group-in-None.new.cache.map.entries c.args.group c.drop_group-in-None.ensures.map.entries)
 
-pub returns-in-None-clause-stands : goal.returns-in-None-clause-stands
-returns-in-None-clause-stands g c =
-    let lacks = lacks_room c.args.cache.now.geometry c.args.cache.now.map.geometry c.args.cache.now.map.entries c.args.group c.requires.agree.sound.of_one.map c.block_of.result c.is_some-own.result
-    c.data_blocks.result c.is_some-own.ensures c.if-own.false c.block_of.ensures.none c.data_blocks.ensures.count c.data_blocks.ensures.most c.if-data_blocks-cache.false in
-    let none = no_candidate c.args.cache.now.geometry c.args.cache.now.map.geometry c.args.cache.now.map.entries c.args.group c.requires.agree.sound.of_one.map c.in-None.ensures.none in
-    λ list durable lists.
-    given_either c.args.cache.now.geometry (g.M.Media.state c.drop_group-in-None.new.media).contents.flash.page durable list (list_without c.args.cache.now.geometry c.args.group list)
-    (group_gave c.args.cache.now (g.M.Media.state c.args.media.now).contents c.requires.agree c.args.group lacks c.requires.held list durable none lists)
-    (c.drop_group-in-None.ensures.stands list durable (lists_victims c.args.cache.now c.victim.new.self (g.M.Media.state c.args.media.now).contents.flash.page list durable lists))
+pub returns-then-own-clause-costs : goal.returns-then-own-clause-costs
+returns-then-own-clause-costs g c = on_ok_from c.move_group.result (λ v is. λ room. ok_at c.move_group.result v is c.move_group.ensures.costs)
 
-pub returns-in_ok-drop_group-in-Some-clause-filled : goal.returns-in_ok-drop_group-in-Some-clause-filled
-returns-in_ok-drop_group-in-Some-clause-filled g c =
-    let same = ap (λ (p : Parts). p.geometry) c.drop_group.ensures.cache in
-    on_ok_from c.move_group-in-Some.result (λ v is. fillers_still c.args.cache.now.geometry c.drop_group.new.cache.geometry c.move_group-in-Some.new.cache.map.entries c.args.group
-    (g.M.Media.state c.move_group-in-Some.new.media).contents.flash.page same (ok_at c.move_group-in-Some.result v is c.move_group-in-Some.ensures.filled))
-
-pub returns-in-None-clause-filled : goal.returns-in-None-clause-filled
-returns-in-None-clause-filled g c =
-    on_ok_from c.drop_group-in-None.result (λ v is. fillers_gone c.args.cache.now.geometry c.args.cache.now.map.entries c.drop_group-in-None.new.cache.map.entries c.args.group (g.M.Media.state c.drop_group-in-None.new.media).contents.flash.page c.drop_group-in-None.ensures.entries)
-
-pub returns-then-own-clause-counts : goal.returns-then-own-clause-counts
-returns-then-own-clause-counts g c = on_ok_from c.move_group.result (λ v is. λ room. ok_at c.move_group.result v is c.move_group.ensures.counts)
-
-pub returns-in_ok-drop_group-in-Some-clause-counts : goal.returns-in_ok-drop_group-in-Some-clause-counts
-returns-in_ok-drop_group-in-Some-clause-counts g c =
-    let lacks = lacks_room c.args.cache.now.geometry c.args.cache.now.map.geometry c.args.cache.now.map.entries c.args.group c.requires.agree.sound.of_one.map c.block_of.result c.is_some-own.result
+pub returns-in_ok-drop_group-in-Some-clause-costs : goal.returns-in_ok-drop_group-in-Some-clause-costs
+returns-in_ok-drop_group-in-Some-clause-costs g c = let lacks = lacks_room c.args.cache.now.geometry c.args.cache.now.map.geometry c.args.cache.now.map.entries c.args.group c.requires.can.agree.sound.of_one.map c.block_of.result c.is_some-own.result
     c.data_blocks.result c.is_some-own.ensures c.if-own.false c.block_of.ensures.none c.data_blocks.ensures.count c.data_blocks.ensures.most c.if-data_blocks-cache.false in
     on_ok_from c.move_group-in-Some.result (λ v is. λ room. absurd (room_not_lacked c.args.cache.now.geometry c.args.cache.now.map.entries c.args.group lacks room))
 
-pub returns-in-None-clause-counts : goal.returns-in-None-clause-counts
-returns-in-None-clause-counts g c =
-    let lacks = lacks_room c.args.cache.now.geometry c.args.cache.now.map.geometry c.args.cache.now.map.entries c.args.group c.requires.agree.sound.of_one.map c.block_of.result c.is_some-own.result
-    c.data_blocks.result c.is_some-own.ensures c.if-own.false c.block_of.ensures.none c.data_blocks.ensures.count c.data_blocks.ensures.most c.if-data_blocks-cache.false in
-    on_ok_from c.drop_group-in-None.result (λ v is. λ room. absurd (room_not_lacked c.args.cache.now.geometry c.args.cache.now.map.entries c.args.group lacks room))
-
-pub returns-in_ok-drop_group-in-Some-clause-switched : goal.returns-in_ok-drop_group-in-Some-clause-switched
-returns-in_ok-drop_group-in-Some-clause-switched g c =
-    let lacks = lacks_room c.args.cache.now.geometry c.args.cache.now.map.geometry c.args.cache.now.map.entries c.args.group c.requires.agree.sound.of_one.map c.block_of.result c.is_some-own.result
-    c.data_blocks.result c.is_some-own.ensures c.if-own.false c.block_of.ensures.none c.data_blocks.ensures.count c.data_blocks.ensures.most c.if-data_blocks-cache.false in
-    on_ok_from c.move_group-in-Some.result (λ v is. λ room. absurd (room_not_lacked c.args.cache.now.geometry c.args.cache.now.map.entries c.args.group lacks room))
-
-pub returns-in-None-clause-switched : goal.returns-in-None-clause-switched
-returns-in-None-clause-switched g c =
-    let lacks = lacks_room c.args.cache.now.geometry c.args.cache.now.map.geometry c.args.cache.now.map.entries c.args.group c.requires.agree.sound.of_one.map c.block_of.result c.is_some-own.result
-    c.data_blocks.result c.is_some-own.ensures c.if-own.false c.block_of.ensures.none c.data_blocks.ensures.count c.data_blocks.ensures.most c.if-data_blocks-cache.false in
-    on_ok_from c.drop_group-in-None.result (λ v is. λ room. absurd (room_not_lacked c.args.cache.now.geometry c.args.cache.now.map.entries c.args.group lacks room))
-
-pub returns-in_ok-drop_group-in-Some-clause-one_program : goal.returns-in_ok-drop_group-in-Some-clause-one_program
-returns-in_ok-drop_group-in-Some-clause-one_program g c =
-    let lacks = lacks_room c.args.cache.now.geometry c.args.cache.now.map.geometry c.args.cache.now.map.entries c.args.group c.requires.agree.sound.of_one.map c.block_of.result c.is_some-own.result
-    c.data_blocks.result c.is_some-own.ensures c.if-own.false c.block_of.ensures.none c.data_blocks.ensures.count c.data_blocks.ensures.most c.if-data_blocks-cache.false in
-    on_ok_from c.move_group-in-Some.result (λ v is. λ room. absurd (room_not_lacked c.args.cache.now.geometry c.args.cache.now.map.entries c.args.group lacks room))
-
-pub returns-in-None-clause-one_program : goal.returns-in-None-clause-one_program
-returns-in-None-clause-one_program g c =
-    let lacks = lacks_room c.args.cache.now.geometry c.args.cache.now.map.geometry c.args.cache.now.map.entries c.args.group c.requires.agree.sound.of_one.map c.block_of.result c.is_some-own.result
+pub returns-in-None-clause-costs : goal.returns-in-None-clause-costs
+returns-in-None-clause-costs g c = let lacks = lacks_room c.args.cache.now.geometry c.args.cache.now.map.geometry c.args.cache.now.map.entries c.args.group c.requires.can.agree.sound.of_one.map c.block_of.result c.is_some-own.result
     c.data_blocks.result c.is_some-own.ensures c.if-own.false c.block_of.ensures.none c.data_blocks.ensures.count c.data_blocks.ensures.most c.if-data_blocks-cache.false in
     on_ok_from c.drop_group-in-None.result (λ v is. λ room. absurd (room_not_lacked c.args.cache.now.geometry c.args.cache.now.map.entries c.args.group lacks room))
 
 pub returns-in_ok-drop_group-in-Some-clause-logs : goal.returns-in_ok-drop_group-in-Some-clause-logs
 returns-in_ok-drop_group-in-Some-clause-logs g c =
     let is = c.drop_group.ensures.cache in
-    logs_after c.args.cache.now c.drop_group.new.cache c.args.group c.in-Some.victim (ap (λ (p : Parts). p.geometry) is) (ap (λ (p : Parts). p.logs) is) c.drop_group.ensures.entries c.move_group-in-Some.new.cache.logs c.move_group-in-Some.ensures.logs
+    logs_after c.args.cache.now c.drop_group.new.cache c.args.group c.in-Some.victim (ap (λ (p : Parts). p.geometry) is) (ap (λ (p : Parts). p.logs) is) c.drop_group.ensures.map.entries c.move_group-in-Some.new.cache.logs c.move_group-in-Some.ensures.logs
 
 pub returns-in_err-drop_group-in-Some-clause-logs : goal.returns-in_err-drop_group-in-Some-clause-logs
 returns-in_err-drop_group-in-Some-clause-logs g c = inl (ap (λ (p : Parts). p.logs) c.drop_group.ensures.cache)

@@ -12,7 +12,7 @@ returns-clause-agree c = λ contents agree.
     let new = c.note.new.cache in
     let g = old.geometry in
     subst (λ (p : Parts). Agree p contents) (sym c.note.ensures.cache)
-    (agree_less old new.map new.log new.pool contents (Remove c.args.lba) (c.args.lba / g.p) (subst AreOfOne c.note.ensures.cache c.note.ensures.of_one) c.requires.fits c.note.ensures.entries c.note.ensures.log c.note.ensures.roles
+    (agree_less old new.map new.log new.pool contents (Remove c.args.lba) (c.args.lba / g.p) (subst AreOfOne c.note.ensures.cache c.note.ensures.of_one) c.requires.fits c.note.ensures.map.entries c.note.ensures.log c.note.ensures.roles
     (less_removed g c.args.lba old.map.entries) (removed_changes g old.map.entries c.args.lba) agree)
 
 pub returns-clause-lists : goal.returns-clause-lists
@@ -20,4 +20,4 @@ returns-clause-lists c = λ contents list durable lists.
     let old = c.args.cache.now in
     let new = c.note.new.cache in
     subst (λ (p : Parts). Lists p contents.flash.page (evicted c.args.lba list) durable) (sym c.note.ensures.cache)
-    (lists_noted old new.map new.log new.pool (Remove c.args.lba) contents c.note.ensures.entries c.note.ensures.log list (evicted c.args.lba list) durable (removed_held old.geometry old.map.entries c.args.lba contents.flash.page list lists.held) lists)
+    (lists_noted old new.map new.log new.pool (Remove c.args.lba) contents c.note.ensures.map.entries c.note.ensures.log list (evicted c.args.lba list) durable (removed_held old.geometry old.map.entries c.args.lba contents.flash.page list lists.held) lists)

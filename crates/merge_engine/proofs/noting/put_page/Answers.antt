@@ -19,12 +19,12 @@ returns-clause-agree c = λ contents block agree page.
     let old = c.args.cache.now in
     let new = c.note.new.cache in
     subst (λ (p : Parts). Agree p contents) (sym c.note.ensures.cache)
-    (agree_placed old new.map new.log new.pool contents c.args.lba c.args.place c.args.dirty block (subst AreOfOne c.note.ensures.cache c.note.ensures.of_one) c.requires.fits c.note.ensures.entries c.note.ensures.log c.note.ensures.roles page agree)
+    (agree_placed old new.map new.log new.pool contents c.args.lba c.args.place c.args.dirty block (subst AreOfOne c.note.ensures.cache c.note.ensures.of_one) c.requires.fits c.note.ensures.map.entries c.note.ensures.log c.note.ensures.roles page agree)
 
 pub returns-clause-lists : goal.returns-clause-lists
 returns-clause-lists c = λ contents block list durable page lists.
     let old = c.args.cache.now in
     let new = c.note.new.cache in
     subst (λ (p : Parts). Lists p contents.flash.page (insert list c.args.lba (written_block c.args.lba block c.args.dirty)) durable) (sym c.note.ensures.cache)
-    (lists_noted old new.map new.log new.pool (SetPage c.args.lba c.args.place c.args.dirty) contents c.note.ensures.entries c.note.ensures.log list (insert list c.args.lba (written_block c.args.lba block c.args.dirty)) durable
+    (lists_noted old new.map new.log new.pool (SetPage c.args.lba c.args.place c.args.dirty) contents c.note.ensures.map.entries c.note.ensures.log list (insert list c.args.lba (written_block c.args.lba block c.args.dirty)) durable
     (placed_held old.geometry old.map.entries c.args.lba c.args.place c.args.dirty contents.flash.page list block page.whole lists.held) lists)

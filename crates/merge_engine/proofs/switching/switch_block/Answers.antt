@@ -14,26 +14,27 @@ note-requires-clause-sound c =
     let r = c.requires in
     switching_spelled c.args.cache.now c.args.group c.args.block c.held_bits.result c.dirty_bits.result r.of_one r.is_map r.roles r.held r.block r.switch c.held_bits.ensures c.dirty_bits.ensures
 
-pub returns-clause-entries : goal.returns-clause-entries
-returns-clause-entries c =
-    let r = c.requires in
-    switch_entries c.args.cache.now c.args.group c.args.block c.held_bits.result c.dirty_bits.result r.of_one r.is_map r.roles r.held r.block r.switch c.held_bits.ensures c.dirty_bits.ensures c.note.new.cache.map.entries c.note.ensures.entries
+pub returns-clause-map : goal.returns-clause-map
+returns-clause-map c = record {
+  entries = let r = c.requires in
+      switch_entries c.args.cache.now c.args.group c.args.block c.held_bits.result c.dirty_bits.result r.of_one r.is_map r.roles r.held r.block r.switch c.held_bits.ensures c.dirty_bits.ensures c.note.new.cache.map.entries c.note.ensures.map.entries;
+  pages = c.note.ensures.map.pages;
+  groups = c.note.ensures.map.groups;
+  buckets = c.note.ensures.map.buckets;
+  group_buckets = c.note.ensures.map.group_buckets;
+}
 
-pub returns-clause-agree : goal.returns-clause-agree
-returns-clause-agree c =
+pub returns-clause-stays : goal.returns-clause-stays
+returns-clause-stays c = λ contents.
     let r = c.requires in
     let n = c.note.ensures in
     let s = c.set_role.ensures in
-    agree_switch c.args.cache.now c.note.new.cache c.set_role.new.self c.release.new.self c.args.group c.args.block c.held_bits.result c.dirty_bits.result r.of_one r.is_map r.roles r.held r.block
-    r.switch c.held_bits.ensures c.dirty_bits.ensures n.cache n.log n.entries n.of_one n.roles c.release.ensures.released c.release.ensures.sound s.geometry s.role s.others
-
-pub returns-clause-lists : goal.returns-clause-lists
-returns-clause-lists c =
-    let r = c.requires in
-    let n = c.note.ensures in
-    let s = c.set_role.ensures in
-    lists_switch c.args.cache.now c.note.new.cache c.set_role.new.self c.release.new.self c.args.group c.args.block c.held_bits.result c.dirty_bits.result r.of_one r.is_map r.roles r.held r.block
-    r.switch c.held_bits.ensures c.dirty_bits.ensures n.cache n.log n.entries n.of_one n.roles c.release.ensures.released c.release.ensures.sound s.geometry s.role s.others
+    record {
+      agree = agree_switch c.args.cache.now c.note.new.cache c.set_role.new.self c.release.new.self c.args.group c.args.block c.held_bits.result c.dirty_bits.result r.of_one r.is_map r.roles r.held r.block
+          r.switch c.held_bits.ensures c.dirty_bits.ensures n.cache n.log n.map.entries n.of_one n.roles c.release.ensures.released c.release.ensures.sound s.geometry s.role s.others contents;
+      lists = lists_switch c.args.cache.now c.note.new.cache c.set_role.new.self c.release.new.self c.args.group c.args.block c.held_bits.result c.dirty_bits.result r.of_one r.is_map r.roles r.held r.block
+          r.switch c.held_bits.ensures c.dirty_bits.ensures n.cache n.log n.map.entries n.of_one n.roles c.release.ensures.released c.release.ensures.sound s.geometry s.role s.others contents;
+    }
 
 pub returns-clause-waits : goal.returns-clause-waits
 returns-clause-waits c = λ none. pushed_some c.args.cache.now.log.buffered _ (sym (ap (λ (l : LogValue). l.buffered) c.note.ensures.log) ∙ none)

@@ -4,4 +4,4 @@ use Rattle.ssc.proofs.putting.commit_if_full.Goals as goal
 
 pub returns-clause-lists : goal.returns-clause-lists
 returns-clause-lists g c = on_ok_from c.commit.result (λ v is. λ list durable lists.
-    inr (ok_at c.commit.result v is c.commit.ensures.nothing_waits, ok_at c.commit.result v is c.commit.ensures.lists list durable lists))
+    inr (ok_at c.commit.result v is c.commit.ensures.kept.nothing_waits, ok_at c.commit.result v is c.commit.ensures.kept.lists list durable lists))

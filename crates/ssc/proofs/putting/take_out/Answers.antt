@@ -18,12 +18,12 @@ put_out-requires-clause-fits g c = removed_fits c.args.parts.now (g.M.Media.stat
 
 pub returns-clause-lists : goal.returns-clause-lists
 returns-clause-lists g c = on_ok_from c.commit.result (λ v is. λ list durable lists.
-    ok_at c.commit.result v is c.commit.ensures.lists (evicted c.args.lba list) durable (c.put_out.ensures.lists (g.M.Media.state c.args.media.now).contents list durable lists))
+    ok_at c.commit.result v is c.commit.ensures.kept.lists (evicted c.args.lba list) durable (c.put_out.ensures.lists (g.M.Media.state c.args.media.now).contents list durable lists))
 
 pub returns-clause-stands : goal.returns-clause-stands
 returns-clause-stands g c = λ list durable lists.
     subst (λ (h : Geometry). FlashStandsForEither h (g.M.Media.state c.commit.new.media).contents.flash.page durable (evicted c.args.lba list)) (ap (λ (p : Parts). p.geometry) c.put_out.ensures.cache)
-    (c.commit.ensures.stands (evicted c.args.lba list) durable (c.put_out.ensures.lists (g.M.Media.state c.args.media.now).contents list durable lists))
+    (c.commit.ensures.kept.stands (evicted c.args.lba list) durable (c.put_out.ensures.lists (g.M.Media.state c.args.media.now).contents list durable lists))
 
 pub returns-clause-one_program : goal.returns-clause-one_program
 returns-clause-one_program g c = on_ok_from c.commit.result (λ v is. λ left.

@@ -11,12 +11,12 @@ returns-in_err-write_page-clause-stands g c = λ list durable lists. given_step 
 pub returns-clause-lists : goal.returns-clause-lists
 returns-clause-lists g c = on_ok_from c.commit.result (λ v is. λ list durable lists.
     put_committed c.args.parts.now c.write_page.new.parts c.commit.new.cache (g.M.Media.state c.write_page.new.media).contents.flash.page (g.M.Media.state c.commit.new.media).contents.flash.page c.args.lba (written_block c.args.lba c.args.block.now c.args.dirty) list durable
-    (ok_at c.commit.result v is c.commit.ensures.lists) (c.in_ok-write_page.ensures.lists list durable lists))
+    (ok_at c.commit.result v is c.commit.ensures.kept.lists) (c.in_ok-write_page.ensures.lists list durable lists))
 
 pub returns-clause-stands : goal.returns-clause-stands
 returns-clause-stands g c = λ list durable lists.
     step_then c.args.parts.now c.write_page.new.parts (g.M.Media.state c.write_page.new.media).contents.flash.page (g.M.Media.state c.commit.new.media).contents.flash.page c.args.lba (written_block c.args.lba c.args.block.now c.args.dirty) c.write_page.ensures.geometry list durable
-    c.commit.ensures.stands (c.in_ok-write_page.ensures.lists list durable lists)
+    c.commit.ensures.kept.stands (c.in_ok-write_page.ensures.lists list durable lists)
 
 pub returns-clause-two_programs : goal.returns-clause-two_programs
 returns-clause-two_programs g c = on_ok_from c.commit.result (λ v is. λ room left.
@@ -27,7 +27,7 @@ returns-clause-spends g c = on_ok_from c.commit.result (λ v is.
     spends_both (g.M.Media.state c.args.media.now) (g.M.Media.state c.write_page.new.media) (g.M.Media.state c.commit.new.media) 1 1 c.in_ok-write_page.ensures.drives.passes c.in_ok-write_page.ensures.spends (ok_at c.commit.result v is c.commit.ensures.spends c.in_ok-write_page.ensures.waits))
 
 pub returns-clause-drives : goal.returns-clause-drives
-returns-clause-drives g c = drives_then _ _ _ _ _ c.in_ok-write_page.ensures.drives c.commit.ensures.drives
+returns-clause-drives g c = drives_then _ _ _ _ _ c.in_ok-write_page.ensures.drives c.commit.ensures.drives.flash
 
 pub returns-in_err-write_page-clause-kept : goal.returns-in_err-write_page-clause-kept
 returns-in_err-write_page-clause-kept g c = λ room list durable lists. kept_before _ _ durable list _ (c.write_page.ensures.list_stands room list durable lists)
@@ -35,4 +35,4 @@ returns-in_err-write_page-clause-kept g c = λ room list durable lists. kept_bef
 pub returns-clause-kept : goal.returns-clause-kept
 returns-clause-kept g c = λ room list durable lists.
     kept_then c.args.parts.now c.write_page.new.parts (g.M.Media.state c.write_page.new.media).contents.flash.page (g.M.Media.state c.commit.new.media).contents.flash.page c.args.lba (written_block c.args.lba c.args.block.now c.args.dirty) c.write_page.ensures.geometry list durable
-    c.commit.ensures.stands room (c.in_ok-write_page.ensures.lists list durable lists)
+    c.commit.ensures.kept.stands room (c.in_ok-write_page.ensures.lists list durable lists)

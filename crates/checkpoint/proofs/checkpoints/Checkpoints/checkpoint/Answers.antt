@@ -1,4 +1,4 @@
-use Rattle.std.proofs.Common.{◌≡◌, ◌+◌, ◌-◌, ◌%◌, sym, ◌∙◌, subst}
+use Rattle.std.proofs.Common.{rules, ◌≡◌, ◌+◌, ◌-◌, ◌%◌, sym, ◌∙◌, subst}
 use Rattle.ft_base.specs.declared.geometry.Geometry.{Geometry}
 use Rattle.cache_model.specs.Entries.{IsMap}
 use Rattle.op_log.specs.Log.{LogValue}
@@ -12,74 +12,66 @@ use Rattle.checkpoint.proofs.checkpoints.Checkpoints.checkpoint.Goals as goal
 
 pub write_checkpoint-requires-clause-is_map : goal.write_checkpoint-requires-clause-is_map
 write_checkpoint-requires-clause-is_map g c =
-    subst (λ (x : Geometry). IsMap x c.args.map.now.entries) (sym (c.self.view_is ∙ c.requires.own)) (current_map c.args.log.now (g.M.Media.state c.args.media.now).contents.flash.page c.args.map.now.entries c.requires.current)
+    subst (λ (x : Geometry). IsMap x c.args.map.now.entries) (sym (c.self.view_is ∙ c.requires.can.own)) (current_map c.args.log.now (g.M.Media.state c.args.media.now).contents.flash.page c.args.map.now.entries c.requires.can.current)
 
-pub returns-in_err-write_checkpoint-clause-stands : goal.returns-in_err-write_checkpoint-clause-stands
-returns-in_err-write_checkpoint-clause-stands g c =
-    loads_one_of c.args.log.now c.args.map.now.entries c.args.map.now.records (g.M.Media.state c.args.media.now).contents.flash.page
-    (g.M.Media.state c.write_checkpoint.new.media).contents.flash.page c.requires.current c.requires.whole
-    (listing_here c.self.inside.geometry c.args.log.now.geometry c.args.map.now.entries c.args.map.now.records (c.self.view_is ∙ c.requires.own) c.write_checkpoint.ensures.listing)
-    (left_of_log c.args.log.now c.args.map.now.records c.self.inside.geometry c.region.result c.era.result (c.self.view_is ∙ c.requires.own) c.region.ensures.region c.era.ensures.era
-    (g.M.Media.state c.args.media.now).contents.flash.page (g.M.Media.state c.write_checkpoint.new.media).contents.flash.page c.write_checkpoint.ensures.pages)
+pub returns-in_err-write_checkpoint-clause-flash : goal.returns-in_err-write_checkpoint-clause-flash
+returns-in_err-write_checkpoint-clause-flash g c = record {
+  stands = loads_one_of c.args.log.now c.args.map.now.entries c.args.map.now.records (g.M.Media.state c.args.media.now).contents.flash.page
+      (g.M.Media.state c.write_checkpoint.new.media).contents.flash.page c.requires.can.current c.requires.can.whole
+      (listing_here c.self.inside.geometry c.args.log.now.geometry c.args.map.now.entries c.args.map.now.records (c.self.view_is ∙ c.requires.can.own) c.write_checkpoint.ensures.listing)
+      (left_of_log c.args.log.now c.args.map.now.records c.self.inside.geometry c.region.result c.era.result (c.self.view_is ∙ c.requires.can.own) c.region.ensures.region c.era.ensures.era
+      (g.M.Media.state c.args.media.now).contents.flash.page (g.M.Media.state c.write_checkpoint.new.media).contents.flash.page c.write_checkpoint.ensures.pages);
+  pool = pool_left c.args.log.now c.args.map.now.records (g.M.Media.state c.args.media.now).contents.flash.page (g.M.Media.state c.write_checkpoint.new.media).contents.flash.page
+      (left_of_log c.args.log.now c.args.map.now.records c.self.inside.geometry c.region.result c.era.result (c.self.view_is ∙ c.requires.can.own) c.region.ensures.region c.era.ensures.era
+      (g.M.Media.state c.args.media.now).contents.flash.page (g.M.Media.state c.write_checkpoint.new.media).contents.flash.page c.write_checkpoint.ensures.pages);
+  pool_ready = search rules;
+}
 
 pub returns-in_err-write_checkpoint-clause-log_last : goal.returns-in_err-write_checkpoint-clause-log_last
 returns-in_err-write_checkpoint-clause-log_last g c =
     log_goes_last c.args.log.now c.args.map.now.entries c.args.map.now.records (g.M.Media.state c.args.media.now).contents.flash.page
-    (g.M.Media.state c.write_checkpoint.new.media).contents.flash.page c.requires.current
-    (listing_here c.self.inside.geometry c.args.log.now.geometry c.args.map.now.entries c.args.map.now.records (c.self.view_is ∙ c.requires.own) c.write_checkpoint.ensures.listing)
-    (left_of_log c.args.log.now c.args.map.now.records c.self.inside.geometry c.region.result c.era.result (c.self.view_is ∙ c.requires.own) c.region.ensures.region c.era.ensures.era
+    (g.M.Media.state c.write_checkpoint.new.media).contents.flash.page c.requires.can.current
+    (listing_here c.self.inside.geometry c.args.log.now.geometry c.args.map.now.entries c.args.map.now.records (c.self.view_is ∙ c.requires.can.own) c.write_checkpoint.ensures.listing)
+    (left_of_log c.args.log.now c.args.map.now.records c.self.inside.geometry c.region.result c.era.result (c.self.view_is ∙ c.requires.can.own) c.region.ensures.region c.era.ensures.era
     (g.M.Media.state c.args.media.now).contents.flash.page (g.M.Media.state c.write_checkpoint.new.media).contents.flash.page c.write_checkpoint.ensures.pages)
 
-pub returns-in_err-write_checkpoint-clause-pool : goal.returns-in_err-write_checkpoint-clause-pool
-returns-in_err-write_checkpoint-clause-pool g c =
-    pool_left c.args.log.now c.args.map.now.records (g.M.Media.state c.args.media.now).contents.flash.page (g.M.Media.state c.write_checkpoint.new.media).contents.flash.page
-    (left_of_log c.args.log.now c.args.map.now.records c.self.inside.geometry c.region.result c.era.result (c.self.view_is ∙ c.requires.own) c.region.ensures.region c.era.ensures.era
-    (g.M.Media.state c.args.media.now).contents.flash.page (g.M.Media.state c.write_checkpoint.new.media).contents.flash.page c.write_checkpoint.ensures.pages)
-
-pub returns-clause-stands : goal.returns-clause-stands
-returns-clause-stands g c =
-    loads_one_of c.args.log.now c.args.map.now.entries c.args.map.now.records (g.M.Media.state c.args.media.now).contents.flash.page
-    (g.M.Media.state c.write_checkpoint.new.media).contents.flash.page c.requires.current c.requires.whole
-    (listing_here c.self.inside.geometry c.args.log.now.geometry c.args.map.now.entries c.args.map.now.records (c.self.view_is ∙ c.requires.own) c.write_checkpoint.ensures.listing)
-    (left_of_log c.args.log.now c.args.map.now.records c.self.inside.geometry c.region.result c.era.result (c.self.view_is ∙ c.requires.own) c.region.ensures.region c.era.ensures.era
-    (g.M.Media.state c.args.media.now).contents.flash.page (g.M.Media.state c.write_checkpoint.new.media).contents.flash.page c.write_checkpoint.ensures.pages)
+pub returns-clause-flash : goal.returns-clause-flash
+returns-clause-flash g c = record {
+  stands = loads_one_of c.args.log.now c.args.map.now.entries c.args.map.now.records (g.M.Media.state c.args.media.now).contents.flash.page
+      (g.M.Media.state c.write_checkpoint.new.media).contents.flash.page c.requires.can.current c.requires.can.whole
+      (listing_here c.self.inside.geometry c.args.log.now.geometry c.args.map.now.entries c.args.map.now.records (c.self.view_is ∙ c.requires.can.own) c.write_checkpoint.ensures.listing)
+      (left_of_log c.args.log.now c.args.map.now.records c.self.inside.geometry c.region.result c.era.result (c.self.view_is ∙ c.requires.can.own) c.region.ensures.region c.era.ensures.era
+      (g.M.Media.state c.args.media.now).contents.flash.page (g.M.Media.state c.write_checkpoint.new.media).contents.flash.page c.write_checkpoint.ensures.pages);
+  pool = pool_left c.args.log.now c.args.map.now.records (g.M.Media.state c.args.media.now).contents.flash.page (g.M.Media.state c.write_checkpoint.new.media).contents.flash.page
+      (left_of_log c.args.log.now c.args.map.now.records c.self.inside.geometry c.region.result c.era.result (c.self.view_is ∙ c.requires.can.own) c.region.ensures.region c.era.ensures.era
+      (g.M.Media.state c.args.media.now).contents.flash.page (g.M.Media.state c.write_checkpoint.new.media).contents.flash.page c.write_checkpoint.ensures.pages);
+  pool_ready = ready_left c.args.log.now c.args.map.now.records (g.M.Media.state c.args.media.now).contents.flash (g.M.Media.state c.write_checkpoint.new.media).contents.flash
+      (written_of_log c.args.log.now c.args.map.now.records c.self.inside.geometry c.region.result c.era.result (c.self.view_is ∙ c.requires.can.own) c.region.ensures.region c.era.ensures.era
+      (g.M.Media.state c.args.media.now).contents.flash (g.M.Media.state c.write_checkpoint.new.media).contents.flash c.in_ok-write_checkpoint.ensures.done);
+}
 
 pub returns-clause-log_last : goal.returns-clause-log_last
 returns-clause-log_last g c =
     log_goes_last c.args.log.now c.args.map.now.entries c.args.map.now.records (g.M.Media.state c.args.media.now).contents.flash.page
-    (g.M.Media.state c.write_checkpoint.new.media).contents.flash.page c.requires.current
-    (listing_here c.self.inside.geometry c.args.log.now.geometry c.args.map.now.entries c.args.map.now.records (c.self.view_is ∙ c.requires.own) c.write_checkpoint.ensures.listing)
-    (left_of_log c.args.log.now c.args.map.now.records c.self.inside.geometry c.region.result c.era.result (c.self.view_is ∙ c.requires.own) c.region.ensures.region c.era.ensures.era
-    (g.M.Media.state c.args.media.now).contents.flash.page (g.M.Media.state c.write_checkpoint.new.media).contents.flash.page c.write_checkpoint.ensures.pages)
-
-pub returns-clause-pool : goal.returns-clause-pool
-returns-clause-pool g c =
-    pool_left c.args.log.now c.args.map.now.records (g.M.Media.state c.args.media.now).contents.flash.page (g.M.Media.state c.write_checkpoint.new.media).contents.flash.page
-    (left_of_log c.args.log.now c.args.map.now.records c.self.inside.geometry c.region.result c.era.result (c.self.view_is ∙ c.requires.own) c.region.ensures.region c.era.ensures.era
+    (g.M.Media.state c.write_checkpoint.new.media).contents.flash.page c.requires.can.current
+    (listing_here c.self.inside.geometry c.args.log.now.geometry c.args.map.now.entries c.args.map.now.records (c.self.view_is ∙ c.requires.can.own) c.write_checkpoint.ensures.listing)
+    (left_of_log c.args.log.now c.args.map.now.records c.self.inside.geometry c.region.result c.era.result (c.self.view_is ∙ c.requires.can.own) c.region.ensures.region c.era.ensures.era
     (g.M.Media.state c.args.media.now).contents.flash.page (g.M.Media.state c.write_checkpoint.new.media).contents.flash.page c.write_checkpoint.ensures.pages)
 
 pub returns-clause-done : goal.returns-clause-done
 returns-clause-done g c =
     subst (λ (log : LogValue). IsCommitted (g.M.Media.state c.write_checkpoint.new.media).contents.flash log c.args.map.now.entries)
-    (sym (restarted_log c.args.log.now c.args.map.now.records c.self.inside.geometry c.region.result c.era.result (c.self.view_is ∙ c.requires.own) c.region.ensures.region c.era.ensures.era c.restart.new.self c.restart.ensures))
+    (sym (restarted_log c.args.log.now c.args.map.now.records c.self.inside.geometry c.region.result c.era.result (c.self.view_is ∙ c.requires.can.own) c.region.ensures.region c.era.ensures.era c.restart.new.self c.restart.ensures))
     (written_committed c.args.log.now c.args.map.now.entries c.args.map.now.records (g.M.Media.state c.args.media.now).contents.flash
-    (g.M.Media.state c.write_checkpoint.new.media).contents.flash c.requires.current c.requires.whole
-    (listing_here c.self.inside.geometry c.args.log.now.geometry c.args.map.now.entries c.args.map.now.records (c.self.view_is ∙ c.requires.own) c.write_checkpoint.ensures.listing)
-    (written_of_log c.args.log.now c.args.map.now.records c.self.inside.geometry c.region.result c.era.result (c.self.view_is ∙ c.requires.own) c.region.ensures.region c.era.ensures.era
+    (g.M.Media.state c.write_checkpoint.new.media).contents.flash c.requires.can.current c.requires.can.whole
+    (listing_here c.self.inside.geometry c.args.log.now.geometry c.args.map.now.entries c.args.map.now.records (c.self.view_is ∙ c.requires.can.own) c.write_checkpoint.ensures.listing)
+    (written_of_log c.args.log.now c.args.map.now.records c.self.inside.geometry c.region.result c.era.result (c.self.view_is ∙ c.requires.can.own) c.region.ensures.region c.era.ensures.era
     (g.M.Media.state c.args.media.now).contents.flash (g.M.Media.state c.write_checkpoint.new.media).contents.flash c.in_ok-write_checkpoint.ensures.done))
 
-pub returns-clause-pool_ready : goal.returns-clause-pool_ready
-returns-clause-pool_ready g c =
-    ready_left c.args.log.now c.args.map.now.records (g.M.Media.state c.args.media.now).contents.flash (g.M.Media.state c.write_checkpoint.new.media).contents.flash
-    (written_of_log c.args.log.now c.args.map.now.records c.self.inside.geometry c.region.result c.era.result (c.self.view_is ∙ c.requires.own) c.region.ensures.region c.era.ensures.era
-    (g.M.Media.state c.args.media.now).contents.flash (g.M.Media.state c.write_checkpoint.new.media).contents.flash c.in_ok-write_checkpoint.ensures.done)
-
-pub returns-clause-spares : goal.returns-clause-spares
-returns-clause-spares g c =
-    let written = written_of_log c.args.log.now c.args.map.now.records c.self.inside.geometry c.region.result c.era.result (c.self.view_is ∙ c.requires.own) c.region.ensures.region c.era.ensures.era
-    (g.M.Media.state c.args.media.now).contents.flash (g.M.Media.state c.write_checkpoint.new.media).contents.flash c.in_ok-write_checkpoint.ensures.done in
-    sealed_spares c.args.log.now.geometry (1 - c.args.log.now.region) ((c.args.log.now.era + 1) % 3) c.args.map.now.records (g.M.Media.state c.args.media.now).contents.flash.page (g.M.Media.state c.write_checkpoint.new.media).contents.flash.page written.sealed
-
-pub returns-clause-counts : goal.returns-clause-counts
-returns-clause-counts g c =
-    subst (λ (x : Geometry). (g.M.Media.state c.write_checkpoint.new.media).counts ≡ checkpoint_counted x (map_pages x c.args.map.now.records) (g.M.Media.state c.args.media.now).counts) (c.self.view_is ∙ c.requires.own) c.in_ok-write_checkpoint.ensures.counts
+pub returns-clause-whole_checkpoint : goal.returns-clause-whole_checkpoint
+returns-clause-whole_checkpoint g c = record {
+  spares = let written = written_of_log c.args.log.now c.args.map.now.records c.self.inside.geometry c.region.result c.era.result (c.self.view_is ∙ c.requires.can.own) c.region.ensures.region c.era.ensures.era
+      (g.M.Media.state c.args.media.now).contents.flash (g.M.Media.state c.write_checkpoint.new.media).contents.flash c.in_ok-write_checkpoint.ensures.done in
+      sealed_spares c.args.log.now.geometry (1 - c.args.log.now.region) ((c.args.log.now.era + 1) % 3) c.args.map.now.records (g.M.Media.state c.args.media.now).contents.flash.page (g.M.Media.state c.write_checkpoint.new.media).contents.flash.page written.sealed;
+  counts = subst (λ (x : Geometry). (g.M.Media.state c.write_checkpoint.new.media).counts ≡ checkpoint_counted x (map_pages x c.args.map.now.records) (g.M.Media.state c.args.media.now).counts) (c.self.view_is ∙ c.requires.can.own) c.in_ok-write_checkpoint.ensures.counts;
+}

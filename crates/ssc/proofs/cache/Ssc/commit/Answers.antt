@@ -15,16 +15,16 @@ returns-in-Ok-clause-nothing g c = λ none. let n = c.in-Ok.ensures.nothing (wai
 pub returns-in-Ok-clause-done : goal.returns-in-Ok-clause-done
 returns-in-Ok-clause-done g c = λ s holds.
     holds_committed _ (g.M.Media.state c.commit.new.media).contents s (record {
-      agree = c.in-Ok.ensures.agree;
+      agree = c.in-Ok.ensures.kept.agree;
       memory = λ ready. memory_logged c.args.self.now.parts c.commit.new.cache c.commit.ensures.cache (holds.memory ready);
-    }) c.in-Ok.ensures.nothing_waits
-    (c.in-Ok.ensures.lists s (undo (pending c.args.self.now) s) holds.lists)
+    }) c.in-Ok.ensures.kept.nothing_waits
+    (c.in-Ok.ensures.kept.lists s (undo (pending c.args.self.now) s) holds.lists)
 
 pub returns-in-Ok-clause-images : goal.returns-in-Ok-clause-images
-returns-in-Ok-clause-images g c = λ s holds. images_before (geometry_of c.args.self.now) (g.M.Media.state c.commit.new.media).contents (undo (pending c.args.self.now) s) s s (c.commit.ensures.stands s (undo (pending c.args.self.now) s) holds.lists)
+returns-in-Ok-clause-images g c = λ s holds. images_before (geometry_of c.args.self.now) (g.M.Media.state c.commit.new.media).contents (undo (pending c.args.self.now) s) s s (c.commit.ensures.kept.stands s (undo (pending c.args.self.now) s) holds.lists)
 
 pub returns-in-Err-clause-images : goal.returns-in-Err-clause-images
-returns-in-Err-clause-images g c = λ s holds. images_before (geometry_of c.args.self.now) (g.M.Media.state c.commit.new.media).contents (undo (pending c.args.self.now) s) s s (c.commit.ensures.stands s (undo (pending c.args.self.now) s) holds.lists)
+returns-in-Err-clause-images g c = λ s holds. images_before (geometry_of c.args.self.now) (g.M.Media.state c.commit.new.media).contents (undo (pending c.args.self.now) s) s s (c.commit.ensures.kept.stands s (undo (pending c.args.self.now) s) holds.lists)
 
 pub returns-in-Err-clause-nothing : goal.returns-in-Err-clause-nothing
 returns-in-Err-clause-nothing g c = λ none. absurd (false≢true (c.in-Err.ensures.nothing (waiting-none c.args.self.now.parts.log.buffered none)).0)

@@ -24,26 +24,26 @@ make_checkpoint-requires g c = record {
 pub returns-in-Ok-clause-holds : goal.returns-in-Ok-clause-holds
 returns-in-Ok-clause-holds g c = λ s stands.
     let lists = lists_loaded c.args.geometry.now (g.M.Media.state c.args.media.now).contents (g.M.Media.state c.load.new.media).contents c.in_ok-loaded.loaded c.in_ok-parts.parts c.in_ok-loaded.ensures.loaded c.in_ok-loaded.ensures.reads.contents c.in_ok-parts.ensures s stands in
-    holds_committed _ (g.M.Media.state c.make_checkpoint.new.media).contents s (record { agree = c.in-Ok.ensures.agree; memory = λ ready. absurd (false≢true ready) }) (ap (λ (l : LogValue). l.buffered) c.in-Ok.ensures.log) (c.in-Ok.ensures.lists s s lists)
+    holds_committed _ (g.M.Media.state c.make_checkpoint.new.media).contents s (record { agree = c.in-Ok.ensures.kept.agree; memory = λ ready. absurd (false≢true ready) }) (ap (λ (l : LogValue). l.buffered) c.in-Ok.ensures.log) (c.in-Ok.ensures.kept.lists s s lists)
 
 pub returns-in-Ok-clause-drives : goal.returns-in-Ok-clause-drives
 returns-in-Ok-clause-drives g c = drives_then (g.M.Media.state c.args.media.now) (g.M.Media.state c.load.new.media) (g.M.Media.state c.make_checkpoint.new.media) false false
-    (reads_drives (g.M.Media.state c.args.media.now) (g.M.Media.state c.load.new.media) false false (g.met.M.Media.off_is_crashed c.args.media.now) c.in_ok-loaded.ensures.reads) c.in-Ok.ensures.drives
+    (reads_drives (g.M.Media.state c.args.media.now) (g.M.Media.state c.load.new.media) false false (g.met.M.Media.off_is_crashed c.args.media.now) c.in_ok-loaded.ensures.reads) c.in-Ok.ensures.drives.flash
 
 pub returns-in-Ok-clause-images : goal.returns-in-Ok-clause-images
 returns-in-Ok-clause-images g c = images_loaded c.args.geometry.now (g.M.Media.state c.args.media.now).contents
     (g.M.Media.state c.load.new.media).contents c.in_ok-loaded.loaded c.in_ok-parts.parts c.in_ok-loaded.ensures.loaded c.in_ok-loaded.ensures.reads.contents c.in_ok-parts.ensures
-    (g.M.Media.state c.make_checkpoint.new.media).contents c.make_checkpoint.ensures.stands
+    (g.M.Media.state c.make_checkpoint.new.media).contents c.make_checkpoint.ensures.kept.stands
 
 pub returns-in-Err-Failed-clause-images : goal.returns-in-Err-Failed-clause-images
 returns-in-Err-Failed-clause-images g c = images_loaded c.args.geometry.now (g.M.Media.state c.args.media.now).contents
     (g.M.Media.state c.load.new.media).contents c.in_ok-loaded.loaded c.in_ok-parts.parts c.in_ok-loaded.ensures.loaded c.in_ok-loaded.ensures.reads.contents c.in_ok-parts.ensures
-    (g.M.Media.state c.make_checkpoint.new.media).contents c.make_checkpoint.ensures.stands
+    (g.M.Media.state c.make_checkpoint.new.media).contents c.make_checkpoint.ensures.kept.stands
 
 pub returns-in-Err-PowerLost-clause-images : goal.returns-in-Err-PowerLost-clause-images
 returns-in-Err-PowerLost-clause-images g c = images_loaded c.args.geometry.now (g.M.Media.state c.args.media.now).contents
     (g.M.Media.state c.load.new.media).contents c.in_ok-loaded.loaded c.in_ok-parts.parts c.in_ok-loaded.ensures.loaded c.in_ok-loaded.ensures.reads.contents c.in_ok-parts.ensures
-    (g.M.Media.state c.make_checkpoint.new.media).contents c.make_checkpoint.ensures.stands
+    (g.M.Media.state c.make_checkpoint.new.media).contents c.make_checkpoint.ensures.kept.stands
 
 pub returns-in-Ok-clause-same : goal.returns-in-Ok-clause-same
 returns-in-Ok-clause-same g c = load-loaded c.args.geometry.now (g.M.Media.state c.args.media.now).contents
@@ -69,7 +69,7 @@ returns-in-Ok-clause-is_up g c =
     let lists = lists_loaded c.args.geometry.now (g.M.Media.state c.args.media.now).contents (g.M.Media.state c.load.new.media).contents c.in_ok-loaded.loaded c.in_ok-parts.parts c.in_ok-loaded.ensures.loaded c.in_ok-loaded.ensures.reads.contents c.in_ok-parts.ensures some.0 some.1 in
     record {
       list = some.0;
-      holds = holds_committed _ (g.M.Media.state c.make_checkpoint.new.media).contents some.0 (record { agree = c.in-Ok.ensures.agree; memory = λ ready. absurd (false≢true ready) }) (ap (λ (l : LogValue). l.buffered) c.in-Ok.ensures.log) (c.in-Ok.ensures.lists some.0 some.0 lists);
+      holds = holds_committed _ (g.M.Media.state c.make_checkpoint.new.media).contents some.0 (record { agree = c.in-Ok.ensures.kept.agree; memory = λ ready. absurd (false≢true ready) }) (ap (λ (l : LogValue). l.buffered) c.in-Ok.ensures.log) (c.in-Ok.ensures.kept.lists some.0 some.0 lists);
       up = refl;
     }
 
@@ -77,13 +77,13 @@ pub returns-in-Err-Failed-clause-drives : goal.returns-in-Err-Failed-clause-driv
 returns-in-Err-Failed-clause-drives g c =
     drives_then (g.M.Media.state c.args.media.now) (g.M.Media.state c.load.new.media) (g.M.Media.state c.make_checkpoint.new.media) true false
     (reads_drives (g.M.Media.state c.args.media.now) (g.M.Media.state c.load.new.media) false false (g.met.M.Media.off_is_crashed c.args.media.now) c.in_ok-loaded.ensures.reads)
-    (subst (λ (e : MediaError). DrivesFlash (g.M.Media.state c.load.new.media) (g.M.Media.state c.make_checkpoint.new.media) (failed {T = Unit {0}} (Err e)) (lost {T = Unit {0}} (Err e))) c.in-Err-Failed.field-0-is c.in-Err-Failed.ensures.drives)
+    (subst (λ (e : MediaError). DrivesFlash (g.M.Media.state c.load.new.media) (g.M.Media.state c.make_checkpoint.new.media) (failed {T = Unit {0}} (Err e)) (lost {T = Unit {0}} (Err e))) c.in-Err-Failed.field-0-is c.in-Err-Failed.ensures.drives.flash)
 
 pub returns-in-Err-PowerLost-clause-drives : goal.returns-in-Err-PowerLost-clause-drives
 returns-in-Err-PowerLost-clause-drives g c =
     drives_then (g.M.Media.state c.args.media.now) (g.M.Media.state c.load.new.media) (g.M.Media.state c.make_checkpoint.new.media) false true
     (reads_drives (g.M.Media.state c.args.media.now) (g.M.Media.state c.load.new.media) false false (g.met.M.Media.off_is_crashed c.args.media.now) c.in_ok-loaded.ensures.reads)
-    (subst (λ (e : MediaError). DrivesFlash (g.M.Media.state c.load.new.media) (g.M.Media.state c.make_checkpoint.new.media) (failed {T = Unit {0}} (Err e)) (lost {T = Unit {0}} (Err e))) c.in-Err-PowerLost.field-0-is c.in-Err-PowerLost.ensures.drives)
+    (subst (λ (e : MediaError). DrivesFlash (g.M.Media.state c.load.new.media) (g.M.Media.state c.make_checkpoint.new.media) (failed {T = Unit {0}} (Err e)) (lost {T = Unit {0}} (Err e))) c.in-Err-PowerLost.field-0-is c.in-Err-PowerLost.ensures.drives.flash)
 
 pub returns-in-Ok-clause-log : goal.returns-in-Ok-clause-log
 returns-in-Ok-clause-log g c = ap (λ (l : LogValue). l.next) c.in-Ok.ensures.log

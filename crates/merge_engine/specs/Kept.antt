@@ -1,0 +1,98 @@
+-- What the steps ask of a cache, and what each of them keeps.
+use Rattle.std.specs.Prelude.{◌≡◌, ◌≤◌, ◌<◌, ◌+◌, ℕ, [], length, Result, OnOk}
+use Rattle.ft_base.specs.declared.geometry.Geometry.{Geometry}
+use Rattle.ft_base.specs.declared.block.Place.{Place}
+use Rattle.ft_base.specs.declared.block.Page.{Page}
+use Rattle.ft_base.specs.declared.record.Record.{Record}
+use Rattle.ft_base.specs.Contents.{Contents}
+use Rattle.ft_base.specs.Layout.{log_pages, page_records}
+use Rattle.ft_media.specs.declared.media.MediaError.{MediaError}
+use Rattle.ft_media.specs.declared.rig.Counts.{Counts}
+use Rattle.ft_media.specs.Media.{program_counted}
+use Rattle.cache_model.specs.CacheList.{CacheList}
+use Rattle.cache_model.specs.Records.{Entries, after}
+use Rattle.mapping.specs.MapValue.{MapValue, pages_taken, groups_taken}
+use Rattle.merge_engine.specs.declared.parts.Parts.{Parts}
+use Rattle.merge_engine.specs.Agreement.{Agree, Lists}
+use Rattle.merge_engine.specs.Merges.{FlashStandsForEither, ReachesTo, move_counted}
+use Rattle.merge_engine.specs.Room.{FlashStandsForGiven, GaveWay}
+use Rattle.merge_engine.specs.Steps.{GoesOn, HasFillers, IsMerged, KeepsList}
+use Rattle.merge_engine.specs.Switch.{CanSwitch, CannotSwitch, IsSwitched}
+
+-- ---- what a step asks
+
+-- the map has memory for so many more pages and groups, and the buffer a place for one more record
+pub record CanNote (parts : Parts) (p n : ℕ) : Type 0 where
+  pub pages : p ≤ parts.map.spare_pages
+  pub groups : n ≤ parts.map.spare_groups
+  pub room : length parts.log.buffered < page_records parts.log.geometry
+
+-- the parts agree with the flash, the map has memory for so many more groups, and the buffer a place for one more record
+pub record CanGoOn (parts : Parts) (contents : Contents) (n : ℕ) : Type 0 where
+  pub agree : Agree parts contents
+  pub groups : n ≤ parts.map.spare_groups
+  pub room : length parts.log.buffered < page_records parts.log.geometry
+
+-- ---- what it keeps of the map's memory
+
+-- the map with this change made in it, and without the memory that it took
+pub record IsNoted (g : Geometry) (change : Record) (old new : MapValue) : Type 0 where
+  pub entries : new.entries ≡ after g change old.entries
+  pub pages : new.spare_pages + pages_taken change ≡ old.spare_pages
+  pub groups : new.spare_groups + groups_taken change ≡ old.spare_groups
+  pub buckets : new.buckets ≡ old.buckets
+  pub group_buckets : new.group_buckets ≡ old.group_buckets
+
+-- the map has memory for as many pages as before, and for at most so many groups fewer
+pub record KeepsRoom (old new : MapValue) (n : ℕ) : Type 0 where
+  pub pages : new.spare_pages ≡ old.spare_pages
+  pub groups : old.spare_groups ≤ new.spare_groups + n
+
+-- ---- what it keeps of the list
+
+-- on this flash the parts agree as they did, and the list is the same
+pub record StaysOn (old new : Parts) (contents : Contents) : Type 0 where
+  pub agree : Agree old contents → Agree new contents
+  pub lists : (list durable : CacheList) → Lists old contents.flash.page list durable → Lists new contents.flash.page list durable
+
+-- Ok, nothing is buffered any more, and the list stays; whatever is answered, the flash stands for it, or for the one that it stood for
+pub record CommitsList {T : Type 0} (old new : Parts) (before now : Contents) (result : Result T MediaError) : Type 0 where
+  pub agree : OnOk result (Agree new now)
+  pub nothing_waits : OnOk result (new.log.buffered ≡ [])
+  pub lists : OnOk result ((list durable : CacheList) → Lists old before.flash.page list durable → Lists new now.flash.page list list)
+  pub stands : (list durable : CacheList) → Lists old before.flash.page list durable → FlashStandsForEither old.geometry now.flash.page durable list
+
+-- the same of a merge of the group, before which a clean group may have given way
+pub record MergesList {T : Type 0} (old new : Parts) (group : ℕ) (before now : Contents) (result : Result T MediaError) : Type 0 where
+  pub agree : OnOk result (Agree new now)
+  pub nothing_waits : OnOk result (new.log.buffered ≡ [])
+  pub lists : OnOk result ((list durable : CacheList) → Lists old before.flash.page list durable
+      → (v : CacheList) × GaveWay old.geometry old.map.entries group list v × Lists new now.flash.page v v)
+  pub stands : (list durable : CacheList) → Lists old before.flash.page list durable → FlashStandsForGiven old.geometry now.flash.page durable list
+
+-- Ok, one more record may be buffered, and the list stays or gave room; whatever is answered, the flash stands for it, or for the one that it stood for
+pub record KeepsOrGives {T : Type 0} (old new : Parts) (before now : Contents) (result : Result T MediaError) : Type 0 where
+  pub agree : OnOk result (Agree new now)
+  pub room : OnOk result (length new.log.buffered < page_records new.log.geometry)
+  pub lists : OnOk result ((list durable : CacheList) → Lists old before.flash.page list durable → GoesOn old.log new now.flash.page list durable)
+  pub stands : (list durable : CacheList) → Lists old before.flash.page list durable → FlashStandsForGiven old.geometry now.flash.page durable list
+
+-- nothing gives way: the map stays, and so does the list
+pub record NothingGivesWay {T : Type 0} (old new : Parts) (before now : Contents) (result : Result T MediaError) : Type 0 where
+  pub map_stays : new.map ≡ old.map
+  pub list_stands : (list durable : CacheList) → Lists old before.flash.page list durable → FlashStandsForEither old.geometry now.flash.page durable list
+  pub list_stays : OnOk result ((list durable : CacheList) → Lists old before.flash.page list durable → KeepsList old.log new now.flash.page list durable)
+
+-- ---- what a merge leaves, and what it costs
+
+-- what is held of the group stands in its data block, in which fillers are between
+pub record IsGathered (g : Geometry) (m : Entries) (group : ℕ) (page : Place → Page) : Type 0 where
+  pub merged : IsMerged g m group
+  pub filled : HasFillers g m group page
+
+-- a log block that can become the data block does, with one program and no erase; where none can: one erase, a program for each page up to the last held one, and one for the log page
+pub record CostsOfMove (old new : Parts) (group : ℕ) (before now : Counts) : Type 0 where
+  pub switched : (block : ℕ) → CanSwitch old group block → IsSwitched old new group block
+  pub one_program : (block : ℕ) → CanSwitch old group block → old.log.next < log_pages old.geometry → now ≡ program_counted before
+  pub counts : CannotSwitch old group → old.log.buffered ≡ [] → old.log.next < log_pages old.geometry
+      → (pages : ℕ) → ReachesTo old.geometry old.map.entries group pages → now ≡ move_counted pages before
