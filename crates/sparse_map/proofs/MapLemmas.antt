@@ -10,7 +10,7 @@ use Rattle.sparse_map.specs.declared.group.Group.{Group}
 use Rattle.sparse_map.specs.Slots.{items_of}
 use Rattle.sparse_map.specs.Groups.{slots_of, small_groups}
 use Rattle.sparse_map.specs.Packed.{IsPacked, PackedTable, map_of, len_of, IsSound}
-use Rattle.sparse_map.specs.Kept.{KeepsTable}
+use Rattle.sparse_map.specs.Kept.{KeepsTable, HasFreeBucket}
 use Rattle.sparse_map.specs.Moved.{IsDistinct}
 use Rattle.sparse_map.proofs.SlotLemmas.{Once, bucket_of_found, key_of_slot}
 use Rattle.std.proofs.lemmas.Nat.{pow_pos}
@@ -97,6 +97,17 @@ module _ {V : Type 0} where
     -- what a look-up asks of the groups that an index reads
     pub find_room : (us : List (Group V)) → us ≡ groups → 0 < bits → length (items_of (slots_of us)) < 2 ^ bits
     find_room us is some = omega (arith, kept_free some, kept.counted, ap (λ vs. length (items_of (slots_of vs))) is)
+
+    -- where there are buckets, one is free
+    pub kept_free_bucket : (us : List (Group V)) → us ≡ groups → 0 < bits → HasFreeBucket bits us
+    kept_free_bucket us is some =
+        record {
+          many = kept.many some;
+          few = kept.few;
+          buckets = ap (λ vs. length (slots_of vs)) is ∙ kept_buckets some;
+          packed = subst (λ vs. IsPacked (slots_of vs)) (sym is) kept.packed;
+          room = find_room us is some;
+        }
 
 -- ---- a new map
 module _ {V : Type 0} where

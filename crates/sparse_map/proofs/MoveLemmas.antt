@@ -9,7 +9,7 @@ use Rattle.std.proofs.lemmas.List.Concat.{flat_map-append}
 use Rattle.std.proofs.lemmas.Bool.{cases_lt, cases_eq, cases_Bool, ne_eqb, cond-true, cond-false, false≢true}
 use Rattle.sparse_map.specs.declared.group.Group.{Group}
 use Rattle.sparse_map.specs.Slots.{slot_at, key_at, items_of}
-use Rattle.sparse_map.specs.Groups.{slots_in, slots_of}
+use Rattle.sparse_map.specs.Groups.{slots_in, slots_of, small_groups}
 use Rattle.sparse_map.specs.Packed.{IsPacked}
 use Rattle.sparse_map.specs.Kept.{KeepsTable}
 use Rattle.sparse_map.specs.Moved.{IsDistinct, after_items}
@@ -141,10 +141,10 @@ module _ {V : Type 0} where
         stocked = omega (arith, stocked, small_groups-at_most us);
       }
 
-  -- other groups with the same buckets
-  pub kept_same_slots : (bits len spare blanks : ℕ) (us ws : List (Group V)) (blanks_2 : ℕ) → KeepsTable bits len spare blanks us → slots_of ws ≡ slots_of us → min spare (length us) ≤ blanks_2 → KeepsTable bits len spare blanks_2 ws
-  kept_same_slots bits len spare blanks us ws blanks_2 kept same stocked =
-      let long : length ws ≡ length us = omega (arith, length-slots_of ws, length-slots_of us, ap length same) in
+  -- other groups with the same buckets, and blank lists for those that are short
+  pub kept_stocked : (bits len spare blanks : ℕ) (us ws : List (Group V)) (blanks_2 : ℕ) → KeepsTable bits len spare blanks us → slots_of ws ≡ slots_of us → min spare (small_groups ws) ≤ blanks_2
+      → KeepsTable bits len spare blanks_2 ws
+  kept_stocked bits len spare blanks us ws blanks_2 kept same stocked =
       record {
         few = kept.few;
         many = kept.many;
@@ -152,5 +152,12 @@ module _ {V : Type 0} where
         packed = subst (λ s. IsPacked s) (sym same) kept.packed;
         counted = kept.counted ∙ ap (λ s. length (items_of s)) (sym same);
         room = omega (arith, kept.room, ap length same);
-        stocked = omega (arith, stocked, small_groups-at_most ws, long);
+        stocked = stocked;
       }
+
+  -- or for all of them
+  pub kept_same_slots : (bits len spare blanks : ℕ) (us ws : List (Group V)) (blanks_2 : ℕ) → KeepsTable bits len spare blanks us → slots_of ws ≡ slots_of us → min spare (length us) ≤ blanks_2
+      → KeepsTable bits len spare blanks_2 ws
+  kept_same_slots bits len spare blanks us ws blanks_2 kept same stocked =
+      let long : length ws ≡ length us = omega (arith, length-slots_of ws, length-slots_of us, ap length same) in
+      kept_stocked bits len spare blanks us ws blanks_2 kept same (omega (arith, stocked, small_groups-at_most ws, long))

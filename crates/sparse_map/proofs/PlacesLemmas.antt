@@ -12,7 +12,8 @@ use Rattle.sparse_map.specs.declared.table.Grown.{Grown}
 use Rattle.sparse_map.specs.declared.table.Grown.TheVariants.{Nowhere, In, Anywhere}
 use Rattle.sparse_map.specs.Trimmed.{MayHaveGrown, IsTrimmed}
 use Rattle.sparse_map.specs.Moved.{items_in}
-use Rattle.sparse_map.specs.Places.{size_of, sizes_of, places_of, extra, loose_of}
+use Rattle.sparse_map.specs.Places.{size_of, sizes_of, size_at, places_of, extra, loose_of, IsShortEnough, AreAsLong}
+use Rattle.sparse_map.proofs.TableLemmas.{small_groups-same}
 
 -- ---- one size in a list of sizes
 module _ (s : List (ℕ × ℕ)) (i : ℕ) (x : ℕ × ℕ) (inside : i < length s) where
@@ -165,9 +166,12 @@ module _ {V : Type 0} where
     inside_sizes : i < length (sizes_of us)
     inside_sizes = omega (arith, length-sizes us)
 
-    size-at : get_or (sizes_of us) i (0, 0) ≡ size_of u
+    pub size-at : get_or (sizes_of us) i (0, 0) ≡ size_of u
     unfolding sizes_of
     size-at = get_or-map size_of us i e (0, 0) inside ∙ ap size_of (sym is)
+
+    pub size-set : get_or (sizes_of (set us i w)) i (0, 0) ≡ size_of w
+    size-set = ap (λ s. get_or s i (0, 0)) (sizes-set us i w) ∙ get_or-set_same (sizes_of us) i (size_of w) (0, 0) inside_sizes
 
     pub places_in-set : places_of (sizes_of (set us i w)) + vec_capacity u.items ≡ places_of (sizes_of us) + vec_capacity w.items
     places_in-set =
@@ -197,6 +201,18 @@ module _ {V : Type 0} where
         sizes-set us i w
         ∙ ap (set (sizes_of us) i) ((λ j. (len j, capacity j)) ∙ sym size-at)
         ∙ set-get_or (sizes_of us) i (0, 0)
+
+    pub as_long : size_of w ≡ size_of u → AreAsLong us (set us i w)
+    as_long same =
+        let len = ap (λ (s : ℕ × ℕ). s.0) same in
+        let capacity = ap (λ (s : ℕ × ℕ). s.1) same in
+        record { sizes = sizes-same len capacity; small = small_groups-same us i u e w inside is capacity }
+
+  -- no group has that bucket
+  pub size_past : (us : List (Group V)) (b : ℕ) → length us ≤ b / 32 → IsShortEnough (size_at us b)
+  size_past us b past =
+      let none : size_at us b ≡ (0, 0) = get_or_past (sizes_of us) (b / 32) (0, 0) (omega (arith, past, length-sizes us)) in
+      λ long. absurd (let short = ap (λ (s : ℕ × ℕ). s.1) none in omega (arith, short, long))
 
   -- ---- a group that loses an item and then gets one
   pub sizes-back : (us ws : List (Group V)) (i : ℕ) (u e v x f w : Group V) → i < length us → u ≡ get_or us i e → sizes_of ws ≡ sizes_of (set us i v) → i < length ws → x ≡ get_or ws i f

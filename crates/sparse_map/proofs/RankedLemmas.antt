@@ -8,14 +8,15 @@ use Rattle.std.proofs.lemmas.Bool.{cases_lt, cases_eq, eq-eqb, ne_eqb, cond-true
 use Rattle.sparse_map.specs.declared.group.Group.{Group}
 use Rattle.sparse_map.specs.Slots.{rank, slot_at, key_at, group_slots, exchanged}
 use Rattle.sparse_map.specs.Groups.{slots_in, slots_of}
-use Rattle.sparse_map.specs.Ranks.{IsRankOf, IsRankAt}
+use Rattle.sparse_map.specs.Ranks.{IsRankOf, IsRankAt, IsSeated}
 use Rattle.sparse_map.specs.Probe.{IsPlaceOf, IsFreeFor}
 use Rattle.sparse_map.specs.declared.table.Place.{Place}
 use Rattle.sparse_map.specs.declared.table.Place.TheVariants.{Found, Free}
 use Rattle.sparse_map.proofs.RankLemmas.{rank_zero, rank_suc, rank_same, rank_at_most, ones_at_most_32}
 use Rattle.sparse_map.proofs.GroupLemmas.{taken, untaken, length-group_slots, get_or-group_slots, unpacked_item, slots-replace}
 use Rattle.sparse_map.proofs.RoundLemmas.{next, next_cases}
-use Rattle.sparse_map.proofs.SlotLemmas.{is_some-key_at}
+use Rattle.sparse_map.proofs.SlotLemmas.{is_some-key_at, slot_of_key}
+use Rattle.sparse_map.proofs.PackedLemmas.{key_inside}
 use Rattle.sparse_map.proofs.TableLemmas.{length-slots_of, slot_in_group, slot_of_bucket}
 
 module _ {V : Type 0} where
@@ -26,6 +27,15 @@ module _ {V : Type 0} where
   pub rank_read : (us : List (Group V)) (b place : ℕ) (u d : Group V) → b < 32 * length us → u ≡ get_or us (b / 32) d → place ≡ rank u.occupied (b % 32) → IsRankOf us b place
   rank_read us b place u d inside is at =
       λ e. at ∙ ap (λ (x : Group V). rank x.occupied (b % 32)) (is ∙ get_or_default us (b / 32) d e (omega arith))
+
+  -- of a bucket that has a key
+  pub seated : (us : List (Group V)) (b place key : ℕ) → key_at (slots_of us) b ≡ Some key → IsRankOf us b place → IsSeated us b place
+  seated us b place key is at =
+      record {
+        within = omega (arith, key_inside (slots_of us) b key is, length-slots_of us);
+        occupied = ap is_some (slot_of_key (slots_of us) b key is).1;
+        rank = at;
+      }
 
   -- and the other way round
   pub rank_here : (us : List (Group V)) (b place : ℕ) (u d : Group V) → IsRankOf us b place → u ≡ get_or us (b / 32) d → place ≡ rank u.occupied (b % 32)

@@ -14,3 +14,11 @@ pub record KeepsTable {V : Type 0} (bits len spare blanks : ℕ) (groups : List 
   pub counted : len ≡ length (items_of (slots_of groups))
   pub room : 4 * (len + spare) ≤ 3 * length (slots_of groups)
   pub stocked : min spare (small_groups groups) ≤ blanks
+
+-- 2^bits buckets under the packed law, of which at least one is free
+pub record HasFreeBucket {V : Type 0} (bits : ℕ) (groups : List (Group V)) : Type 0 where
+  pub many : 5 ≤ bits
+  pub few : bits ≤ 31
+  pub buckets : length (slots_of groups) ≡ 2 ^ bits
+  pub packed : IsPacked (slots_of groups)
+  pub room : length (items_of (slots_of groups)) < 2 ^ bits

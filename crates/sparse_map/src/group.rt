@@ -66,11 +66,12 @@ fn insert_item<V: Drop>(items: &mut Vec<(u64, V)>, place: usize, item: (u64, V))
 }
 
 impl<V: Drop> Group<V> {
-    ghost use Rattle.std.specs.Prelude.{◌≡◌, ◌≢◌, ◌<◌, ◌≤◌, ◌↔◌, ℕ, vec_len, Some, None, IsSome, IfSome, IfNone, IsTrue, OnOk, OnErr, is_some, option_map, slice_set};
+    ghost use Rattle.std.specs.Prelude.{◌≡◌, ◌≢◌, ◌<◌, ◌≤◌, ◌↔◌, ℕ, vec_len, Some, None, IsSome, IfSome, IfNone, IfOk, IsTrue, OnOk, OnErr, is_some, option_map, slice_set};
     ghost use Rattle.std.specs.Vec.{vec_capacity};
     ghost use Rattle.sparse_map.specs.Slots.{slot_at, key_at, rank, exchanged};
     ghost use Rattle.sparse_map.specs.Groups.{slots_in};
     ghost use Rattle.sparse_map.specs.Trimmed.{IsTrimmed};
+    ghost use Rattle.sparse_map.specs.Places.{size_of, IsTooLong, IsShortEnough, IsShortened};
     ghost use Rattle.std.specs.Borrow.{sem};
     ghost use Rattle.sparse_map.specs.Lending.{LendsGroupValue};
 
@@ -271,35 +272,35 @@ impl<V: Drop> Group<V> {
     }
 
     /// Moves the items out of a list for a whole group into one that fits, and gives the long one as a blank list, so that
-    /// no new one has to be made. Nothing changes where the list isn't such a one, or where there is no memory.
-    pub fn shorten(&mut self, alloc: Global) -> Option<Blank<V>>
+    /// no new one has to be made. There is none to give where the list isn't such a one, or has no places to spare. Refused,
+    /// for want of memory for the short one, the group is as before.
+    pub fn shorten(&mut self, alloc: Global) -> Result<Option<Blank<V>>, AllocError>
         ensures occupied { self.new.occupied ≡ self.old.occupied }
         ensures items { self.new.items.items ≡ self.old.items.items }
         ensures capacity { vec_capacity self.new.items ≤ vec_capacity self.old.items }
-        ensures kept { IfNone result (vec_capacity self.new.items ≡ vec_capacity self.old.items) }
-        ensures trimmed { IfSome result (λ _. IsTrimmed self.new) }
+        ensures some { IfOk result (λ blank. IfSome blank (λ _. IsShortened (size_of self.old) (size_of self.new))) }
+        ensures none { IfOk result (λ blank. IfNone blank (IsShortEnough (size_of self.old))) }
+        ensures kept { IfOk result (λ blank. IfNone blank (size_of self.new ≡ size_of self.old)) }
+        ensures err { OnErr result (IsTooLong (size_of self.old) × (size_of self.new ≡ size_of self.old)) }
     {
         let wanted = self.items.len() + SLACK;
         if self.items.capacity() != 32 || wanted >= 32 {
-            return None;
+            return Ok(None);
         }
-        let mut list = match Vec::with_capacity(alloc, wanted) {
-            Ok(list) => list,
-            Err(_) => return None,
-        };
+        let mut list = Vec::with_capacity(alloc, wanted)?;
         let mut long = mem::replace(&mut self.items, Vec::new(alloc));
         match list.append(&mut long) {
             Ok(()) => {}
             Err(_) => unreachable!(),
         }
-        // What `append` has room for it doesn't lengthen, but it doesn't promise that.
+        // What `append` has room for it doesn't lengthen, but it doesn't promise that: a longer list passes for none.
         if list.capacity() > wanted {
             move_items(list, &mut long);
             self.items = long;
-            return None;
+            return Err(AllocError);
         }
         self.items = list;
-        Some(Blank { list: long })
+        Ok(Some(Blank { list: long }))
     }
 
     /// Gives back what the list holds beyond its items and a little room: a list of just that length takes its place.

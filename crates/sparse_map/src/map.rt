@@ -15,7 +15,7 @@ use crate::group::{Blank, Group};
 use crate::home::bits_for;
 use crate::moving::{groups_ahead, place_groups};
 use crate::table::{
-    Grown, Place, find, places_of, probe, put, remove_at, replace, take_blank, trim_grown, value_at,
+    Grown, Place, find, places_of, probe, put, remove_at, replace, take_back, trim_grown, value_at,
 };
 use std::alloc::{AllocError, Global};
 use std::marker::Model;
@@ -261,29 +261,16 @@ impl<V: Drop> SparseMap<V> {
         ensures refused { OnErr result ((self.new.places ≤ self.old.places)
             × (self.new.blanks ≤ max self.old.blanks (max self.old.spare n))) }
     {
-        self.take_back(n);
+        let wanted = self.spare.max(n);
+        // Refused, a list for a whole group is made anew.
+        let _ = take_back(
+            self.alloc,
+            self.groups.as_mut_slice(),
+            &mut self.stock,
+            &mut self.grown,
+            wanted,
+        );
         self.restock(n)
-    }
-
-    /// Where one group grew into a blank list, its items move into a list that fits, and the long one is blank again, while
-    /// there are fewer than are wanted. So in a run of single reservations no list for a whole group is made anew.
-    fn take_back(&mut self, n: u64)
-        ensures slots { self.new.slots ≡ self.old.slots }
-        ensures spare { self.new.spare ≡ self.old.spare }
-        ensures places { self.new.places ≤ self.old.places }
-        ensures blanks { self.new.blanks ≤ max self.old.blanks (max self.old.spare n) }
-        ensures loose { self.new.loose ≤ self.old.loose }
-    {
-        let kept = self.stock.len();
-        if kept as u64 >= self.spare.max(n) || kept >= self.stock.capacity() {
-            return;
-        }
-        if let Grown::In(bucket) = self.grown {
-            if let Some(blank) = take_blank(self.alloc, self.groups.as_mut_slice(), bucket) {
-                self.stock.push_reserved(blank);
-                self.grown = Grown::Nowhere;
-            }
-        }
     }
 
     /// Makes blank lists for `n` new keys, within the buckets that there are, and gives back what the groups that

@@ -1,5 +1,5 @@
 //! The buckets of all groups as one table: bucket b is bucket b % 32 of group b / 32.
-ghost use Rattle.std.specs.Prelude.{◌≡◌, ◌≢◌, ℕ, ◌+◌, ◌*◌, ◌%◌, ◌^◌, ◌<◌, ◌≤◌, length, vec_len, Some, None, IsSome, IfSome, IfNone, MatchOption, is_some, option_map, OnOk, is_ok, slice_set, ◌/◌, ◌-◌, ◌⊎◌, ◌==◌, if◌then◌else◌, IsTrue, true, false, min};
+ghost use Rattle.std.specs.Prelude.{◌≡◌, ◌≢◌, ℕ, ◌+◌, ◌*◌, ◌%◌, ◌^◌, ◌<◌, ◌≤◌, length, vec_len, Some, None, IsSome, IfSome, IfNone, IfOk, MatchOption, is_some, option_map, OnOk, OnErr, is_ok, slice_set, ◌/◌, ◌-◌, ◌⊎◌, ◌==◌, if◌then◌else◌, IsTrue, true, false, min, max};
 ghost use Rattle.std.specs.List.{All};
 ghost use Rattle.std.specs.Ordering.{nat_cmp};
 ghost use Rattle.std.specs.FinMap.{find};
@@ -7,11 +7,12 @@ ghost use Rattle.std.specs.Vec.{vec_capacity};
 ghost use Rattle.sparse_map.specs.Slots.{slot_at, key_at, items_of, exchanged};
 ghost use Rattle.sparse_map.specs.Groups.{slots_in, slots_of, small_groups};
 ghost use Rattle.sparse_map.specs.Packed.{IsPacked};
-ghost use Rattle.sparse_map.specs.Ranks.{IsRankOf, IsRankAt};
+ghost use Rattle.sparse_map.specs.Ranks.{IsRankOf, IsRankAt, IsSeated};
+ghost use Rattle.sparse_map.specs.Kept.{HasFreeBucket};
 ghost use Rattle.sparse_map.specs.Probe.{IsPlaceOf, IsFirstFree, IsShifted};
 ghost use Rattle.sparse_map.specs.Removal.{shifted_back};
 ghost use Rattle.sparse_map.specs.Trimmed.{IsTrimmed, AreTrimmed, MayHaveGrown};
-ghost use Rattle.sparse_map.specs.Places.{sizes_of, places_of, loose_of};
+ghost use Rattle.sparse_map.specs.Places.{sizes_of, size_at, places_of, loose_of, IsTooLong, IsShortEnough, IsShortened, AreAsLong};
 ghost use Rattle.sparse_map.specs.declared.table.Grown.{Grown};
 ghost use Rattle.sparse_map.specs.declared.table.Grown.TheVariants.{Nowhere, In, Anywhere};
 
@@ -92,9 +93,7 @@ fn key_at<V: Drop>(groups: &[Group<V>], bucket: u64, rank: u32) -> Option<u64>
 
 /// The value in an occupied bucket.
 pub fn value_at<V: Drop>(groups: &[Group<V>], bucket: u64, rank: u32) -> &V
-    requires within { bucket < 32 * length groups.now }
-    requires occupied { IsSome (slot_at (slots_of groups.now) bucket) }
-    requires rank { IsRankOf groups.now bucket rank }
+    requires seat { IsSeated groups.now bucket rank }
     ensures { option_map (λ e. e.1) (slot_at (slots_of groups.now) bucket) ≡ Some result.now }
 {
     groups[(bucket / 32) as usize].value((bucket % 32) as u32, rank)
@@ -154,9 +153,7 @@ pub fn put<V: Drop>(
 
 /// Sets the item of an occupied bucket, and gives the old one.
 pub fn replace<V: Drop>(groups: &mut [Group<V>], bucket: u64, rank: u32, item: (u64, V)) -> (u64, V)
-    requires within { bucket < 32 * length groups.old }
-    requires occupied { IsSome (slot_at (slots_of groups.old) bucket) }
-    requires rank { IsRankOf groups.old bucket rank }
+    requires seat { IsSeated groups.old bucket rank }
     ensures item { slot_at (slots_of groups.old) bucket ≡ Some result }
     ensures slots { slots_of groups.new ≡ slice_set (slots_of groups.old) bucket (Some item) }
     ensures sizes { sizes_of groups.new ≡ sizes_of groups.old }
@@ -167,9 +164,7 @@ pub fn replace<V: Drop>(groups: &mut [Group<V>], bucket: u64, rank: u32, item: (
 
 /// Frees an occupied bucket.
 fn take<V: Drop>(groups: &mut [Group<V>], bucket: u64, rank: u32) -> (u64, V)
-    requires within { bucket < 32 * length groups.old }
-    requires occupied { IsSome (slot_at (slots_of groups.old) bucket) }
-    requires rank { IsRankOf groups.old bucket rank }
+    requires seat { IsSeated groups.old bucket rank }
     ensures item { slot_at (slots_of groups.old) bucket ≡ Some result }
     ensures slots { slots_of groups.new ≡ slice_set (slots_of groups.old) bucket None }
     ensures small { small_groups groups.new ≡ small_groups groups.old }
@@ -181,13 +176,9 @@ fn take<V: Drop>(groups: &mut [Group<V>], bucket: u64, rank: u32) -> (u64, V)
 
 /// Exchanges the items of two occupied buckets of one group.
 fn exchange_within<V: Drop>(groups: &mut [Group<V>], a: u64, a_rank: u32, b: u64, b_rank: u32)
-    requires a_within { a < 32 * length groups.old }
-    requires b_within { b < 32 * length groups.old }
+    requires a { IsSeated groups.old a a_rank }
+    requires b { IsSeated groups.old b b_rank }
     requires together { a / 32 ≡ b / 32 }
-    requires a_occupied { IsSome (slot_at (slots_of groups.old) a) }
-    requires b_occupied { IsSome (slot_at (slots_of groups.old) b) }
-    requires a_rank { IsRankOf groups.old a a_rank }
-    requires b_rank { IsRankOf groups.old b b_rank }
     ensures slots { slots_of groups.new ≡ exchanged (slots_of groups.old) a b }
     ensures sizes { sizes_of groups.new ≡ sizes_of groups.old }
     ensures small { small_groups groups.new ≡ small_groups groups.old }
@@ -197,13 +188,9 @@ fn exchange_within<V: Drop>(groups: &mut [Group<V>], a: u64, a_rank: u32, b: u64
 
 /// Exchanges the items of occupied buckets of two groups.
 fn exchange_across<V: Drop>(groups: &mut [Group<V>], a: u64, a_rank: u32, b: u64, b_rank: u32)
-    requires a_within { a < 32 * length groups.old }
-    requires b_within { b < 32 * length groups.old }
+    requires a { IsSeated groups.old a a_rank }
+    requires b { IsSeated groups.old b b_rank }
     requires apart { a / 32 ≢ b / 32 }
-    requires a_occupied { IsSome (slot_at (slots_of groups.old) a) }
-    requires b_occupied { IsSome (slot_at (slots_of groups.old) b) }
-    requires a_rank { IsRankOf groups.old a a_rank }
-    requires b_rank { IsRankOf groups.old b b_rank }
     ensures slots { slots_of groups.new ≡ exchanged (slots_of groups.old) a b }
     ensures sizes { sizes_of groups.new ≡ sizes_of groups.old }
     ensures small { small_groups groups.new ≡ small_groups groups.old }
@@ -215,13 +202,9 @@ fn exchange_across<V: Drop>(groups: &mut [Group<V>], a: u64, a_rank: u32, b: u64
 
 /// Exchanges the items of two occupied buckets.
 fn exchange<V: Drop>(groups: &mut [Group<V>], a: u64, a_rank: u32, b: u64, b_rank: u32)
-    requires a_within { a < 32 * length groups.old }
-    requires b_within { b < 32 * length groups.old }
+    requires a { IsSeated groups.old a a_rank }
+    requires b { IsSeated groups.old b b_rank }
     requires apart { a ≢ b }
-    requires a_occupied { IsSome (slot_at (slots_of groups.old) a) }
-    requires b_occupied { IsSome (slot_at (slots_of groups.old) b) }
-    requires a_rank { IsRankOf groups.old a a_rank }
-    requires b_rank { IsRankOf groups.old b b_rank }
     ensures slots { slots_of groups.new ≡ exchanged (slots_of groups.old) a b }
     ensures sizes { sizes_of groups.new ≡ sizes_of groups.old }
     ensures small { small_groups groups.new ≡ small_groups groups.old }
@@ -243,6 +226,14 @@ pub fn first_free<V: Drop>(groups: &[Group<V>], from: u64) -> Seat
     ensures first { IsFirstFree (slots_of groups.now) from result.bucket }
     ensures rank { IsRankOf groups.now result.bucket result.rank }
 {
+    // Most of these are free, and a processor goes on by that guess before it has read which are.
+    let start = &groups[(from / 32) as usize];
+    if !start.is_occupied((from % 32) as u32) {
+        return Seat {
+            bucket: from,
+            rank: start.rank_at((from % 32) as u32),
+        };
+    }
     let buckets = 32 * groups.len() as u64;
     let mut bucket = from;
     let mut passed = 0;
@@ -263,11 +254,7 @@ pub fn first_free<V: Drop>(groups: &[Group<V>], from: u64) -> Seat
 
 /// Looks for a key from its home on, going round.
 pub fn probe<V: Drop>(groups: &[Group<V>], bits: u32, key: u64) -> Spot
-    requires many { 5 ≤ bits }
-    requires few { bits ≤ 31 }
-    requires buckets { length (slots_of groups.now) ≡ 2 ^ bits }
-    requires packed { IsPacked (slots_of groups.now) }
-    requires room { length (items_of (slots_of groups.now)) < 2 ^ bits }
+    requires table { HasFreeBucket bits groups.now }
     ensures place { IsPlaceOf (slots_of groups.now) key result.at }
     ensures rank { IsRankAt groups.now result.at result.rank }
 {
@@ -326,14 +313,8 @@ pub fn find<V: Drop>(groups: &[Group<V>], bits: u32, key: u64) -> Option<Seat>
 /// home: an item further on whose way from home leads over the hole takes its place. Gives the last such bucket, and its
 /// rank.
 fn shift_back<V: Drop>(groups: &mut [Group<V>], bits: u32, bucket: u64, rank: u32) -> (u64, u32)
-    requires many { 5 ≤ bits }
-    requires few { bits ≤ 31 }
-    requires buckets { length (slots_of groups.old) ≡ 2 ^ bits }
-    requires packed { IsPacked (slots_of groups.old) }
-    requires room { length (items_of (slots_of groups.old)) < 2 ^ bits }
-    requires within { bucket < 2 ^ bits }
-    requires occupied { IsSome (slot_at (slots_of groups.old) bucket) }
-    requires rank { IsRankOf groups.old bucket rank }
+    requires table { HasFreeBucket bits groups.old }
+    requires seat { IsSeated groups.old bucket rank }
     ensures shifted { IsShifted (slots_of groups.old) (slots_of groups.new) bucket result.0 }
     ensures rank { IsRankOf groups.new result.0 result.1 }
     ensures walk { slice_set (slots_of groups.new) result.0 None ≡ shifted_back (2 ^ bits) (2 ^ bits - 1) bucket bucket
@@ -365,14 +346,8 @@ fn shift_back<V: Drop>(groups: &mut [Group<V>], bits: u32, bucket: u64, rank: u3
 
 /// Takes the item of an occupied bucket out of the table.
 pub fn remove_at<V: Drop>(groups: &mut [Group<V>], bits: u32, bucket: u64, rank: u32) -> (u64, V)
-    requires many { 5 ≤ bits }
-    requires few { bits ≤ 31 }
-    requires buckets { length (slots_of groups.old) ≡ 2 ^ bits }
-    requires packed { IsPacked (slots_of groups.old) }
-    requires room { length (items_of (slots_of groups.old)) < 2 ^ bits }
-    requires within { bucket < 2 ^ bits }
-    requires occupied { IsSome (slot_at (slots_of groups.old) bucket) }
-    requires rank { IsRankOf groups.old bucket rank }
+    requires table { HasFreeBucket bits groups.old }
+    requires seat { IsSeated groups.old bucket rank }
     ensures item { slot_at (slots_of groups.old) bucket ≡ Some result }
     ensures found { (key : ℕ) → find nat_cmp key (items_of (slots_of groups.new)) ≡ (if key == result.0 then None else find nat_cmp key
         (items_of (slots_of groups.old))) }
@@ -424,20 +399,64 @@ pub fn trim_grown<V: Drop>(
 }
 
 /// Moves the items of the group of a bucket out of a list for a whole group into one that fits, and gives the long one as
-/// a blank list. Nothing changes where the group has no such list, or there is no memory for the short one.
-pub fn take_blank<V: Drop>(alloc: Global, groups: &mut [Group<V>], bucket: u64) -> Option<Blank<V>>
+/// a blank list. There is none to give where no group has that bucket, or its list isn't such a one, or has no places to
+/// spare. Refused, for want of memory for the short list, the groups are as before.
+fn take_blank<V: Drop>(
+    alloc: Global,
+    groups: &mut [Group<V>],
+    bucket: u64,
+) -> Result<Option<Blank<V>>, AllocError>
     ensures slots { slots_of groups.new ≡ slots_of groups.old }
-    ensures sizes { IfNone result (sizes_of groups.new ≡ sizes_of groups.old) }
-    ensures same { IfNone result (small_groups groups.new ≡ small_groups groups.old) }
+    ensures some { IfOk result (λ blank. IfSome blank (λ _. IsShortened (size_at groups.old bucket) (size_at groups.new bucket))) }
+    ensures none { IfOk result (λ blank. IfNone blank (IsShortEnough (size_at groups.old bucket))) }
+    ensures kept { IfOk result (λ blank. IfNone blank (AreAsLong groups.old groups.new)) }
+    ensures err { OnErr result (IsTooLong (size_at groups.old bucket) × AreAsLong groups.old groups.new) }
     ensures fewer { places_of (sizes_of groups.new) ≤ places_of (sizes_of groups.old) }
     ensures one_more { small_groups groups.new ≤ small_groups groups.old + 1 }
-    ensures loose { IfSome result (λ _. loose_of Nowhere (sizes_of groups.new) ≤ loose_of (In bucket) (sizes_of groups.old)) }
+    ensures loose { IfOk result (λ blank. IfSome blank
+        (λ _. loose_of Nowhere (sizes_of groups.new) ≤ loose_of (In bucket) (sizes_of groups.old))) }
 {
     let i = (bucket / 32) as usize;
     if i >= groups.len() {
-        return None;
+        return Ok(None);
     }
     groups[i].shorten(alloc)
+}
+
+/// Where one group grew into a blank list, its items move into a list that fits, and the long one is blank again, while
+/// there are fewer than are wanted and the stock has a place for one. So in a run of single reservations no list for a
+/// whole group is made anew. Refused, for want of memory for the short list, all is as before.
+pub fn take_back<V: Drop>(
+    alloc: Global,
+    groups: &mut [Group<V>],
+    stock: &mut Vec<Blank<V>>,
+    grown: &mut Grown,
+    wanted: u64,
+) -> Result<(), AllocError>
+    ensures slots { slots_of groups.new ≡ slots_of groups.old }
+    ensures fewer { places_of (sizes_of groups.new) ≤ places_of (sizes_of groups.old) }
+    ensures kept { vec_len stock.old ≤ vec_len stock.new }
+    ensures blanks { vec_len stock.new ≤ max (vec_len stock.old) wanted }
+    ensures stocked { vec_len stock.old + small_groups groups.new ≤ vec_len stock.new + small_groups groups.old }
+    ensures loose { loose_of grown.new (sizes_of groups.new) ≤ loose_of grown.old (sizes_of groups.old) }
+    ensures ok { OnOk result ((b : ℕ) → grown.new ≡ In b → vec_len stock.new < min wanted (vec_capacity stock.new)
+        → IsShortEnough (size_at groups.new b)) }
+    ensures err { OnErr result (AreAsLong groups.old groups.new × (vec_len stock.new ≡ vec_len stock.old) × (grown.new ≡ grown.old)) }
+    ensures needless { OnErr result ((b : ℕ) → grown.old ≡ In b → IsTooLong (size_at groups.old b)) }
+{
+    let kept = stock.len();
+    if kept as u64 >= wanted || kept >= stock.capacity() {
+        return Ok(());
+    }
+    let Grown::In(bucket) = *grown else {
+        return Ok(());
+    };
+    let Some(blank) = take_blank(alloc, groups, bucket)? else {
+        return Ok(());
+    };
+    stock.push_reserved(blank);
+    *grown = Grown::Nowhere;
+    Ok(())
 }
 
 /// Gives back what the group of a bucket holds beyond its items and a little room.

@@ -12,7 +12,7 @@ pub remove-first-requires-clause-occupied : goal.remove-first-requires-clause-oc
 remove-first-requires-clause-occupied g c =
     let read = c.index-groups-a.result in
     let us = c.args.groups.now in
-    subst (λ o. IsSome o) (slot_of_bucket us c.args.a (get_or us (c.args.a / 32) read) read c.requires.a_within refl) c.requires.a_occupied
+    subst (λ o. IsSome o) (slot_of_bucket us c.args.a (get_or us (c.args.a / 32) read) read c.requires.a.within refl) c.requires.a.occupied
 
 pub replace-second-requires-clause-occupied : goal.replace-second-requires-clause-occupied
 replace-second-requires-clause-occupied g c =
@@ -20,11 +20,11 @@ replace-second-requires-clause-occupied g c =
     let read = c.index-groups-a.result in
     let vs = set us (c.args.a / 32) c.remove-first.new.self in
     let other = c.index-groups-b.result in
-    let freed = set_bucket us c.args.a (get_or us (c.args.a / 32) read) read c.requires.a_within refl c.remove-first.new.self None c.remove-first.ensures.slots in
+    let freed = set_bucket us c.args.a (get_or us (c.args.a / 32) read) read c.requires.a.within refl c.remove-first.new.self None c.remove-first.ensures.slots in
     let swapped : c.args.b ≢ c.args.a = λ e. c.requires.apart (ap (λ x. x / 32) (sym e)) in
     let still = ap (λ l. slot_at l c.args.b) freed ∙ get_or-set_other (slots_of us) c.args.a c.args.b None None swapped in
-    let inside : c.args.b < 32 * length vs = omega (arith, length-set us (c.args.a / 32) c.remove-first.new.self, c.requires.b_within) in
-    subst (λ o. IsSome o) (sym still ∙ slot_of_bucket vs c.args.b (get_or vs (c.args.b / 32) other) other inside refl) c.requires.b_occupied
+    let inside : c.args.b < 32 * length vs = omega (arith, length-set us (c.args.a / 32) c.remove-first.new.self, c.requires.b.within) in
+    subst (λ o. IsSome o) (sym still ∙ slot_of_bucket vs c.args.b (get_or vs (c.args.b / 32) other) other inside refl) c.requires.b.occupied
 
 pub insert-requires-clause-free : goal.insert-requires-clause-free
 insert-requires-clause-free g c =
@@ -36,10 +36,10 @@ insert-requires-clause-free g c =
     let again = c.index-groups-a-2.result in
     let long = length-set us (c.args.a / 32) c.remove-first.new.self in
     let longer = length-set vs (c.args.b / 32) c.replace-second.new.self in
-    let b_inside : c.args.b < 32 * length vs = omega (arith, c.requires.b_within) in
-    let a_inside : c.args.a < 32 * length ws = omega (arith, c.requires.a_within) in
-    let a_slot : c.args.a < length (slots_of us) = omega (arith, length-slots_of us, c.requires.a_within) in
-    let freed = set_bucket us c.args.a (get_or us (c.args.a / 32) read) read c.requires.a_within refl c.remove-first.new.self None c.remove-first.ensures.slots in
+    let b_inside : c.args.b < 32 * length vs = omega (arith, c.requires.b.within) in
+    let a_inside : c.args.a < 32 * length ws = omega (arith, c.requires.a.within) in
+    let a_slot : c.args.a < length (slots_of us) = omega (arith, length-slots_of us, c.requires.a.within) in
+    let freed = set_bucket us c.args.a (get_or us (c.args.a / 32) read) read c.requires.a.within refl c.remove-first.new.self None c.remove-first.ensures.slots in
     let moved = set_bucket vs c.args.b (get_or vs (c.args.b / 32) other) other b_inside refl c.replace-second.new.self (Some c.remove-first.result) c.replace-second.ensures.slots in
     sym (slot_of_bucket ws c.args.a (get_or ws (c.args.a / 32) again) again a_inside refl)
     ∙ ap (λ l. slot_at l c.args.a) moved
@@ -57,13 +57,13 @@ returns-clause-slots g c =
     let again = c.index-groups-a-2.result in
     let long = length-set us (c.args.a / 32) c.remove-first.new.self in
     let longer = length-set vs (c.args.b / 32) c.replace-second.new.self in
-    let b_inside : c.args.b < 32 * length vs = omega (arith, c.requires.b_within) in
-    let a_inside : c.args.a < 32 * length ws = omega (arith, c.requires.a_within) in
+    let b_inside : c.args.b < 32 * length vs = omega (arith, c.requires.b.within) in
+    let a_inside : c.args.a < 32 * length ws = omega (arith, c.requires.a.within) in
     let swapped : c.args.b ≢ c.args.a = λ e. c.requires.apart (ap (λ x. x / 32) (sym e)) in
-    let freed = set_bucket us c.args.a (get_or us (c.args.a / 32) read) read c.requires.a_within refl c.remove-first.new.self None c.remove-first.ensures.slots in
+    let freed = set_bucket us c.args.a (get_or us (c.args.a / 32) read) read c.requires.a.within refl c.remove-first.new.self None c.remove-first.ensures.slots in
     let moved = set_bucket vs c.args.b (get_or vs (c.args.b / 32) other) other b_inside refl c.replace-second.new.self (Some c.remove-first.result) c.replace-second.ensures.slots in
     let filled = set_bucket ws c.args.a (get_or ws (c.args.a / 32) again) again a_inside refl c.insert.new.self (Some c.replace-second.result) c.insert.ensures.slots in
-    let first = slot_of_bucket us c.args.a (get_or us (c.args.a / 32) read) read c.requires.a_within refl ∙ c.remove-first.ensures.item in
+    let first = slot_of_bucket us c.args.a (get_or us (c.args.a / 32) read) read c.requires.a.within refl ∙ c.remove-first.ensures.item in
     let still = ap (λ l. slot_at l c.args.b) freed ∙ get_or-set_other (slots_of us) c.args.a c.args.b None None swapped in
     let second = sym still ∙ slot_of_bucket vs c.args.b (get_or vs (c.args.b / 32) other) other b_inside refl ∙ c.replace-second.ensures.item in
     filled
@@ -81,8 +81,8 @@ returns-clause-small g c =
     let again = c.index-groups-a-2.result in
     let long = length-set us (c.args.a / 32) c.remove-first.new.self in
     let longer = length-set vs (c.args.b / 32) c.replace-second.new.self in
-    let a_inside = c.requires.a_within in
-    let b_inside = c.requires.b_within in
+    let a_inside = c.requires.a.within in
+    let b_inside = c.requires.b.within in
     small_groups-same ws (c.args.a / 32) (get_or ws (c.args.a / 32) again) again c.insert.new.self (omega arith) refl c.insert.ensures.capacity
     ∙ small_groups-same vs (c.args.b / 32) (get_or vs (c.args.b / 32) other) other c.replace-second.new.self (omega arith) refl c.replace-second.ensures.capacity
     ∙ small_groups-same us (c.args.a / 32) (get_or us (c.args.a / 32) read) read c.remove-first.new.self (omega arith) refl c.remove-first.ensures.capacity
@@ -101,21 +101,21 @@ returns-clause-sizes g c =
     let x = get_or ws (c.args.a / 32) again in
     let long = length-set us (c.args.a / 32) v in
     let longer = length-set vs (c.args.b / 32) moved in
-    let a_inside = c.requires.a_within in
-    let b_inside = c.requires.b_within in
+    let a_inside = c.requires.a.within in
+    let b_inside = c.requires.b.within in
     let between = sizes-same vs (c.args.b / 32) (get_or vs (c.args.b / 32) other) other moved (omega arith) refl c.replace-second.ensures.room c.replace-second.ensures.capacity in
     sizes-back us ws (c.args.a / 32) u read v x again c.insert.new.self (omega arith) refl between (omega arith) refl
     c.remove-first.ensures.len c.remove-first.ensures.capacity c.insert.ensures.len c.insert.ensures.capacity
 
 pub remove-first-requires-clause-place : goal.remove-first-requires-clause-place
-remove-first-requires-clause-place g c = c.requires.a_rank c.index-groups-a.result
+remove-first-requires-clause-place g c = c.requires.a.rank c.index-groups-a.result
 
 pub replace-second-requires-clause-place : goal.replace-second-requires-clause-place
 replace-second-requires-clause-place g c =
     let us = c.args.groups.now in
     let other = c.index-groups-b.result in
     let apart : c.args.b / 32 ≢ c.args.a / 32 = λ e. c.requires.apart (sym e) in
-    c.requires.b_rank other
+    c.requires.b.rank other
     ∙ ap (λ (x : Group _). rank x.occupied (c.args.b % 32)) (sym (get_or-set_other us (c.args.a / 32) (c.args.b / 32) c.remove-first.new.self other apart))
 
 pub insert-requires-clause-place : goal.insert-requires-clause-place
@@ -124,6 +124,6 @@ insert-requires-clause-place g c =
     let v = c.remove-first.new.self in
     let vs = set us (c.args.a / 32) v in
     let again = c.index-groups-a-2.result in
-    let inside : c.args.a / 32 < length us = omega (arith, c.requires.a_within) in
+    let inside : c.args.a / 32 < length us = omega (arith, c.requires.a.within) in
     let same = get_or-set_other vs (c.args.b / 32) (c.args.a / 32) c.replace-second.new.self again c.requires.apart ∙ get_or-set_same us (c.args.a / 32) v again inside in
-    c.requires.a_rank c.index-groups-a.result ∙ sym c.remove-first.ensures.rank ∙ ap (λ (x : Group _). rank x.occupied (c.args.a % 32)) (sym same)
+    c.requires.a.rank c.index-groups-a.result ∙ sym c.remove-first.ensures.rank ∙ ap (λ (x : Group _). rank x.occupied (c.args.a % 32)) (sym same)

@@ -1,12 +1,30 @@
-use Rattle.std.proofs.Common.{◌≡◌, ◌+◌, ◌-◌, ◌*◌, ◌%◌, ℕ, length, sym, subst, arith}
-use Rattle.std.specs.Prelude.{IsSome}
+use Rattle.std.proofs.Common.{◌≡◌, ◌+◌, ◌-◌, ◌*◌, ◌%◌, ℕ, Option, Some, None, false, length, refl, sym, ◌∙◌, subst, arith}
+use Rattle.std.specs.Prelude.{IsSome, is_some}
+use Rattle.std.proofs.lemmas.Bool.{false≢true}
+use Rattle.sparse_map.proofs.RoundLemmas.{steps_self}
 use Rattle.sparse_map.specs.Slots.{key_at}
 use Rattle.sparse_map.specs.Groups.{slots_of}
 use Rattle.sparse_map.specs.Probe.{IsFirstFree}
-use Rattle.sparse_map.proofs.TableLemmas.{length-slots_of}
+use Rattle.sparse_map.proofs.TableLemmas.{length-slots_of, slot_of_bucket}
 use Rattle.sparse_map.proofs.PackedLemmas.{Passing, passing_start, passing_more, passing_free, passing_full}
 use Rattle.sparse_map.proofs.RankedLemmas.{run_taken, run_free}
 use Rattle.sparse_map.proofs.table.first_free.Goals as goal
+
+none_of : {X : Type 0} (o : Option X) → is_some o ≡ false → o ≡ None
+none_of None off = refl
+none_of (Some x) off = absurd (false≢true (sym off))
+
+pub returns-then-not-is_occupied-clause-first : goal.returns-then-not-is_occupied-clause-first
+returns-then-not-is_occupied-clause-first g c =
+    let us = c.args.groups.now in
+    let b = c.args.from in
+    let read = c.index-groups-from in
+    let n = length (slots_of us) in
+    record {
+      inside = omega (arith, c.requires.within, length-slots_of us);
+      free = slot_of_bucket us b read.result read.result c.requires.within read.is ∙ none_of _ (sym c.is_occupied.ensures ∙ c.if-not-is_occupied.true);
+      passed = λ q lt less. absurd (omega (arith, steps_self n b, less));
+    }
 
 pub loop-passed-init : goal.loop-passed-init
 loop-passed-init g c = passing_start (32 * length c.args.groups.now) (λ q. IsSome (key_at (slots_of c.args.groups.now) q)) c.args.from c.requires.within

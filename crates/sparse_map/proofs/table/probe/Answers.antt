@@ -21,7 +21,7 @@ loop-passed-init g c =
 
 pub bounds-groups-bucket : goal.bounds-groups-bucket
 bounds-groups-bucket g c =
-    omega (arith, c.loop-passed.invariant.inside, length-slots_of c.args.groups.now, c.requires.buckets, c.bucket_count-buckets.ensures.count)
+    omega (arith, c.loop-passed.invariant.inside, length-slots_of c.args.groups.now, c.requires.table.buckets, c.bucket_count-buckets.ensures.count)
 
 pub overflow_add-result-in-Some : goal.overflow_add-result-in-Some
 overflow_add-result-in-Some g c =
@@ -34,7 +34,7 @@ returns-in-Some-clause-place g c =
     let us = c.args.groups.now in
     let b = c.loop-passed.bucket in
     let read = c.index-groups-bucket.result in
-    let inside : b < 32 * length us = omega (arith, c.loop-passed.invariant.inside, length-slots_of us, c.requires.buckets, c.bucket_count-buckets.ensures.count) in
+    let inside : b < 32 * length us = omega (arith, c.loop-passed.invariant.inside, length-slots_of us, c.requires.table.buckets, c.bucket_count-buckets.ensures.count) in
     let low : c.in-Some.k < 32 = omega (arith, c.in-Some.ensures.within.1, c.run_end-end.ensures.within) in
     subst (λ x. key_at (slots_of us) (b - b % 32 + x) ≡ Some c.args.key) (sym c.from.ensures)
     (run_key us b c.in-Some.k read read inside c.index-groups-bucket.is c.args.key low c.in-Some.ensures.found)
@@ -45,7 +45,7 @@ returns-in-Some-clause-rank g c =
     let b = c.loop-passed.bucket in
     let k = c.in-Some.k in
     let read = c.index-groups-bucket.result in
-    let inside : b < 32 * length us = omega (arith, c.loop-passed.invariant.inside, length-slots_of us, c.requires.buckets, c.bucket_count-buckets.ensures.count) in
+    let inside : b < 32 * length us = omega (arith, c.loop-passed.invariant.inside, length-slots_of us, c.requires.table.buckets, c.bucket_count-buckets.ensures.count) in
     let within = c.in-Some.ensures.within in
     let end = c.run_end-end.ensures in
     let at = rank_on_run read (b % 32) c.run_end-end.result c.rank_at-place.result k end.within end.occupied c.rank_at-place.ensures within.0 (omega (arith, within.1)) in
@@ -71,13 +71,13 @@ returns-then-end-lt32-clause-place g c =
     let read = c.index-groups-bucket.result in
     let is = c.index-groups-bucket.is in
     let walk = c.loop-passed.invariant in
-    let long : length s ≡ n = c.requires.buckets ∙ sym e in
+    let long : length s ≡ n = c.requires.table.buckets ∙ sym e in
     let inside : b < 32 * length us = omega (arith, walk.inside, length-slots_of us, long) in
     let home_is : c.home_of-bucket.result ≡ home n key = c.home_of-bucket.ensures.home ∙ ap (λ m. home m key) (sym e) in
     let home_in : home n key < n = omega (arith, home_is, c.home_of-bucket.ensures.within, e) in
     let free = run_free us b k read read inside is lt (end.free lt) in
     let place : IsFreeFor s key (b - b % 32 + k) =
-    probing_free n s key b c.loop-passed.passed home_in walk c.loop-passed-test.true (b - b % 32 + k) long (PackedAt-from n s long c.requires.packed)
+    probing_free n s key b c.loop-passed.passed home_in walk c.loop-passed-test.true (b - b % 32 + k) long (PackedAt-from n s long c.requires.table.packed)
     (omega (arith, end.from)) (omega (arith, inside, lt, length-slots_of us, long)) free
     (λ q le to. (run_taken us b k read read inside is end.within end.occupied q le to, run_other us b k read read inside is key end.within c.in_default.ensures.none q le to)) in
     subst (λ x. IsFreeFor s key (b - b % 32 + x)) (sym c.from-then-end-lt32.ensures) place
@@ -88,7 +88,7 @@ returns-then-end-lt32-clause-rank g c =
     let b = c.loop-passed.bucket in
     let k = c.run_end-end.result in
     let read = c.index-groups-bucket.result in
-    let inside : b < 32 * length us = omega (arith, c.loop-passed.invariant.inside, length-slots_of us, c.requires.buckets, c.bucket_count-buckets.ensures.count) in
+    let inside : b < 32 * length us = omega (arith, c.loop-passed.invariant.inside, length-slots_of us, c.requires.table.buckets, c.bucket_count-buckets.ensures.count) in
     let end = c.run_end-end.ensures in
     let at = rank_on_run read (b % 32) k c.rank_at-place.result k end.within end.occupied c.rank_at-place.ensures end.from (omega arith) in
     subst (λ x. IsRankOf us (b - b % 32 + x) (c.rank_at-place.result + (k - b % 32))) (sym c.from-then-end-lt32.ensures)
@@ -96,7 +96,7 @@ returns-then-end-lt32-clause-rank g c =
 
 pub next_bucket-bucket-requires-clause-within : goal.next_bucket-bucket-requires-clause-within
 next_bucket-bucket-requires-clause-within g c =
-    omega (arith, c.loop-passed.invariant.inside, length-slots_of c.args.groups.now, c.requires.buckets, c.bucket_count-buckets.ensures.count)
+    omega (arith, c.loop-passed.invariant.inside, length-slots_of c.args.groups.now, c.requires.table.buckets, c.bucket_count-buckets.ensures.count)
 
 pub loop-passed-preserved : goal.loop-passed-preserved
 loop-passed-preserved g c =
@@ -115,7 +115,7 @@ loop-passed-preserved g c =
     let read = c.index-groups-bucket.result in
     let is = c.index-groups-bucket.is in
     let walk = c.loop-passed.invariant in
-    let long : length s ≡ n = c.requires.buckets ∙ sym e in
+    let long : length s ≡ n = c.requires.table.buckets ∙ sym e in
     let inside : b < 32 * length us = omega (arith, walk.inside, length-slots_of us, long) in
     let home_is : c.home_of-bucket.result ≡ home n key = c.home_of-bucket.ensures.home ∙ ap (λ m. home m key) (sym e) in
     let home_in : home n key < n = omega (arith, home_is, c.home_of-bucket.ensures.within, e) in
@@ -135,5 +135,5 @@ unreachable-requires g c =
     let e = c.bucket_count-buckets.ensures.count in
     let home_is : c.home_of-bucket.result ≡ home n key = c.home_of-bucket.ensures.home ∙ ap (λ m. home m key) (sym e) in
     let home_in : home n key < n = omega (arith, home_is, c.home_of-bucket.ensures.within, e) in
-    passing_full n (HasOther s key) s (home n key) c.loop-passed.bucket c.loop-passed.passed (λ q other. other.0) (c.requires.buckets ∙ sym e) home_in
-    c.loop-passed-test.false (omega (arith, c.requires.room, e)) c.loop-passed.invariant
+    passing_full n (HasOther s key) s (home n key) c.loop-passed.bucket c.loop-passed.passed (λ q other. other.0) (c.requires.table.buckets ∙ sym e) home_in
+    c.loop-passed-test.false (omega (arith, c.requires.table.room, e)) c.loop-passed.invariant

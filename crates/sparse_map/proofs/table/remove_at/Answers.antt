@@ -9,8 +9,16 @@ use Rattle.sparse_map.proofs.TableLemmas.{length-slots_of}
 use Rattle.sparse_map.proofs.SlotLemmas.{find-set_none, length-items_of-set}
 use Rattle.sparse_map.proofs.table.remove_at.Goals as goal
 
-pub take-requires-clause-within : goal.take-requires-clause-within
-take-requires-clause-within g c = omega (arith, c.shift_back-hole.ensures.shifted.inside, length-slots_of c.shift_back-hole.new.groups)
+pub take-requires : goal.take-requires
+take-requires g c =
+    let shifted = c.shift_back-hole.ensures.shifted in
+    record {
+      seat = record {
+        within = omega (arith, shifted.inside, length-slots_of c.shift_back-hole.new.groups);
+        occupied = ap is_some shifted.item ∙ c.requires.seat.occupied;
+        rank = c.shift_back-hole.ensures.rank;
+      };
+    }
 
 pub returns-clause-found : goal.returns-clause-found
 returns-clause-found g c =

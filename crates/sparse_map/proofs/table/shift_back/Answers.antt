@@ -1,4 +1,4 @@
-use Rattle.std.proofs.Common.{◌≡◌, ◌+◌, ◌-◌, ◌*◌, suc, set, length, None, ◌<◌, ◌≤◌, ◌^◌, sym, ap, ◌∙◌, subst, refl, arith, inl, inr}
+use Rattle.std.proofs.Common.{◌≡◌, ◌+◌, ◌-◌, ◌*◌, suc, set, length, None, ◌<◌, ◌≤◌, ◌^◌, sym, ap, ◌∙◌, subst, refl, arith, rules, inl, inr}
 use Rattle.std.proofs.lemmas.Bool.{cases_lt, false≢true}
 use Rattle.std.specs.Prelude.{is_some, IsSome}
 use Rattle.sparse_map.specs.Home.{home, steps}
@@ -22,9 +22,9 @@ loop-step-init g c =
     let n = c.bucket_count-buckets.result in
     let e = c.bucket_count-buckets.ensures.count in
     let s = slots_of c.args.groups.now in
-    let long = c.requires.buckets ∙ sym e in
-    let inside = subst (λ m. c.args.bucket < m) (sym e) c.requires.within in
-    record { walked = walked_start n s c.args.bucket (PackedAt-from n s long c.requires.packed) long inside c.requires.occupied; small = refl; back = refl; sizes = refl; here = c.requires.occupied; at_rank = c.requires.rank; hole_rank = c.requires.rank }
+    let long = c.requires.table.buckets ∙ sym e in
+    let inside : c.args.bucket < n = omega (arith, c.requires.seat.within, length-slots_of c.args.groups.now, c.requires.table.buckets, e) in
+    record { walked = walked_start n s c.args.bucket (PackedAt-from n s long c.requires.table.packed) long inside c.requires.seat.occupied; small = refl; back = refl; sizes = refl; here = c.requires.seat.occupied; at_rank = c.requires.seat.rank; hole_rank = c.requires.seat.rank }
 
 pub next_rank-at_rank-requires : goal.next_rank-at_rank-requires
 next_rank-at_rank-requires g c =
@@ -34,12 +34,6 @@ next_rank-at_rank-requires g c =
 
 pub key_at-requires-clause-rank : goal.key_at-requires-clause-rank
 key_at-requires-clause-rank g c =
-    let w = c.loop-step.invariant.walked in
-    rank_on c.loop-step.groups c.bucket_count-buckets.result c.loop-step.at c.loop-step.at_rank c.next_bucket-at.result c.next_rank-at_rank.result
-    (sym (length-slots_of c.loop-step.groups) ∙ w.long) w.walk.at_inside c.loop-step.invariant.at_rank c.loop-step.invariant.here c.next_bucket-at.ensures c.next_rank-at_rank.ensures
-
-pub exchange-requires-clause-b_rank : goal.exchange-requires-clause-b_rank
-exchange-requires-clause-b_rank g c =
     let w = c.loop-step.invariant.walked in
     rank_on c.loop-step.groups c.bucket_count-buckets.result c.loop-step.at c.loop-step.at_rank c.next_bucket-at.result c.next_rank-at_rank.result
     (sym (length-slots_of c.loop-step.groups) ∙ w.long) w.walk.at_inside c.loop-step.invariant.at_rank c.loop-step.invariant.here c.next_bucket-at.ensures c.next_rank-at_rank.ensures
@@ -54,33 +48,22 @@ pub returns-in-None-clause-shifted : goal.returns-in-None-clause-shifted
 returns-in-None-clause-shifted g c =
     let n = c.bucket_count-buckets.result in
     let e = c.bucket_count-buckets.ensures.count in
-    let inside = subst (λ m. c.args.bucket < m) (sym e) c.requires.within in
+    let inside : c.args.bucket < n = omega (arith, c.requires.seat.within, length-slots_of c.args.groups.now, c.requires.table.buckets, e) in
     walked_done n (slots_of c.args.groups.now) (slots_of c.loop-step.groups) c.args.bucket c.loop-step.hole c.loop-step.at c.loop-step._step inside c.loop-step.invariant.walked c.loop-step-test.true
     (ap (key_at (slots_of c.loop-step.groups)) (sym c.next_bucket-at.ensures) ∙ sym c.key_at.ensures ∙ c.in-None.is)
-
-pub exchange-requires-clause-a_within : goal.exchange-requires-clause-a_within
-exchange-requires-clause-a_within g c =
-    let w = c.loop-step.invariant.walked in
-    omega (arith, w.walk.hole_inside, w.long, length-slots_of c.loop-step.groups)
-
-pub exchange-requires-clause-b_within : goal.exchange-requires-clause-b_within
-exchange-requires-clause-b_within g c =
-    let w = c.loop-step.invariant.walked in
-    let below : next c.bucket_count-buckets.result c.loop-step.at < c.bucket_count-buckets.result = next_below c.bucket_count-buckets.result c.loop-step.at w.walk.at_inside in
-    omega (arith, below, c.next_bucket-at.ensures, w.long, length-slots_of c.loop-step.groups)
 
 pub exchange-requires-clause-apart : goal.exchange-requires-clause-apart
 exchange-requires-clause-apart g c =
     let n = c.bucket_count-buckets.result in
     let e = c.bucket_count-buckets.ensures.count in
-    let inside = subst (λ m. c.args.bucket < m) (sym e) c.requires.within in
+    let inside : c.args.bucket < n = omega (arith, c.requires.seat.within, length-slots_of c.args.groups.now, c.requires.table.buckets, e) in
     λ same. apart_from_hole n (slots_of c.loop-step.groups) c.args.bucket c.loop-step.hole c.loop-step.at c.loop-step._step inside c.loop-step.invariant.walked.walk c.loop-step-test.true (same ∙ c.next_bucket-at.ensures)
 
 pub loop-step-preserved : goal.loop-step-preserved
 loop-step-preserved g c =
     let n = c.bucket_count-buckets.result in
     let e = c.bucket_count-buckets.ensures.count in
-    let inside = subst (λ m. c.args.bucket < m) (sym e) c.requires.within in
+    let inside : c.args.bucket < n = omega (arith, c.requires.seat.within, length-slots_of c.args.groups.now, c.requires.table.buckets, e) in
     let old = slots_of c.args.groups.now in
     let new = slots_of c.loop-step.groups in
     let w = c.loop-step.invariant.walked in
@@ -151,17 +134,17 @@ pub returns-clause-shifted : goal.returns-clause-shifted
 returns-clause-shifted g c =
     let n = c.bucket_count-buckets.result in
     let e = c.bucket_count-buckets.ensures.count in
-    let inside = subst (λ m. c.args.bucket < m) (sym e) c.requires.within in
+    let inside : c.args.bucket < n = omega (arith, c.requires.seat.within, length-slots_of c.args.groups.now, c.requires.table.buckets, e) in
     let w = c.loop-step.invariant.walked in
     let end : c.loop-step._step ≡ n = omega arith in
-    absurd (walked_full n (slots_of c.args.groups.now) (slots_of c.loop-step.groups) c.args.bucket c.loop-step.hole c.loop-step.at inside (omega (arith, c.requires.room, e))
+    absurd (walked_full n (slots_of c.args.groups.now) (slots_of c.loop-step.groups) c.args.bucket c.loop-step.hole c.loop-step.at inside (omega (arith, c.requires.table.room, e))
     (subst (λ m. Walked n (slots_of c.args.groups.now) (slots_of c.loop-step.groups) c.args.bucket c.loop-step.hole c.loop-step.at m) end w))
 
 pub returns-in-None-clause-walk : goal.returns-in-None-clause-walk
 returns-in-None-clause-walk g c =
     let n = c.bucket_count-buckets.result in
     let e = c.bucket_count-buckets.ensures.count in
-    let inside = subst (λ m. c.args.bucket < m) (sym e) c.requires.within in
+    let inside : c.args.bucket < n = omega (arith, c.requires.seat.within, length-slots_of c.args.groups.now, c.requires.table.buckets, e) in
     let new = slots_of c.loop-step.groups in
     let hole = c.loop-step.hole in
     let w = c.loop-step.invariant.walked in
@@ -177,8 +160,30 @@ pub returns-clause-walk : goal.returns-clause-walk
 returns-clause-walk g c =
     let n = c.bucket_count-buckets.result in
     let e = c.bucket_count-buckets.ensures.count in
-    let inside = subst (λ m. c.args.bucket < m) (sym e) c.requires.within in
+    let inside : c.args.bucket < n = omega (arith, c.requires.seat.within, length-slots_of c.args.groups.now, c.requires.table.buckets, e) in
     let w = c.loop-step.invariant.walked in
     let end : c.loop-step._step ≡ n = omega arith in
-    absurd (walked_full n (slots_of c.args.groups.now) (slots_of c.loop-step.groups) c.args.bucket c.loop-step.hole c.loop-step.at inside (omega (arith, c.requires.room, e))
+    absurd (walked_full n (slots_of c.args.groups.now) (slots_of c.loop-step.groups) c.args.bucket c.loop-step.hole c.loop-step.at inside (omega (arith, c.requires.table.room, e))
     (subst (λ m. Walked n (slots_of c.args.groups.now) (slots_of c.loop-step.groups) c.args.bucket c.loop-step.hole c.loop-step.at m) end w))
+
+pub exchange-requires-clause-a : goal.exchange-requires-clause-a
+exchange-requires-clause-a g c =
+    let w = c.loop-step.invariant.walked in
+    record {
+      within = omega (arith, w.walk.hole_inside, w.long, length-slots_of c.loop-step.groups);
+      occupied = search rules;
+      rank = c.loop-step.invariant.hole_rank;
+    }
+
+pub exchange-requires-clause-b : goal.exchange-requires-clause-b
+exchange-requires-clause-b g c =
+    let w = c.loop-step.invariant.walked in
+    let new = slots_of c.loop-step.groups in
+    let below : next c.bucket_count-buckets.result c.loop-step.at < c.bucket_count-buckets.result = next_below c.bucket_count-buckets.result c.loop-step.at w.walk.at_inside in
+    record {
+      within = omega (arith, below, c.next_bucket-at.ensures, w.long, length-slots_of c.loop-step.groups);
+      occupied = sym (is_some-key_at new c.next_bucket-at.result) ∙ ap is_some (sym c.key_at.ensures ∙ c.in-Some.is);
+      rank =
+          rank_on c.loop-step.groups c.bucket_count-buckets.result c.loop-step.at c.loop-step.at_rank c.next_bucket-at.result c.next_rank-at_rank.result
+          (sym (length-slots_of c.loop-step.groups) ∙ w.long) w.walk.at_inside c.loop-step.invariant.at_rank c.loop-step.invariant.here c.next_bucket-at.ensures c.next_rank-at_rank.ensures;
+    }

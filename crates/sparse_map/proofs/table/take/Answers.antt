@@ -8,19 +8,19 @@ pub remove-requires-clause-occupied : goal.remove-requires-clause-occupied
 remove-requires-clause-occupied g c =
     let read = c.index-groups-bucket.result in
     let us = c.args.groups.now in
-    subst (λ o. IsSome o) (slot_of_bucket us c.args.bucket (get_or us (c.args.bucket / 32) read) read c.requires.within refl) c.requires.occupied
+    subst (λ o. IsSome o) (slot_of_bucket us c.args.bucket (get_or us (c.args.bucket / 32) read) read c.requires.seat.within refl) c.requires.seat.occupied
 
 pub returns-clause-item : goal.returns-clause-item
 returns-clause-item g c =
     let read = c.index-groups-bucket.result in
     let us = c.args.groups.now in
-    slot_of_bucket us c.args.bucket (get_or us (c.args.bucket / 32) read) read c.requires.within refl ∙ c.remove.ensures.item
+    slot_of_bucket us c.args.bucket (get_or us (c.args.bucket / 32) read) read c.requires.seat.within refl ∙ c.remove.ensures.item
 
 pub returns-clause-slots : goal.returns-clause-slots
 returns-clause-slots g c =
     let read = c.index-groups-bucket.result in
     let us = c.args.groups.now in
-    set_bucket us c.args.bucket (get_or us (c.args.bucket / 32) read) read c.requires.within refl c.remove.new.self None c.remove.ensures.slots
+    set_bucket us c.args.bucket (get_or us (c.args.bucket / 32) read) read c.requires.seat.within refl c.remove.new.self None c.remove.ensures.slots
 
 pub returns-clause-small : goal.returns-clause-small
 returns-clause-small g c =
@@ -44,4 +44,4 @@ returns-clause-loose g c =
     λ grown. loose_in-set us (c.args.bucket / 32) u read c.remove.new.self (omega arith) refl grown 1 most
 
 pub remove-requires-clause-place : goal.remove-requires-clause-place
-remove-requires-clause-place g c = c.requires.rank c.index-groups-bucket.result
+remove-requires-clause-place g c = c.requires.seat.rank c.index-groups-bucket.result

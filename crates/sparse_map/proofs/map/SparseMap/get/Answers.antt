@@ -1,13 +1,12 @@
-use Rattle.std.proofs.Common.{◌≡◌, ◌≢◌, ℕ, length, Some, arith, ap, sym, ◌∙◌, subst}
-use Rattle.std.specs.Prelude.{is_some, option_copied, option_map}
+use Rattle.std.proofs.Common.{◌≡◌, ◌≢◌, ℕ, length, Some, ap, sym, ◌∙◌, subst}
+use Rattle.std.specs.Prelude.{option_copied, option_map}
 use Rattle.std.specs.Vec.{vec_len}
 use Rattle.sparse_map.specs.Slots.{slot_at, key_at}
 use Rattle.sparse_map.specs.Groups.{slots_of}
 use Rattle.sparse_map.proofs.SlotLemmas.{not_found, found_where, slot_of_key}
-use Rattle.sparse_map.proofs.PackedLemmas.{key_inside}
-use Rattle.sparse_map.proofs.TableLemmas.{length-slots_of}
 use Rattle.sparse_map.proofs.MapLemmas.{get-map_of, find_room}
 use Rattle.sparse_map.proofs.ViewLemmas.{seen_slots, seen_sound}
+use Rattle.sparse_map.proofs.RankedLemmas.{seated}
 use Rattle.sparse_map.proofs.map.SparseMap.get.Goals as goal
 
 pub returns-in_err-seat : goal.returns-in_err-seat
@@ -17,17 +16,6 @@ returns-in_err-seat g c =
     let absent : (b : ℕ) → key_at c.args.self.now.slots b ≢ Some c.args.key = subst (λ s. (b : ℕ) → key_at s b ≢ Some c.args.key) slots c.in_err-seat.ensures.found in
     ap option_copied c.from_residual.ensures
     ∙ sym (get-map_of c.args.self.now c.args.key ∙ not_found c.args.self.now.slots c.args.key absent)
-
-pub value_at-requires-clause-within : goal.value_at-requires-clause-within
-value_at-requires-clause-within g c =
-    let us = c.as_slice-groups.result.now in
-    omega (arith, key_inside (slots_of us) c.in_ok-seat.seat.bucket c.args.key c.in_ok-seat.ensures.found, length-slots_of us)
-
-pub value_at-requires-clause-occupied : goal.value_at-requires-clause-occupied
-value_at-requires-clause-occupied g c =
-    let us = c.as_slice-groups.result.now in
-    let at = slot_of_key (slots_of us) c.in_ok-seat.seat.bucket c.args.key c.in_ok-seat.ensures.found in
-    ap is_some at.1
 
 pub returns : goal.returns
 returns g c =
@@ -48,3 +36,6 @@ pub find-requires-clause-room : goal.find-requires-clause-room
 find-requires-clause-room g c =
     let m = c.self.inside in
     find_room m.bits m.len m.spare (vec_len m.stock) m.groups.items c.self.invariant c.as_slice-groups.result.now c.as_slice-groups.ensures.value
+
+pub value_at-requires : goal.value_at-requires
+value_at-requires g c = record { seat = seated c.as_slice-groups.result.now c.in_ok-seat.seat.bucket c.in_ok-seat.seat.rank c.args.key c.in_ok-seat.ensures.found c.in_ok-seat.ensures.rank }

@@ -1,36 +1,19 @@
 use Rattle.std.proofs.Common.{◌≡◌, ◌+◌, ◌-◌, length, refl, set, Some, arith, ap, sym, ◌∙◌, subst}
-use Rattle.std.specs.Prelude.{is_some, option_map}
+use Rattle.std.specs.Prelude.{option_map}
 use Rattle.std.specs.Vec.{vec_len}
 use Rattle.sparse_map.specs.Slots.{slot_at, key_at}
 use Rattle.sparse_map.specs.Groups.{slots_of, small_groups}
-use Rattle.sparse_map.specs.Ranks.{IsRankOf}
-use Rattle.sparse_map.proofs.RankedLemmas.{key_found, free_found, rank_found, rank_free}
+use Rattle.sparse_map.specs.Ranks.{IsRankOf, IsSeated}
+use Rattle.sparse_map.proofs.RankedLemmas.{seated, key_found, free_found, rank_found, rank_free}
 use Rattle.sparse_map.specs.Kept.{KeepsTable}
 use Rattle.sparse_map.specs.Places.{sizes_of, places_of, loose_of}
 use Rattle.sparse_map.specs.Probe.{IsFreeFor}
 use Rattle.sparse_map.proofs.SlotLemmas.{slot_of_key}
-use Rattle.sparse_map.proofs.PackedLemmas.{key_inside}
 use Rattle.sparse_map.proofs.TableLemmas.{length-slots_of}
-use Rattle.sparse_map.proofs.MapLemmas.{kept_buckets, kept_sound}
+use Rattle.sparse_map.proofs.MapLemmas.{kept_free_bucket, kept_sound}
 use Rattle.sparse_map.proofs.ViewLemmas.{seen_slots, seen_memory, seen_loose}
 use Rattle.sparse_map.proofs.ChangeLemmas.{written, seen_ready, absent_needs_room, get_there, get_absent, kept_value, map_value, kept_new_key, map_new_key}
 use Rattle.sparse_map.proofs.map.SparseMap.insert_ready.Goals as goal
-
-pub probe-spot-requires-clause-many : goal.probe-spot-requires-clause-many
-probe-spot-requires-clause-many g c =
-    c.self.invariant.many (seen_ready c.self.inside c.args.self.now c.self.invariant c.self.view_is c.args.key c.requires)
-
-pub probe-spot-requires-clause-buckets : goal.probe-spot-requires-clause-buckets
-probe-spot-requires-clause-buckets g c =
-    let m = c.self.inside in
-    ap (λ us. length (slots_of us)) c.as_slice.ensures.value
-    ∙ kept_buckets m.bits m.len m.spare (vec_len m.stock) m.groups.items c.self.invariant (seen_ready m c.args.self.now c.self.invariant c.self.view_is c.args.key c.requires)
-
-pub replace-old-requires-clause-within : goal.replace-old-requires-clause-within
-replace-old-requires-clause-within g c =
-    let inside = key_inside (slots_of c.as_slice.result.now) c.in-Found.bucket c.args.key (key_found (slots_of c.as_slice.result.now) c.args.key c.in-Found.bucket c.probe-spot.result.at c.probe-spot.ensures.place c.in-Found.is) in
-    let same : length c.as_mut_slice.result.now ≡ length c.as_slice.result.now = ap length (c.as_mut_slice.ensures.value ∙ sym c.as_slice.ensures.value) in
-    omega (arith, inside, same, length-slots_of c.as_slice.result.now)
 
 pub invariant_of-self : goal.invariant_of-self
 invariant_of-self g c =
@@ -206,17 +189,6 @@ returns-in-Free-clause-loose g c =
     let less = c.put-grew.ensures.loose m.grown c.with-grown.result c.with-grown.ensures.added c.with-grown.ensures.kept in
     omega (arith, ap (loose_of c.with-grown.result) sizes, ap (loose_of m.grown) old, less, seen_loose m t c.self.invariant c.self.view_is)
 
-pub replace-old-requires-clause-occupied : goal.replace-old-requires-clause-occupied
-replace-old-requires-clause-occupied g c =
-    let has = key_found (slots_of c.as_slice.result.now) c.args.key c.in-Found.bucket c.probe-spot.result.at c.probe-spot.ensures.place c.in-Found.is in
-    let at = slot_of_key (slots_of c.as_slice.result.now) c.in-Found.bucket c.args.key has in
-    ap is_some (ap (λ us. slot_at (slots_of us) c.in-Found.bucket) (c.as_mut_slice.ensures.value ∙ sym c.as_slice.ensures.value) ∙ at.1)
-
-pub replace-old-requires-clause-rank : goal.replace-old-requires-clause-rank
-replace-old-requires-clause-rank g c =
-    subst (λ us. IsRankOf us c.in-Found.bucket c.probe-spot.result.rank) (c.as_slice.ensures.value ∙ sym c.as_mut_slice.ensures.value)
-    (rank_found c.as_slice.result.now c.in-Found.bucket c.probe-spot.result.rank c.probe-spot.result.at c.probe-spot.ensures.rank c.in-Found.is)
-
 pub put-grew-requires-clause-free : goal.put-grew-requires-clause-free
 put-grew-requires-clause-free g c =
     let place = free_found (slots_of c.as_slice.result.now) c.args.key c.in-Free.bucket c.probe-spot.result.at c.probe-spot.ensures.place c.in-Free.is in
@@ -226,3 +198,21 @@ pub put-grew-requires-clause-rank : goal.put-grew-requires-clause-rank
 put-grew-requires-clause-rank g c =
     subst (λ us. IsRankOf us c.in-Free.bucket c.probe-spot.result.rank) (c.as_slice.ensures.value ∙ sym c.as_mut_slice-in-Free.ensures.value)
     (rank_free c.as_slice.result.now c.in-Free.bucket c.probe-spot.result.rank c.probe-spot.result.at c.probe-spot.ensures.rank c.in-Free.is)
+
+pub probe-spot-requires : goal.probe-spot-requires
+probe-spot-requires g c =
+    let m = c.self.inside in
+    record {
+      table = kept_free_bucket m.bits m.len m.spare (vec_len m.stock) m.groups.items c.self.invariant c.as_slice.result.now c.as_slice.ensures.value
+          (seen_ready m c.args.self.now c.self.invariant c.self.view_is c.args.key c.requires);
+    }
+
+pub replace-old-requires : goal.replace-old-requires
+replace-old-requires g c =
+    let us = c.as_slice.result.now in
+    let b = c.in-Found.bucket in
+    let spot = c.probe-spot in
+    let same : us ≡ c.as_mut_slice.result.now = c.as_slice.ensures.value ∙ sym c.as_mut_slice.ensures.value in
+    let has = key_found (slots_of us) c.args.key b spot.result.at spot.ensures.place c.in-Found.is in
+    let rank = rank_found us b spot.result.rank spot.result.at spot.ensures.rank c.in-Found.is in
+    record { seat = subst (λ ws. IsSeated ws b spot.result.rank) same (seated us b spot.result.rank c.args.key has rank) }

@@ -5,14 +5,15 @@ use Rattle.std.specs.Ordering.{nat_cmp}
 use Rattle.std.specs.FinMap.{find}
 use Rattle.sparse_map.specs.Slots.{slot_at, key_at, items_of}
 use Rattle.sparse_map.specs.Groups.{slots_of, small_groups}
-use Rattle.sparse_map.specs.Ranks.{IsRankOf}
+use Rattle.sparse_map.specs.Ranks.{IsSeated}
+use Rattle.sparse_map.proofs.RankedLemmas.{seated}
 use Rattle.sparse_map.specs.Kept.{KeepsTable}
 use Rattle.sparse_map.specs.Places.{sizes_of, places_of, loose_of}
 use Rattle.sparse_map.proofs.SlotLemmas.{slot_of_key, not_found}
 use Rattle.sparse_map.proofs.TableLemmas.{length-slots_of}
 use Rattle.sparse_map.specs.Removal.{shifted_back}
 use Rattle.sparse_map.proofs.PackedLemmas.{key_inside}
-use Rattle.sparse_map.proofs.MapLemmas.{find_room, kept_some, kept_buckets, kept_sound, get-map_of}
+use Rattle.sparse_map.proofs.MapLemmas.{find_room, kept_free_bucket, kept_some, kept_buckets, kept_sound, get-map_of}
 use Rattle.sparse_map.proofs.ViewLemmas.{seen_slots, seen_sound, seen_memory, seen_loose}
 use Rattle.sparse_map.proofs.ChangeLemmas.{written, get_there, map_without, kept_removed, absent_stays}
 use Rattle.sparse_map.proofs.map.SparseMap.remove.Goals as goal
@@ -132,21 +133,15 @@ find-requires-clause-room g c =
     let m = c.self.inside in
     find_room m.bits m.len m.spare (vec_len m.stock) m.groups.items c.self.invariant c.as_slice.result.now c.as_slice.ensures.value
 
-pub remove_at-value-requires-clause-many : goal.remove_at-value-requires-clause-many
-remove_at-value-requires-clause-many g c =
-    let m = c.self.inside in
-    let us = c.as_slice.result.now in
-    let inside = key_inside (slots_of us) c.in_ok-seat.seat.bucket c.args.key c.in_ok-seat.ensures.found in
-    c.self.invariant.many (kept_some m.bits m.len m.spare (vec_len m.stock) m.groups.items c.self.invariant (omega (arith, inside, ap (λ us. length (slots_of us)) c.as_slice.ensures.value)))
-
-pub remove_at-value-requires-clause-buckets : goal.remove_at-value-requires-clause-buckets
-remove_at-value-requires-clause-buckets g c =
+pub remove_at-value-requires-clause-table : goal.remove_at-value-requires-clause-table
+remove_at-value-requires-clause-table g c =
     let m = c.self.inside in
     let us = c.as_slice.result.now in
     let inside = key_inside (slots_of us) c.in_ok-seat.seat.bucket c.args.key c.in_ok-seat.ensures.found in
     let bits = kept_some m.bits m.len m.spare (vec_len m.stock) m.groups.items c.self.invariant (omega (arith, inside, ap (λ us. length (slots_of us)) c.as_slice.ensures.value)) in
-    ap (λ us. length (slots_of us)) c.as_mut_slice.ensures.value ∙ kept_buckets m.bits m.len m.spare (vec_len m.stock) m.groups.items c.self.invariant bits
+    kept_free_bucket m.bits m.len m.spare (vec_len m.stock) m.groups.items c.self.invariant c.as_mut_slice.result.now c.as_mut_slice.ensures.value bits
 
-pub remove_at-value-requires-clause-rank : goal.remove_at-value-requires-clause-rank
-remove_at-value-requires-clause-rank g c =
-    subst (λ us. IsRankOf us c.in_ok-seat.seat.bucket c.in_ok-seat.seat.rank) (c.as_slice.ensures.value ∙ sym c.as_mut_slice.ensures.value) c.in_ok-seat.ensures.rank
+pub remove_at-value-requires-clause-seat : goal.remove_at-value-requires-clause-seat
+remove_at-value-requires-clause-seat g c =
+    let same : c.as_slice.result.now ≡ c.as_mut_slice.result.now = c.as_slice.ensures.value ∙ sym c.as_mut_slice.ensures.value in
+    subst (λ us. IsSeated us c.in_ok-seat.seat.bucket c.in_ok-seat.seat.rank) same (seated c.as_slice.result.now c.in_ok-seat.seat.bucket c.in_ok-seat.seat.rank c.args.key c.in_ok-seat.ensures.found c.in_ok-seat.ensures.rank)
