@@ -12,5 +12,4 @@ pub mod WrittenLemmas
 pub mod SealedLemmas
 pub mod FlushLemmas
 pub mod WalkLemmas
-pub mod BegunLemmas
 pub mod FormatLemmas

@@ -21,6 +21,3 @@ pub use checkpoints::Checkpoints;
 pub use formatting::format;
 pub use regions::newest;
 pub use walk::Newest;
-
-#[cfg(test)]
-mod tests;

@@ -13,6 +13,3 @@ mod walk;
 pub use error::OpenError;
 pub use log::OpLog;
 pub use walk::{apply_page, roll};
-
-#[cfg(test)]
-mod tests;

@@ -12,6 +12,3 @@ pub mod plain;
 
 pub use loading::{Loaded, load};
 pub use op_log::OpenError;
-
-#[cfg(test)]
-mod tests;

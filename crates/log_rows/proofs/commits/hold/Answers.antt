@@ -4,8 +4,8 @@ use Rattle.ft_base.specs.declared.record.Record.TheVariants.{SetPage}
 use Rattle.cache_model.specs.Records.{Entries, after}
 use Rattle.cache_model.specs.Entries.{Fits}
 use Rattle.cache_model.specs.Loading.{is_whole}
-use Rattle.checkpoint.proofs.BegunLemmas.{pushed_current, put_whole}
-use Rattle.checkpoint.proofs.tests.hold.Goals as goal
+use Rattle.log_rows.proofs.CommitsLemmas.{pushed_current, put_whole}
+use Rattle.log_rows.proofs.commits.hold.Goals as goal
 
 pub returns-clause-current : goal.returns-clause-current
 returns-clause-current g c =

@@ -1,6 +1,6 @@
-use Rattle.checkpoint.proofs.BegunLemmas.{whole_still}
+use Rattle.log_rows.proofs.CommitsLemmas.{whole_still}
 use Rattle.checkpoint.proofs.SealedLemmas.{current_map}
-use Rattle.checkpoint.proofs.tests.put.Goals as goal
+use Rattle.log_rows.proofs.commits.put.Goals as goal
 
 pub returns-clause-whole : goal.returns-clause-whole
 returns-clause-whole g c =

@@ -1,14 +1,12 @@
--- A seal alone on blank media, and a page put into a cache.
-use Rattle.std.proofs.Common.{◌≡◌, ℕ, ◌+◌, ◌*◌, ◌<◌, ◌==◌, Bool, true, false, cond, Option, List, [], ◌∷◌, ◌++◌, Some, None, sym, ◌∙◌, ap, subst, arith}
+-- A cache of nothing on a flash that was formatted, and a page put into a cache.
+use Rattle.std.proofs.Common.{◌≡◌, ℕ, ◌==◌, Bool, true, false, cond, Option, List, [], ◌∷◌, ◌++◌, Some, None, sym, ◌∙◌, ap, subst}
 use Rattle.std.specs.FinMap.{get}
 use Rattle.ft_base.specs.declared.geometry.Geometry.{Geometry}
 use Rattle.ft_base.specs.declared.block.Place.{Place}
 use Rattle.ft_base.specs.declared.block.Page.{Page}
-use Rattle.ft_base.specs.declared.block.Page.TheVariants.{Blank}
 use Rattle.ft_base.specs.declared.record.Record.{Record}
 use Rattle.ft_base.specs.declared.record.Record.TheVariants.{SetPage}
 use Rattle.ft_base.specs.Contents.{Contents, Flash}
-use Rattle.ft_base.specs.Layout.{k, first_pool, checkpoint_at}
 use Rattle.cache_model.specs.declared.entry.Entry.{Entry}
 use Rattle.cache_model.specs.Records.{Entries, after, no_entries, in_log_block}
 use Rattle.cache_model.specs.Entries.{IsMap, Fits, fits}
@@ -17,26 +15,11 @@ use Rattle.cache_model.proofs.StepLemmas.{get-after}
 use Rattle.cache_model.proofs.FitsLemmas.{fits-from}
 use Rattle.op_log.specs.Log.{LogValue, pushed}
 use Rattle.checkpoint.specs.Current.{IsCurrent, AreWhole, IsOpenLog, IsCommitted, PoolStays, log_formatted}
-use Rattle.checkpoint.specs.Regions.{IsBlockWithin, IsSealPage, Programmed}
-use Rattle.checkpoint.proofs.FormatLemmas.{seal_begins}
 
--- ---- a seal alone on blank media
-
--- the first page of region 0
-pub first_page : (g : Geometry) → ◌≡◌ {A = Place} (record { block = 0; page = 0 }) (checkpoint_at g 0 0)
-first_page g =
-    let block : 0 ≡ (checkpoint_at g 0 0).block = omega (arith, g.in_range.p_low) in
-    let page : 0 ≡ (checkpoint_at g 0 0).page = omega (arith, g.in_range.p_low) in
-    λ i. record { block = block i; page = page i }
-
-pub begun : (g : Geometry) (m : Entries) (log : LogValue) (old new : Flash) → m ≡ no_entries → log ≡ log_formatted g → ((at : Place) → at.block < first_pool g → old.page at ≡ Blank) → ((b : ℕ) → b < first_pool g → old.next b ≡ Some 0)
-    → Programmed (IsSealPage g 0 0 0) (checkpoint_at g 0 0) old new → IsCommitted new log m
-begun g m log old new none is blank fresh done =
-    subst (λ (l : LogValue). IsCommitted new l m) (sym is) (subst (λ (n : Entries). IsCommitted new (log_formatted g) n) (sym none)
-    (seal_begins g old (record { page = λ at within. blank at (below (k g) at.block within); next = λ b within. fresh b (below (k g) b within) }) new done))
-  where
-    below : (n b : ℕ) → IsBlockWithin 0 (2 * n + g.j) b → b < 2 * n + 2 * g.j
-    below n b within = omega (arith, within.1)
+-- a cache of nothing is what a formatted flash stands for
+pub begun : (g : Geometry) (m : Entries) (log : LogValue) (flash : Flash) → m ≡ no_entries → log ≡ log_formatted g → IsCommitted flash (log_formatted g) no_entries → IsCommitted flash log m
+begun g m log flash none is begins =
+    subst (λ (l : LogValue). IsCommitted flash l m) (sym is) (subst (λ (n : Entries). IsCommitted flash (log_formatted g) n) (sym none) begins)
 
 -- ---- a page more
 

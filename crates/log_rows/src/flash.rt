@@ -1,0 +1,84 @@
+//! A rig in memory, and what the tests do to its flash.
+
+ghost use Rattle.std.specs.Prelude.{◌≡◌};
+ghost use Rattle.std.specs.Bool.{OnTrue};
+ghost use Rattle.mem_rig.specs.Rig.{state_of};
+ghost use Rattle.op_log.specs.Log.{FitsOn};
+
+use ft_base::{Block, Geometry, Outcome, Place, Spare, zero_block};
+use ft_media::PageRead;
+use mem_rig::MemRig;
+use std::alloc::Global;
+use std::test::Fail;
+
+/// The block and the page of a place.
+pub(crate) type At = (u32, u32);
+
+/// Erase blocks of 4 pages. The checkpoint regions are the blocks 0 and 1, those of the log 2 and 3, and the pool
+/// the blocks 4 to 8.
+pub(crate) fn geometry() -> Result<Geometry, Fail> {
+    Ok(Geometry::new(4, 2, 2, 1, 64)?)
+}
+
+/// Makes the media anew, just large enough.
+pub(crate) fn fit(rig: &mut MemRig, alloc: Global, geometry: &Geometry) -> Result<(), Fail> {
+    rig.fit_anew(alloc, geometry.blocks(), geometry.p(), geometry.size())?;
+    Ok(())
+}
+
+/// Whether the rig has the pages of the geometry, and enough of the rest.
+pub(crate) fn fits_on(rig: &MemRig, geometry: &Geometry) -> bool
+    ensures { OnTrue result (FitsOn geometry.now (state_of rig.now).contents.shape) }
+{
+    if rig.flash_pages() != geometry.p() || rig.flash_blocks() < geometry.blocks() {
+        return false;
+    }
+    rig.disk_blocks() >= geometry.size()
+}
+
+/// Programs the next page of a block. False where there is none.
+pub(crate) fn program_next(rig: &mut MemRig, block: u32, bytes: &Block) -> bool {
+    if block >= rig.flash_blocks() {
+        return false;
+    }
+    let Some(page) = rig.next_page(block) else {
+        return false;
+    };
+    if page >= rig.flash_pages() {
+        return false;
+    }
+    rig.program_page(Place { block, page }, bytes, &Spare([0; 32]));
+    true
+}
+
+/// Erases a block. False where there is none.
+pub(crate) fn erase(rig: &mut MemRig, block: u32) -> bool {
+    if block >= rig.flash_blocks() {
+        return false;
+    }
+    rig.erase_block(block);
+    true
+}
+
+/// Cuts the next device write.
+pub(crate) fn arm(rig: &mut MemRig, outcome: Outcome) -> bool {
+    if rig.stops() >= 16 {
+        return false;
+    }
+    rig.arm_stop(1, outcome);
+    true
+}
+
+/// The bytes of a page, where it is whole.
+pub(crate) fn read(rig: &mut MemRig, at: At) -> Option<(Block, Spare)> {
+    let (block, page) = at;
+    if block >= rig.flash_blocks() || page >= rig.flash_pages() {
+        return None;
+    }
+    let mut bytes = zero_block();
+    let mut spare = Spare([0; 32]);
+    match rig.read_flash(Place { block, page }, &mut bytes, &mut spare) {
+        Ok(PageRead::Whole) => Some((bytes, spare)),
+        _ => None,
+    }
+}

@@ -1,0 +1,727 @@
+//! What flash with given pages is loaded as, and which checkpoint on it counts.
+
+use crate::flash::{At, fit, fits_on, geometry};
+use crate::pages::{Change, Counted, NUMBERS, Put, is_counted, make};
+use checkpoint::newest;
+use ft_base::{Geometry, Outcome, Page, Place, Spare, zero_block};
+use ft_media::PageRead;
+use mapping::Map;
+use mem_rig::MemRig;
+use record_codec::{PageKind, Seal};
+use recovery::plain::{PlainLoad, plain_load};
+use recovery::{Loaded, OpenError, load};
+use std::alloc::Global;
+use std::test::Fail;
+
+/// What loading answers.
+#[derive(Clone, Copy)]
+enum Answer {
+    /// The region and the era of the checkpoint, and how many addresses are held.
+    Loaded(u32, u8, u64),
+    /// Why nothing is loaded.
+    Refused(OpenError),
+}
+
+/// A line of an example.
+#[derive(Clone, Copy)]
+enum Line {
+    /// The media are blank.
+    Anew,
+    /// They are blank but for an empty checkpoint of era 0 in region 0.
+    Sealed,
+    /// The same, and the first pool block has so many pages.
+    SealedBeside(u32),
+    /// This is the next page of a block, or done to it.
+    Put(u32, Put),
+    /// Power goes off.
+    Cut,
+    /// The checkpoint that counts then.
+    Counts(Counted),
+    /// What loading answers then. The plain program answers the same.
+    Loads(Answer),
+    /// The same, where the flash fails, so that the plain program isn't asked.
+    Answers(Answer),
+    /// The address is loaded as lying there, dirty.
+    Lies(u64, At),
+}
+
+// ---- what is loaded
+
+/// All pages of the flash, those of each erase block in turn.
+fn pages_of(alloc: Global, rig: &mut MemRig) -> Result<Vec<Page>, Fail> {
+    let mut pages = Vec::new(alloc);
+    for block in 0..rig.flash_blocks() {
+        for page in 0..rig.flash_pages() {
+            pages.push(page_of(rig, Place { block, page })?)?;
+        }
+    }
+    Ok(pages)
+}
+
+fn page_of(rig: &mut MemRig, at: Place) -> Result<Page, Fail> {
+    if at.block >= rig.flash_blocks() || at.page >= rig.flash_pages() {
+        return Ok(Page::Blank);
+    }
+    let mut block = zero_block();
+    let mut spare = Spare([0; 32]);
+    match rig.read_flash(at, &mut block, &mut spare)? {
+        PageRead::Blank => Ok(Page::Blank),
+        PageRead::Whole => Ok(Page::Whole(block, spare)),
+        PageRead::Torn => Ok(Page::Torn),
+    }
+}
+
+fn is_same_map(one: &Map, other: &Map) -> bool {
+    if one.held() != other.held() || one.dirty_entries() != other.dirty_entries() {
+        return false;
+    }
+    if one.data_blocks() != other.data_blocks() {
+        return false;
+    }
+    for i in 0..one.numbers() {
+        if one.nth(i) != other.nth(i) {
+            return false;
+        }
+    }
+    true
+}
+
+/// Whether the plain program answers what `load` does.
+fn is_alike(fast: &Result<Loaded, OpenError>, plain: &PlainLoad) -> bool {
+    match fast {
+        Ok(loaded) => match plain {
+            PlainLoad::Loaded(map) => is_same_map(&loaded.map, map),
+            _ => false,
+        },
+        Err(OpenError::NotFormatted) => matches!(plain, PlainLoad::NotFormatted),
+        Err(OpenError::OtherGeometry { found, .. }) => match plain {
+            PlainLoad::OtherGeometry(seal) => seal == found,
+            _ => false,
+        },
+        Err(OpenError::Damaged { block, page }) => match plain {
+            PlainLoad::Damaged(at) => at.block == *block && at.page == *page,
+            _ => false,
+        },
+        Err(_) => false,
+    }
+}
+
+fn is_answer(told: &Result<Loaded, OpenError>, wanted: Answer) -> bool {
+    match (told, wanted) {
+        (Ok(loaded), Answer::Loaded(region, era, held)) => {
+            loaded.region == region && loaded.era == era && loaded.map.held() == held
+        }
+        (Err(error), Answer::Refused(refusal)) => *error == refusal,
+        _ => false,
+    }
+}
+
+/// Whether `load` answers this, and the plain program the same.
+fn loads_both(
+    alloc: Global,
+    rig: &mut MemRig,
+    geometry: &Geometry,
+    wanted: Answer,
+) -> Result<bool, Fail> {
+    if !fits_on(rig, geometry) {
+        return Err(Fail::from("the media don't fit"));
+    }
+    let fast = load(alloc, rig, geometry);
+    let pages = pages_of(alloc, rig)?;
+    let plain = plain_load(alloc, geometry, &pages)?;
+    Ok(is_answer(&fast, wanted) && is_alike(&fast, &plain))
+}
+
+fn answers(
+    alloc: Global,
+    rig: &mut MemRig,
+    geometry: &Geometry,
+    wanted: Answer,
+) -> Result<bool, Fail> {
+    if !fits_on(rig, geometry) {
+        return Err(Fail::from("the media don't fit"));
+    }
+    Ok(is_answer(&load(alloc, rig, geometry), wanted))
+}
+
+/// Whether the address is loaded as lying there, dirty.
+fn lies(
+    alloc: Global,
+    rig: &mut MemRig,
+    geometry: &Geometry,
+    lba: u64,
+    at: At,
+) -> Result<bool, Fail> {
+    if !fits_on(rig, geometry) {
+        return Err(Fail::from("the media don't fit"));
+    }
+    let loaded = load(alloc, rig, geometry)?;
+    match loaded.map.place(lba) {
+        Some((place, dirty)) => Ok((place.block, place.page) == at && dirty),
+        None => Ok(false),
+    }
+}
+
+fn counts(rig: &mut MemRig, geometry: &Geometry, wanted: Counted) -> Result<bool, Fail> {
+    if !fits_on(rig, geometry) {
+        return Err(Fail::from("the media don't fit"));
+    }
+    Ok(is_counted(newest(rig, geometry)?, wanted))
+}
+
+// ---- the lines
+
+/// Makes the media anew, with an empty checkpoint.
+fn seal(alloc: Global, rig: &mut MemRig, geometry: &Geometry) -> Result<bool, Fail> {
+    fit(rig, alloc, geometry)?;
+    Ok(make(rig, 0, Put::Seal(0, 0, 0)))
+}
+
+/// Programs so many pages of the first pool block.
+fn fill(rig: &mut MemRig, pages: u32) -> bool {
+    for _ in 0..pages {
+        if !make(rig, 4, Put::Data) {
+            return false;
+        }
+    }
+    true
+}
+
+/// Does what the line says. Whether what it tells is so.
+fn is_so(alloc: Global, rig: &mut MemRig, geometry: &Geometry, line: Line) -> Result<bool, Fail> {
+    match line {
+        Line::Anew => {
+            fit(rig, alloc, geometry)?;
+            Ok(true)
+        }
+        Line::Sealed => seal(alloc, rig, geometry),
+        Line::SealedBeside(pages) => Ok(seal(alloc, rig, geometry)? && fill(rig, pages)),
+        Line::Put(block, what) => Ok(make(rig, block, what)),
+        Line::Cut => {
+            rig.cut_power(Outcome::Whole);
+            Ok(true)
+        }
+        Line::Counts(wanted) => counts(rig, geometry, wanted),
+        Line::Loads(wanted) => loads_both(alloc, rig, geometry, wanted),
+        Line::Answers(wanted) => answers(alloc, rig, geometry, wanted),
+        Line::Lies(lba, at) => lies(alloc, rig, geometry, lba, at),
+    }
+}
+
+/// Goes through the lines on a rig. Says which is the first that tells what isn't so.
+fn first_wrong_on(
+    alloc: Global,
+    rig: &mut MemRig,
+    geometry: &Geometry,
+    lines: &[Line],
+) -> Result<Option<usize>, Fail> {
+    for i in 0..lines.len() {
+        if !is_so(alloc, rig, geometry, lines[i])? {
+            return Ok(Some(i));
+        }
+    }
+    Ok(None)
+}
+
+/// The same on a rig of its own.
+fn first_wrong(alloc: Global, lines: &[Line]) -> Result<Option<usize>, Fail> {
+    let mut rig = MemRig::new(alloc);
+    first_wrong_on(alloc, &mut rig, &geometry()?, lines)
+}
+
+const DAMAGED_LOG: Line = Line::Loads(Answer::Refused(OpenError::Damaged { block: 2, page: 0 }));
+
+const DAMAGED_NEXT: Line = Line::Loads(Answer::Refused(OpenError::Damaged { block: 2, page: 1 }));
+
+const NOT_FORMATTED: Line = Line::Loads(Answer::Refused(OpenError::NotFormatted));
+
+const PAGE_5: Change = Change::Page(5, 4, 0);
+
+// ---- which checkpoint counts
+
+const REGIONS: [Line; 25] = [
+    // Blank media.
+    Line::Anew,
+    Line::Counts(None),
+    // A map page alone.
+    Line::Anew,
+    Line::Put(0, Put::One(PageKind::Map, 0, 0, PAGE_5)),
+    Line::Counts(None),
+    // A seal alone.
+    Line::Anew,
+    Line::Put(0, Put::Seal(0, 1, 1)),
+    Line::Counts(None),
+    // Both.
+    Line::Anew,
+    Line::Put(0, Put::One(PageKind::Map, 0, 0, PAGE_5)),
+    Line::Put(0, Put::Seal(0, 1, 1)),
+    Line::Counts(Some((0, 0, 1))),
+    // The other region.
+    Line::Anew,
+    Line::Put(1, Put::One(PageKind::Map, 2, 0, PAGE_5)),
+    Line::Counts(None),
+    Line::Put(1, Put::Seal(2, 1, 1)),
+    Line::Counts(Some((1, 2, 1))),
+    // The other region is without a seal.
+    Line::Anew,
+    Line::Put(0, Put::Seal(0, 0, 0)),
+    Line::Put(1, Put::One(PageKind::Map, 1, 0, PAGE_5)),
+    Line::Counts(Some((0, 0, 0))),
+    Line::Anew,
+    Line::Put(0, Put::One(PageKind::Map, 2, 0, PAGE_5)),
+    Line::Put(1, Put::Seal(1, 0, 0)),
+    Line::Counts(Some((1, 1, 0))),
+];
+
+#[test]
+fn a_region_counts_with_its_seal(rt: HostRuntime) -> Result<(), Fail> {
+    assert_eq!(rt; first_wrong(rt.alloc(), &REGIONS)?, None);
+    Ok(())
+}
+
+const ERAS: [Line; 24] = [
+    // After era 0, in the second region and in the first.
+    Line::Anew,
+    Line::Put(0, Put::Seal(0, 0, 0)),
+    Line::Put(1, Put::Seal(1, 0, 0)),
+    Line::Counts(Some((1, 1, 0))),
+    Line::Anew,
+    Line::Put(0, Put::Seal(1, 0, 0)),
+    Line::Put(1, Put::Seal(0, 0, 0)),
+    Line::Counts(Some((0, 1, 0))),
+    // After era 1, in the second region and in the first.
+    Line::Anew,
+    Line::Put(0, Put::Seal(1, 0, 0)),
+    Line::Put(1, Put::Seal(2, 0, 0)),
+    Line::Counts(Some((1, 2, 0))),
+    Line::Anew,
+    Line::Put(0, Put::Seal(2, 0, 0)),
+    Line::Put(1, Put::Seal(1, 0, 0)),
+    Line::Counts(Some((0, 2, 0))),
+    // After era 2, in the second region and in the first.
+    Line::Anew,
+    Line::Put(0, Put::Seal(2, 0, 0)),
+    Line::Put(1, Put::Seal(0, 0, 0)),
+    Line::Counts(Some((1, 0, 0))),
+    Line::Anew,
+    Line::Put(0, Put::Seal(0, 0, 0)),
+    Line::Put(1, Put::Seal(2, 0, 0)),
+    Line::Counts(Some((0, 0, 0))),
+];
+
+#[test]
+fn the_next_era_is_chosen(rt: HostRuntime) -> Result<(), Fail> {
+    assert_eq!(rt; first_wrong(rt.alloc(), &ERAS)?, None);
+    Ok(())
+}
+
+const LATER: [Line; 24] = [
+    Line::Anew,
+    Line::Put(0, Put::Seal(0, 0, 0)),
+    Line::Put(1, Put::Seal(1, 0, 0)),
+    Line::Loads(Answer::Loaded(1, 1, 0)),
+    Line::Anew,
+    Line::Put(0, Put::Seal(1, 0, 0)),
+    Line::Put(1, Put::Seal(2, 0, 0)),
+    Line::Loads(Answer::Loaded(1, 2, 0)),
+    Line::Anew,
+    Line::Put(0, Put::Seal(2, 0, 0)),
+    Line::Put(1, Put::Seal(0, 0, 0)),
+    Line::Loads(Answer::Loaded(1, 0, 0)),
+    Line::Anew,
+    Line::Put(0, Put::Seal(0, 0, 0)),
+    Line::Put(1, Put::Seal(0, 0, 0)),
+    Line::Loads(Answer::Loaded(0, 0, 0)),
+    Line::Anew,
+    Line::Put(0, Put::Seal(1, 0, 0)),
+    Line::Put(1, Put::Seal(0, 0, 0)),
+    Line::Loads(Answer::Loaded(0, 1, 0)),
+    Line::Anew,
+    Line::Put(0, Put::Seal(0, 0, 0)),
+    Line::Put(1, Put::Seal(2, 0, 0)),
+    Line::Loads(Answer::Loaded(0, 0, 0)),
+];
+
+#[test]
+fn the_later_checkpoint_counts(rt: HostRuntime) -> Result<(), Fail> {
+    assert_eq!(rt; first_wrong(rt.alloc(), &LATER)?, None);
+    Ok(())
+}
+
+// ---- checkpoints
+
+const CHECKPOINTS: [Line; 45] = [
+    // Good.
+    Line::Anew,
+    Line::Put(4, Put::Data),
+    Line::Put(0, Put::One(PageKind::Map, 0, 0, PAGE_5)),
+    Line::Put(0, Put::Seal(0, 1, 1)),
+    Line::Loads(Answer::Loaded(0, 0, 1)),
+    // A record too many.
+    Line::Anew,
+    Line::Put(4, Put::Data),
+    Line::Put(0, Put::One(PageKind::Map, 0, 0, PAGE_5)),
+    Line::Put(0, Put::Seal(0, 1, 2)),
+    NOT_FORMATTED,
+    // A record too few.
+    Line::Anew,
+    Line::Put(4, Put::Data),
+    Line::Put(0, Put::One(PageKind::Map, 0, 0, PAGE_5)),
+    Line::Put(0, Put::Seal(0, 1, 0)),
+    NOT_FORMATTED,
+    // A page too many.
+    Line::Anew,
+    Line::Put(4, Put::Data),
+    Line::Put(0, Put::One(PageKind::Map, 0, 0, PAGE_5)),
+    Line::Put(0, Put::Seal(0, 2, 1)),
+    NOT_FORMATTED,
+    // Another era of the seal.
+    Line::Anew,
+    Line::Put(4, Put::Data),
+    Line::Put(0, Put::One(PageKind::Map, 0, 0, PAGE_5)),
+    Line::Put(0, Put::Seal(1, 1, 1)),
+    NOT_FORMATTED,
+    // Another era of the page.
+    Line::Anew,
+    Line::Put(4, Put::Data),
+    Line::Put(0, Put::One(PageKind::Map, 1, 0, PAGE_5)),
+    Line::Put(0, Put::Seal(0, 1, 1)),
+    NOT_FORMATTED,
+    // Another place.
+    Line::Anew,
+    Line::Put(4, Put::Data),
+    Line::Put(0, Put::One(PageKind::Map, 0, 1, PAGE_5)),
+    Line::Put(0, Put::Seal(0, 1, 1)),
+    NOT_FORMATTED,
+    // A byte behind.
+    Line::Anew,
+    Line::Put(4, Put::Data),
+    Line::Put(0, Put::Spoilt(PageKind::Map, 0, 0, PAGE_5, 4095)),
+    Line::Put(0, Put::Seal(0, 1, 1)),
+    Line::Loads(Answer::Refused(OpenError::Damaged { block: 0, page: 0 })),
+    // A torn seal.
+    Line::Anew,
+    Line::Put(4, Put::Data),
+    Line::Put(0, Put::One(PageKind::Map, 0, 0, PAGE_5)),
+    Line::Put(0, Put::Torn),
+    NOT_FORMATTED,
+];
+
+#[test]
+fn damaged_checkpoints(rt: HostRuntime) -> Result<(), Fail> {
+    assert_eq!(rt; first_wrong(rt.alloc(), &CHECKPOINTS)?, None);
+    Ok(())
+}
+
+/// Goes through the lines for a cache with one more data block.
+fn first_wrong_of_three(alloc: Global, lines: &[Line]) -> Result<Option<usize>, Fail> {
+    let mut rig = MemRig::new(alloc);
+    first_wrong_on(alloc, &mut rig, &Geometry::new(4, 3, 2, 1, 64)?, lines)
+}
+
+const OTHER_NUMBERS: OpenError = OpenError::OtherGeometry {
+    found: NUMBERS,
+    wanted: Seal {
+        p: 4,
+        c: 3,
+        l: 2,
+        j: 1,
+        size: 64,
+    },
+};
+
+const OTHERS: [Line; 4] = [
+    Line::Anew,
+    NOT_FORMATTED,
+    Line::Put(0, Put::Seal(0, 0, 0)),
+    Line::Loads(Answer::Refused(OTHER_NUMBERS)),
+];
+
+#[test]
+fn seals_of_other_numbers_and_no_seals(rt: HostRuntime) -> Result<(), Fail> {
+    assert_eq!(rt; first_wrong_of_three(rt.alloc(), &OTHERS)?, None);
+    Ok(())
+}
+
+// ---- the log behind an empty checkpoint
+
+const ONE_LOG_PAGE: [Line; 9] = [
+    Line::Sealed,
+    Line::Put(2, Put::Log(0, PAGE_5)),
+    // Its page is blank.
+    Line::Loads(Answer::Refused(OpenError::Damaged { block: 4, page: 0 })),
+    Line::Put(4, Put::Data),
+    Line::Loads(Answer::Loaded(0, 0, 1)),
+    Line::Lies(5, (4, 0)),
+    // There is no checkpoint.
+    Line::Anew,
+    Line::Put(4, Put::Data),
+    NOT_FORMATTED,
+];
+
+#[test]
+fn a_log_page_over_an_empty_checkpoint(rt: HostRuntime) -> Result<(), Fail> {
+    assert_eq!(rt; first_wrong(rt.alloc(), &ONE_LOG_PAGE)?, None);
+    Ok(())
+}
+
+const POOL_END: [Line; 4] = [
+    Line::Anew,
+    Line::Put(1, Put::Seal(1, 0, 0)),
+    Line::Put(3, Put::One(PageKind::Log, 1, 0, Change::Page(5, 9, 0))),
+    Line::Loads(Answer::Refused(OpenError::Damaged { block: 3, page: 0 })),
+];
+
+#[test]
+fn a_place_before_the_pool_s_end_only(rt: HostRuntime) -> Result<(), Fail> {
+    assert_eq!(rt; first_wrong(rt.alloc(), &POOL_END)?, None);
+    Ok(())
+}
+
+const LOG_ENDS: [Line; 40] = [
+    // Three pages.
+    Line::SealedBeside(3),
+    Line::Put(2, Put::Log(0, Change::Page(5, 4, 0))),
+    Line::Put(2, Put::Log(1, Change::Page(6, 4, 1))),
+    Line::Put(2, Put::Log(2, Change::Page(7, 4, 2))),
+    Line::Loads(Answer::Loaded(0, 0, 3)),
+    // Another place.
+    Line::SealedBeside(3),
+    Line::Put(2, Put::Log(0, Change::Page(5, 4, 0))),
+    Line::Put(2, Put::Log(2, Change::Page(7, 4, 2))),
+    Line::Put(2, Put::Log(2, Change::Page(7, 4, 2))),
+    Line::Loads(Answer::Loaded(0, 0, 1)),
+    // None at its place.
+    Line::SealedBeside(3),
+    Line::Put(2, Put::Log(1, Change::Page(6, 4, 1))),
+    Line::Put(2, Put::Log(2, Change::Page(7, 4, 2))),
+    Line::Put(2, Put::Log(2, Change::Page(7, 4, 2))),
+    Line::Loads(Answer::Loaded(0, 0, 0)),
+    // Another era.
+    Line::SealedBeside(3),
+    Line::Put(2, Put::Log(0, Change::Page(5, 4, 0))),
+    Line::Put(2, Put::One(PageKind::Log, 1, 1, Change::Page(6, 4, 1))),
+    Line::Put(2, Put::Log(2, Change::Page(7, 4, 2))),
+    Line::Loads(Answer::Loaded(0, 0, 1)),
+    // A map page.
+    Line::SealedBeside(3),
+    Line::Put(2, Put::Log(0, Change::Page(5, 4, 0))),
+    Line::Put(2, Put::One(PageKind::Map, 0, 1, Change::Page(6, 4, 1))),
+    Line::Put(2, Put::Log(2, Change::Page(7, 4, 2))),
+    Line::Loads(Answer::Loaded(0, 0, 1)),
+    // A page of data.
+    Line::SealedBeside(3),
+    Line::Put(2, Put::Log(0, Change::Page(5, 4, 0))),
+    Line::Put(2, Put::Data),
+    Line::Put(2, Put::Log(2, Change::Page(7, 4, 2))),
+    Line::Loads(Answer::Loaded(0, 0, 1)),
+    // A torn page.
+    Line::SealedBeside(3),
+    Line::Put(2, Put::Log(0, Change::Page(5, 4, 0))),
+    Line::Put(2, Put::Log(1, Change::Page(6, 4, 1))),
+    Line::Put(2, Put::Torn),
+    Line::Loads(Answer::Loaded(0, 0, 2)),
+    // A blank page before others.
+    Line::SealedBeside(3),
+    Line::Put(2, Put::Log(0, Change::Page(5, 4, 0))),
+    Line::Put(2, Put::Log(1, Change::Page(6, 4, 1))),
+    Line::Put(2, Put::MixedErase),
+    Line::Loads(Answer::Loaded(0, 0, 1)),
+];
+
+#[test]
+fn a_log_ends_before_the_first_page_that_is_none(rt: HostRuntime) -> Result<(), Fail> {
+    assert_eq!(rt; first_wrong(rt.alloc(), &LOG_ENDS)?, None);
+    Ok(())
+}
+
+const UNFIT: [Line; 33] = [
+    // An address past the size.
+    Line::Sealed,
+    Line::Put(2, Put::Log(0, Change::Page(64, 4, 0))),
+    DAMAGED_LOG,
+    // A group past the size.
+    Line::Sealed,
+    Line::Put(2, Put::Log(0, Change::Group(16, 4, 1))),
+    DAMAGED_LOG,
+    // An address that goes, past the size.
+    Line::Sealed,
+    Line::Put(2, Put::Log(0, Change::PageOut(64))),
+    DAMAGED_LOG,
+    // A group that goes, past the size.
+    Line::Sealed,
+    Line::Put(2, Put::Log(0, Change::GroupOut(16))),
+    DAMAGED_LOG,
+    // A place before the pool.
+    Line::Sealed,
+    Line::Put(2, Put::Log(0, Change::Page(5, 3, 0))),
+    DAMAGED_LOG,
+    // A place behind the pool.
+    Line::Sealed,
+    Line::Put(2, Put::Log(0, Change::Page(5, 9, 0))),
+    DAMAGED_LOG,
+    // A page past the last.
+    Line::Sealed,
+    Line::Put(2, Put::Log(0, Change::Page(5, 4, 4))),
+    DAMAGED_LOG,
+    // A group's page past the last.
+    Line::Sealed,
+    Line::Put(2, Put::Log(0, Change::Group(0, 4, 16))),
+    DAMAGED_LOG,
+    // One place of two addresses.
+    Line::Sealed,
+    Line::Put(2, Put::Two(0, PAGE_5, Change::Page(6, 4, 0))),
+    DAMAGED_LOG,
+    // A data block of two groups.
+    Line::Sealed,
+    Line::Put(
+        2,
+        Put::Two(0, Change::Group(0, 4, 1), Change::Group(1, 4, 2)),
+    ),
+    DAMAGED_LOG,
+    // A page in a data block.
+    Line::Sealed,
+    Line::Put(
+        2,
+        Put::Two(0, Change::Group(0, 4, 1), Change::Page(5, 4, 1)),
+    ),
+    DAMAGED_LOG,
+];
+
+#[test]
+fn records_that_do_not_fit(rt: HostRuntime) -> Result<(), Fail> {
+    assert_eq!(rt; first_wrong(rt.alloc(), &UNFIT)?, None);
+    Ok(())
+}
+
+const TOO_MANY: [Line; 12] = [
+    // Data blocks.
+    Line::Sealed,
+    Line::Put(
+        2,
+        Put::Two(0, Change::Group(0, 4, 1), Change::Group(1, 5, 1)),
+    ),
+    Line::Put(2, Put::Log(1, Change::Group(2, 6, 1))),
+    DAMAGED_NEXT,
+    // Log blocks.
+    Line::Sealed,
+    Line::Put(2, Put::Two(0, Change::Page(0, 4, 0), Change::Page(1, 5, 0))),
+    Line::Put(2, Put::Log(1, Change::Page(2, 6, 0))),
+    DAMAGED_NEXT,
+    // Dirty groups.
+    Line::Sealed,
+    Line::Put(2, Put::Two(0, Change::Page(0, 4, 0), Change::Page(4, 4, 1))),
+    Line::Put(2, Put::Log(1, Change::Page(8, 4, 2))),
+    DAMAGED_NEXT,
+];
+
+#[test]
+fn one_record_too_many(rt: HostRuntime) -> Result<(), Fail> {
+    assert_eq!(rt; first_wrong(rt.alloc(), &TOO_MANY)?, None);
+    Ok(())
+}
+
+const NOT_WHOLE: [Line; 30] = [
+    Line::Sealed,
+    Line::Put(2, Put::Two(0, Change::Page(9, 4, 1), Change::Page(5, 4, 2))),
+    Line::Put(4, Put::Data),
+    Line::Put(5, Put::Torn),
+    Line::Loads(Answer::Refused(OpenError::Damaged { block: 4, page: 2 })),
+    Line::Sealed,
+    Line::Put(2, Put::Two(0, Change::Page(5, 4, 1), Change::Page(9, 4, 2))),
+    Line::Put(4, Put::Data),
+    Line::Put(5, Put::Torn),
+    Line::Loads(Answer::Refused(OpenError::Damaged { block: 4, page: 1 })),
+    Line::Sealed,
+    Line::Put(2, Put::Two(0, PAGE_5, Change::Page(9, 5, 0))),
+    Line::Put(4, Put::Data),
+    Line::Put(5, Put::Torn),
+    Line::Loads(Answer::Refused(OpenError::Damaged { block: 5, page: 0 })),
+    Line::Sealed,
+    Line::Put(2, Put::Two(0, Change::Page(5, 5, 0), Change::Page(9, 4, 0))),
+    Line::Put(4, Put::Data),
+    Line::Put(5, Put::Torn),
+    Line::Loads(Answer::Refused(OpenError::Damaged { block: 5, page: 0 })),
+    Line::Sealed,
+    Line::Put(2, Put::Two(0, Change::Page(9, 4, 3), Change::Page(5, 5, 0))),
+    Line::Put(4, Put::Data),
+    Line::Put(5, Put::Torn),
+    Line::Loads(Answer::Refused(OpenError::Damaged { block: 5, page: 0 })),
+    Line::Sealed,
+    Line::Put(2, Put::Two(0, Change::Page(5, 5, 1), Change::Page(9, 4, 1))),
+    Line::Put(4, Put::Data),
+    Line::Put(5, Put::Torn),
+    Line::Loads(Answer::Refused(OpenError::Damaged { block: 5, page: 1 })),
+];
+
+#[test]
+fn the_first_address_without_a_whole_page_is_told(rt: HostRuntime) -> Result<(), Fail> {
+    assert_eq!(rt; first_wrong(rt.alloc(), &NOT_WHOLE)?, None);
+    Ok(())
+}
+
+// ---- how often a page is read
+
+const FAULT: [Line; 7] = [
+    Line::Anew,
+    Line::Put(0, Put::One(PageKind::Map, 0, 0, PAGE_5)),
+    Line::Put(0, Put::Seal(0, 1, 1)),
+    Line::Put(2, Put::Log(0, Change::Page(6, 4, 1))),
+    Line::Put(4, Put::Data),
+    Line::Put(4, Put::Data),
+    Line::Answers(Answer::Refused(OpenError::FlashFault)),
+];
+
+const NO_FAULT: [Line; 7] = [
+    Line::Anew,
+    Line::Put(0, Put::One(PageKind::Map, 0, 0, PAGE_5)),
+    Line::Put(0, Put::Seal(0, 1, 1)),
+    Line::Put(2, Put::Log(0, Change::Page(6, 4, 1))),
+    Line::Put(4, Put::Data),
+    Line::Put(4, Put::Data),
+    Line::Answers(Answer::Loaded(0, 0, 2)),
+];
+
+const NO_POWER: [Line; 8] = [
+    Line::Anew,
+    Line::Put(0, Put::One(PageKind::Map, 0, 0, PAGE_5)),
+    Line::Put(0, Put::Seal(0, 1, 1)),
+    Line::Put(2, Put::Log(0, Change::Page(6, 4, 1))),
+    Line::Put(4, Put::Data),
+    Line::Put(4, Put::Data),
+    Line::Cut,
+    Line::Answers(Answer::Refused(OpenError::PowerLost)),
+];
+
+/// Goes through the lines on flash of which the call with this number fails.
+fn first_wrong_failing(alloc: Global, number: u64, lines: &[Line]) -> Result<Option<usize>, Fail> {
+    let failing = [number].to_vec(alloc)?;
+    let mut rig = MemRig::failing(alloc, failing, Vec::new(alloc));
+    first_wrong_on(alloc, &mut rig, &geometry()?, lines)
+}
+
+/// The first call below a number, from another on, that doesn't do what the lines say where it fails.
+fn first_other_call(
+    alloc: Global,
+    from: u64,
+    end: u64,
+    lines: &[Line],
+) -> Result<Option<u64>, Fail> {
+    for number in from..end {
+        if first_wrong_failing(alloc, number, lines)?.is_some() {
+            return Ok(Some(number));
+        }
+    }
+    Ok(None)
+}
+
+// Five pages are programmed. Then `newest` reads the map page and the seal of region 0 and the first
+// page of region 1; the map page is read once more for its records, the log page and the blank one
+// behind it once each, and each of the two places once.
+#[test]
+fn each_page_is_read_twice_at_most(rt: HostRuntime) -> Result<(), Fail> {
+    assert_eq!(rt; first_other_call(rt.alloc(), 6, 14, &FAULT)?, None);
+    assert_eq!(rt; first_other_call(rt.alloc(), 14, 16, &NO_FAULT)?, None);
+    assert_eq!(rt; first_wrong(rt.alloc(), &NO_POWER)?, None);
+    Ok(())
+}
