@@ -6,4 +6,4 @@ use Rattle.cache_rows.proofs.groups.begin.Goals as goal
 pub invariant_of-result : goal.invariant_of-result
 invariant_of-result c =
     formatted_agree c.in_ok-parts.parts (state_of c.in_ok-rig.rig).contents c.in_ok-geometry.geometry c.in_ok-parts.ensures.of_one c.in_ok-parts.ensures.geometry c.in_ok-rig.ensures.shape (search rules) c.in_ok-parts.ensures.log
-    c.in_ok-rig.ensures.begins c.in_ok-parts.ensures.roles c.in_ok-parts.ensures.logs c.in_ok-parts.ensures.closed
+    c.in_ok-rig.ensures.begins c.in_ok-parts.ensures.roles c.in_ok-parts.ensures.logs.sound c.in_ok-parts.ensures.logs.closed
