@@ -1,11 +1,10 @@
 ghost use Rattle.std.specs.Prelude.{◌≡◌, ◌<◌, ◌≤◌, ◌-◌, [], length, slice_get, Some, None, IfOk, IfSome, OnOk, OnErr, IsErrOf};
 ghost use Rattle.std.specs.Vec.{vec_capacity};
-ghost use Rattle.ft_media.specs.State.{failed, lost};
 ghost use Rattle.ft_base.specs.Contents.{set};
 ghost use Rattle.ft_media.specs.Media.{LeavesPage, after_program, if_ok, program_counted};
 ghost use Rattle.ft_media.specs.Passes.{Spends};
-ghost use Rattle.ft_media.specs.Drives.{DrivesFlash};
-ghost use Rattle.log_blocks.specs.Logs.{IsInUse, AreSoundLogs, without_block, block_begun, adopted, released, next_place};
+ghost use Rattle.ft_media.specs.Drives.{OnlyDrives};
+ghost use Rattle.log_blocks.specs.Logs.{IsInUse, AreSoundLogs, TakesNext, without_block, block_begun, adopted, released, next_place};
 ghost use Rattle.cache_model.specs.Spelling.{data_spare};
 
 use cache_model::SpareKind;
@@ -134,10 +133,9 @@ impl LogBlocks {
         requires room { 1 ≤ self.old.room }
         requires shape { (M.state media.old).contents.shape.pages ≡ self.old.geometry.p }
         requires ready { (M.state media.old).contents.flash.next (next_place self.old).block ≡ Some (next_place self.old).page }
-        ensures place { IfOk result (λ at. at ≡ next_place self.old) }
+        ensures taken { IfOk result (TakesNext self.old self.new) }
         ensures programmed { OnOk result ((M.state media.new).contents.flash ≡ after_program (M.state media.old).contents.flash
             (next_place self.old) block.now (data_spare lba)) }
-        ensures logs { OnOk result (self.new ≡ record self.old { room = self.old.room - 1 }) }
         ensures refused { OnErr result (self.new ≡ self.old) }
         // Whatever is answered, and wherever power went off, no other page changes.
         ensures page { LeavesPage (M.state media.old).contents.flash (M.state media.new).contents.flash (next_place self.old) block.now
@@ -147,8 +145,7 @@ impl LogBlocks {
         ensures sound { AreSoundLogs self.new }
         ensures counts { (M.state media.new).counts ≡ if_ok result (program_counted (M.state media.old).counts) (M.state media.old).counts }
         ensures spends { OnOk result (Spends 1 (M.state media.old) (M.state media.new)) }
-        ensures memory { IsErrOf result MediaError.OutOfMemory → ⊥ }
-        ensures drives { DrivesFlash (M.state media.old) (M.state media.new) (failed result) (lost result) }
+        ensures drives { OnlyDrives (M.state media.old) (M.state media.new) result }
     {
         let at = self.next_place();
         let spare = write_spare(SpareKind::Page, 0, lba);

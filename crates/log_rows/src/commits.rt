@@ -75,8 +75,8 @@ fn hold<M: Media>(media: &mut M, cache: &mut Cache, lba: u64) -> Result<(), Fail
     ensures geometry { cache.new.geometry ≡ cache.new.log.geometry }
     ensures map { cache.new.map.geometry ≡ cache.new.log.geometry }
     ensures marks { cache.new.marks ≡ cache.new.log.geometry }
-    ensures current { OnOk result (IsCurrent (M.state media.new).contents.flash.page cache.new.log cache.new.map.entries) }
-    ensures open { OnOk result (IsOpenLog (M.state media.new).contents.flash cache.new.log) }
+    ensures current { OnOk result (IsCurrent (M.state media.new).contents.flash.page cache.new.log cache.new.map.entries
+        × IsOpenLog (M.state media.new).contents.flash cache.new.log) }
     ensures whole { OnOk result (AreWhole (M.state media.new).contents.flash.page cache.new.map.entries) }
 {
     let at = Place { block: 4, page: 0 };

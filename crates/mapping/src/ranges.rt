@@ -119,8 +119,7 @@ pub fn change_entries(held: &mut Held, index: &mut Index, geometry: &Geometry, c
     ensures entries { held.new.entries ≡ after geometry.now change.now held.old.entries }
     ensures pages { held.old.spare_pages ≤ held.new.spare_pages + pages_taken change.now }
     ensures groups { held.old.spare_blocks ≤ held.new.spare_blocks + groups_taken change.now }
-    ensures buckets { held.new.buckets ≡ held.old.buckets }
-    ensures group_buckets { held.new.group_buckets ≡ held.old.group_buckets }
+    ensures buckets { (held.new.buckets ≡ held.old.buckets) × (held.new.group_buckets ≡ held.old.group_buckets) }
     ensures index { IsIndex geometry.now held.new.entries index.new }
 {
     let first = first_of(geometry, change);

@@ -1,9 +1,8 @@
-ghost use Rattle.std.specs.Prelude.{◌≡◌, ◌≢◌, ◌<◌, ◌≤◌, ◌-◌, [], length, IfOk, OnOk, OnErr, IsOk, IsErrOf, IsTrue};
+ghost use Rattle.std.specs.Prelude.{◌≡◌, ◌≢◌, ◌<◌, ◌≤◌, ◌-◌, [], length, IfOk, OnOk, OnErr, IsOk, IsTrue};
 ghost use Rattle.ft_base.specs.Layout.{log_pages, page_records};
-ghost use Rattle.ft_media.specs.State.{failed, lost};
 ghost use Rattle.ft_media.specs.Media.{if_ok};
 ghost use Rattle.ft_media.specs.Passes.{Spends};
-ghost use Rattle.ft_media.specs.Drives.{DrivesFlash};
+ghost use Rattle.ft_media.specs.Drives.{OnlyDrives};
 ghost use Rattle.cache_model.specs.declared.format.PageKind.TheVariants.{Log as log_page};
 ghost use Rattle.cache_model.specs.Spelling.{may_stand_in, IsPage};
 ghost use Rattle.op_log.specs.Log.{FitsOn, IsNextReady, LeavesLog, AppendedReady, log_header, next_place, log_spare, HasSpare, restarted, pushed, log_flushed, log_flush_counted};
@@ -136,8 +135,7 @@ impl OpLog {
         ensures counts { (M.state media.new).counts ≡ if_ok result (log_flush_counted self.old (M.state media.old).counts)
             (M.state media.old).counts }
         ensures spends { OnOk result (self.old.buffered ≢ [] → Spends 1 (M.state media.old) (M.state media.new)) }
-        ensures memory { IsErrOf result MediaError.OutOfMemory → ⊥ }
-        ensures drives { DrivesFlash (M.state media.old) (M.state media.new) (failed result) (lost result) }
+        ensures drives { OnlyDrives (M.state media.old) (M.state media.new) result }
     {
         if self.ring.len() == 0 {
             return Ok(());
