@@ -16,6 +16,7 @@ use Rattle.ssc.specs.declared.error.SscError.TheVariants as error
 use Rattle.ssc.specs.Errors.{stops}
 use Rattle.ssc.specs.declared.cache.Ssc.{Ssc}
 use Rattle.ssc.specs.CacheState.{Holds, IsUp, geometry_of, pending}
+use Rattle.ssc.specs.Kept.{IsJustOpened}
 use Rattle.ssc.specs.Commands.{FlashStandsForOne, ImagesOf, FlashStandsForWrite, ImagesOfWrite, HoldsWritten, FullExactly, PendsWith, IsDirtyIn, IsHeldIn}
 use Rattle.ssc.specs.Commands.FlashStandsForOne.{AsUndone, AsBefore, AsAfter}
 use Rattle.ssc.specs.Commands.FlashStandsForWrite.{AsUndone, AsLeft, AsWritten}
@@ -270,6 +271,6 @@ full_of {T = T} r g s a n k full is = let at = subst (λ (x : Result T SscError)
 -- ---- an opening
 
 pub moment_opened : {E : Type 0} (r : Result Ssc E) (g : Geometry) (page : Place → Page) (contents : Contents) → IfOk r (λ c. (s : CacheList) → FlashStandsFor g page s → Holds c contents s)
-    → IfOk r (λ c. pending c ≡ []) → IfOk r (λ c. (s : CacheList) → FlashStandsFor g page s → IsMoment c contents (both_alike s))
-moment_opened (Err e) g page contents holds none = tt
-moment_opened (Ok c) g page contents holds none = λ s stands. record { holds = holds s stands; durable = sym (none_undone c none s) }
+    → IfOk r (IsJustOpened g) → IfOk r (λ c. (s : CacheList) → FlashStandsFor g page s → IsMoment c contents (both_alike s))
+moment_opened (Err e) g page contents holds opened = tt
+moment_opened (Ok c) g page contents holds opened = λ s stands. record { holds = holds s stands; durable = sym (none_undone c opened.nothing_waits s) }

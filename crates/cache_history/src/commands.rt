@@ -1,17 +1,15 @@
-ghost use Rattle.std.specs.Prelude.{◌≡◌, ◌<◌, ℕ, true, false, OnOk, OnErr, IfOk, IfErr, IsErrOf};
+ghost use Rattle.std.specs.Prelude.{◌≡◌, ◌<◌, OnOk, IfOk, IfErr};
 ghost use Rattle.ft_base.specs.Contents.{Image, Now};
 ghost use Rattle.ft_media.specs.Drives.{DrivesFlash};
-ghost use Rattle.cache_model.specs.Cache.{IsFull};
 ghost use Rattle.cache_model.specs.CacheList.{CacheList};
 ghost use Rattle.cache_model.specs.Loading.{load};
 ghost use Rattle.cache_model.specs.Stands.{FlashStandsFor};
 ghost use Rattle.op_log.specs.Log.{FitsOn};
 ghost use Rattle.op_log.specs.Refusals.{open_failed, open_lost, IsRefusal};
-ghost use Rattle.ssc.specs.CacheState.{Holds, IsAsBefore, IsUp, geometry_of};
+ghost use Rattle.ssc.specs.CacheState.{IsUp, geometry_of};
 ghost use Rattle.ssc.specs.Errors.{ssc_failed, ssc_lost, stops};
-ghost use Rattle.cache_history.specs.declared.kind.Kind.TheVariants.{WriteDirty};
-ghost use Rattle.cache_history.specs.History.{TwoLists, given, is_write, both_alike, AfterAnswer, AfterRefusal};
-ghost use Rattle.cache_history.specs.Moment.{IsMoment};
+ghost use Rattle.cache_history.specs.History.{TwoLists, given, both_alike, AfterAnswer, AfterRefusal};
+ghost use Rattle.cache_history.specs.Moment.{IsMoment, IsNoEvent};
 
 use crate::Kind;
 use ft_base::{Block, Geometry};
@@ -36,14 +34,7 @@ pub fn give<M: Media>(
     ensures images { (l : TwoLists) → IsMoment cache.old (M.state media.old).contents l → (x : Image) → Now (M.state media.new).contents x
         → (m : TwoLists) × AfterRefusal (geometry_of cache.old) (given kind lba block.now) l m
         × FlashStandsFor (geometry_of cache.old) x.page m.now }
-    // Full and want of memory are no event: the lists and the media are as before. Each comes for its cause alone.
-    ensures unchanged { OnErr result (stops result ≡ false → IsAsBefore cache.old cache.new × (M.state media.new ≡ M.state media.old)) }
-    ensures still { OnErr result (stops result ≡ false → (l : TwoLists) → IsMoment cache.old (M.state media.old).contents l
-        → IsMoment cache.new (M.state media.new).contents l) }
-    ensures full_keeps { (n k : ℕ) → IsErrOf result (SscError.Full n k) → cache.new ≡ cache.old }
-    ensures full { (n k : ℕ) → IsErrOf result (SscError.Full n k) → (kind ≡ WriteDirty)
-        × ((s : CacheList) → Holds cache.old (M.state media.old).contents s → IsFull (geometry_of cache.old) s lba) }
-    ensures memory { IsErrOf result SscError.OutOfMemory → (is_write kind ≡ true) × (cache.old.ready ≡ false) }
+    ensures no_event { IsNoEvent cache.old cache.new (M.state media.old) (M.state media.new) kind lba result }
     ensures stopped { cache.new.stopped ≡ stops result }
     ensures is_up { OnOk result (IsUp cache.new (M.state media.new).contents) }
     ensures drives { DrivesFlash (M.state media.old) (M.state media.new) (ssc_failed result) (ssc_lost result) }

@@ -21,7 +21,8 @@ use Rattle.op_log.specs.declared.error.OpenError.{OpenError}
 use Rattle.op_log.specs.declared.error.OpenError.TheVariants.{NotFormatted, OtherGeometry, Damaged, FlashFault, DiskFault, PowerLost, OutOfMemory}
 use Rattle.op_log.specs.Refusals.{IsRefusal, open_lost}
 use Rattle.ssc.specs.declared.cache.Ssc.{Ssc}
-use Rattle.ssc.specs.CacheState.{Holds, IsUp, entries_of, geometry_of, pending}
+use Rattle.ssc.specs.CacheState.{Holds, IsUp, entries_of, geometry_of}
+use Rattle.ssc.specs.Kept.{IsJustOpened}
 use Rattle.cached_disk.specs.Errors.{disk_failed, flush_error}
 use Rattle.cached_disk.specs.Kept.{IsOpenCache}
 
@@ -41,21 +42,19 @@ module _ (g : Geometry) (a b c : Contents) (page : b.flash.page ≡ a.flash.page
       → IfOk r (λ v. geometry_of v ≡ g)
       → IfOk r (λ v. (s : CacheList) → FlashStandsFor g b.flash.page s → Holds v c s)
       → IfOk r (λ v. load g b.flash.page ≡ Ok (entries_of v))
-      → IfOk r (λ v. pending v ≡ [])
+      → IfOk r (IsJustOpened g)
       → IfOk r (λ v. IsUp v c)
-      → IfOk r (λ v. v.stopped ≡ false)
-      → IfOk r (λ v. v.parts.log.next ≡ 0)
       → IfOk r (λ v. IsOpenCache g a c v)
-  open_cache_of (Ok v) geometry holds loads nothing up goes log = record {
+  open_cache_of (Ok v) geometry holds loads opened up = record {
     geometry = geometry;
     holds = λ s stands. holds s (subst (λ (f : Place → Page). FlashStandsFor g f s) (sym page) stands);
     loads = ap (λ (f : Place → Page). load g f) (sym page) ∙ loads;
-    nothing_waits = nothing;
+    nothing_waits = opened.nothing_waits;
     up = up;
-    goes = goes;
-    log = ap (λ (k : Geometry). log_pages k - v.parts.log.next) geometry ∙ less_none (log_pages g) v.parts.log.next log;
+    goes = opened.up;
+    log = ap (λ (k : Geometry). log_pages k - v.parts.log.next) geometry ∙ less_none (log_pages g) v.parts.log.next opened.log;
   }
-  open_cache_of (Err e) geometry holds loads nothing up goes log = tt
+  open_cache_of (Err e) geometry holds loads opened up = tt
 
   -- a cache doesn't ask the disk
   not_disk : {A : Type 0} (r : Result Ssc OpenError) (loads : Result A _) → IfErr r (λ e. IsRefusal g e loads) → disk_failed r ≡ true → ⊥

@@ -1,9 +1,10 @@
 -- What a cache over a disk is, and what it leaves on its media.
-use Rattle.std.specs.Prelude.{◌≡◌, ◌⊎◌, ◌<◌, ◌/◌, ◌==◌, ◌||◌, ℕ, Bool, true, false, List, [], map, filter, Ok, Result, OnOk, OnErr, IsErrOf, ⊤}
+use Rattle.std.specs.Prelude.{◌≡◌, ◌⊎◌, ◌<◌, ◌≤◌, ◌+◌, ◌/◌, ◌==◌, ◌||◌, ℕ, Bool, true, false, List, [], map, filter, Ok, Result, OnOk, OnErr, IsErrOf, ⊤}
 use Rattle.std.specs.List.{AllByRecursion}
 use Rattle.std.specs.FinMap.{get}
 use Rattle.std.specs.Option.{is_some}
 use Rattle.ft_base.specs.Contents.{Contents}
+use Rattle.ft_base.specs.Count.{RoseBy}
 use Rattle.ft_base.specs.Layout.{log_pages}
 use Rattle.ft_base.specs.PlainDisk.{PlainDisk}
 use Rattle.ft_base.specs.Table.{Table, table_of}
@@ -17,7 +18,8 @@ use Rattle.ft_media.specs.Fitted.{KeepsReady}
 use Rattle.ft_media.specs.Passes.{Passes}
 use Rattle.ft_media.specs.State.{State}
 use Rattle.ft_volume.specs.Opening.{ImageIs, Suits}
-use Rattle.ft_volume.specs.Volume.{HasCause, IsFixed, StandForAny, VolumeState, dirty_lbas, fixes, told_for, volume_lost}
+use Rattle.ft_volume.specs.Volume.{Call, Goes, HasCause, IsFixed, StandForAny, VolumeState, WasDone, dirty_lbas, fixes, told_for, volume_lost}
+use Rattle.ft_volume.specs.Standing.{StandFor}
 use Rattle.ft_volume.specs.declared.options.Options.{Options}
 use Rattle.ft_volume.specs.declared.volume.VolumeError.{VolumeError}
 use Rattle.ft_volume.specs.declared.volume.VolumeError.TheVariants.{OutOfVolume}
@@ -28,9 +30,12 @@ use Rattle.cache_model.specs.Cache.{Buffered, Cleaned, Inserted, dirty_between}
 use Rattle.cache_model.specs.CacheList.{Agrees, CacheList, vol}
 use Rattle.cache_model.specs.Stands.{FlashStandsFor}
 use Rattle.op_log.specs.Log.{FitsOn}
+use Rattle.op_log.specs.Refusals.{open_failed, open_lost}
+use Rattle.op_log.specs.declared.error.OpenError.{OpenError}
 use Rattle.ssc.specs.declared.cache.Ssc.{Ssc}
 use Rattle.ssc.specs.CacheState.{Holds, IsUp, entries_of, geometry_of, log_room, pending}
 use Rattle.cached_disk.specs.declared.disk.CachedDisk.{CachedDisk}
+use Rattle.cached_disk.specs.Errors.{CausedBy, disk_failed}
 
 -- the cache or the disk was given up, so it is opened again first
 abbrev pub is_down : CachedDisk → Bool
@@ -99,7 +104,33 @@ pub record IsLeft (v : CachedDisk) (contents : Contents) : Type 0 where
 abbrev pub IsVolume : Geometry → CacheList → Contents → PlainDisk → Type 0
 IsVolume g s contents d = (a : ℕ) → a < g.size → vol s (λ lba. (contents.disk lba).newest) a ≡ d a
 
+-- ---- what a call does
+
+-- a call that lets no block become dirty or clean: what it does, whatever it answers
+pub record Serves {T : Type 0} (call : Call) (old new : CachedDisk) (before after : State) (result : Result T VolumeError) : Type 0 where
+  pub left : IsLeft new after.contents
+  pub was : (order : List ℕ) (base : PlainDisk) → StandFor (ImageIs (told_of old)) before.contents base
+      → WasDone ImageIs call (state_in order old) (state_in order new) after.contents result base
+  pub goes : (order : List ℕ) → Goes (state_in order old) (state_in order new) before after result
+  pub dirty : is_down new ≡ false → dirty_of new ≡ dirty_of old
+  pub options : (new.options ≡ old.options) × (new.mode ≡ old.mode)
+  pub within : IsErrOf result OutOfVolume → ⊥
+
+-- with Ok so many blocks were written to the disk; else no more; and none was read from it
+pub record WritesDisk (n : ℕ) (before after : State) (result : Result (Unit {0}) VolumeError) : Type 0 where
+  pub exact : OnOk result (RoseBy n before.counts.disk_writes after.counts.disk_writes)
+  pub most : after.counts.disk_writes ≤ before.counts.disk_writes + n
+  pub reads : after.counts.disk_reads ≡ before.counts.disk_reads
+
 -- ---- what an opening leaves
+
+-- an opening neither reads nor writes a block of the disk, and power and the faults go on as it answers
+pub record OnlyOpens {T : Type 0} (before after : State) (result : Result T OpenError) : Type 0 where
+  pub ready : OnOk result (KeepsReady before after)
+  pub disk_reads : after.counts.disk_reads ≡ before.counts.disk_reads
+  pub disk_writes : after.counts.disk_writes ≡ before.counts.disk_writes
+  pub cause : CausedBy before.faults after.faults (open_failed result) (disk_failed result) (open_lost result)
+  pub passes : Passes before after (open_lost result)
 
 -- a cache that was opened over media that stood for a list: it holds that list
 pub record IsOpenCache (g : Geometry) (old new : Contents) (c : Ssc) : Type 0 where

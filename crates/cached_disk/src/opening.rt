@@ -11,10 +11,10 @@ ghost use Rattle.cache_model.specs.CacheList.{CacheList};
 ghost use Rattle.cache_model.specs.Loading.{load};
 ghost use Rattle.cache_model.specs.Stands.{FlashStandsFor};
 ghost use Rattle.op_log.specs.Log.{FitsOn};
-ghost use Rattle.op_log.specs.Refusals.{open_failed, open_lost};
+ghost use Rattle.op_log.specs.Refusals.{open_lost};
 ghost use Rattle.ssc.specs.CacheState.{entries_of};
-ghost use Rattle.cached_disk.specs.Errors.{CausedBy, IsOpenRefusal, disk_failed};
-ghost use Rattle.cached_disk.specs.Kept.{IsFresh, IsLeft, IsOpenCache, IsVolume, Reopens};
+ghost use Rattle.cached_disk.specs.Errors.{IsOpenRefusal, disk_failed};
+ghost use Rattle.cached_disk.specs.Kept.{IsFresh, IsLeft, IsOpenCache, IsVolume, OnlyOpens, Reopens};
 ghost use Rattle.cached_disk.specs.Kept as kept;
 
 use crate::CachedDisk;
@@ -87,12 +87,7 @@ impl CachedDisk {
         ensures loads { IfOk result (λ v. load options.now.geometry (M.state media.old).contents.flash.page ≡ Ok (entries_of v.cache)) }
         ensures refused { IfErr result (λ e. IsOpenRefusal options.now.geometry e
             (load options.now.geometry (M.state media.old).contents.flash.page)) }
-        ensures ready { OnOk result (KeepsReady (M.state media.old) (M.state media.new)) }
-        ensures disk_reads { (M.state media.new).counts.disk_reads ≡ (M.state media.old).counts.disk_reads }
-        ensures disk_writes { (M.state media.new).counts.disk_writes ≡ (M.state media.old).counts.disk_writes }
-        ensures cause { CausedBy (M.state media.old).faults (M.state media.new).faults (open_failed result) (disk_failed result)
-            (open_lost result) }
-        ensures passes { Passes (M.state media.old) (M.state media.new) (open_lost result) }
+        ensures goes { OnlyOpens (M.state media.old) (M.state media.new) result }
     {
         let cache = open_cache(alloc, media, &options.geometry)?;
         Ok(CachedDisk {
@@ -131,12 +126,7 @@ fn open_cache<M: Media>(alloc: Global, media: &mut M, geometry: &Geometry) -> Re
     ensures opened { IfOk result (λ c. IsOpenCache geometry.now (M.state media.old).contents (M.state media.new).contents c) }
     ensures opens { Opens geometry.now (M.state media.old).contents (M.state media.new).contents (disk_failed result) (open_lost result) }
     ensures refused { IfErr result (λ e. IsOpenRefusal geometry.now e (load geometry.now (M.state media.old).contents.flash.page)) }
-    ensures disk_reads { (M.state media.new).counts.disk_reads ≡ (M.state media.old).counts.disk_reads }
-    ensures disk_writes { (M.state media.new).counts.disk_writes ≡ (M.state media.old).counts.disk_writes }
-    ensures ready { OnOk result (KeepsReady (M.state media.old) (M.state media.new)) }
-    ensures cause { CausedBy (M.state media.old).faults (M.state media.new).faults (open_failed result) (disk_failed result)
-        (open_lost result) }
-    ensures passes { Passes (M.state media.old) (M.state media.new) (open_lost result) }
+    ensures goes { OnlyOpens (M.state media.old) (M.state media.new) result }
 {
     match media.flush_disk() {
         Ok(()) => Ssc::open(alloc, media, geometry),

@@ -1,11 +1,8 @@
-ghost use Rattle.std.specs.Prelude.{◌≡◌, ◌<◌, ℕ, List, None, false, OnErr, IsErrOf};
+ghost use Rattle.std.specs.Prelude.{◌≡◌, ◌<◌, ℕ, List, None, false, OnErr};
 ghost use Rattle.std.specs.FinMap.{get};
-ghost use Rattle.ft_base.specs.PlainDisk.{PlainDisk};
-ghost use Rattle.ft_volume.specs.Opening.{ImageIs};
-ghost use Rattle.ft_volume.specs.Volume.{Costs, Goes, Reads, WasDone};
-ghost use Rattle.ft_volume.specs.Standing.{StandFor};
+ghost use Rattle.ft_volume.specs.Volume.{Costs, Reads};
 ghost use Rattle.ssc.specs.CacheState.{entries_of};
-ghost use Rattle.cached_disk.specs.Kept.{IsLeft, dirty_of, state_in, told_of};
+ghost use Rattle.cached_disk.specs.Kept.{IsLeft, Serves, state_in};
 ghost use Rattle.cached_disk.specs.Kept as kept;
 
 use crate::CachedDisk;
@@ -26,18 +23,10 @@ impl CachedDisk {
         requires left { IsLeft self.old (M.state media.old).contents }
         requires up { kept.is_down self.old ≡ false }
         requires lba { lba < self.old.options.geometry.size }
-        ensures left { IsLeft self.new (M.state media.new).contents }
-        ensures was { (order : List ℕ) (base : PlainDisk) → StandFor (ImageIs (told_of self.old)) (M.state media.old).contents base
-            → WasDone ImageIs (Reads lba block.new) (state_in order self.old) (state_in order self.new)
-            (M.state media.new).contents result base }
-        ensures goes { (order : List ℕ) → Goes (state_in order self.old) (state_in order self.new) (M.state media.old) (M.state media.new)
-            result }
+        ensures serves { Serves (Reads lba block.new) self.old self.new (M.state media.old) (M.state media.new) result }
         ensures costs { (order : List ℕ) → Costs (Reads lba block.new) (state_in order self.old) (state_in order self.new)
             (M.state media.old) (M.state media.new) result }
-        ensures dirty { kept.is_down self.new ≡ false → dirty_of self.new ≡ dirty_of self.old }
-        ensures options { (self.new.options ≡ self.old.options) × (self.new.mode ≡ self.old.mode) }
         ensures buffer { OnErr result (block.new ≡ block.old) }
-        ensures within { IsErrOf result VolumeError.OutOfVolume → ⊥ }
     {
         match self.cache.read(media, lba, block) {
             Ok(true) => Ok(()),
@@ -58,18 +47,10 @@ impl CachedDisk {
         requires up { kept.is_down self.old ≡ false }
         requires lba { lba < self.old.options.geometry.size }
         requires absent { get (entries_of self.old.cache) lba ≡ None }
-        ensures left { IsLeft self.new (M.state media.new).contents }
-        ensures was { (order : List ℕ) (base : PlainDisk) → StandFor (ImageIs (told_of self.old)) (M.state media.old).contents base
-            → WasDone ImageIs (Reads lba block.new) (state_in order self.old) (state_in order self.new)
-            (M.state media.new).contents result base }
-        ensures goes { (order : List ℕ) → Goes (state_in order self.old) (state_in order self.new) (M.state media.old) (M.state media.new)
-            result }
+        ensures serves { Serves (Reads lba block.new) self.old self.new (M.state media.old) (M.state media.new) result }
         ensures costs { (order : List ℕ) → Costs (Reads lba block.new) (state_in order self.old) (state_in order self.new)
             (M.state media.old) (M.state media.new) result }
-        ensures dirty { kept.is_down self.new ≡ false → dirty_of self.new ≡ dirty_of self.old }
-        ensures options { (self.new.options ≡ self.old.options) × (self.new.mode ≡ self.old.mode) }
         ensures buffer { OnErr result (block.new ≡ block.old) }
-        ensures within { IsErrOf result VolumeError.OutOfVolume → ⊥ }
     {
         let mut found = Block([0; 4096]);
         if self.cache.reserve().is_err() {

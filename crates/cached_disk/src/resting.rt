@@ -1,13 +1,10 @@
 ghost use Rattle.std.specs.Prelude.{◌≡◌, ◌*◌, ℕ, List, [], true, false, nat_le, length, if◌then◌else◌, IfOk, OnErr, OnOk, IsErrOf};
 ghost use Rattle.ft_base.specs.Layout.{log_pages};
-ghost use Rattle.ft_base.specs.PlainDisk.{PlainDisk};
 ghost use Rattle.ft_base.specs.Table.{goes_back};
-ghost use Rattle.ft_volume.specs.Opening.{ImageIs};
-ghost use Rattle.ft_volume.specs.Volume.{Costs, Flushes, Goes, Idles, Reports, WasDone};
+ghost use Rattle.ft_volume.specs.Volume.{Costs, Flushes, Idles, Reports};
 ghost use Rattle.ft_volume.specs.Reported.{IsReport};
-ghost use Rattle.ft_volume.specs.Standing.{StandFor};
 ghost use Rattle.ssc.specs.CacheState.{entries_of, log_room, pending};
-ghost use Rattle.cached_disk.specs.Kept.{IsLeft, Loads, dirty_of, state_in, told_of};
+ghost use Rattle.cached_disk.specs.Kept.{IsLeft, Loads, Serves, state_in, told_of};
 ghost use Rattle.cached_disk.specs.Kept as kept;
 
 use crate::CachedDisk;
@@ -20,19 +17,12 @@ impl CachedDisk {
     pub fn flush<M: Media>(&mut self, media: &mut M) -> Result<(), VolumeError>
         requires left { IsLeft self.old (M.state media.old).contents }
         requires up { kept.is_down self.old ≡ false }
-        ensures left { IsLeft self.new (M.state media.new).contents }
-        ensures was { (order : List ℕ) (base : PlainDisk) → StandFor (ImageIs (told_of self.old)) (M.state media.old).contents base
-            → WasDone ImageIs Flushes (state_in order self.old) (state_in order self.new) (M.state media.new).contents result base }
-        ensures goes { (order : List ℕ) → Goes (state_in order self.old) (state_in order self.new) (M.state media.old) (M.state media.new)
-            result }
+        ensures serves { Serves Flushes self.old self.new (M.state media.old) (M.state media.new) result }
         ensures costs { (order : List ℕ) → Costs Flushes (state_in order self.old) (state_in order self.new) (M.state media.old)
             (M.state media.new) result }
-        ensures dirty { kept.is_down self.new ≡ false → dirty_of self.new ≡ dirty_of self.old }
-        ensures options { (self.new.options ≡ self.old.options) × (self.new.mode ≡ self.old.mode) }
         ensures nothing_waits { OnOk result (pending self.new.cache ≡ []) }
         ensures refused { OnErr result (kept.is_down self.new ≡ true) }
         ensures memory { IsErrOf result VolumeError.OutOfMemory → ⊥ }
-        ensures within { IsErrOf result VolumeError.OutOfVolume → ⊥ }
     {
         match self.cache.commit(media) {
             Ok(()) => Ok(()),
@@ -45,22 +35,15 @@ impl CachedDisk {
     pub fn report<M: Media>(&mut self, media: &mut M) -> Result<Report, VolumeError>
         requires left { IsLeft self.old (M.state media.old).contents }
         requires up { kept.is_down self.old ≡ false }
-        ensures left { IsLeft self.new (M.state media.new).contents }
-        ensures was { (order : List ℕ) (base : PlainDisk) → StandFor (ImageIs (told_of self.old)) (M.state media.old).contents base
-            → WasDone ImageIs Reports (state_in order self.old) (state_in order self.new) (M.state media.new).contents result base }
-        ensures goes { (order : List ℕ) → Goes (state_in order self.old) (state_in order self.new) (M.state media.old) (M.state media.new)
-            result }
+        ensures serves { Serves Reports self.old self.new (M.state media.old) (M.state media.new) result }
         ensures costs { (order : List ℕ) → Costs Reports (state_in order self.old) (state_in order self.new) (M.state media.old)
             (M.state media.new) result }
         ensures report { IfOk result (IsReport self.old.options.geometry (entries_of self.new.cache)) }
         // The flash has just these entries.
         ensures loads { OnOk result (Loads (told_of self.old) (M.state media.new).contents.flash.page (entries_of self.new.cache)) }
-        ensures dirty { kept.is_down self.new ≡ false → dirty_of self.new ≡ dirty_of self.old }
-        ensures options { (self.new.options ≡ self.old.options) × (self.new.mode ≡ self.old.mode) }
         ensures nothing_waits { kept.is_down self.new ≡ false → pending self.new.cache ≡ [] }
         ensures faulted { IsErrOf result VolumeError.DiskFault → kept.is_down self.new ≡ true }
         ensures memory { IsErrOf result VolumeError.OutOfMemory → ⊥ }
-        ensures within { IsErrOf result VolumeError.OutOfVolume → ⊥ }
     {
         if let Err(error) = self.flush(media) {
             return Err(error);
@@ -81,11 +64,7 @@ impl CachedDisk {
     pub fn checkpoint_if_due<M: Media>(&mut self, media: &mut M) -> Result<Idled, VolumeError>
         requires left { IsLeft self.old (M.state media.old).contents }
         requires up { kept.is_down self.old ≡ false }
-        ensures left { IsLeft self.new (M.state media.new).contents }
-        ensures was { (order : List ℕ) (base : PlainDisk) → StandFor (ImageIs (told_of self.old)) (M.state media.old).contents base
-            → WasDone ImageIs Idles (state_in order self.old) (state_in order self.new) (M.state media.new).contents result base }
-        ensures goes { (order : List ℕ) → Goes (state_in order self.old) (state_in order self.new) (M.state media.old) (M.state media.new)
-            result }
+        ensures serves { Serves Idles self.old self.new (M.state media.old) (M.state media.new) result }
         ensures costs { (order : List ℕ) → goes_back self.old.mode self.old.options.dirty (length order) ≡ false
             → Costs Idles (state_in order self.old) (state_in order self.new) (M.state media.old) (M.state media.new) result }
         ensures idled { IfOk result (λ idled. idled ≡ (if nat_le (2 * log_room self.old.cache)
@@ -93,11 +72,8 @@ impl CachedDisk {
         // A checkpoint leaves nothing buffered, and the log empty.
         ensures checkpoint { IfOk result (λ idled. idled ≡ Idled.Checkpointed → (pending self.new.cache ≡ [])
             × (self.new.cache.parts.log.next ≡ 0)) }
-        ensures dirty { kept.is_down self.new ≡ false → dirty_of self.new ≡ dirty_of self.old }
-        ensures options { (self.new.options ≡ self.old.options) × (self.new.mode ≡ self.old.mode) }
         ensures refused { OnErr result (kept.is_down self.new ≡ true) }
         ensures memory { IsErrOf result VolumeError.OutOfMemory → ⊥ }
-        ensures within { IsErrOf result VolumeError.OutOfVolume → ⊥ }
     {
         let geometry = self.options.geometry;
         if 2 * self.cache.log_room() > geometry.j() * geometry.p() {

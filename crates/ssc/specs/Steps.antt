@@ -1,21 +1,27 @@
 -- What the steps of the commands leave.
-use Rattle.std.specs.Prelude.{◌≡◌, ◌⊎◌, ℕ, Bool, List, [], ◌∷◌, ◌++◌}
+use Rattle.std.specs.Prelude.{◌≡◌, ◌⊎◌, ◌<◌, ℕ, Bool, List, [], ◌∷◌, ◌++◌, length}
 use Rattle.std.specs.FinMap.{insert}
+use Rattle.ft_base.specs.Contents.{Contents}
+use Rattle.ft_base.specs.Count.{Rose}
+use Rattle.ft_base.specs.Layout.{page_records}
 use Rattle.ft_base.specs.declared.block.Place.{Place}
 use Rattle.ft_base.specs.declared.block.Page.{Page}
 use Rattle.ft_base.specs.declared.geometry.Geometry.{Geometry}
 use Rattle.ft_base.specs.declared.record.Record.{Record}
 use Rattle.ft_base.specs.declared.record.Record.TheVariants.{SetPage}
+use Rattle.ft_media.specs.State.{State}
+use Rattle.ft_media.specs.Passes.{Spends}
 use Rattle.cache_model.specs.CacheList.{CacheList, Held}
 use Rattle.cache_model.specs.Stands.{FlashStandsFor}
 use Rattle.op_log.specs.Log.{pushed}
 use Rattle.log_blocks.specs.Logs as list
 use Rattle.recovery.specs.declared.loading.Loaded.{Loaded}
 use Rattle.merge_engine.specs.declared.parts.Parts.{Parts}
-use Rattle.merge_engine.specs.Agreement.{AreOfOne, Lists, RolesAgree}
+use Rattle.merge_engine.specs.Agreement.{Agree, AreOfOne, Lists, RolesAgree}
 use Rattle.merge_engine.specs.Room.{GivesRoom}
 use Rattle.merge_engine.specs.Steps.{HasLogRoom}
 pub use Rattle.merge_engine.specs.Merges.{FlashStandsForEither}
+use Rattle.ssc.specs.Commands.{FlashStandsForOne}
 
 -- a step that made one list of another is buffered behind all that was; or alone, where the list of before was committed first; or it is committed with all
 abbrev pub ListsAfter : List Record → Record → Parts → (Place → Page) → CacheList → CacheList → CacheList → Type 0
@@ -48,6 +54,25 @@ IsPushed old lba dirty new = (at : Place) × (new.log ≡ pushed (SetPage lba at
 abbrev pub FlashStandsForStep : Geometry → (Place → Page) → CacheList → CacheList → (CacheList → CacheList) → Type 0
 FlashStandsForStep g page durable list step = FlashStandsFor g page durable
     ⊎ ((v : CacheList) × GivesRoom g list v × FlashStandsForEither g page v (step v))
+
+-- a step at an address may be made: the flash is as the parts left it, and their log takes one more record
+pub record MayStep (parts : Parts) (contents : Contents) (a : ℕ) : Type 0 where
+  pub agree : Agree parts contents
+  pub lba : a < parts.geometry.size
+  pub few : length parts.log.buffered < page_records parts.log.geometry
+
+-- what a crash may leave once a block was put at an address, whatever was answered, and wherever power went off
+pub record LeavesPut (old : Parts) (before after : Place → Page) (lba : ℕ) (block : Held) : Type 0 where
+  pub stands : (list durable : CacheList) → Lists old before list durable
+      → FlashStandsForStep old.geometry after durable list (λ s. insert s lba block)
+  -- where a log block can be had without a merge nothing gives way
+  pub kept : HasLogRoom old → (list durable : CacheList) → Lists old before list durable
+      → FlashStandsForOne old.geometry after durable list (insert list lba block)
+
+-- the count of programs tells of a new one, and so many device writes were spent at least
+pub record Programs (n : ℕ) (before after : State) : Type 0 where
+  pub count : Rose before.counts.programs after.counts.programs
+  pub spends : Spends n before after
 
 -- the parts over what was loaded: their log is that of the checkpoint that counts, with nothing of it read or buffered, and no log block is open
 pub record IsLoadedAs (g : Geometry) (loaded : Loaded) (parts : Parts) : Type 0 where

@@ -1,23 +1,20 @@
-ghost use Rattle.std.specs.Prelude.{◌≡◌, ◌≢◌, ◌≤◌, ◌<◌, ◌+◌, ◌-◌, ◌/◌, ◌++◌, ◌∷◌, [], ℕ, length, true, false, Some, None, OnOk, OnErr, IfOk, IsOk, IsErrOf};
-ghost use Rattle.std.specs.FinMap.{get, insert};
+ghost use Rattle.std.specs.Prelude.{◌≡◌, ◌≢◌, ◌≤◌, ◌<◌, ◌+◌, ◌-◌, ◌/◌, ◌++◌, [], ℕ, length, true, false, Some, None, OnOk, OnErr, IfOk, IsOk, IsErrOf};
+ghost use Rattle.std.specs.FinMap.{get};
 ghost use Rattle.ft_base.specs.Contents.{Contents};
-ghost use Rattle.ft_base.specs.Count.{Rose};
 ghost use Rattle.ft_base.specs.Layout.{page_records};
-ghost use Rattle.ft_media.specs.State.{failed, lost};
-ghost use Rattle.ft_media.specs.Drives.{DrivesFlash};
+ghost use Rattle.ft_media.specs.Drives.{OnlyDrives};
 ghost use Rattle.ft_media.specs.Reads.{ReadsFlash};
-ghost use Rattle.ft_media.specs.Passes.{Spends};
 ghost use Rattle.ft_media.specs.Media.{program_counted};
 ghost use Rattle.cache_model.specs.Cache.{Inserted, Cleaned, written_dirty, written_clean, evicted, made_clean, dirty_between, written_block};
 ghost use Rattle.cache_model.specs.CacheList.{CacheList};
 ghost use Rattle.cache_model.specs.declared.entry.Entry.{Entry};
 ghost use Rattle.merge_engine.specs.Agreement.{Agree, Lists};
-ghost use Rattle.merge_engine.specs.Steps.{HasLogRoom};
-ghost use Rattle.ssc.specs.Errors.{ssc_failed, ssc_lost, stops};
-ghost use Rattle.ssc.specs.CacheState.{HasMemory, Holds, IsAsBefore, IsUp, entries_of, geometry_of, log_room, open_room, pending};
+ghost use Rattle.ssc.specs.Errors.{ssc_failed, ssc_lost};
+ghost use Rattle.ssc.specs.CacheState.{HasMemory, Holds, IsUp, entries_of, geometry_of, log_room, open_room, pending};
+ghost use Rattle.ssc.specs.Kept.{CostsClean, CostsDirty, KeepsInRoom, RefusesWrite, RunsCommand, RunsInPlace};
 ghost use Rattle.ssc.specs.Own.{KeepsOwn};
-ghost use Rattle.ssc.specs.Steps.{IsPushed, PutsBlock, FlashStandsForStep};
-ghost use Rattle.ssc.specs.Commands.{ImagesOf, ImagesOfWrite, FullExactly, HoldsWritten, PendsWith, IsDirtyIn, IsHeldIn, ReadOf, FlashStandsForOne, UnlessFound};
+ghost use Rattle.ssc.specs.Steps.{IsPushed, LeavesPut, MayStep, Programs, PutsBlock};
+ghost use Rattle.ssc.specs.Commands.{ImagesOf, ImagesOfWrite, FullExactly, HoldsWritten, PendsWith, IsDirtyIn, IsHeldIn, ReadOf, UnlessFound};
 
 use crate::error::of_media;
 use crate::putting::{mark_clean, take_out, write_buffered, write_committed};
@@ -38,15 +35,9 @@ impl Ssc {
     ) -> Result<(), SscError>
         requires up { IsUp self.old (M.state media.old).contents }
         requires lba { lba < (geometry_of self.old).size }
-        ensures geometry { geometry_of self.new ≡ geometry_of self.old }
+        ensures runs { RunsCommand self.old self.new (M.state media.old) (M.state media.new) result }
         ensures full { (s : CacheList) → Holds self.old (M.state media.old).contents s → FullExactly (geometry_of self.old) s lba result }
-        ensures full_keeps { (n l : ℕ) → IsErrOf result (SscError.Full n l) → (self.new ≡ self.old)
-            × (M.state media.new ≡ M.state media.old) }
-        ensures memory { IsErrOf result SscError.OutOfMemory → (self.old.ready ≡ false) × IsAsBefore self.old self.new
-            × (M.state media.new ≡ M.state media.old) }
-        ensures memory_holds { IsErrOf result SscError.OutOfMemory → (contents : Contents) (s : CacheList) → Holds self.old contents s
-            → Holds self.new contents s }
-        ensures stopped { self.new.stopped ≡ stops result }
+        ensures refused { RefusesWrite self.old self.new (M.state media.old) (M.state media.new) result }
         ensures done { OnOk result ((s : CacheList) → Holds self.old (M.state media.old).contents s
             → HoldsWritten self.new (M.state media.new).contents s lba (written_dirty lba block.now)) }
         ensures nothing_waits { OnOk result (pending self.new ≡ []) }
@@ -55,19 +46,8 @@ impl Ssc {
             → ImagesOfWrite self.old (M.state media.new).contents s lba (written_dirty lba block.now) }
         // Blocks that were each written for their own address stay so.
         ensures own { KeepsOwn self.old (M.state media.old).contents self.new (M.state media.new).contents }
-        // Where the open log block has a page left nothing gives way.
-        ensures inside { OnOk result (1 ≤ open_room self.old → (s : CacheList) → Holds self.old (M.state media.old).contents s
-            → Holds self.new (M.state media.new).contents (written_dirty lba block.now s)) }
-        // Nor does it where a log block can be had without a merge, whatever is answered.
-        ensures kept { OnOk result (HasLogRoom self.old.parts → (s : CacheList) → Holds self.old (M.state media.old).contents s
-            → Holds self.new (M.state media.new).contents (written_dirty lba block.now s)) }
-        ensures kept_images { HasLogRoom self.old.parts → (s : CacheList) → Holds self.old (M.state media.old).contents s
-            → ImagesOf self.old (M.state media.new).contents s (written_dirty lba block.now s) }
-        ensures two_programs { OnOk result (1 ≤ open_room self.old → 1 ≤ log_room self.old
-            → (M.state media.new).counts ≡ program_counted (program_counted (M.state media.old).counts)) }
-        ensures programs { OnOk result (Rose (M.state media.old).counts.programs (M.state media.new).counts.programs) }
-        ensures spends { OnOk result (Spends 2 (M.state media.old) (M.state media.new)) }
-        ensures drives { DrivesFlash (M.state media.old) (M.state media.new) (ssc_failed result) (ssc_lost result) }
+        ensures in_room { KeepsInRoom self.old self.new (M.state media.old) (M.state media.new) (written_dirty lba block.now) result }
+        ensures costs { CostsDirty self.old (M.state media.old) (M.state media.new) result }
     {
         if self.is_full(lba) {
             return Err(SscError::Full {
@@ -94,13 +74,9 @@ impl Ssc {
     ) -> Result<(), SscError>
         requires up { IsUp self.old (M.state media.old).contents }
         requires lba { lba < (geometry_of self.old).size }
-        ensures geometry { geometry_of self.new ≡ geometry_of self.old }
+        ensures runs { RunsCommand self.old self.new (M.state media.old) (M.state media.new) result }
         ensures full { (n l : ℕ) → IsErrOf result (SscError.Full n l) → ⊥ }
-        ensures memory { IsErrOf result SscError.OutOfMemory → (self.old.ready ≡ false) × IsAsBefore self.old self.new
-            × (M.state media.new ≡ M.state media.old) }
-        ensures memory_holds { IsErrOf result SscError.OutOfMemory → (contents : Contents) (s : CacheList) → Holds self.old contents s
-            → Holds self.new contents s }
-        ensures stopped { self.new.stopped ≡ stops result }
+        ensures refused { RefusesWrite self.old self.new (M.state media.old) (M.state media.new) result }
         ensures done { OnOk result ((s : CacheList) → Holds self.old (M.state media.old).contents s
             → HoldsWritten self.new (M.state media.new).contents s lba (written_clean lba block.now)) }
         ensures over_held { OnOk result ((s : CacheList) → Holds self.old (M.state media.old).contents s → IsHeldIn s lba
@@ -112,21 +88,8 @@ impl Ssc {
             → ImagesOfWrite self.old (M.state media.new).contents s lba (written_clean lba block.now) }
         // Blocks that were each written for their own address stay so.
         ensures own { KeepsOwn self.old (M.state media.old).contents self.new (M.state media.new).contents }
-        // Where the open log block has a page left nothing gives way.
-        ensures inside { OnOk result (1 ≤ open_room self.old → (s : CacheList) → Holds self.old (M.state media.old).contents s
-            → Holds self.new (M.state media.new).contents (written_clean lba block.now s)) }
-        // Nor does it where a log block can be had without a merge, whatever is answered.
-        ensures kept { OnOk result (HasLogRoom self.old.parts → (s : CacheList) → Holds self.old (M.state media.old).contents s
-            → Holds self.new (M.state media.new).contents (written_clean lba block.now s)) }
-        ensures kept_images { HasLogRoom self.old.parts → (s : CacheList) → Holds self.old (M.state media.old).contents s
-            → ImagesOf self.old (M.state media.new).contents s (written_clean lba block.now s) }
-        ensures one_program { OnOk result ((s : CacheList) → Holds self.old (M.state media.old).contents s → get s lba ≡ None
-            → 1 ≤ open_room self.old → length (pending self.old) + 2 ≤ page_records (geometry_of self.old)
-            → ((M.state media.new).counts ≡ program_counted (M.state media.old).counts)
-            × (pending self.new ≡ pending self.old ++ Inserted lba ∷ [])) }
-        ensures programs { OnOk result (Rose (M.state media.old).counts.programs (M.state media.new).counts.programs) }
-        ensures spends { OnOk result (Spends 1 (M.state media.old) (M.state media.new)) }
-        ensures drives { DrivesFlash (M.state media.old) (M.state media.new) (ssc_failed result) (ssc_lost result) }
+        ensures in_room { KeepsInRoom self.old self.new (M.state media.old) (M.state media.new) (written_clean lba block.now) result }
+        ensures costs { CostsClean self.old self.new lba (M.state media.old) (M.state media.new) result }
     {
         if self.reserve().is_err() {
             return Err(SscError::OutOfMemory);
@@ -146,10 +109,8 @@ impl Ssc {
         lba: u64,
         block: &Block,
     ) -> Result<(), MediaError>
-        requires agree { Agree self.old.parts (M.state media.old).contents }
-        requires lba { lba < (geometry_of self.old).size }
+        requires may { MayStep self.old.parts (M.state media.old).contents lba }
         requires memory { HasMemory self.old.parts }
-        requires few { length self.old.parts.log.buffered < page_records self.old.parts.log.geometry }
         ensures cache { self.new ≡ record self.old { parts = self.new.parts } }
         ensures geometry { geometry_of self.new ≡ geometry_of self.old }
         ensures agree { OnOk result (Agree self.new.parts (M.state media.new).contents) }
@@ -158,21 +119,14 @@ impl Ssc {
             → PutsBlock self.old.parts lba (written_block lba block.now false) self.new.parts (M.state media.new).contents.flash.page
             durable list) }
         ensures over_held { OnOk result ((e : Entry) → get (entries_of self.old) lba ≡ Some e → self.new.parts.log.buffered ≡ []) }
-        ensures stands { (list durable : CacheList) → Lists self.old.parts (M.state media.old).contents.flash.page list durable
-            → FlashStandsForStep (geometry_of self.old) (M.state media.new).contents.flash.page durable list
-            (λ s. insert s lba (written_block lba block.now false)) }
-        ensures kept { HasLogRoom self.old.parts → (list durable : CacheList)
-            → Lists self.old.parts (M.state media.old).contents.flash.page list durable
-            → FlashStandsForOne (geometry_of self.old) (M.state media.new).contents.flash.page durable list
-            (insert list lba (written_block lba block.now false)) }
+        ensures leaves { LeavesPut self.old.parts (M.state media.old).contents.flash.page (M.state media.new).contents.flash.page lba
+            (written_block lba block.now false) }
         ensures one_program { OnOk result (get (entries_of self.old) lba ≡ None → 1 ≤ open_room self.old
             → length self.old.parts.log.buffered + 2 ≤ page_records self.old.parts.log.geometry
             → IsPushed self.old.parts lba false self.new.parts
             × ((M.state media.new).counts ≡ program_counted (M.state media.old).counts)) }
-        ensures programs { OnOk result (Rose (M.state media.old).counts.programs (M.state media.new).counts.programs) }
-        ensures spends { OnOk result (Spends 1 (M.state media.old) (M.state media.new)) }
-        ensures memory { IsErrOf result MediaError.OutOfMemory → ⊥ }
-        ensures drives { DrivesFlash (M.state media.old) (M.state media.new) (failed result) (lost result) }
+        ensures programs { OnOk result (Programs 1 (M.state media.old) (M.state media.new)) }
+        ensures drives { OnlyDrives (M.state media.old) (M.state media.new) result }
     {
         if self.is_held(lba) {
             return write_committed(&mut self.parts, media, lba, block, false);
@@ -214,10 +168,7 @@ impl Ssc {
     pub fn evict<M: Media>(&mut self, media: &mut M, lba: u64) -> Result<(), SscError>
         requires up { IsUp self.old (M.state media.old).contents }
         requires lba { lba < (geometry_of self.old).size }
-        ensures geometry { geometry_of self.new ≡ geometry_of self.old }
-        ensures full { (n l : ℕ) → IsErrOf result (SscError.Full n l) → ⊥ }
-        ensures memory { IsErrOf result SscError.OutOfMemory → ⊥ }
-        ensures stopped { self.new.stopped ≡ stops result }
+        ensures runs { RunsInPlace self.old self.new (M.state media.old) (M.state media.new) result }
         ensures done { OnOk result ((s : CacheList) → Holds self.old (M.state media.old).contents s
             → Holds self.new (M.state media.new).contents (evicted lba s)) }
         ensures held { OnOk result ((s : CacheList) → Holds self.old (M.state media.old).contents s → IsHeldIn s lba
@@ -230,8 +181,6 @@ impl Ssc {
         ensures own { KeepsOwn self.old (M.state media.old).contents self.new (M.state media.new).contents }
         ensures one_program { OnOk result ((s : CacheList) → Holds self.old (M.state media.old).contents s → IsHeldIn s lba
             → 1 ≤ log_room self.old → (M.state media.new).counts ≡ program_counted (M.state media.old).counts) }
-        ensures ready { self.new.ready ≡ self.old.ready }
-        ensures drives { DrivesFlash (M.state media.old) (M.state media.new) (ssc_failed result) (ssc_lost result) }
     {
         if !self.is_held(lba) {
             return Ok(());
@@ -246,10 +195,7 @@ impl Ssc {
     pub fn clean<M: Media>(&mut self, media: &mut M, lba: u64) -> Result<(), SscError>
         requires up { IsUp self.old (M.state media.old).contents }
         requires lba { lba < (geometry_of self.old).size }
-        ensures geometry { geometry_of self.new ≡ geometry_of self.old }
-        ensures full { (n l : ℕ) → IsErrOf result (SscError.Full n l) → ⊥ }
-        ensures memory { IsErrOf result SscError.OutOfMemory → ⊥ }
-        ensures stopped { self.new.stopped ≡ stops result }
+        ensures runs { RunsInPlace self.old self.new (M.state media.old) (M.state media.new) result }
         ensures done { OnOk result ((s : CacheList) → Holds self.old (M.state media.old).contents s
             → Holds self.new (M.state media.new).contents (made_clean lba s)) }
         ensures of_dirty { OnOk result ((s : CacheList) → Holds self.old (M.state media.old).contents s → IsDirtyIn s lba
@@ -262,8 +208,6 @@ impl Ssc {
             → ImagesOf self.old (M.state media.new).contents s (made_clean lba s) }
         // Blocks that were each written for their own address stay so.
         ensures own { KeepsOwn self.old (M.state media.old).contents self.new (M.state media.new).contents }
-        ensures ready { self.new.ready ≡ self.old.ready }
-        ensures drives { DrivesFlash (M.state media.old) (M.state media.new) (ssc_failed result) (ssc_lost result) }
     {
         if !self.is_dirty(lba) {
             return Ok(());
@@ -295,10 +239,7 @@ impl Ssc {
     /// Puts all that is buffered on the flash. It takes no memory.
     pub fn commit<M: Media>(&mut self, media: &mut M) -> Result<(), SscError>
         requires up { IsUp self.old (M.state media.old).contents }
-        ensures geometry { geometry_of self.new ≡ geometry_of self.old }
-        ensures full { (n l : ℕ) → IsErrOf result (SscError.Full n l) → ⊥ }
-        ensures memory { IsErrOf result SscError.OutOfMemory → ⊥ }
-        ensures stopped { self.new.stopped ≡ stops result }
+        ensures runs { RunsInPlace self.old self.new (M.state media.old) (M.state media.new) result }
         ensures nothing { pending self.old ≡ [] → IsOk result × (self.new ≡ self.old) × (M.state media.new ≡ M.state media.old) }
         ensures done { OnOk result ((s : CacheList) → Holds self.old (M.state media.old).contents s
             → Holds self.new (M.state media.new).contents s) }
@@ -309,8 +250,6 @@ impl Ssc {
         ensures own { KeepsOwn self.old (M.state media.old).contents self.new (M.state media.new).contents }
         ensures one_program { OnOk result (pending self.old ≢ [] → 1 ≤ log_room self.old
             → (M.state media.new).counts ≡ program_counted (M.state media.old).counts) }
-        ensures ready { self.new.ready ≡ self.old.ready }
-        ensures drives { DrivesFlash (M.state media.old) (M.state media.new) (ssc_failed result) (ssc_lost result) }
     {
         match merge_engine::commit(&mut self.parts, media) {
             Ok(()) => Ok(()),
@@ -321,10 +260,7 @@ impl Ssc {
     /// Makes a checkpoint of the whole map. It takes no memory.
     pub fn checkpoint<M: Media>(&mut self, media: &mut M) -> Result<(), SscError>
         requires up { IsUp self.old (M.state media.old).contents }
-        ensures geometry { geometry_of self.new ≡ geometry_of self.old }
-        ensures full { (n l : ℕ) → IsErrOf result (SscError.Full n l) → ⊥ }
-        ensures memory { IsErrOf result SscError.OutOfMemory → ⊥ }
-        ensures stopped { self.new.stopped ≡ stops result }
+        ensures runs { RunsInPlace self.old self.new (M.state media.old) (M.state media.new) result }
         ensures done { OnOk result ((s : CacheList) → Holds self.old (M.state media.old).contents s
             → Holds self.new (M.state media.new).contents s) }
         ensures nothing_waits { OnOk result (pending self.new ≡ []) }
@@ -333,8 +269,6 @@ impl Ssc {
             → ImagesOf self.old (M.state media.new).contents s s }
         // Blocks that were each written for their own address stay so.
         ensures own { KeepsOwn self.old (M.state media.old).contents self.new (M.state media.new).contents }
-        ensures ready { self.new.ready ≡ self.old.ready }
-        ensures drives { DrivesFlash (M.state media.old) (M.state media.new) (ssc_failed result) (ssc_lost result) }
     {
         match merge_engine::make_checkpoint(&mut self.parts, media) {
             Ok(()) => Ok(()),

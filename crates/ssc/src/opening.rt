@@ -1,7 +1,6 @@
-ghost use Rattle.std.specs.Prelude.{◌≡◌, ◌<◌, ◌≤◌, [], false, Ok, IfOk, IfErr, OnOk};
+ghost use Rattle.std.specs.Prelude.{◌≡◌, ◌<◌, ◌≤◌, false, Ok, IfOk, IfErr, OnOk};
 ghost use Rattle.ft_base.specs.Count.{Rose};
 ghost use Rattle.ft_base.specs.Contents.{Image, Now};
-ghost use Rattle.ft_base.specs.Layout.{log_pages};
 ghost use Rattle.ft_media.specs.Drives.{DrivesFlash};
 ghost use Rattle.cache_model.specs.CacheList.{CacheList};
 ghost use Rattle.cache_model.specs.Entries.{IsMap};
@@ -9,7 +8,8 @@ ghost use Rattle.cache_model.specs.Loading.{load};
 ghost use Rattle.cache_model.specs.Stands.{FlashStandsFor};
 ghost use Rattle.op_log.specs.Log.{FitsOn};
 ghost use Rattle.op_log.specs.Refusals.{open_failed, open_lost, IsRefusal};
-ghost use Rattle.ssc.specs.CacheState.{Holds, IsUp, entries_of, geometry_of, log_room, open_room, pending};
+ghost use Rattle.ssc.specs.CacheState.{Holds, IsUp, entries_of, geometry_of};
+ghost use Rattle.ssc.specs.Kept.{IsJustOpened};
 ghost use Rattle.ssc.specs.Own.{HoldsOwn, LoadsOwn};
 ghost use Rattle.ssc.specs.Steps.{IsLoadedAs};
 
@@ -34,12 +34,7 @@ impl Ssc {
         ensures holds { IfOk result (λ c. (s : CacheList) → FlashStandsFor geometry.now (M.state media.old).contents.flash.page s
             → Holds c (M.state media.new).contents s) }
         ensures loads { IfOk result (λ c. load geometry.now (M.state media.old).contents.flash.page ≡ Ok (entries_of c)) }
-        ensures nothing_waits { IfOk result (λ c. pending c ≡ []) }
-        ensures log { IfOk result (λ c. c.parts.log.next ≡ 0) }
-        ensures empty_log { IfOk result (λ c. log_room c ≡ log_pages geometry.now) }
-        // No log block is open.
-        ensures closed { IfOk result (λ c. open_room c ≡ 0) }
-        ensures up { IfOk result (λ c. c.stopped ≡ false) }
+        ensures opened { IfOk result (IsJustOpened geometry.now) }
         // Whatever flash it was, commands may be called.
         ensures is_up { IfOk result (λ c. IsUp c (M.state media.new).contents) }
         ensures refused { IfErr result (λ e. IsRefusal geometry.now e (load geometry.now (M.state media.old).contents.flash.page)) }

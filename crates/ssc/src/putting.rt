@@ -1,22 +1,18 @@
 ghost use Rattle.std.specs.Prelude.{◌≡◌, ◌≢◌, ◌↔◌, ◌⊎◌, ◌≤◌, ◌<◌, ◌+◌, [], length, true, false, IsTrue, IsOk, Some, OnOk, IsErrOf};
 ghost use Rattle.std.specs.FinMap.{get, insert};
 ghost use Rattle.ft_base.specs.declared.record.Record.TheVariants.{Clean};
-ghost use Rattle.ft_base.specs.Count.{Rose};
 ghost use Rattle.ft_base.specs.Layout.{log_pages, page_records};
-ghost use Rattle.ft_media.specs.State.{failed, lost};
-ghost use Rattle.ft_media.specs.Drives.{DrivesFlash};
+ghost use Rattle.ft_media.specs.Drives.{OnlyDrives};
 ghost use Rattle.ft_media.specs.Media.{program_counted};
-ghost use Rattle.ft_media.specs.Passes.{Spends};
-ghost use Rattle.cache_model.specs.Cache.{evicted, written_block, made_clean};
 ghost use Rattle.cache_model.specs.CacheList.{CacheList};
+ghost use Rattle.cache_model.specs.Cache.{evicted, written_block, made_clean};
 ghost use Rattle.cache_model.specs.declared.entry.Entry.{Entry};
 ghost use Rattle.merge_engine.specs.Agreement.{Agree, Lists};
 ghost use Rattle.merge_engine.specs.Room.{FlashStandsForGiven};
 ghost use Rattle.merge_engine.specs.Steps.{HasLogRoom, HasRoomFor, dirty_groups_with};
-ghost use Rattle.ssc.specs.Commands.{FlashStandsForOne};
 ghost use Rattle.ssc.specs.Errors as errors;
 ghost use Rattle.ssc.specs.CacheState.{HasMemory, entries_of, geometry_of};
-ghost use Rattle.ssc.specs.Steps.{IsPushed, LeftOf, ListsAfter, PutsBlock, FlashStandsForEither, FlashStandsForStep};
+ghost use Rattle.ssc.specs.Steps.{IsPushed, LeavesPut, LeftOf, ListsAfter, MayStep, Programs, PutsBlock, FlashStandsForEither};
 
 use crate::error::of_media;
 use crate::{Ssc, SscError};
@@ -74,10 +70,8 @@ pub(crate) fn write_committed<M: Media>(
     block: &Block,
     dirty: bool,
 ) -> Result<(), MediaError>
-    requires agree { Agree parts.old (M.state media.old).contents }
-    requires lba { lba < parts.old.geometry.size }
+    requires may { MayStep parts.old (M.state media.old).contents lba }
     requires memory { HasMemory parts.old }
-    requires few { length parts.old.log.buffered < page_records parts.old.log.geometry }
     requires dirty { dirty ≡ true → HasRoomFor parts.old.geometry parts.old.map.entries lba }
     ensures geometry { parts.new.geometry ≡ parts.old.geometry }
     ensures agree { OnOk result (Agree parts.new (M.state media.new).contents) }
@@ -85,20 +79,12 @@ pub(crate) fn write_committed<M: Media>(
     ensures lists { OnOk result ((list durable : CacheList) → Lists parts.old (M.state media.old).contents.flash.page list durable
         → (v : CacheList) × LeftOf parts.old list v × Lists parts.new (M.state media.new).contents.flash.page
         (insert v lba (written_block lba block.now dirty)) (insert v lba (written_block lba block.now dirty))) }
-    // Whatever is answered, and wherever power went off.
-    ensures stands { (list durable : CacheList) → Lists parts.old (M.state media.old).contents.flash.page list durable
-        → FlashStandsForStep parts.old.geometry (M.state media.new).contents.flash.page durable list
-        (λ s. insert s lba (written_block lba block.now dirty)) }
-    // Where a log block can be had without a merge nothing gives way, whatever is answered.
-    ensures kept { HasLogRoom parts.old → (list durable : CacheList) → Lists parts.old (M.state media.old).contents.flash.page list durable
-        → FlashStandsForOne parts.old.geometry (M.state media.new).contents.flash.page durable list
-        (insert list lba (written_block lba block.now dirty)) }
+    ensures leaves { LeavesPut parts.old (M.state media.old).contents.flash.page (M.state media.new).contents.flash.page lba
+        (written_block lba block.now dirty) }
     ensures two_programs { OnOk result (1 ≤ parts.old.logs.room → parts.old.log.next < log_pages parts.old.geometry
         → (M.state media.new).counts ≡ program_counted (program_counted (M.state media.old).counts)) }
-    ensures programs { OnOk result (Rose (M.state media.old).counts.programs (M.state media.new).counts.programs) }
-    ensures spends { OnOk result (Spends 2 (M.state media.old) (M.state media.new)) }
-    ensures memory { IsErrOf result MediaError.OutOfMemory → ⊥ }
-    ensures drives { DrivesFlash (M.state media.old) (M.state media.new) (failed result) (lost result) }
+    ensures programs { OnOk result (Programs 2 (M.state media.old) (M.state media.new)) }
+    ensures drives { OnlyDrives (M.state media.old) (M.state media.new) result }
 {
     write_page(parts, media, lba, block, dirty)?;
     commit(parts, media)
@@ -111,29 +97,19 @@ pub(crate) fn write_buffered<M: Media>(
     lba: u64,
     block: &Block,
 ) -> Result<(), MediaError>
-    requires agree { Agree parts.old (M.state media.old).contents }
-    requires lba { lba < parts.old.geometry.size }
+    requires may { MayStep parts.old (M.state media.old).contents lba }
     requires memory { HasMemory parts.old }
-    requires few { length parts.old.log.buffered < page_records parts.old.log.geometry }
     ensures geometry { parts.new.geometry ≡ parts.old.geometry }
     ensures agree { OnOk result (Agree parts.new (M.state media.new).contents) }
     ensures few { OnOk result (length parts.new.log.buffered < page_records parts.new.log.geometry) }
     ensures lists { OnOk result ((list durable : CacheList) → Lists parts.old (M.state media.old).contents.flash.page list durable
         → PutsBlock parts.old lba (written_block lba block.now false) parts.new (M.state media.new).contents.flash.page durable list) }
-    // Whatever is answered, and wherever power went off.
-    ensures stands { (list durable : CacheList) → Lists parts.old (M.state media.old).contents.flash.page list durable
-        → FlashStandsForStep parts.old.geometry (M.state media.new).contents.flash.page durable list
-        (λ s. insert s lba (written_block lba block.now false)) }
-    // Where a log block can be had without a merge nothing gives way, whatever is answered.
-    ensures kept { HasLogRoom parts.old → (list durable : CacheList) → Lists parts.old (M.state media.old).contents.flash.page list durable
-        → FlashStandsForOne parts.old.geometry (M.state media.new).contents.flash.page durable list
-        (insert list lba (written_block lba block.now false)) }
+    ensures leaves { LeavesPut parts.old (M.state media.old).contents.flash.page (M.state media.new).contents.flash.page lba
+        (written_block lba block.now false) }
     ensures one_program { OnOk result (1 ≤ parts.old.logs.room → length parts.old.log.buffered + 2 ≤ page_records parts.old.log.geometry
         → IsPushed parts.old lba false parts.new × ((M.state media.new).counts ≡ program_counted (M.state media.old).counts)) }
-    ensures programs { OnOk result (Rose (M.state media.old).counts.programs (M.state media.new).counts.programs) }
-    ensures spends { OnOk result (Spends 1 (M.state media.old) (M.state media.new)) }
-    ensures memory { IsErrOf result MediaError.OutOfMemory → ⊥ }
-    ensures drives { DrivesFlash (M.state media.old) (M.state media.new) (failed result) (lost result) }
+    ensures programs { OnOk result (Programs 1 (M.state media.old) (M.state media.new)) }
+    ensures drives { OnlyDrives (M.state media.old) (M.state media.new) result }
 {
     write_page(parts, media, lba, block, false)?;
     commit_if_full(parts, media)
@@ -147,10 +123,8 @@ fn write_page<M: Media>(
     block: &Block,
     dirty: bool,
 ) -> Result<(), MediaError>
-    requires agree { Agree parts.old (M.state media.old).contents }
-    requires lba { lba < parts.old.geometry.size }
+    requires may { MayStep parts.old (M.state media.old).contents lba }
     requires memory { HasMemory parts.old }
-    requires few { length parts.old.log.buffered < page_records parts.old.log.geometry }
     requires dirty { dirty ≡ true → HasRoomFor parts.old.geometry parts.old.map.entries lba }
     ensures geometry { parts.new.geometry ≡ parts.old.geometry }
     ensures agree { OnOk result (Agree parts.new (M.state media.new).contents) }
@@ -165,10 +139,8 @@ fn write_page<M: Media>(
     // Where the open log block has a page left: one program, and all that was buffered is.
     ensures one_program { OnOk result (1 ≤ parts.old.logs.room → IsPushed parts.old lba dirty parts.new
         × ((M.state media.new).counts ≡ program_counted (M.state media.old).counts)) }
-    ensures programs { OnOk result (Rose (M.state media.old).counts.programs (M.state media.new).counts.programs) }
-    ensures spends { OnOk result (Spends 1 (M.state media.old) (M.state media.new)) }
-    ensures memory { IsErrOf result MediaError.OutOfMemory → ⊥ }
-    ensures drives { DrivesFlash (M.state media.old) (M.state media.new) (failed result) (lost result) }
+    ensures programs { OnOk result (Programs 1 (M.state media.old) (M.state media.new)) }
+    ensures drives { OnlyDrives (M.state media.old) (M.state media.new) result }
 {
     let place = append(parts, media, lba, block)?;
     put_page(parts, lba, place, dirty);
@@ -181,9 +153,7 @@ pub(crate) fn take_out<M: Media>(
     media: &mut M,
     lba: u64,
 ) -> Result<(), MediaError>
-    requires agree { Agree parts.old (M.state media.old).contents }
-    requires lba { lba < parts.old.geometry.size }
-    requires few { length parts.old.log.buffered < page_records parts.old.log.geometry }
+    requires may { MayStep parts.old (M.state media.old).contents lba }
     ensures geometry { parts.new.geometry ≡ parts.old.geometry }
     ensures reserved { HasMemory parts.old → HasMemory parts.new }
     ensures agree { OnOk result (Agree parts.new (M.state media.new).contents) }
@@ -195,8 +165,7 @@ pub(crate) fn take_out<M: Media>(
         → FlashStandsForEither parts.old.geometry (M.state media.new).contents.flash.page durable (evicted lba list) }
     ensures one_program { OnOk result (parts.old.log.next < log_pages parts.old.geometry
         → (M.state media.new).counts ≡ program_counted (M.state media.old).counts) }
-    ensures memory { IsErrOf result MediaError.OutOfMemory → ⊥ }
-    ensures drives { DrivesFlash (M.state media.old) (M.state media.new) (failed result) (lost result) }
+    ensures drives { OnlyDrives (M.state media.old) (M.state media.new) result }
 {
     put_out(parts, lba);
     commit(parts, media)
@@ -208,9 +177,7 @@ pub(crate) fn mark_clean<M: Media>(
     media: &mut M,
     lba: u64,
 ) -> Result<(), MediaError>
-    requires agree { Agree parts.old (M.state media.old).contents }
-    requires lba { lba < parts.old.geometry.size }
-    requires few { length parts.old.log.buffered < page_records parts.old.log.geometry }
+    requires may { MayStep parts.old (M.state media.old).contents lba }
     ensures geometry { parts.new.geometry ≡ parts.old.geometry }
     ensures reserved { HasMemory parts.old → HasMemory parts.new }
     ensures agree { OnOk result (Agree parts.new (M.state media.new).contents) }
@@ -222,8 +189,7 @@ pub(crate) fn mark_clean<M: Media>(
     ensures stands { (list durable : CacheList) → Lists parts.old (M.state media.old).contents.flash.page list durable
         → FlashStandsForEither parts.old.geometry (M.state media.new).contents.flash.page durable (made_clean lba list) }
     ensures no_write { length parts.old.log.buffered + 2 ≤ page_records parts.old.log.geometry → M.state media.new ≡ M.state media.old }
-    ensures memory { IsErrOf result MediaError.OutOfMemory → ⊥ }
-    ensures drives { DrivesFlash (M.state media.old) (M.state media.new) (failed result) (lost result) }
+    ensures drives { OnlyDrives (M.state media.old) (M.state media.new) result }
 {
     put_clean(parts, lba);
     commit_if_full(parts, media)
@@ -242,8 +208,7 @@ fn commit_if_full<M: Media>(parts: &mut Parts, media: &mut M) -> Result<(), Medi
         → FlashStandsForEither parts.old.geometry (M.state media.new).contents.flash.page durable list }
     ensures no_write { length parts.old.log.buffered < page_records parts.old.log.geometry → IsOk result × (parts.new ≡ parts.old)
         × (M.state media.new ≡ M.state media.old) }
-    ensures memory { IsErrOf result MediaError.OutOfMemory → ⊥ }
-    ensures drives { DrivesFlash (M.state media.old) (M.state media.new) (failed result) (lost result) }
+    ensures drives { OnlyDrives (M.state media.old) (M.state media.new) result }
 {
     if parts.log.buffered() < 127 {
         return Ok(());

@@ -32,15 +32,15 @@ use Rattle.ssc.specs.Commands.{ImagesOf, FlashStandsForOne, AsUndone, AsBefore, 
 use Rattle.ssc.specs.Errors.{ssc_failed, ssc_lost, stops}
 use Rattle.cached_disk.specs.declared.disk.CachedDisk.{CachedDisk}
 use Rattle.cached_disk.specs.Errors.{IsOfCache}
-use Rattle.cached_disk.specs.Kept.{IsBeneath, IsDirtyIn, IsHeld, IsLeft, MayUndo, dirty_of, is_down, told_of}
+use Rattle.cached_disk.specs.Kept.{IsBeneath, IsDirtyIn, IsHeld, IsLeft, MayUndo, dirty_of, is_down, told_of, WritesDisk}
 use Rattle.cached_disk.proofs.DiskLemmas.{IsOver, one_value, over_stands}
 use Rattle.cached_disk.proofs.StepLemmas.{IsSameOver, over_same, undo_agrees}
 use Rattle.cached_disk.proofs.HeldLemmas.{Stays, both, down_left, drove, goes_on, held_left, held_over, held_stands, step_beneath, step_over, stopped_down, undone_over}
 use Rattle.cached_disk.proofs.CallLemmas.{gives_up}
-use Rattle.write_back.specs.Left.{WritesDisk, in_group, out_of_group}
+use Rattle.write_back.specs.Left.{in_group, out_of_group}
 use Rattle.write_back.specs.Cleaning.{IsFlushed, IsOnDisk, Proceeds, is_among}
 use Rattle.cached_disk.proofs.AddressLemmas.{holds_held, holds_lbas, holds_within, lbas_group, lbas_without}
-use Rattle.write_back.proofs.PartLemmas.{Answer, Answers, Refuses, answers_drive, proceeds_down, proceeds_refused, proceeds_then, refuses_drive, writes_nothing}
+use Rattle.write_back.proofs.PartLemmas.{Answer, Answers, Refuses, answers_drive, proceeds_as, proceeds_down, proceeds_refused, proceeds_then, refuses_drive, writes_nothing}
 use Rattle.write_back.proofs.CopyLemmas.{dirty_is, holds_one, is_dirty}
 
 -- ---- an address that is made clean
@@ -157,7 +157,7 @@ module _ (v : CachedDisk) (k : Ssc) (s t : State) (list : CacheList) (lba : ℕ)
       mode = refl;
       reserved = reserved;
       held = λ now a. holds_held k t.contents after_clean holds a ∙ cleaned_held lba list a ∙ sym (holds_held v.cache s.contents list is.holds a);
-      goes = record {
+      goes = λ before_order after_order. record {
         told = refl;
         up = up;
         lost = λ on is. absurd (cc);
@@ -354,6 +354,9 @@ pub back_refused : (v w : CachedDisk) (r : Answer) → OnErr r (is_down w ≡ tr
 back_refused v w (Ok done) down = tt
 back_refused v w (Err e) down = λ up. absurd (both (is_down w) down up)
 
+pub copy_failed : (v a : CachedDisk) (s t : State) (lbas items listed : List ℕ) → lbas ≡ items → items ≡ listed → (e : VolumeError) (r : Answer) → r ≡ Err e → Proceeds (length lbas) v a s t (Err e) → Proceeds (length listed) v a s t r
+copy_failed v a s t lbas items listed are own e r is refused = proceeds_as (length listed) v a s t e r is (subst (λ (l : List ℕ). Proceeds (length l) v a s t (Err e)) (are ∙ own) refused)
+
 module _ (v a b : CachedDisk) (s t u : State) (lbas items listed : List ℕ) (are : lbas ≡ items) (own : items ≡ listed) (copied : Proceeds (length lbas) v a s t (Ok tt)) where
   all_copied : Proceeds (length listed) v a s t (Ok tt)
   all_copied = subst (λ (l : List ℕ). Proceeds (length l) v a s t (Ok tt)) (are ∙ own) copied
@@ -368,6 +371,6 @@ module _ (v a b : CachedDisk) (s t u : State) (lbas items listed : List ℕ) (ar
 pub back_cleaned : (m : ℕ) (v b w : CachedDisk) (s x : State) (r : Answer) (p n : ℕ) (lbas items : List ℕ) (left : IsLeft v s.contents) → is_down v ≡ false → b ≡ record v { down = b.down } → lbas ≡ items → items ≡ in_group p n (dirty_of v) → Proceeds m v w s x r
     → OnOk r ((a : ℕ) → is_among (dirty_of w) a ≡ (is_among (dirty_of b) a && not (is_among lbas a))) → OnOk r (dirty_of w ≡ out_of_group p n (dirty_of v))
 back_cleaned m v b w s x (Ok done) p n lbas items left up same are own whole cleaned =
-    group_cleaned v w s.contents x.contents left.held whole.left.held p n (left.up up) (whole.left.up whole.goes.up)
+    group_cleaned v w s.contents x.contents left.held whole.left.held p n (left.up up) (whole.left.up (whole.goes [] []).up)
     (λ a. cleaned a ∙ ap₂ (λ (dirty listed : List ℕ). is_among dirty a && not (is_among listed a)) (ap (λ (k : CachedDisk). dirty_of k) same) (are ∙ own))
 back_cleaned m v b w s x (Err e) p n lbas items left up same are own whole cleaned = tt

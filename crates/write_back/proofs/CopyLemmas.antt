@@ -32,11 +32,10 @@ use Rattle.ssc.specs.Commands.{ReadOf}
 use Rattle.ssc.specs.Errors.{ssc_failed, ssc_lost}
 use Rattle.cached_disk.specs.declared.disk.CachedDisk.{CachedDisk}
 use Rattle.cached_disk.specs.Errors.{IsOfCache, disk_error}
-use Rattle.cached_disk.specs.Kept.{IsBeneath, IsDirtyIn, IsHeld, IsLeft, dirty_of, is_down, told_of}
+use Rattle.cached_disk.specs.Kept.{IsBeneath, IsDirtyIn, IsHeld, IsLeft, dirty_of, is_down, told_of, WritesDisk}
 use Rattle.cached_disk.proofs.DiskLemmas.{IsOver, over_stands}
 use Rattle.cached_disk.proofs.StepLemmas.{over_same, undo_agrees, undo_same}
 use Rattle.cached_disk.proofs.HeldLemmas.{down_left, held_beneath, held_left, held_over}
-use Rattle.write_back.specs.Left.{WritesDisk}
 use Rattle.write_back.specs.Cleaning.{IsFlushed, IsOnDisk, Proceeds, is_among}
 use Rattle.cached_disk.proofs.AddressLemmas.{has_lba, holds_lbas, holds_within, lbas_dirty, lbas_has}
 use Rattle.write_back.proofs.PartLemmas.{Answers, CallsDisk, answers_disk, answers_read, lacks_memory, proceeds_down, proceeds_then, refuses_disk, refuses_read, writes_nothing, writes_one}
@@ -171,7 +170,7 @@ module _ (v : CachedDisk) (k : Ssc) (same : k ≡ v.cache) (s t : State) (n : �
     mode = refl;
     reserved = refl;
     held = λ now a. refl;
-    goes = record {
+    goes = λ before_order after_order. record {
       told = refl;
       up = up;
       lost = λ on is. absurd (cc);

@@ -26,9 +26,8 @@ use Rattle.ssc.specs.declared.error.SscError.TheVariants.{Full, FlashFault, Powe
 use Rattle.ssc.specs.Errors.{ssc_failed, ssc_lost}
 use Rattle.cached_disk.specs.declared.disk.CachedDisk.{CachedDisk}
 use Rattle.cached_disk.specs.Errors.{IsOfCache, disk_error}
-use Rattle.cached_disk.specs.Kept.{IsLeft, is_down, state_in, told_of}
+use Rattle.cached_disk.specs.Kept.{IsLeft, is_down, state_in, told_of, WritesDisk}
 use Rattle.cached_disk.proofs.HeldLemmas.{both}
-use Rattle.write_back.specs.Left.{WritesDisk}
 use Rattle.write_back.specs.Cleaning.{Proceeds}
 
 abbrev pub Answer : Type 0
@@ -61,27 +60,27 @@ writes_first s t u m n k r sum first then = record {
     by_result (Err e) rose = tt
 
 module _ (a b c : CachedDisk) (s t u : State) (m n : ℕ) (first : Proceeds m a b s t (Ok tt)) where
-  goes_first : (r : Answer) → Goes (state_in [] b) (state_in [] c) t u r → FaultDowns r (is_down c) → Goes (state_in [] a) (state_in [] c) s u r
-  goes_first r then downs = record {
-    told = then.told ∙ first.goes.told;
+  goes_first : (was is : List ℕ) (r : Answer) → Goes (state_in [] b) (state_in is c) t u r → FaultDowns r (is_down c) → Goes (state_in was a) (state_in is c) s u r
+  goes_first was is r then downs = let before = first.goes was [] in record {
+    told = then.told ∙ before.told;
     up = then.up;
-    lost = λ on is. then.lost (first.goes.passes.stayed on refl).on is;
-    memory = λ is was. then.memory is first.goes.up;
-    ready = λ up b there. then.ready up b (first.goes.ready first.goes.up b there);
+    lost = λ on is. then.lost (before.passes.stayed on refl).on is;
+    memory = λ is was. then.memory is before.up;
+    ready = λ up b there. then.ready up b (before.ready before.up b there);
     disk = λ is was up. absurd (both (is_down c) (downs.disk is) up);
-    cause = cause_first s.faults t.faults u.faults r first.goes.cause then.cause;
-    passes = passes_then s t u (volume_lost r) first.goes.passes then.passes;
+    cause = cause_first s.faults t.faults u.faults r before.cause then.cause;
+    passes = passes_then s t u (volume_lost r) before.passes then.passes;
   }
 
   joined : (k : ℕ) (r : Answer) → WritesDisk k s u r → Proceeds n b c t u r → Proceeds k a c s u r
   joined k r writes then = record {
     left = then.left;
-    stands = λ d stand. subst (λ (x : Told). StandFor (ImageIs x) u.contents d) first.goes.told (then.stands d (subst (λ (x : Told). StandFor (ImageIs x) t.contents d) (sym first.goes.told) (first.stands d stand)));
+    stands = λ d stand. subst (λ (x : Told). StandFor (ImageIs x) u.contents d) (first.goes [] []).told (then.stands d (subst (λ (x : Told). StandFor (ImageIs x) t.contents d) (sym (first.goes [] []).told) (first.stands d stand)));
     options = then.options ∙ first.options;
     mode = then.mode ∙ first.mode;
     reserved = then.reserved ∙ first.reserved;
-    held = λ up x. then.held up x ∙ first.held first.goes.up x;
-    goes = goes_first r then.goes then.faulted;
+    held = λ up x. then.held up x ∙ first.held (first.goes [] []).up x;
+    goes = λ was is. goes_first was is r (then.goes [] is) then.faulted;
     faulted = then.faulted;
     writes = writes;
     within = then.within;
@@ -101,10 +100,6 @@ module _ (a b c : CachedDisk) (s t u : State) (m n : ℕ) (first : Proceeds m a 
 pub proceeds_as : (n : ℕ) (a b : CachedDisk) (s t : State) (e : VolumeError) (r : Answer) → r ≡ Err e → Proceeds n a b s t (Err e) → Proceeds n a b s t r
 proceeds_as n a b s t e r is first = subst (λ (q : Answer). Proceeds n a b s t q) (sym is) first
 
--- in whatever order the groups are told
-pub goes_in : (was is : List ℕ) (a b : CachedDisk) (s t : State) (r : Answer) → Goes (state_in [] a) (state_in [] b) s t r → Goes (state_in was a) (state_in is b) s t r
-goes_in was is a b s t r goes = record { told = goes.told; up = goes.up; lost = goes.lost; memory = goes.memory; ready = goes.ready; disk = goes.disk; cause = goes.cause; passes = goes.passes }
-
 pub same_then : (a b c : CachedDisk) → b ≡ record a { down = b.down } → c ≡ record b { down = c.down } → c ≡ record a { down = c.down }
 same_then a b c first then = then ∙ ap (λ (w : CachedDisk). record w { down = c.down }) first
 
@@ -119,7 +114,7 @@ module _ (v : CachedDisk) (s : State) (up : is_down v ≡ false) (left : IsLeft 
     mode = refl;
     reserved = refl;
     held = λ now a. refl;
-    goes = record {
+    goes = λ before_order after_order. record {
       told = refl;
       up = up;
       lost = λ on is. absurd (cc);
@@ -142,7 +137,7 @@ module _ (v : CachedDisk) (s : State) (up : is_down v ≡ false) (left : IsLeft 
     mode = refl;
     reserved = refl;
     held = λ now a. refl;
-    goes = record {
+    goes = λ before_order after_order. record {
       told = refl;
       up = tt;
       lost = λ on is. absurd (cc);
@@ -303,7 +298,7 @@ module _ (v : CachedDisk) (k : Ssc) (d : Bool) (s t : State) (r : VolumeError) w
     mode = refl;
     reserved = reserved;
     held = λ up a. absurd (both (is_down refused_disk) down up);
-    goes = record {
+    goes = λ before_order after_order. record {
       told = refl;
       up = tt;
       lost = λ on is. down;

@@ -20,13 +20,13 @@ use Rattle.merge_engine.proofs.TakeLemmas.{agree_map}
 use Rattle.dirty_table.specs.Groups.{Groups, groups_in_order, has, touched}
 use Rattle.ssc.specs.CacheState.{Holds, entries_of}
 use Rattle.cached_disk.specs.declared.disk.CachedDisk.{CachedDisk}
-use Rattle.cached_disk.specs.Kept.{IsOrderOf, Loads, dirty_of, is_down, waiting_in}
+use Rattle.cached_disk.specs.Kept.{IsOrderOf, Loads, dirty_of, is_down, waiting_in, WritesDisk}
 use Rattle.cached_disk.specs.Kept as kept
 use Rattle.cached_disk.proofs.AddressLemmas.{IsAscending, holds_lbas, holds_within, lbas_ascending, lbas_between}
 use Rattle.cached_disk.proofs.HeldLemmas.{one_held}
 use Rattle.cached_disk.proofs.OpenedLemmas.{given_up_left}
 use Rattle.write_back.specs.declared.volume.WriteBack.{WriteBack}
-use Rattle.write_back.specs.Left.{IsExact, IsLeft, IsTable, WritesDisk, state_of}
+use Rattle.write_back.specs.Left.{IsExact, IsLeft, IsTable, state_of}
 use Rattle.write_back.proofs.TableLemmas.{IsTableSoFar, few_lbas, length_waiting, so_far_exact, so_far_more, so_far_none, so_far_order, so_far_room}
 
 -- ---- the table of a cache

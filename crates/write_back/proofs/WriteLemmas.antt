@@ -44,7 +44,7 @@ use Rattle.ssc.specs.declared.error.SscError.TheVariants.{Full, OutOfMemory}
 use Rattle.ssc.specs.Commands.{FullExactly, HoldsWritten, ImagesOfWrite, FlashStandsForWrite, AsUndone, AsLeft, AsWritten}
 use Rattle.ssc.specs.Errors.{stops}
 use Rattle.cached_disk.specs.declared.disk.CachedDisk.{CachedDisk}
-use Rattle.cached_disk.specs.Kept.{IsBeneath, IsDirtyIn, IsHeld, MayUndo, dirty_of, is_down, told_of, waiting_in}
+use Rattle.cached_disk.specs.Kept.{IsBeneath, IsDirtyIn, IsHeld, MayUndo, dirty_of, is_down, told_of, waiting_in, WritesDisk}
 use Rattle.cached_disk.specs.Kept as kept
 use Rattle.cached_disk.proofs.AddressLemmas.{holds_held, holds_lbas, holds_within, lbas_ascending, lbas_dirty, lbas_in, lbas_with, written_held}
 use Rattle.cached_disk.proofs.CallLemmas.{answered_write, gives_up, refused_same, refused_write}
@@ -52,7 +52,7 @@ use Rattle.cached_disk.proofs.DiskLemmas.{IsOver, over_stands}
 use Rattle.cached_disk.proofs.HeldLemmas.{Stays, both, down_left, drove, held_beneath, held_left, held_over, held_stands, step_beneath, step_held, step_over, stopped_down, undone, undone_over}
 use Rattle.cached_disk.proofs.StepLemmas.{over_same, vanish_agrees, vanish_dirty, vanish_same, vanish_was, written_agrees, written_dirty-keeps, written_here, written_over, written_was}
 use Rattle.write_back.specs.declared.volume.WriteBack.{WriteBack}
-use Rattle.write_back.specs.Left.{IsExact, IsLeft, IsTable, WritesDisk, out_of_group, state_of}
+use Rattle.write_back.specs.Left.{IsExact, IsLeft, IsTable, out_of_group, state_of}
 use Rattle.write_back.specs.Writing.{HasTableRoom, backs_made, room_made}
 use Rattle.write_back.proofs.TableLemmas.{map_twice, exact_touched, exact_without, few_exact, few_lbas, full_waiting, length_waiting, not_full_exact, put_waiting, touched_apart, without_apart}
 use Rattle.cached_disk.proofs.ReadLemmas.{on_ok_of}

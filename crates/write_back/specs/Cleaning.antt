@@ -14,8 +14,7 @@ use Rattle.ft_volume.specs.declared.volume.VolumeError.TheVariants.{OutOfVolume}
 use Rattle.cache_model.specs.CacheList.{CacheList, Held}
 use Rattle.ssc.specs.CacheState.{Holds, entries_of}
 use Rattle.cached_disk.specs.declared.disk.CachedDisk.{CachedDisk}
-use Rattle.cached_disk.specs.Kept.{IsLeft, is_down, state_in, told_of}
-use Rattle.write_back.specs.Left.{WritesDisk}
+use Rattle.cached_disk.specs.Kept.{IsLeft, is_down, state_in, told_of, WritesDisk}
 
 -- the address is one of these
 abbrev pub is_among : List ℕ → ℕ → Bool
@@ -37,7 +36,7 @@ pub record Proceeds (n : ℕ) (old new : CachedDisk) (before after : State) (res
   pub mode : new.mode ≡ old.mode
   pub reserved : new.cache.ready ≡ old.cache.ready
   pub held : is_down new ≡ false → (a : ℕ) → is_some (get (entries_of new.cache) a) ≡ is_some (get (entries_of old.cache) a)
-  pub goes : Goes (state_in [] old) (state_in [] new) before after result
+  pub goes : (was is : List ℕ) → Goes (state_in was old) (state_in is new) before after result
   pub faulted : FaultDowns result (is_down new)
   pub writes : WritesDisk n before after result
   pub within : IsErrOf result OutOfVolume → ⊥

@@ -1,13 +1,13 @@
 -- What a volume is that writes back, and what it leaves on its media.
-use Rattle.std.specs.Prelude.{◌≡◌, ◌≤◌, ◌+◌, ◌/◌, ◌==◌, not, ℕ, true, false, List, filter, Result, OnOk}
+use Rattle.std.specs.Prelude.{◌≡◌, ◌<◌, ◌/◌, ◌==◌, not, ℕ, true, false, List, filter, Result, IsErrOf}
 use Rattle.std.specs.List.{list_any}
 use Rattle.ft_base.specs.Contents.{Contents}
-use Rattle.ft_base.specs.Count.{RoseBy}
 use Rattle.ft_base.specs.declared.geometry.Geometry.{Geometry}
 use Rattle.ft_base.specs.declared.told.Mode.TheVariants.{Back}
 use Rattle.ft_media.specs.State.{State}
-use Rattle.ft_volume.specs.Volume.{VolumeState}
+use Rattle.ft_volume.specs.Volume.{FaultDowns, Goes, VolumeState}
 use Rattle.ft_volume.specs.declared.volume.VolumeError.{VolumeError}
+use Rattle.ft_volume.specs.declared.volume.VolumeError.TheVariants.{OutOfVolume}
 use Rattle.cache_model.specs.Cache.{AreApart}
 use Rattle.dirty_table.specs.Groups.{Groups, has}
 use Rattle.cached_disk.specs.Kept.{dirty_of, state_in}
@@ -42,8 +42,15 @@ in_group p n lbas = filter (λ a. a / p == n) lbas
 abbrev pub out_of_group : ℕ → ℕ → List ℕ → List ℕ
 out_of_group p n lbas = filter (λ a. not (a / p == n)) lbas
 
--- with Ok so many blocks were written to the disk; else no more; and none was read from it
-pub record WritesDisk (n : ℕ) (before after : State) (result : Result (Unit {0}) VolumeError) : Type 0 where
-  pub exact : OnOk result (RoseBy n before.counts.disk_writes after.counts.disk_writes)
-  pub most : after.counts.disk_writes ≤ before.counts.disk_writes + n
-  pub reads : after.counts.disk_reads ≡ before.counts.disk_reads
+-- the volume is up, and the address is one of its own
+pub record MayWrite (v : WriteBack) (contents : Contents) (a : ℕ) : Type 0 where
+  pub left : IsLeft v contents
+  pub up : kept.is_down v.disk ≡ false
+  pub lba : a < v.disk.options.geometry.size
+
+-- a step over the volume: what it leaves, whatever it answers
+pub record Steps {T : Type 0} (old new : WriteBack) (before after : State) (result : Result T VolumeError) : Type 0 where
+  pub left : IsLeft new after.contents
+  pub goes : Goes (state_of old) (state_of new) before after result
+  pub faulted : FaultDowns result (kept.is_down new.disk)
+  pub within : IsErrOf result OutOfVolume → ⊥

@@ -1,17 +1,10 @@
-ghost use Rattle.std.specs.Prelude.{◌≡◌, ◌<◌, ◌==◌, ◌*◌, ℕ, List, true, false, not, ◌&&◌, length, OnOk, OnErr, IfOk, IsErrOf};
-ghost use Rattle.std.specs.FinMap.{get};
-ghost use Rattle.std.specs.Option.{is_some};
+ghost use Rattle.std.specs.Prelude.{◌≡◌, ◌<◌, ◌==◌, ◌*◌, ℕ, List, true, false, not, ◌&&◌, length, OnOk, OnErr, IfOk};
 ghost use Rattle.ft_base.specs.Contents.{Contents};
-ghost use Rattle.ft_base.specs.PlainDisk.{PlainDisk};
 ghost use Rattle.ft_base.specs.declared.told.Mode.TheVariants.{Back};
-ghost use Rattle.ft_volume.specs.Opening.{ImageIs};
-ghost use Rattle.ft_volume.specs.Volume.{FaultDowns, Goes};
-ghost use Rattle.ft_volume.specs.Standing.{StandFor};
-ghost use Rattle.ssc.specs.CacheState.{entries_of};
-ghost use Rattle.cached_disk.specs.Kept.{IsLeft, dirty_of, state_in, told_of};
+ghost use Rattle.cached_disk.specs.Kept.{IsLeft, dirty_of};
 ghost use Rattle.cached_disk.specs.Kept as kept;
 ghost use Rattle.write_back.specs.Cleaning.{IsFlushed, IsOnDisk, Proceeds, is_among};
-ghost use Rattle.write_back.specs.Left.{WritesDisk, in_group, out_of_group};
+ghost use Rattle.write_back.specs.Left.{in_group, out_of_group};
 
 use cached_disk::{CachedDisk, cache_error, disk_error};
 use ft_base::{Block, zero_block};
@@ -30,20 +23,10 @@ pub(crate) fn write_group_back<M: Media>(
     requires up { kept.is_down disk.old ≡ false }
     requires back { disk.old.mode ≡ Back }
     requires group { group * disk.old.options.geometry.p < disk.old.options.geometry.size }
-    ensures left { IsLeft disk.new (M.state media.new).contents }
-    ensures stands { (d : PlainDisk) → StandFor (ImageIs (told_of disk.old)) (M.state media.old).contents d
-        → StandFor (ImageIs (told_of disk.old)) (M.state media.new).contents d }
-    ensures made { (disk.new.options ≡ disk.old.options) × (disk.new.mode ≡ disk.old.mode) }
-    ensures ready { disk.new.cache.ready ≡ disk.old.cache.ready }
+    ensures proceeds { Proceeds (length (in_group disk.old.options.geometry.p group (dirty_of disk.old))) disk.old disk.new
+        (M.state media.old) (M.state media.new) result }
     ensures cleaned { OnOk result (dirty_of disk.new ≡ out_of_group disk.old.options.geometry.p group (dirty_of disk.old)) }
     ensures dirty { OnErr result (kept.is_down disk.new ≡ false → dirty_of disk.new ≡ dirty_of disk.old) }
-    ensures held { kept.is_down disk.new ≡ false → (a : ℕ)
-        → is_some (get (entries_of disk.new.cache) a) ≡ is_some (get (entries_of disk.old.cache) a) }
-    ensures goes { (was is : List ℕ) → Goes (state_in was disk.old) (state_in is disk.new) (M.state media.old) (M.state media.new) result }
-    ensures faulted { FaultDowns result (kept.is_down disk.new) }
-    ensures writes { WritesDisk (length (in_group disk.old.options.geometry.p group (dirty_of disk.old))) (M.state media.old)
-        (M.state media.new) result }
-    ensures within { IsErrOf result VolumeError.OutOfVolume → ⊥ }
 {
     let Ok(lbas) = dirty_in_group(disk, group) else {
         return Err(VolumeError::OutOfMemory);

@@ -6,18 +6,18 @@ ghost use Rattle.ft_base.specs.PlainDisk.{PlainDisk};
 ghost use Rattle.ft_media.specs.Fitted.{KeepsReady};
 ghost use Rattle.ft_media.specs.Passes.{Passes};
 ghost use Rattle.ft_volume.specs.Opening.{ImageIs, IsNewestOnDisk, IsOpened, MayOpen, Opens, nothing_held};
-ghost use Rattle.ft_volume.specs.Volume.{ComesUp, Costs, FaultDowns, Goes, HasCause, Idles, WasDone, idled_of, told_for, volume_lost};
+ghost use Rattle.ft_volume.specs.Volume.{ComesUp, Costs, HasCause, Idles, WasDone, idled_of, told_for, volume_lost};
 ghost use Rattle.ft_volume.specs.Standing.{StandFor};
 ghost use Rattle.cache_model.specs.CacheList.{CacheList};
 ghost use Rattle.cache_model.specs.Loading.{load};
 ghost use Rattle.cache_model.specs.Stands.{FlashStandsFor};
 ghost use Rattle.op_log.specs.Log.{FitsOn};
-ghost use Rattle.op_log.specs.Refusals.{open_failed, open_lost};
+ghost use Rattle.op_log.specs.Refusals.{open_lost};
 ghost use Rattle.ssc.specs.CacheState.{entries_of};
-ghost use Rattle.cached_disk.specs.Errors.{CausedBy, IsOpenRefusal, disk_failed};
-ghost use Rattle.cached_disk.specs.Kept.{IsVolume, Loads};
+ghost use Rattle.cached_disk.specs.Errors.{IsOpenRefusal, disk_failed};
+ghost use Rattle.cached_disk.specs.Kept.{IsVolume, Loads, OnlyOpens};
 ghost use Rattle.cached_disk.specs.Kept as kept;
-ghost use Rattle.write_back.specs.Left.{IsLeft, state_of};
+ghost use Rattle.write_back.specs.Left.{IsLeft, Steps, state_of};
 ghost use Rattle.write_back.specs.Left as left;
 
 use crate::tables::dirty_table_of;
@@ -90,12 +90,7 @@ impl WriteBack {
         ensures loads { IfOk result (λ v. load options.now.geometry (R.state rig.old).contents.flash.page ≡ Ok (entries_of v.disk.cache)) }
         ensures refused { IfErr result (λ e. IsOpenRefusal options.now.geometry e
             (load options.now.geometry (R.state rig.old).contents.flash.page)) }
-        ensures ready { OnOk result (KeepsReady (R.state rig.old) (R.state rig.new)) }
-        ensures disk_reads { (R.state rig.new).counts.disk_reads ≡ (R.state rig.old).counts.disk_reads }
-        ensures disk_writes { (R.state rig.new).counts.disk_writes ≡ (R.state rig.old).counts.disk_writes }
-        ensures cause { CausedBy (R.state rig.old).faults (R.state rig.new).faults (open_failed result) (disk_failed result)
-            (open_lost result) }
-        ensures passes { Passes (R.state rig.old) (R.state rig.new) (open_lost result) }
+        ensures goes { OnlyOpens (R.state rig.old) (R.state rig.new) result }
     {
         let disk = CachedDisk::open(alloc, rig, options, Mode::Back)?;
         match dirty_table_of(&disk) {
@@ -136,15 +131,12 @@ impl WriteBack {
     fn idle_up<M: Media>(&mut self, media: &mut M) -> Result<Idled, VolumeError>
         requires left { IsLeft self.old (M.state media.old).contents }
         requires up { kept.is_down self.old.disk ≡ false }
-        ensures left { IsLeft self.new (M.state media.new).contents }
+        ensures steps { Steps self.old self.new (M.state media.old) (M.state media.new) result }
         ensures was { (base : PlainDisk) → StandFor (ImageIs (state_of self.old).told) (M.state media.old).contents base
             → WasDone ImageIs Idles (state_of self.old) (state_of self.new) (M.state media.new).contents result base }
-        ensures goes { Goes (state_of self.old) (state_of self.new) (M.state media.old) (M.state media.new) result }
-        ensures faulted { FaultDowns result (kept.is_down self.new.disk) }
         ensures costs { Costs Idles (state_of self.old) (state_of self.new) (M.state media.old) (M.state media.new) result }
         ensures idled { IfOk result (λ idled. idled ≡ idled_of (state_of self.old).told (length (state_of self.old).table)
             (state_of self.old).log_room) }
-        ensures within { IsErrOf result VolumeError.OutOfVolume → ⊥ }
     {
         if self.dirty.len() <= self.disk.options.dirty {
             return self.disk.checkpoint_if_due(media);

@@ -1,11 +1,12 @@
-ghost use Rattle.std.specs.Prelude.{◌≡◌, ◌<◌, ◌/◌, ℕ, length, true, false, OnOk, IsErrOf};
+ghost use Rattle.std.specs.Prelude.{◌≡◌, ◌<◌, ◌/◌, ℕ, length, true, false, OnOk};
 ghost use Rattle.ft_base.specs.PlainDisk.{PlainDisk};
 ghost use Rattle.ft_base.specs.Table.{last_size, put_first, without_last};
 ghost use Rattle.ft_volume.specs.Opening.{ImageIs};
-ghost use Rattle.ft_volume.specs.Volume.{Costs, FaultDowns, Goes, HoldsAfter, Programs, WasDone, Writes};
+ghost use Rattle.ft_volume.specs.Volume.{Costs, HoldsAfter, Programs, WasDone, Writes};
 ghost use Rattle.ft_volume.specs.Standing.{StandFor};
 ghost use Rattle.cached_disk.specs.Kept as kept;
-ghost use Rattle.write_back.specs.Left.{IsLeft, WritesDisk, state_of};
+ghost use Rattle.cached_disk.specs.Kept.{WritesDisk};
+ghost use Rattle.write_back.specs.Left.{IsLeft, MayWrite, Steps, state_of};
 ghost use Rattle.write_back.specs.Writing.{HasTableRoom, backs_made, room_made};
 
 use crate::WriteBack;
@@ -24,18 +25,13 @@ impl WriteBack {
         lba: u64,
         block: &Block,
     ) -> Result<(), VolumeError>
-        requires left { IsLeft self.old (M.state media.old).contents }
-        requires up { kept.is_down self.old.disk ≡ false }
-        requires lba { lba < self.old.disk.options.geometry.size }
-        ensures left { IsLeft self.new (M.state media.new).contents }
+        requires may { MayWrite self.old (M.state media.old).contents lba }
+        ensures steps { Steps self.old self.new (M.state media.old) (M.state media.new) result }
         ensures was { (base : PlainDisk) → StandFor (ImageIs (state_of self.old).told) (M.state media.old).contents base
             → WasDone ImageIs (Writes lba block.now) (state_of self.old) (state_of self.new) (M.state media.new).contents result base }
-        ensures goes { Goes (state_of self.old) (state_of self.new) (M.state media.old) (M.state media.new) result }
-        ensures faulted { FaultDowns result (kept.is_down self.new.disk) }
         ensures costs { Costs (Writes lba block.now) (state_of self.old) (state_of self.new) (M.state media.old) (M.state media.new)
             result }
         ensures programs { OnOk result (Programs (M.state media.old) (M.state media.new)) }
-        ensures within { IsErrOf result VolumeError.OutOfVolume → ⊥ }
     {
         let group = lba / self.disk.options.geometry.p() as u64;
         if self.disk.cache.reserve().is_err() {
@@ -51,7 +47,7 @@ impl WriteBack {
     fn make_room<M: Media>(&mut self, media: &mut M, group: u64) -> Result<(), VolumeError>
         requires left { IsLeft self.old (M.state media.old).contents }
         requires up { kept.is_down self.old.disk ≡ false }
-        ensures left { IsLeft self.new (M.state media.new).contents }
+        ensures steps { Steps self.old self.new (M.state media.old) (M.state media.new) result }
         ensures stands { (d : PlainDisk) → StandFor (ImageIs (state_of self.old).told) (M.state media.old).contents d
             → StandFor (ImageIs (state_of self.old).told) (M.state media.new).contents d }
         ensures room { OnOk result (HasTableRoom self.new.dirty group) }
@@ -59,11 +55,8 @@ impl WriteBack {
             (state_of self.old).table) }
         ensures held { kept.is_down self.new.disk ≡ false → (a : ℕ) → (state_of self.new).held a ≡ (state_of self.old).held a }
         ensures ready { self.new.disk.cache.ready ≡ self.old.disk.cache.ready }
-        ensures goes { Goes (state_of self.old) (state_of self.new) (M.state media.old) (M.state media.new) result }
-        ensures faulted { FaultDowns result (kept.is_down self.new.disk) }
         ensures writes { WritesDisk (backs_made self.old.disk.options.geometry.c group (state_of self.old).table) (M.state media.old)
             (M.state media.new) result }
-        ensures within { IsErrOf result VolumeError.OutOfVolume → ⊥ }
     {
         if self.dirty.has(group) {
             return Ok(());
@@ -79,16 +72,13 @@ impl WriteBack {
         requires left { IsLeft self.old (M.state media.old).contents }
         requires up { kept.is_down self.old.disk ≡ false }
         requires some { 0 < length self.old.dirty.order }
-        ensures left { IsLeft self.new (M.state media.new).contents }
+        ensures steps { Steps self.old self.new (M.state media.old) (M.state media.new) result }
         ensures stands { (d : PlainDisk) → StandFor (ImageIs (state_of self.old).told) (M.state media.old).contents d
             → StandFor (ImageIs (state_of self.old).told) (M.state media.new).contents d }
         ensures table { OnOk result ((state_of self.new).table ≡ without_last (state_of self.old).table) }
         ensures held { kept.is_down self.new.disk ≡ false → (a : ℕ) → (state_of self.new).held a ≡ (state_of self.old).held a }
         ensures ready { self.new.disk.cache.ready ≡ self.old.disk.cache.ready }
-        ensures goes { Goes (state_of self.old) (state_of self.new) (M.state media.old) (M.state media.new) result }
-        ensures faulted { FaultDowns result (kept.is_down self.new.disk) }
         ensures writes { WritesDisk (last_size (state_of self.old).table) (M.state media.old) (M.state media.new) result }
-        ensures within { IsErrOf result VolumeError.OutOfVolume → ⊥ }
     {
         let Some(group) = self.dirty.oldest() else {
             unreachable!()
@@ -110,24 +100,19 @@ impl WriteBack {
         lba: u64,
         block: &Block,
     ) -> Result<(), VolumeError>
-        requires left { IsLeft self.old (M.state media.old).contents }
-        requires up { kept.is_down self.old.disk ≡ false }
-        requires lba { lba < self.old.disk.options.geometry.size }
+        requires may { MayWrite self.old (M.state media.old).contents lba }
         requires room { HasTableRoom self.old.dirty (lba / self.old.disk.options.geometry.p) }
         requires ready { self.old.disk.cache.ready ≡ true }
-        ensures left { IsLeft self.new (M.state media.new).contents }
+        ensures steps { Steps self.old self.new (M.state media.old) (M.state media.new) result }
         ensures was { (base : PlainDisk) → StandFor (ImageIs (state_of self.old).told) (M.state media.old).contents base
             → WasDone ImageIs (Writes lba block.now) (state_of self.old) (state_of self.new) (M.state media.new).contents result base }
         ensures table { OnOk result ((state_of self.new).table ≡ put_first (lba / self.old.disk.options.geometry.p) lba
             (state_of self.old).table) }
         ensures held { OnOk result (HoldsAfter (state_of self.old).told (Writes lba block.now) (state_of self.old).held
             (state_of self.new).held) }
-        ensures goes { Goes (state_of self.old) (state_of self.new) (M.state media.old) (M.state media.new) result }
-        ensures faulted { FaultDowns result (kept.is_down self.new.disk) }
         ensures disk_reads { (M.state media.new).counts.disk_reads ≡ (M.state media.old).counts.disk_reads }
         ensures disk_writes { (M.state media.new).counts.disk_writes ≡ (M.state media.old).counts.disk_writes }
         ensures programs { OnOk result (Programs (M.state media.old) (M.state media.new)) }
-        ensures within { IsErrOf result VolumeError.OutOfVolume → ⊥ }
     {
         let group = lba / self.disk.options.geometry.p() as u64;
         if self.dirty.touch(group).is_err() {

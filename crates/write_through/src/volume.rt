@@ -12,10 +12,10 @@ ghost use Rattle.cache_model.specs.CacheList.{CacheList};
 ghost use Rattle.cache_model.specs.Loading.{load};
 ghost use Rattle.cache_model.specs.Stands.{FlashStandsFor};
 ghost use Rattle.op_log.specs.Log.{FitsOn};
-ghost use Rattle.op_log.specs.Refusals.{open_failed, open_lost};
+ghost use Rattle.op_log.specs.Refusals.{open_lost};
 ghost use Rattle.ssc.specs.CacheState.{entries_of};
-ghost use Rattle.cached_disk.specs.Errors.{CausedBy, IsOpenRefusal, disk_failed};
-ghost use Rattle.cached_disk.specs.Kept.{IsVolume, Loads};
+ghost use Rattle.cached_disk.specs.Errors.{IsOpenRefusal, disk_failed};
+ghost use Rattle.cached_disk.specs.Kept.{IsVolume, Loads, OnlyOpens};
 ghost use Rattle.cached_disk.specs.Kept as kept;
 ghost use Rattle.write_through.specs.Left.{IsLeft, state_of};
 ghost use Rattle.write_through.specs.Left as left;
@@ -83,12 +83,7 @@ impl WriteThrough {
         ensures loads { IfOk result (λ v. load options.now.geometry (R.state rig.old).contents.flash.page ≡ Ok (entries_of v.disk.cache)) }
         ensures refused { IfErr result (λ e. IsOpenRefusal options.now.geometry e
             (load options.now.geometry (R.state rig.old).contents.flash.page)) }
-        ensures ready { OnOk result (KeepsReady (R.state rig.old) (R.state rig.new)) }
-        ensures disk_reads { (R.state rig.new).counts.disk_reads ≡ (R.state rig.old).counts.disk_reads }
-        ensures disk_writes { (R.state rig.new).counts.disk_writes ≡ (R.state rig.old).counts.disk_writes }
-        ensures cause { CausedBy (R.state rig.old).faults (R.state rig.new).faults (open_failed result) (disk_failed result)
-            (open_lost result) }
-        ensures passes { Passes (R.state rig.old) (R.state rig.new) (open_lost result) }
+        ensures goes { OnlyOpens (R.state rig.old) (R.state rig.new) result }
     {
         let disk = CachedDisk::open(alloc, rig, options, Mode::Through)?;
         Ok(WriteThrough { disk })

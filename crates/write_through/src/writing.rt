@@ -7,10 +7,11 @@ ghost use Rattle.ft_media.specs.Media.{Crashed, DiskCause, FlashStays, after_wri
 ghost use Rattle.ft_media.specs.Passes.{Passes};
 ghost use Rattle.ft_media.specs.State.{failed, lost};
 ghost use Rattle.ft_volume.specs.Opening.{ImageIs};
-ghost use Rattle.ft_volume.specs.Volume.{Costs, FaultDowns, Goes, HoldsAfter, Programs, WasDone, Writes};
+ghost use Rattle.ft_volume.specs.Volume.{Costs, FaultDowns, HoldsAfter, Programs, WasDone, Writes};
 ghost use Rattle.ft_volume.specs.Standing.{StandFor};
+ghost use Rattle.cached_disk.specs.Kept.{WritesDisk};
 ghost use Rattle.cached_disk.specs.Kept as kept;
-ghost use Rattle.write_through.specs.Left.{IsLeft, state_of};
+ghost use Rattle.write_through.specs.Left.{IsLeft, MayWrite, Steps, state_of};
 
 use crate::WriteThrough;
 use cached_disk::cache_error;
@@ -29,18 +30,14 @@ impl WriteThrough {
         lba: u64,
         block: &Block,
     ) -> Result<(), VolumeError>
-        requires left { IsLeft self.old (M.state media.old).contents }
-        requires up { kept.is_down self.old.disk ≡ false }
-        requires lba { lba < self.old.disk.options.geometry.size }
-        ensures left { IsLeft self.new (M.state media.new).contents }
+        requires may { MayWrite self.old (M.state media.old).contents lba }
+        ensures steps { Steps self.old self.new (M.state media.old) (M.state media.new) result }
         ensures was { (base : PlainDisk) → StandFor (ImageIs (state_of self.old).told) (M.state media.old).contents base
             → WasDone ImageIs (Writes lba block.now) (state_of self.old) (state_of self.new) (M.state media.new).contents result base }
-        ensures goes { Goes (state_of self.old) (state_of self.new) (M.state media.old) (M.state media.new) result }
         ensures faulted { FaultDowns result (kept.is_down self.new.disk) }
         ensures costs { Costs (Writes lba block.now) (state_of self.old) (state_of self.new) (M.state media.old) (M.state media.new)
             result }
         ensures programs { OnOk result (Programs (M.state media.old) (M.state media.new)) }
-        ensures within { IsErrOf result VolumeError.OutOfVolume → ⊥ }
     {
         self.reserve()?;
         self.take_out(media, lba)?;
@@ -64,21 +61,17 @@ impl WriteThrough {
 
     /// Lets the old block of an address go. It is the disk's own, so that reads answer what they did.
     fn take_out<M: Media>(&mut self, media: &mut M, lba: u64) -> Result<(), VolumeError>
-        requires left { IsLeft self.old (M.state media.old).contents }
-        requires up { kept.is_down self.old.disk ≡ false }
-        requires lba { lba < self.old.disk.options.geometry.size }
-        ensures left { IsLeft self.new (M.state media.new).contents }
+        requires may { MayWrite self.old (M.state media.old).contents lba }
+        ensures steps { Steps self.old self.new (M.state media.old) (M.state media.new) result }
         ensures stands { (d : PlainDisk) → StandFor (ImageIs (state_of self.old).told) (M.state media.old).contents d
             → StandFor (ImageIs (state_of self.old).told) (M.state media.new).contents d }
         ensures absent { OnOk result ((state_of self.new).held lba ≡ false) }
         ensures held { OnOk result ((a : ℕ) → (state_of self.new).held a ≡ (if a == lba then false else (state_of self.old).held a)) }
         ensures made { (self.new.disk.options ≡ self.old.disk.options) × (self.new.disk.mode ≡ self.old.disk.mode) }
         ensures ready { self.new.disk.cache.ready ≡ self.old.disk.cache.ready }
-        ensures goes { Goes (state_of self.old) (state_of self.new) (M.state media.old) (M.state media.new) result }
         ensures refused { OnErr result (kept.is_down self.new.disk ≡ true) }
         ensures disk_reads { (M.state media.new).counts.disk_reads ≡ (M.state media.old).counts.disk_reads }
         ensures disk_writes { (M.state media.new).counts.disk_writes ≡ (M.state media.old).counts.disk_writes }
-        ensures within { IsErrOf result VolumeError.OutOfVolume → ⊥ }
     {
         match self.disk.cache.evict(media, lba) {
             Ok(()) => Ok(()),
@@ -94,11 +87,9 @@ impl WriteThrough {
         lba: u64,
         block: &Block,
     ) -> Result<(), VolumeError>
-        requires left { IsLeft self.old (M.state media.old).contents }
-        requires up { kept.is_down self.old.disk ≡ false }
-        requires lba { lba < self.old.disk.options.geometry.size }
+        requires may { MayWrite self.old (M.state media.old).contents lba }
         requires absent { (state_of self.old).held lba ≡ false }
-        ensures left { IsLeft self.new (M.state media.new).contents }
+        ensures steps { Steps self.old self.new (M.state media.old) (M.state media.new) result }
         ensures was { (base : PlainDisk) → StandFor (ImageIs (state_of self.old).told) (M.state media.old).contents base
             → WasDone ImageIs (Writes lba block.now) (state_of self.old) (state_of self.new) (M.state media.new).contents result base }
         ensures stands { OnOk result ((d : PlainDisk) → StandFor (ImageIs (state_of self.old).told) (M.state media.old).contents d
@@ -106,12 +97,8 @@ impl WriteThrough {
         ensures newest { OnOk result (block.now ≡ ((M.state media.new).contents.disk lba).newest) }
         ensures cache { self.new.disk.cache ≡ self.old.disk.cache }
         ensures made { (self.new.disk.options ≡ self.old.disk.options) × (self.new.disk.mode ≡ self.old.disk.mode) }
-        ensures goes { Goes (state_of self.old) (state_of self.new) (M.state media.old) (M.state media.new) result }
         ensures faulted { FaultDowns result (kept.is_down self.new.disk) }
-        ensures reads { (M.state media.new).counts.disk_reads ≡ (M.state media.old).counts.disk_reads }
-        ensures writes { OnOk result (RoseBy 1 (M.state media.old).counts.disk_writes (M.state media.new).counts.disk_writes) }
-        ensures most { (M.state media.new).counts.disk_writes ≤ (M.state media.old).counts.disk_writes + 1 }
-        ensures within { IsErrOf result VolumeError.OutOfVolume → ⊥ }
+        ensures writes { WritesDisk 1 (M.state media.old) (M.state media.new) result }
     {
         match put_block(media, lba, block) {
             Ok(()) => Ok(()),
@@ -134,24 +121,20 @@ impl WriteThrough {
         lba: u64,
         block: &Block,
     ) -> Result<(), VolumeError>
-        requires left { IsLeft self.old (M.state media.old).contents }
-        requires up { kept.is_down self.old.disk ≡ false }
-        requires lba { lba < self.old.disk.options.geometry.size }
+        requires may { MayWrite self.old (M.state media.old).contents lba }
         requires absent { (state_of self.old).held lba ≡ false }
         requires newest { block.now ≡ ((M.state media.old).contents.disk lba).newest }
         requires ready { self.old.disk.cache.ready ≡ true }
-        ensures left { IsLeft self.new (M.state media.new).contents }
+        ensures steps { Steps self.old self.new (M.state media.old) (M.state media.new) result }
         ensures stands { (d : PlainDisk) → StandFor (ImageIs (state_of self.old).told) (M.state media.old).contents d
             → StandFor (ImageIs (state_of self.old).told) (M.state media.new).contents d }
         ensures held { OnOk result (HoldsAfter (state_of self.old).told (Writes lba block.now) (state_of self.old).held
             (state_of self.new).held) }
-        ensures goes { Goes (state_of self.old) (state_of self.new) (M.state media.old) (M.state media.new) result }
         ensures refused { OnErr result (kept.is_down self.new.disk ≡ true) }
         ensures disk_reads { (M.state media.new).counts.disk_reads ≡ (M.state media.old).counts.disk_reads }
         ensures disk_writes { (M.state media.new).counts.disk_writes ≡ (M.state media.old).counts.disk_writes }
         ensures programs { OnOk result (Programs (M.state media.old) (M.state media.new)) }
         ensures memory { IsErrOf result VolumeError.OutOfMemory → ⊥ }
-        ensures within { IsErrOf result VolumeError.OutOfVolume → ⊥ }
     {
         match self.disk.cache.write_clean(media, lba, block) {
             Ok(()) => Ok(()),

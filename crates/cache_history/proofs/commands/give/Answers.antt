@@ -9,7 +9,7 @@ use Rattle.cache_history.proofs.commands.give.Goals as goal
 
 pub returns-in-WriteDirty-clause-answered : goal.returns-in-WriteDirty-clause-answered
 returns-in-WriteDirty-clause-answered g c = write_dirty_answer c.args.cache.now c.write_dirty.new.self (g.M.Media.state c.args.media.now).contents
-    (g.M.Media.state c.write_dirty.new.media).contents c.args.kind c.args.lba c.args.block.now c.write_dirty.result c.in-WriteDirty.is c.write_dirty.ensures.geometry c.write_dirty.ensures.done
+    (g.M.Media.state c.write_dirty.new.media).contents c.args.kind c.args.lba c.args.block.now c.write_dirty.result c.in-WriteDirty.is c.write_dirty.ensures.runs.geometry c.write_dirty.ensures.done
     c.write_dirty.ensures.nothing_waits
 
 pub returns-in-WriteDirty-clause-images : goal.returns-in-WriteDirty-clause-images
@@ -18,11 +18,11 @@ returns-in-WriteDirty-clause-images g c = left_of_write c.args.cache.now (g.M.Me
 pub returns-in-WriteDirty-clause-is_up : goal.returns-in-WriteDirty-clause-is_up
 returns-in-WriteDirty-clause-is_up g c = up_written c.args.cache.now c.write_dirty.new.self (g.M.Media.state c.args.media.now).contents
     (g.M.Media.state c.write_dirty.new.media).contents c.args.kind c.args.lba c.args.block.now c.write_dirty.result (written_dirty c.args.lba c.args.block.now)
-    c.write_dirty.ensures.done c.write_dirty.ensures.stopped c.requires.up
+    c.write_dirty.ensures.done c.write_dirty.ensures.runs.stopped c.requires.up
 
 pub returns-in-WriteClean-clause-answered : goal.returns-in-WriteClean-clause-answered
 returns-in-WriteClean-clause-answered g c = write_clean_answer c.args.cache.now c.write_clean.new.self (g.M.Media.state c.args.media.now).contents
-    (g.M.Media.state c.write_clean.new.media).contents c.args.kind c.args.lba c.args.block.now c.write_clean.result c.in-WriteClean.is c.write_clean.ensures.geometry c.write_clean.ensures.done
+    (g.M.Media.state c.write_clean.new.media).contents c.args.kind c.args.lba c.args.block.now c.write_clean.result c.in-WriteClean.is c.write_clean.ensures.runs.geometry c.write_clean.ensures.done
     c.write_clean.ensures.over_held c.write_clean.ensures.at_absent
 
 pub returns-in-WriteClean-clause-images : goal.returns-in-WriteClean-clause-images
@@ -31,7 +31,7 @@ returns-in-WriteClean-clause-images g c = left_of_write c.args.cache.now (g.M.Me
 pub returns-in-WriteClean-clause-is_up : goal.returns-in-WriteClean-clause-is_up
 returns-in-WriteClean-clause-is_up g c = up_written c.args.cache.now c.write_clean.new.self (g.M.Media.state c.args.media.now).contents
     (g.M.Media.state c.write_clean.new.media).contents c.args.kind c.args.lba c.args.block.now c.write_clean.result (written_clean c.args.lba c.args.block.now)
-    c.write_clean.ensures.done c.write_clean.ensures.stopped c.requires.up
+    c.write_clean.ensures.done c.write_clean.ensures.runs.stopped c.requires.up
 
 pub returns-in-Evict-clause-answered : goal.returns-in-Evict-clause-answered
 returns-in-Evict-clause-answered g c = evict_answer c.args.cache.now c.evict.new.self (g.M.Media.state c.args.media.now).contents
@@ -43,7 +43,7 @@ returns-in-Evict-clause-images g c = left_of c.args.cache.now (g.M.Media.state c
 
 pub returns-in-Evict-clause-is_up : goal.returns-in-Evict-clause-is_up
 returns-in-Evict-clause-is_up g c = up_after c.args.cache.now c.evict.new.self (g.M.Media.state c.args.media.now).contents
-    (g.M.Media.state c.evict.new.media).contents c.args.kind c.args.lba c.args.block.now c.evict.result (evicted c.args.lba) c.evict.ensures.done c.evict.ensures.stopped c.requires.up
+    (g.M.Media.state c.evict.new.media).contents c.args.kind c.args.lba c.args.block.now c.evict.result (evicted c.args.lba) c.evict.ensures.done c.evict.ensures.runs.stopped c.requires.up
 
 pub returns-in-Clean-clause-answered : goal.returns-in-Clean-clause-answered
 returns-in-Clean-clause-answered g c = clean_answer c.args.cache.now c.clean.new.self (g.M.Media.state c.args.media.now).contents
@@ -55,7 +55,7 @@ returns-in-Clean-clause-images g c = left_of c.args.cache.now (g.M.Media.state c
 
 pub returns-in-Clean-clause-is_up : goal.returns-in-Clean-clause-is_up
 returns-in-Clean-clause-is_up g c = up_after c.args.cache.now c.clean.new.self (g.M.Media.state c.args.media.now).contents
-    (g.M.Media.state c.clean.new.media).contents c.args.kind c.args.lba c.args.block.now c.clean.result (made_clean c.args.lba) c.clean.ensures.done c.clean.ensures.stopped c.requires.up
+    (g.M.Media.state c.clean.new.media).contents c.args.kind c.args.lba c.args.block.now c.clean.result (made_clean c.args.lba) c.clean.ensures.done c.clean.ensures.runs.stopped c.requires.up
 
 pub returns-in-Commit-clause-answered : goal.returns-in-Commit-clause-answered
 returns-in-Commit-clause-answered g c = commit_answer c.args.cache.now c.commit.new.self (g.M.Media.state c.args.media.now).contents
@@ -65,7 +65,8 @@ pub returns-in-Commit-clause-images : goal.returns-in-Commit-clause-images
 returns-in-Commit-clause-images g c = left_of c.args.cache.now (g.M.Media.state c.args.media.now).contents (g.M.Media.state c.commit.new.media).contents kinds.Commit c.args.lba c.args.block.now c.commit.ensures.images c.args.kind c.in-Commit.is
 
 pub returns-in-Commit-clause-is_up : goal.returns-in-Commit-clause-is_up
-returns-in-Commit-clause-is_up g c = up_after c.args.cache.now c.commit.new.self (g.M.Media.state c.args.media.now).contents (g.M.Media.state c.commit.new.media).contents c.args.kind c.args.lba c.args.block.now c.commit.result (λ s. s) c.commit.ensures.done c.commit.ensures.stopped c.requires.up
+returns-in-Commit-clause-is_up g c = up_after c.args.cache.now c.commit.new.self (g.M.Media.state c.args.media.now).contents (g.M.Media.state c.commit.new.media).contents
+    c.args.kind c.args.lba c.args.block.now c.commit.result (λ s. s) c.commit.ensures.done c.commit.ensures.runs.stopped c.requires.up
 
 pub returns-in-Checkpoint-clause-answered : goal.returns-in-Checkpoint-clause-answered
 returns-in-Checkpoint-clause-answered g c = checkpoint_answer c.args.cache.now c.checkpoint.new.self (g.M.Media.state c.args.media.now).contents
@@ -76,81 +77,69 @@ returns-in-Checkpoint-clause-images g c = left_of c.args.cache.now (g.M.Media.st
 
 pub returns-in-Checkpoint-clause-is_up : goal.returns-in-Checkpoint-clause-is_up
 returns-in-Checkpoint-clause-is_up g c = up_after c.args.cache.now c.checkpoint.new.self (g.M.Media.state c.args.media.now).contents
-    (g.M.Media.state c.checkpoint.new.media).contents c.args.kind c.args.lba c.args.block.now c.checkpoint.result (λ s. s) c.checkpoint.ensures.done c.checkpoint.ensures.stopped c.requires.up
+    (g.M.Media.state c.checkpoint.new.media).contents c.args.kind c.args.lba c.args.block.now c.checkpoint.result (λ s. s) c.checkpoint.ensures.done c.checkpoint.ensures.runs.stopped c.requires.up
 
-pub returns-in-WriteDirty-clause-full : goal.returns-in-WriteDirty-clause-full
-returns-in-WriteDirty-clause-full g c = λ n k e. (c.in-WriteDirty.is, λ s holds. full_of c.write_dirty.result (geometry_of c.args.cache.now) s c.args.lba n k (c.write_dirty.ensures.full s holds) e)
+pub returns-in-WriteDirty-clause-no_event : goal.returns-in-WriteDirty-clause-no_event
+returns-in-WriteDirty-clause-no_event g c =
+    record {
+      unchanged = unchanged_of c.args.cache.now c.write_dirty.new.self (g.M.Media.state c.args.media.now) (g.M.Media.state c.write_dirty.new.media) c.write_dirty.result c.write_dirty.ensures.refused.full_keeps (λ is. let none = c.write_dirty.ensures.refused.memory is in (none.1, none.2));
+      still = still_of c.args.cache.now c.write_dirty.new.self (g.M.Media.state c.args.media.now) (g.M.Media.state c.write_dirty.new.media)
+          c.write_dirty.result c.write_dirty.ensures.refused.full_keeps (λ is. let none = c.write_dirty.ensures.refused.memory is in (none.1, none.2)) c.write_dirty.ensures.refused.memory_holds;
+      full_keeps = λ n k is. (c.write_dirty.ensures.refused.full_keeps n k is).0;
+      full = λ n k e. (c.in-WriteDirty.is, λ s holds. full_of c.write_dirty.result (geometry_of c.args.cache.now) s c.args.lba n k (c.write_dirty.ensures.full s holds) e);
+      memory = λ e. (ap is_write c.in-WriteDirty.is, (c.write_dirty.ensures.refused.memory e).0);
+    }
 
-pub returns-in-WriteDirty-clause-memory : goal.returns-in-WriteDirty-clause-memory
-returns-in-WriteDirty-clause-memory g c = λ e. (ap is_write c.in-WriteDirty.is, (c.write_dirty.ensures.memory e).0)
+pub returns-in-WriteClean-clause-no_event : goal.returns-in-WriteClean-clause-no_event
+returns-in-WriteClean-clause-no_event g c =
+    record {
+      unchanged = unchanged_of c.args.cache.now c.write_clean.new.self (g.M.Media.state c.args.media.now) (g.M.Media.state c.write_clean.new.media) c.write_clean.result
+          (λ n l is. absurd (c.write_clean.ensures.full n l is)) (λ is. let none = c.write_clean.ensures.refused.memory is in (none.1, none.2));
+      still = still_of c.args.cache.now c.write_clean.new.self (g.M.Media.state c.args.media.now) (g.M.Media.state c.write_clean.new.media) c.write_clean.result
+          (λ n l is. absurd (c.write_clean.ensures.full n l is)) (λ is. let none = c.write_clean.ensures.refused.memory is in (none.1, none.2)) c.write_clean.ensures.refused.memory_holds;
+      full_keeps = λ n k is. absurd (c.write_clean.ensures.full n k is);
+      full = λ n k e. absurd (c.write_clean.ensures.full n k e);
+      memory = λ e. (ap is_write c.in-WriteClean.is, (c.write_clean.ensures.refused.memory e).0);
+    }
 
-pub returns-in-WriteClean-clause-full : goal.returns-in-WriteClean-clause-full
-returns-in-WriteClean-clause-full g c = λ n k e. absurd (c.write_clean.ensures.full n k e)
+pub returns-in-Evict-clause-no_event : goal.returns-in-Evict-clause-no_event
+returns-in-Evict-clause-no_event g c =
+    record {
+      unchanged = unchanged_of c.args.cache.now c.evict.new.self (g.M.Media.state c.args.media.now) (g.M.Media.state c.evict.new.media) c.evict.result (λ n l is. absurd (c.evict.ensures.runs.full n l is)) (λ is. absurd (c.evict.ensures.runs.memory is));
+      still = still_of c.args.cache.now c.evict.new.self (g.M.Media.state c.args.media.now) (g.M.Media.state c.evict.new.media) c.evict.result (λ n l is. absurd (c.evict.ensures.runs.full n l is)) (λ is. absurd (c.evict.ensures.runs.memory is)) (λ is. absurd (c.evict.ensures.runs.memory is));
+      full_keeps = λ n k is. absurd (c.evict.ensures.runs.full n k is);
+      full = λ n k e. absurd (c.evict.ensures.runs.full n k e);
+      memory = λ e. absurd (c.evict.ensures.runs.memory e);
+    }
 
-pub returns-in-WriteClean-clause-memory : goal.returns-in-WriteClean-clause-memory
-returns-in-WriteClean-clause-memory g c = λ e. (ap is_write c.in-WriteClean.is, (c.write_clean.ensures.memory e).0)
+pub returns-in-Clean-clause-no_event : goal.returns-in-Clean-clause-no_event
+returns-in-Clean-clause-no_event g c =
+    record {
+      unchanged = unchanged_of c.args.cache.now c.clean.new.self (g.M.Media.state c.args.media.now) (g.M.Media.state c.clean.new.media) c.clean.result (λ n l is. absurd (c.clean.ensures.runs.full n l is)) (λ is. absurd (c.clean.ensures.runs.memory is));
+      still = still_of c.args.cache.now c.clean.new.self (g.M.Media.state c.args.media.now) (g.M.Media.state c.clean.new.media) c.clean.result (λ n l is. absurd (c.clean.ensures.runs.full n l is)) (λ is. absurd (c.clean.ensures.runs.memory is)) (λ is. absurd (c.clean.ensures.runs.memory is));
+      full_keeps = λ n k is. absurd (c.clean.ensures.runs.full n k is);
+      full = λ n k e. absurd (c.clean.ensures.runs.full n k e);
+      memory = λ e. absurd (c.clean.ensures.runs.memory e);
+    }
 
-pub returns-in-Evict-clause-full : goal.returns-in-Evict-clause-full
-returns-in-Evict-clause-full g c = λ n k e. absurd (c.evict.ensures.full n k e)
+pub returns-in-Commit-clause-no_event : goal.returns-in-Commit-clause-no_event
+returns-in-Commit-clause-no_event g c =
+    record {
+      unchanged = unchanged_of c.args.cache.now c.commit.new.self (g.M.Media.state c.args.media.now) (g.M.Media.state c.commit.new.media) c.commit.result (λ n l is. absurd (c.commit.ensures.runs.full n l is)) (λ is. absurd (c.commit.ensures.runs.memory is));
+      still = still_of c.args.cache.now c.commit.new.self (g.M.Media.state c.args.media.now) (g.M.Media.state c.commit.new.media) c.commit.result
+          (λ n l is. absurd (c.commit.ensures.runs.full n l is)) (λ is. absurd (c.commit.ensures.runs.memory is)) (λ is. absurd (c.commit.ensures.runs.memory is));
+      full_keeps = λ n k is. absurd (c.commit.ensures.runs.full n k is);
+      full = λ n k e. absurd (c.commit.ensures.runs.full n k e);
+      memory = λ e. absurd (c.commit.ensures.runs.memory e);
+    }
 
-pub returns-in-Evict-clause-memory : goal.returns-in-Evict-clause-memory
-returns-in-Evict-clause-memory g c = λ e. absurd (c.evict.ensures.memory e)
-
-pub returns-in-Clean-clause-full : goal.returns-in-Clean-clause-full
-returns-in-Clean-clause-full g c = λ n k e. absurd (c.clean.ensures.full n k e)
-
-pub returns-in-Clean-clause-memory : goal.returns-in-Clean-clause-memory
-returns-in-Clean-clause-memory g c = λ e. absurd (c.clean.ensures.memory e)
-
-pub returns-in-Commit-clause-full : goal.returns-in-Commit-clause-full
-returns-in-Commit-clause-full g c = λ n k e. absurd (c.commit.ensures.full n k e)
-
-pub returns-in-Commit-clause-memory : goal.returns-in-Commit-clause-memory
-returns-in-Commit-clause-memory g c = λ e. absurd (c.commit.ensures.memory e)
-
-pub returns-in-Checkpoint-clause-full : goal.returns-in-Checkpoint-clause-full
-returns-in-Checkpoint-clause-full g c = λ n k e. absurd (c.checkpoint.ensures.full n k e)
-
-pub returns-in-Checkpoint-clause-memory : goal.returns-in-Checkpoint-clause-memory
-returns-in-Checkpoint-clause-memory g c = λ e. absurd (c.checkpoint.ensures.memory e)
-
-pub returns-in-WriteDirty-clause-unchanged : goal.returns-in-WriteDirty-clause-unchanged
-returns-in-WriteDirty-clause-unchanged g c = unchanged_of c.args.cache.now c.write_dirty.new.self (g.M.Media.state c.args.media.now) (g.M.Media.state c.write_dirty.new.media) c.write_dirty.result c.write_dirty.ensures.full_keeps (λ is. let none = c.write_dirty.ensures.memory is in (none.1, none.2))
-
-pub returns-in-WriteDirty-clause-still : goal.returns-in-WriteDirty-clause-still
-returns-in-WriteDirty-clause-still g c = still_of c.args.cache.now c.write_dirty.new.self (g.M.Media.state c.args.media.now) (g.M.Media.state c.write_dirty.new.media)
-    c.write_dirty.result c.write_dirty.ensures.full_keeps (λ is. let none = c.write_dirty.ensures.memory is in (none.1, none.2)) c.write_dirty.ensures.memory_holds
-
-pub returns-in-WriteClean-clause-unchanged : goal.returns-in-WriteClean-clause-unchanged
-returns-in-WriteClean-clause-unchanged g c = unchanged_of c.args.cache.now c.write_clean.new.self (g.M.Media.state c.args.media.now) (g.M.Media.state c.write_clean.new.media) c.write_clean.result
-    (λ n l is. absurd (c.write_clean.ensures.full n l is)) (λ is. let none = c.write_clean.ensures.memory is in (none.1, none.2))
-
-pub returns-in-WriteClean-clause-still : goal.returns-in-WriteClean-clause-still
-returns-in-WriteClean-clause-still g c = still_of c.args.cache.now c.write_clean.new.self (g.M.Media.state c.args.media.now) (g.M.Media.state c.write_clean.new.media) c.write_clean.result
-    (λ n l is. absurd (c.write_clean.ensures.full n l is)) (λ is. let none = c.write_clean.ensures.memory is in (none.1, none.2)) c.write_clean.ensures.memory_holds
-
-pub returns-in-Evict-clause-unchanged : goal.returns-in-Evict-clause-unchanged
-returns-in-Evict-clause-unchanged g c = unchanged_of c.args.cache.now c.evict.new.self (g.M.Media.state c.args.media.now) (g.M.Media.state c.evict.new.media) c.evict.result (λ n l is. absurd (c.evict.ensures.full n l is)) (λ is. absurd (c.evict.ensures.memory is))
-
-pub returns-in-Evict-clause-still : goal.returns-in-Evict-clause-still
-returns-in-Evict-clause-still g c = still_of c.args.cache.now c.evict.new.self (g.M.Media.state c.args.media.now) (g.M.Media.state c.evict.new.media) c.evict.result (λ n l is. absurd (c.evict.ensures.full n l is)) (λ is. absurd (c.evict.ensures.memory is)) (λ is. absurd (c.evict.ensures.memory is))
-
-pub returns-in-Clean-clause-unchanged : goal.returns-in-Clean-clause-unchanged
-returns-in-Clean-clause-unchanged g c = unchanged_of c.args.cache.now c.clean.new.self (g.M.Media.state c.args.media.now) (g.M.Media.state c.clean.new.media) c.clean.result (λ n l is. absurd (c.clean.ensures.full n l is)) (λ is. absurd (c.clean.ensures.memory is))
-
-pub returns-in-Clean-clause-still : goal.returns-in-Clean-clause-still
-returns-in-Clean-clause-still g c = still_of c.args.cache.now c.clean.new.self (g.M.Media.state c.args.media.now) (g.M.Media.state c.clean.new.media) c.clean.result (λ n l is. absurd (c.clean.ensures.full n l is)) (λ is. absurd (c.clean.ensures.memory is)) (λ is. absurd (c.clean.ensures.memory is))
-
-pub returns-in-Commit-clause-unchanged : goal.returns-in-Commit-clause-unchanged
-returns-in-Commit-clause-unchanged g c = unchanged_of c.args.cache.now c.commit.new.self (g.M.Media.state c.args.media.now) (g.M.Media.state c.commit.new.media) c.commit.result (λ n l is. absurd (c.commit.ensures.full n l is)) (λ is. absurd (c.commit.ensures.memory is))
-
-pub returns-in-Commit-clause-still : goal.returns-in-Commit-clause-still
-returns-in-Commit-clause-still g c = still_of c.args.cache.now c.commit.new.self (g.M.Media.state c.args.media.now) (g.M.Media.state c.commit.new.media) c.commit.result
-    (λ n l is. absurd (c.commit.ensures.full n l is)) (λ is. absurd (c.commit.ensures.memory is)) (λ is. absurd (c.commit.ensures.memory is))
-
-pub returns-in-Checkpoint-clause-unchanged : goal.returns-in-Checkpoint-clause-unchanged
-returns-in-Checkpoint-clause-unchanged g c = unchanged_of c.args.cache.now c.checkpoint.new.self (g.M.Media.state c.args.media.now) (g.M.Media.state c.checkpoint.new.media) c.checkpoint.result (λ n l is. absurd (c.checkpoint.ensures.full n l is)) (λ is. absurd (c.checkpoint.ensures.memory is))
-
-pub returns-in-Checkpoint-clause-still : goal.returns-in-Checkpoint-clause-still
-returns-in-Checkpoint-clause-still g c = still_of c.args.cache.now c.checkpoint.new.self (g.M.Media.state c.args.media.now) (g.M.Media.state c.checkpoint.new.media) c.checkpoint.result
-    (λ n l is. absurd (c.checkpoint.ensures.full n l is)) (λ is. absurd (c.checkpoint.ensures.memory is)) (λ is. absurd (c.checkpoint.ensures.memory is))
+pub returns-in-Checkpoint-clause-no_event : goal.returns-in-Checkpoint-clause-no_event
+returns-in-Checkpoint-clause-no_event g c =
+    record {
+      unchanged = unchanged_of c.args.cache.now c.checkpoint.new.self (g.M.Media.state c.args.media.now) (g.M.Media.state c.checkpoint.new.media) c.checkpoint.result (λ n l is. absurd (c.checkpoint.ensures.runs.full n l is)) (λ is. absurd (c.checkpoint.ensures.runs.memory is));
+      still = still_of c.args.cache.now c.checkpoint.new.self (g.M.Media.state c.args.media.now) (g.M.Media.state c.checkpoint.new.media) c.checkpoint.result
+          (λ n l is. absurd (c.checkpoint.ensures.runs.full n l is)) (λ is. absurd (c.checkpoint.ensures.runs.memory is)) (λ is. absurd (c.checkpoint.ensures.runs.memory is));
+      full_keeps = λ n k is. absurd (c.checkpoint.ensures.runs.full n k is);
+      full = λ n k e. absurd (c.checkpoint.ensures.runs.full n k e);
+      memory = λ e. absurd (c.checkpoint.ensures.runs.memory e);
+    }

@@ -7,5 +7,5 @@ returns-clause-up c =
     record {
       list = written_dirty c.args.lba c.pattern.new.out written.left;
       holds = written.holds;
-      up = c.in_ok-write_dirty.ensures.stopped;
+      up = c.in_ok-write_dirty.ensures.runs.stopped;
     }

@@ -4,7 +4,7 @@ use Rattle.cached_disk.proofs.opening.open_cache.Goals as goal
 pub returns-in-Ok-clause-opened : goal.returns-in-Ok-clause-opened
 returns-in-Ok-clause-opened g c =
     let e = c.open.ensures in
-    open_cache_of c.args.geometry.now (g.M.Media.state c.args.media.now).contents (g.M.Media.state c.flush_disk.new.self).contents (g.M.Media.state c.open.new.media).contents c.flush_disk.ensures.flash.page c.open.result e.geometry e.holds e.loads e.nothing_waits e.is_up e.up e.log
+    open_cache_of c.args.geometry.now (g.M.Media.state c.args.media.now).contents (g.M.Media.state c.flush_disk.new.self).contents (g.M.Media.state c.open.new.media).contents c.flush_disk.ensures.flash.page c.open.result e.geometry e.holds e.loads e.opened e.is_up
 
 pub returns-in-Ok-clause-opens : goal.returns-in-Ok-clause-opens
 returns-in-Ok-clause-opens g c =

@@ -9,7 +9,7 @@ use Rattle.ssc.proofs.StepLemmas.{cleaned_fits, after_pushed}
 use Rattle.ssc.proofs.putting.mark_clean.Goals as goal
 
 pub put_clean-requires-clause-fits : goal.put_clean-requires-clause-fits
-put_clean-requires-clause-fits g c = cleaned_fits c.args.parts.now (g.M.Media.state c.args.media.now).contents c.args.lba c.requires.agree c.requires.lba
+put_clean-requires-clause-fits g c = cleaned_fits c.args.parts.now (g.M.Media.state c.args.media.now).contents c.args.lba c.requires.may.agree c.requires.may.lba
 
 pub returns-clause-lists : goal.returns-clause-lists
 returns-clause-lists g c = on_ok_from c.commit_if_full.result (λ v is. λ list durable lists.

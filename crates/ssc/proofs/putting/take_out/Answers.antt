@@ -11,10 +11,10 @@ use Rattle.ssc.proofs.WrittenLemmas.{left_pushed, pushed_some}
 use Rattle.ssc.proofs.putting.take_out.Goals as goal
 
 pub put_out-requires-clause-is_map : goal.put_out-requires-clause-is_map
-put_out-requires-clause-is_map g c = agree_map c.args.parts.now (g.M.Media.state c.args.media.now).contents c.requires.agree
+put_out-requires-clause-is_map g c = agree_map c.args.parts.now (g.M.Media.state c.args.media.now).contents c.requires.may.agree
 
 pub put_out-requires-clause-fits : goal.put_out-requires-clause-fits
-put_out-requires-clause-fits g c = removed_fits c.args.parts.now (g.M.Media.state c.args.media.now).contents c.args.lba c.requires.agree c.requires.lba
+put_out-requires-clause-fits g c = removed_fits c.args.parts.now (g.M.Media.state c.args.media.now).contents c.args.lba c.requires.may.agree c.requires.may.lba
 
 pub returns-clause-lists : goal.returns-clause-lists
 returns-clause-lists g c = on_ok_from c.commit.result (λ v is. λ list durable lists.

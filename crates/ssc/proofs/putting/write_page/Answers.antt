@@ -7,7 +7,7 @@ use Rattle.ssc.proofs.WrittenLemmas.{room_after, puts_block, inside_entries, ins
 use Rattle.ssc.proofs.putting.write_page.Goals as goal
 
 pub append-requires : goal.append-requires
-append-requires g c = record { can = record { agree = c.requires.agree; groups = c.requires.memory.groups; room = c.requires.few } }
+append-requires g c = record { can = record { agree = c.requires.may.agree; groups = c.requires.memory.groups; room = c.requires.may.few } }
 
 pub put_page-requires-clause-room : goal.put_page-requires-clause-room
 put_page-requires-clause-room g c = record {
@@ -24,8 +24,8 @@ put_page-requires-clause-fits g c =
     let old = (g.M.Media.state c.args.media.now).contents in
     let new = (g.M.Media.state c.append.new.media).contents in
     new_page_fits c.append.new.cache new c.in_ok-place.ensures.goes.agree new.flash.page c.in_ok-place.place c.args.lba c.args.block.now c.in_ok-place.ensures.place c.args.dirty
-    (subst (λ (h : Geometry). c.args.lba < h.size) (sym c.append.ensures.geometry) c.requires.lba)
-    (λ t. room_after c.args.parts.now c.append.new.cache old new c.requires.agree c.in_ok-place.ensures.goes.agree c.append.ensures.geometry c.in_ok-place.ensures.goes.lists c.args.lba (c.requires.dirty t))
+    (subst (λ (h : Geometry). c.args.lba < h.size) (sym c.append.ensures.geometry) c.requires.may.lba)
+    (λ t. room_after c.args.parts.now c.append.new.cache old new c.requires.may.agree c.in_ok-place.ensures.goes.agree c.append.ensures.geometry c.in_ok-place.ensures.goes.lists c.args.lba (c.requires.dirty t))
 
 pub returns-clause-waits : goal.returns-clause-waits
 returns-clause-waits g c = pushed_some _ _ _ c.put_page.ensures.log
@@ -37,7 +37,7 @@ pub returns-clause-lists : goal.returns-clause-lists
 returns-clause-lists g c =
     let old = (g.M.Media.state c.args.media.now).contents in
     let new = (g.M.Media.state c.append.new.media).contents in
-    puts_block c.args.parts.now c.append.new.cache old new c.requires.agree c.in_ok-place.ensures.goes.agree c.append.ensures.geometry c.put_page.new.cache c.args.lba c.in_ok-place.place (written_block c.args.lba c.args.block.now c.args.dirty)
+    puts_block c.args.parts.now c.append.new.cache old new c.requires.may.agree c.in_ok-place.ensures.goes.agree c.append.ensures.geometry c.put_page.new.cache c.args.lba c.in_ok-place.place (written_block c.args.lba c.args.block.now c.args.dirty)
     (inside_entries c.args.parts.now c.append.new.cache (λ room. (c.append.ensures.no_merge room).map_stays)) c.put_page.ensures.log
     (λ list durable. c.put_page.ensures.lists new c.args.block.now list durable c.in_ok-place.ensures.place)
     c.in_ok-place.ensures.goes.lists

@@ -8,10 +8,10 @@ use Rattle.volume_rows.proofs.back.hold_clean.Goals as goal
 pub commit-requires : goal.commit-requires
 commit-requires c =
     let written = c.in_ok-write_clean.ensures.done empty (c.in_ok-cache.ensures.holds empty c.in_ok-format.ensures.done) in
-    record { up = record { list = written_clean c.args.lba c.args.block.now written.left; holds = written.holds; up = c.in_ok-write_clean.ensures.stopped } }
+    record { up = record { list = written_clean c.args.lba c.args.block.now written.left; holds = written.holds; up = c.in_ok-write_clean.ensures.runs.stopped } }
 
 pub returns-clause-alone : goal.returns-clause-alone
 returns-clause-alone c =
     let written = c.in_ok-write_clean.ensures.done empty (c.in_ok-cache.ensures.holds empty c.in_ok-format.ensures.done) in
     written_alone c.args.geometry.now c.write_clean.new.self c.commit.new.self (state_of c.write_clean.new.media).contents (state_of c.commit.new.media).contents c.args.lba c.args.block.now written
-    (c.commit.ensures.geometry ∙ c.write_clean.ensures.geometry ∙ c.in_ok-cache.ensures.geometry) (c.in_ok-commit.ensures.done (written_clean c.args.lba c.args.block.now written.left) written.holds) c.in_ok-commit.ensures.nothing_waits
+    (c.commit.ensures.runs.geometry ∙ c.write_clean.ensures.runs.geometry ∙ c.in_ok-cache.ensures.geometry) (c.in_ok-commit.ensures.done (written_clean c.args.lba c.args.block.now written.left) written.holds) c.in_ok-commit.ensures.nothing_waits

@@ -13,30 +13,30 @@ clean-requires-clause-lba g c = subst (λ (x : Geometry). c.args.lba < x.size) (
 pub returns-in-Ok-clause-proceeds : goal.returns-in-Ok-clause-proceeds
 returns-in-Ok-clause-proceeds g c =
     let e = c.in-Ok.ensures in
-    once_clean c.args.disk.now c.clean.new.self (g.M.Media.state c.args.media.now) (g.M.Media.state c.clean.new.media) c.args.lba c.requires.left c.requires.up c.requires.back c.requires.flushed c.requires.copied e.geometry e.ready e.drives e.done e.stopped
+    once_clean c.args.disk.now c.clean.new.self (g.M.Media.state c.args.media.now) (g.M.Media.state c.clean.new.media) c.args.lba c.requires.left c.requires.up c.requires.back c.requires.flushed c.requires.copied e.runs.geometry e.runs.ready e.runs.drives e.done e.runs.stopped
 
 pub returns-in-Ok-clause-cleaned : goal.returns-in-Ok-clause-cleaned
 returns-in-Ok-clause-cleaned g c =
     let e = c.in-Ok.ensures in
-    once_cleaned c.args.disk.now c.clean.new.self (g.M.Media.state c.args.media.now) (g.M.Media.state c.clean.new.media) c.args.lba c.requires.left c.requires.up c.requires.back c.requires.flushed c.requires.copied e.geometry e.ready e.drives e.done
+    once_cleaned c.args.disk.now c.clean.new.self (g.M.Media.state c.args.media.now) (g.M.Media.state c.clean.new.media) c.args.lba c.requires.left c.requires.up c.requires.back c.requires.flushed c.requires.copied e.runs.geometry e.runs.ready e.runs.drives e.done
 
 pub returns-in-Ok-clause-flushed : goal.returns-in-Ok-clause-flushed
 returns-in-Ok-clause-flushed g c =
     let e = c.in-Ok.ensures in
-    once_flushed c.args.disk.now c.clean.new.self (g.M.Media.state c.args.media.now) (g.M.Media.state c.clean.new.media) c.args.lba c.requires.left c.requires.up c.requires.back c.requires.flushed c.requires.copied e.geometry e.ready e.drives e.done
+    once_flushed c.args.disk.now c.clean.new.self (g.M.Media.state c.args.media.now) (g.M.Media.state c.clean.new.media) c.args.lba c.requires.left c.requires.up c.requires.back c.requires.flushed c.requires.copied e.runs.geometry e.runs.ready e.runs.drives e.done
 
 pub returns-in-Ok-clause-copied : goal.returns-in-Ok-clause-copied
 returns-in-Ok-clause-copied g c =
     let e = c.in-Ok.ensures in
-    once_on_disk c.args.disk.now c.clean.new.self (g.M.Media.state c.args.media.now) (g.M.Media.state c.clean.new.media) c.args.lba c.requires.left c.requires.up c.requires.back c.requires.flushed c.requires.copied e.geometry e.ready e.drives e.done
+    once_on_disk c.args.disk.now c.clean.new.self (g.M.Media.state c.args.media.now) (g.M.Media.state c.clean.new.media) c.args.lba c.requires.left c.requires.up c.requires.back c.requires.flushed c.requires.copied e.runs.geometry e.runs.ready e.runs.drives e.done
 
 pub returns-in-Err-clause-proceeds : goal.returns-in-Err-clause-proceeds
 returns-in-Err-clause-proceeds g c =
     let e = c.in-Err.ensures in
-    once_refused c.args.disk.now c.clean.new.self (g.M.Media.state c.args.media.now) (g.M.Media.state c.clean.new.media) c.args.lba c.requires.left c.requires.up c.requires.back c.requires.flushed c.requires.copied e.geometry e.ready
-    c.in-Err.error c.cache_error.result c.cache_error.ensures (λ n limit is. e.full n limit (ap Err is)) (λ is. e.memory (ap Err is)) e.stopped e.drives e.images
+    once_refused c.args.disk.now c.clean.new.self (g.M.Media.state c.args.media.now) (g.M.Media.state c.clean.new.media) c.args.lba c.requires.left c.requires.up c.requires.back c.requires.flushed c.requires.copied e.runs.geometry e.runs.ready
+    c.in-Err.error c.cache_error.result c.cache_error.ensures (λ n limit is. e.runs.full n limit (ap Err is)) (λ is. e.runs.memory (ap Err is)) e.runs.stopped e.runs.drives e.images
 
 pub returns-in-Err-clause-refused : goal.returns-in-Err-clause-refused
 returns-in-Err-clause-refused g c =
     let e = c.in-Err.ensures in
-    once_stopped c.args.disk.now c.clean.new.self c.in-Err.error (λ n limit is. e.full n limit (ap Err is)) (λ is. e.memory (ap Err is)) e.stopped
+    once_stopped c.args.disk.now c.clean.new.self c.in-Err.error (λ n limit is. e.runs.full n limit (ap Err is)) (λ is. e.runs.memory (ap Err is)) e.runs.stopped

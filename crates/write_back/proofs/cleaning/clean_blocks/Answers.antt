@@ -1,4 +1,4 @@
-use Rattle.std.proofs.Common.{◌≡◌, ◌&&◌, ◌==◌, ℕ, ◌<◌, true, not, Bool, Ok, take, get_or, length, refl, rules, sym, ◌∙◌, ap, subst, arith}
+use Rattle.std.proofs.Common.{◌≡◌, [], ◌&&◌, ◌==◌, ℕ, ◌<◌, true, not, Bool, Ok, take, get_or, length, refl, rules, sym, ◌∙◌, ap, subst, arith}
 use Rattle.ft_volume.specs.declared.options.Options.{Options}
 use Rattle.cached_disk.specs.Kept.{dirty_of}
 use Rattle.write_back.specs.Cleaning.{is_among}
@@ -21,7 +21,7 @@ clean_block-requires g c =
     let here : is_among c.args.lbas.now lba ≡ true = among_here c.args.lbas.now c.loop-lba.lba-index c.loop-lba-test.true in
     record {
       left = is.proceeds.left;
-      up = is.proceeds.goes.up;
+      up = (is.proceeds.goes [] []).up;
       back = is.proceeds.mode ∙ c.requires.back;
       lba = subst (λ (o : Options). lba < o.geometry.size) (sym is.proceeds.options) (c.requires.lbas lba here);
       flushed = is.flushed;

@@ -1,4 +1,4 @@
-use Rattle.std.proofs.Common.{◌≡◌, ℕ, ◌+◌, true, Ok, get_or, length, refl, rules, sym, subst, arith}
+use Rattle.std.proofs.Common.{◌≡◌, [], ℕ, ◌+◌, true, Ok, get_or, length, refl, rules, sym, subst, arith}
 use Rattle.cached_disk.specs.declared.disk.CachedDisk.{CachedDisk}
 use Rattle.cached_disk.specs.Kept.{dirty_of}
 use Rattle.write_back.specs.Cleaning.{IsOnDisk, Proceeds, is_among}
@@ -19,7 +19,7 @@ copy_block-requires g c =
     let lba : ℕ = get_or c.args.lbas.now c.loop-lba.lba-index 0 in
     record {
       left = is.proceeds.left;
-      up = is.proceeds.goes.up;
+      up = (is.proceeds.goes [] []).up;
       dirty = subst (λ (w : CachedDisk). is_among (dirty_of w) lba ≡ true) (sym is.same) (c.requires.dirty lba (among_here c.args.lbas.now c.loop-lba.lba-index c.loop-lba-test.true));
     }
 

@@ -1,17 +1,31 @@
-use Rattle.std.proofs.Common.{◌≡◌, ℕ, ◌<◌, true, Err, List, length, rules, sym, ◌∙◌, subst}
+use Rattle.std.proofs.Common.{◌≡◌, ℕ, ◌<◌, true, Err, List, [], length, rules, sym, ◌∙◌, subst}
 use Rattle.ft_volume.specs.declared.options.Options.{Options}
 use Rattle.cached_disk.specs.Kept.{dirty_of}
 use Rattle.write_back.specs.Left.{in_group}
 use Rattle.write_back.specs.Cleaning.{is_among}
-use Rattle.write_back.proofs.PartLemmas.{Answer, goes_in, same_then}
+use Rattle.write_back.proofs.PartLemmas.{Answer, same_then}
 use Rattle.write_back.proofs.CopyLemmas.{dirty_within}
-use Rattle.write_back.proofs.CleaningLemmas.{back_cleaned, back_refused, back_whole, flush_failed, group_among}
+use Rattle.write_back.proofs.CleaningLemmas.{back_cleaned, back_refused, back_whole, copy_failed, flush_failed, group_among}
 use Rattle.write_back.proofs.cleaning.write_group_back.Goals as goal
 
 pub copy_blocks-requires-clause-dirty : goal.copy_blocks-requires-clause-dirty
 copy_blocks-requires-clause-dirty g c =
     let v = c.args.disk.now in
     group_among v.options.geometry.p c.args.group (dirty_of v) c.as_slice.result.now c.in-Ok.lbas.items c.as_slice.ensures.value c.in-Ok.ensures
+
+pub returns-in_err-copy_blocks-clause-proceeds : goal.returns-in_err-copy_blocks-clause-proceeds
+returns-in_err-copy_blocks-clause-proceeds g c =
+    let v = c.args.disk.now in
+    let result : Answer = c.from_residual.result in
+    let is : result ≡ Err c.in_err-copy_blocks.field-0.0 = search rules in
+    copy_failed v c.copy_blocks.new.disk (g.M.Media.state c.args.media.now) (g.M.Media.state c.copy_blocks.new.media) c.as_slice.result.now c.in-Ok.lbas.items (in_group v.options.geometry.p c.args.group (dirty_of v)) c.as_slice.ensures.value c.in-Ok.ensures
+    c.in_err-copy_blocks.field-0.0 result is c.in_err-copy_blocks.ensures.proceeds
+
+pub flush_copies-requires-clause-up : goal.flush_copies-requires-clause-up
+flush_copies-requires-clause-up g c = (c.in_ok-copy_blocks.ensures.proceeds.goes [] []).up
+
+pub clean_blocks-requires-clause-up : goal.clean_blocks-requires-clause-up
+clean_blocks-requires-clause-up g c = (c.in_ok-flush_copies.ensures.proceeds.goes [] []).up
 
 pub returns-in_err-flush_copies : goal.returns-in_err-flush_copies
 returns-in_err-flush_copies g c =
@@ -23,19 +37,7 @@ returns-in_err-flush_copies g c =
     let is : result ≡ Err c.in_err-flush_copies.field-0.0 = search rules in
     let whole = flush_failed v c.copy_blocks.new.disk w before (g.M.Media.state c.copy_blocks.new.media) after c.as_slice.result.now c.in-Ok.lbas.items (in_group v.options.geometry.p c.args.group (dirty_of v)) c.as_slice.ensures.value c.in-Ok.ensures
     c.in_ok-copy_blocks.ensures.proceeds c.in_err-flush_copies.field-0.0 result is c.in_err-flush_copies.ensures.proceeds in
-    record {
-      left = whole.left;
-      stands = whole.stands;
-      made = (whole.options, whole.mode);
-      ready = whole.reserved;
-      cleaned = search rules;
-      dirty = search rules;
-      held = whole.held;
-      goes = λ was is. goes_in was is v w before after result whole.goes;
-      faulted = whole.faulted;
-      writes = whole.writes;
-      within = whole.within;
-    }
+    record { proceeds = whole; cleaned = search rules; dirty = search rules }
 
 pub clean_blocks-requires-clause-lbas : goal.clean_blocks-requires-clause-lbas
 clean_blocks-requires-clause-lbas g c = λ a among.
@@ -62,16 +64,8 @@ returns g c =
     let whole = back_whole v copied flushed before (g.M.Media.state c.copy_blocks.new.media) (g.M.Media.state c.flush_copies.new.media) c.as_slice.result.now c.in-Ok.lbas.items lbas c.as_slice.ensures.value c.in-Ok.ensures
     c.in_ok-copy_blocks.ensures.proceeds c.in_ok-flush_copies.ensures.proceeds w after c.clean_blocks.result c.clean_blocks.ensures.proceeds in
     record {
-      left = whole.left;
-      stands = whole.stands;
-      made = (whole.options, whole.mode);
-      ready = whole.reserved;
+      proceeds = whole;
       cleaned = back_cleaned (length lbas) v flushed w before after c.clean_blocks.result v.options.geometry.p c.args.group c.as_slice-2.result.now c.in-Ok.lbas.items c.requires.left c.requires.up
           (same_then v copied flushed c.copy_blocks.ensures.same c.flush_copies.ensures.same) c.as_slice-2.ensures.value c.in-Ok.ensures whole c.clean_blocks.ensures.cleaned;
       dirty = back_refused v w c.clean_blocks.result c.clean_blocks.ensures.refused;
-      held = whole.held;
-      goes = λ was is. goes_in was is v w before after c.clean_blocks.result whole.goes;
-      faulted = whole.faulted;
-      writes = whole.writes;
-      within = whole.within;
     }

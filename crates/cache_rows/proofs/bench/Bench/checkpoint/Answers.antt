@@ -13,4 +13,4 @@ pub invariant_of-self : goal.invariant_of-self
 invariant_of-self c =
     let e = c.checkpoint.ensures in
     fit_after c.checkpoint.result c.self.inside.cache c.checkpoint.new.self (state_of c.self.inside.rig) (state_of c.checkpoint.new.media) (λ (s : CacheList). s) c.self.invariant (c.self.view_is ∙ c.requires.going)
-    e.geometry e.stopped e.done e.full e.memory
+    e.runs.geometry e.runs.stopped e.done e.runs.full e.runs.memory

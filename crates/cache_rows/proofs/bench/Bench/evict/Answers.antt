@@ -14,4 +14,4 @@ pub invariant_of-self : goal.invariant_of-self
 invariant_of-self c =
     let e = c.evict.ensures in
     fit_after c.evict.result c.self.inside.cache c.evict.new.self (state_of c.self.inside.rig) (state_of c.evict.new.media) (evicted c.args.lba) c.self.invariant (c.self.view_is ∙ c.requires.going)
-    e.geometry e.stopped e.done e.full e.memory
+    e.runs.geometry e.runs.stopped e.done e.runs.full e.runs.memory

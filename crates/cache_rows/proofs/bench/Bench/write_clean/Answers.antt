@@ -14,4 +14,4 @@ pub invariant_of-self : goal.invariant_of-self
 invariant_of-self c =
     let e = c.write_clean.ensures in
     fit_written c.write_clean.result c.self.inside.cache c.write_clean.new.self (state_of c.self.inside.rig) (state_of c.write_clean.new.media) c.args.lba (written_clean c.args.lba c.block_of.result) c.self.invariant (c.self.view_is ∙ c.requires.going)
-    e.geometry e.stopped e.done (λ n l is. absurd (e.full n l is)) (λ is. ((e.memory is).2, e.memory_holds is))
+    e.runs.geometry e.runs.stopped e.done (λ n l is. absurd (e.full n l is)) (λ is. ((e.refused.memory is).2, e.refused.memory_holds is))

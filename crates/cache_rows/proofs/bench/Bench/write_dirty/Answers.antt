@@ -14,4 +14,4 @@ pub invariant_of-self : goal.invariant_of-self
 invariant_of-self c =
     let e = c.write_dirty.ensures in
     fit_written c.write_dirty.result c.self.inside.cache c.write_dirty.new.self (state_of c.self.inside.rig) (state_of c.write_dirty.new.media) c.args.lba (written_dirty c.args.lba c.block_of.result) c.self.invariant (c.self.view_is ∙ c.requires.going)
-    e.geometry e.stopped e.done e.full_keeps (λ is. ((e.memory is).2, e.memory_holds is))
+    e.runs.geometry e.runs.stopped e.done e.refused.full_keeps (λ is. ((e.refused.memory is).2, e.refused.memory_holds is))

@@ -33,7 +33,7 @@ returns-in-Ok-clause-left g c =
     let v = c.args.self.now in
     let w : CachedDisk = record v { cache = c.in-Ok.cache; down = false } in
     opened_left w (g.M.Media.state c.args.media.now).contents (g.M.Media.state c.open_cache.new.media).contents c.requires.list c.in-Ok.ensures.opened c.in-Ok.ensures.opens c.requires.beneath.flash c.requires.beneath.agrees c.requires.beneath.suits
-    (subst (λ (x : Shape). FitsOn v.options.geometry x) (sym c.in-Ok.ensures.passes.shape) c.requires.shape)
+    (subst (λ (x : Shape). FitsOn v.options.geometry x) (sym c.in-Ok.ensures.goes.passes.shape) c.requires.shape)
 
 pub returns-in-Ok-clause-reopens : goal.returns-in-Ok-clause-reopens
 returns-in-Ok-clause-reopens g c =
@@ -52,14 +52,14 @@ returns-in-Ok-clause-reopens g c =
       disk_reads = search rules;
       disk_writes = search rules;
       fixed = one_left (told_of v) old new c.in-Ok.ensures.opens.lists c.in-Ok.ensures.opens.values (alone_now w old new c.requires.list c.in-Ok.ensures.opened c.in-Ok.ensures.opens c.requires.beneath.flash);
-      ready = c.in-Ok.ensures.ready;
+      ready = c.in-Ok.ensures.goes.ready;
       within = search rules;
       cause = search rules;
       passes = search rules;
     }
 
 pub returns-in-Err-clause-left : goal.returns-in-Err-clause-left
-returns-in-Err-clause-left g c = refused_left c.args.self.now (g.M.Media.state c.args.media.now).contents (g.M.Media.state c.open_cache.new.media).contents _ _ c.requires (search rules) c.in-Err.ensures.opens c.in-Err.ensures.passes.shape
+returns-in-Err-clause-left g c = refused_left c.args.self.now (g.M.Media.state c.args.media.now).contents (g.M.Media.state c.open_cache.new.media).contents _ _ c.requires (search rules) c.in-Err.ensures.opens c.in-Err.ensures.goes.passes.shape
 
 pub returns-in-Err-clause-reopens : goal.returns-in-Err-clause-reopens
 returns-in-Err-clause-reopens g c =

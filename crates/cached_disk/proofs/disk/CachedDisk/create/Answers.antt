@@ -11,7 +11,7 @@ returns-in-Ok-clause-owns g c =
     let v : CachedDisk = record { alloc = c.args.alloc; options = c.args.options.now; mode = c.args.mode; cache = c.in-Ok.cache; down = false } in
     let mid = (g.M.Media.state c.format.new.media).contents in
     opened_left v mid (g.M.Media.state c.open_cache.new.media).contents nothing_held c.in-Ok.ensures.opened c.in-Ok.ensures.opens c.in_default.ensures.done (none_agrees mid.disk) (none_suits v.mode)
-    (subst (λ (x : Shape). FitsOn c.args.options.now.geometry x) (sym (c.in-Ok.ensures.passes.shape ∙ c.format.ensures.drives.passes.shape)) c.requires.shape)
+    (subst (λ (x : Shape). FitsOn c.args.options.now.geometry x) (sym (c.in-Ok.ensures.goes.passes.shape ∙ c.format.ensures.drives.passes.shape)) c.requires.shape)
 
 pub returns-in-Ok-clause-opened : goal.returns-in-Ok-clause-opened
 returns-in-Ok-clause-opened g c =
@@ -32,4 +32,4 @@ pub returns-in-Err-open_cache-clause-values : goal.returns-in-Err-open_cache-cla
 returns-in-Err-open_cache-clause-values g c = λ lba b has. c.format.ensures.drives.disk.values lba b (c.open_cache.ensures.opens.values lba b has)
 
 pub returns-in-Ok-clause-ready : goal.returns-in-Ok-clause-ready
-returns-in-Ok-clause-ready g c = λ b there. c.in-Ok.ensures.ready b (c.in_default.ensures.drives.ready refl refl b there)
+returns-in-Ok-clause-ready g c = λ b there. c.in-Ok.ensures.goes.ready b (c.in_default.ensures.drives.ready refl refl b there)

@@ -1,4 +1,4 @@
-use Rattle.std.proofs.Common.{refl, rules, sym, ◌∙◌, ap}
+use Rattle.std.proofs.Common.{Err, refl, rules, sym, ◌∙◌, ap}
 use Rattle.ft_base.proofs.Images.{newest_image, with_newest}
 use Rattle.ft_volume.specs.Volume.{Flushes}
 use Rattle.ssc.specs.CacheState.{pending}
@@ -14,27 +14,24 @@ use Rattle.cached_disk.proofs.disk.CachedDisk.flush.Goals as goal
 pub commit-requires : goal.commit-requires
 commit-requires g c = record { up = is_up c.args.self.now (g.M.Media.state c.args.media.now).contents c.requires.left.held c.requires.up (c.requires.left.up c.requires.up) }
 
-pub returns-in-Ok-clause-left : goal.returns-in-Ok-clause-left
-returns-in-Ok-clause-left g c =
+pub returns-in-Ok-clause-serves : goal.returns-in-Ok-clause-serves
+returns-in-Ok-clause-serves g c =
     let v = c.args.self.now in
     let old = (g.M.Media.state c.args.media.now).contents in
     let new = (g.M.Media.state c.commit.new.media).contents in
     let s = c.requires.left.held in
     let is = c.requires.left.up c.requires.up in
-    let by = drove_held v c.commit.new.self (g.M.Media.state c.args.media.now) (g.M.Media.state c.commit.new.media) (ssc_failed c.commit.result) (ssc_lost c.commit.result) c.requires.left c.requires.up c.commit.ensures.geometry c.commit.ensures.drives in
-    done_left v c.commit.new.self old new s by s (shows_itself v old s is) (c.in-Ok.ensures.done s is.holds) (λ a dirty. dirty) (may_none v.mode (pending c.commit.new.self) c.in-Ok.ensures.nothing_waits)
-
-pub returns-in-Ok-clause-was : goal.returns-in-Ok-clause-was
-returns-in-Ok-clause-was g c = λ order base stand.
-    let v = c.args.self.now in
-    let old = (g.M.Media.state c.args.media.now).contents in
-    let new = (g.M.Media.state c.commit.new.media).contents in
-    let s = c.requires.left.held in
-    let is = c.requires.left.up c.requires.up in
-    let by = drove_held v c.commit.new.self (g.M.Media.state c.args.media.now) (g.M.Media.state c.commit.new.media) (ssc_failed c.commit.result) (ssc_lost c.commit.result) c.requires.left c.requires.up c.commit.ensures.geometry c.commit.ensures.drives in
+    let by = drove_held v c.commit.new.self (g.M.Media.state c.args.media.now) (g.M.Media.state c.commit.new.media) (ssc_failed c.commit.result) (ssc_lost c.commit.result) c.requires.left c.requires.up c.commit.ensures.runs.geometry c.commit.ensures.runs.drives in
     let w : CachedDisk = record v { cache = c.commit.new.self } in
-    answered_same Flushes (state_in order v) (state_in order w) new base refl refl
-    (done_stands v c.commit.new.self old new s by s (shows_itself v old s is) (c.in-Ok.ensures.done s is.holds) (λ a dirty. dirty) (may_none v.mode (pending c.commit.new.self) c.in-Ok.ensures.nothing_waits) base stand) tt refl tt
+    record {
+      left = done_left v c.commit.new.self old new s by s (shows_itself v old s is) (c.in-Ok.ensures.done s is.holds) (λ a dirty. dirty) (may_none v.mode (pending c.commit.new.self) c.in-Ok.ensures.nothing_waits);
+      was = λ order base stand. answered_same Flushes (state_in order v) (state_in order w) new base refl refl
+          (done_stands v c.commit.new.self old new s by s (shows_itself v old s is) (c.in-Ok.ensures.done s is.holds) (λ a dirty. dirty) (may_none v.mode (pending c.commit.new.self) c.in-Ok.ensures.nothing_waits) base stand) tt refl tt;
+      goes = search rules;
+      dirty = λ still. done_dirty v c.commit.new.self old new s by s (shows_itself v old s is) (c.in-Ok.ensures.done s is.holds) (λ a dirty. dirty) (λ a dirty. dirty);
+      options = search rules;
+      within = search rules;
+    }
 
 pub returns-in-Ok-clause-costs : goal.returns-in-Ok-clause-costs
 returns-in-Ok-clause-costs g c = λ order.
@@ -43,42 +40,29 @@ returns-in-Ok-clause-costs g c = λ order.
     let new = (g.M.Media.state c.commit.new.media).contents in
     let s = c.requires.left.held in
     let is = c.requires.left.up c.requires.up in
-    let by = drove_held v c.commit.new.self (g.M.Media.state c.args.media.now) (g.M.Media.state c.commit.new.media) (ssc_failed c.commit.result) (ssc_lost c.commit.result) c.requires.left c.requires.up c.commit.ensures.geometry c.commit.ensures.drives in
+    let by = drove_held v c.commit.new.self (g.M.Media.state c.args.media.now) (g.M.Media.state c.commit.new.media) (ssc_failed c.commit.result) (ssc_lost c.commit.result) c.requires.left c.requires.up c.commit.ensures.runs.geometry c.commit.ensures.runs.drives in
     let holds = c.in-Ok.ensures.done s is.holds in
     let w : CachedDisk = record v { cache = c.commit.new.self } in
     same_costs tt Flushes (state_in order v) (state_in order w) (g.M.Media.state c.args.media.now) (g.M.Media.state c.commit.new.media) (λ a own. own) refl
     (ap (waiting_in v.options.geometry.p order) (done_dirty v c.commit.new.self old new s by s (shows_itself v old s is) holds (λ a dirty. dirty) (λ a dirty. dirty)))
-    (λ a. holds_held c.commit.new.self new s holds a ∙ sym (holds_held v.cache old s is.holds a)) c.commit.ensures.drives.disk_reads c.commit.ensures.drives.disk_writes
+    (λ a. holds_held c.commit.new.self new s holds a ∙ sym (holds_held v.cache old s is.holds a)) c.commit.ensures.runs.drives.disk_reads c.commit.ensures.runs.drives.disk_writes
 
-pub returns-in-Ok-clause-dirty : goal.returns-in-Ok-clause-dirty
-returns-in-Ok-clause-dirty g c = λ up.
+pub returns-in-Err-clause-serves : goal.returns-in-Err-clause-serves
+returns-in-Err-clause-serves g c =
     let v = c.args.self.now in
     let old = (g.M.Media.state c.args.media.now).contents in
     let new = (g.M.Media.state c.commit.new.media).contents in
     let s = c.requires.left.held in
     let is = c.requires.left.up c.requires.up in
-    let by = drove_held v c.commit.new.self (g.M.Media.state c.args.media.now) (g.M.Media.state c.commit.new.media) (ssc_failed c.commit.result) (ssc_lost c.commit.result) c.requires.left c.requires.up c.commit.ensures.geometry c.commit.ensures.drives in
-    done_dirty v c.commit.new.self old new s by s (shows_itself v old s is) (c.in-Ok.ensures.done s is.holds) (λ a dirty. dirty) (λ a dirty. dirty)
-
-pub returns-in-Err-clause-left : goal.returns-in-Err-clause-left
-returns-in-Err-clause-left g c =
-    let v = c.args.self.now in
-    let old = (g.M.Media.state c.args.media.now).contents in
-    let new = (g.M.Media.state c.commit.new.media).contents in
-    let s = c.requires.left.held in
-    let is = c.requires.left.up c.requires.up in
-    let by = drove_held v c.commit.new.self (g.M.Media.state c.args.media.now) (g.M.Media.state c.commit.new.media) (ssc_failed c.commit.result) (ssc_lost c.commit.result) c.requires.left c.requires.up c.commit.ensures.geometry c.commit.ensures.drives in
-    let shown = commit_shows v old s c.requires.left.own is new.flash.page (c.commit.ensures.images s is.holds (with_newest new) (newest_image new)) in
-    refused_left v c.commit.new.self old new s by shown.list shown.shows shown.stands (stopped_down v c.commit.new.self (c.in-Err.ensures.stopped ∙ gives_up c.in-Err.error (search rules) (search rules)))
-
-pub returns-in-Err-clause-was : goal.returns-in-Err-clause-was
-returns-in-Err-clause-was g c = λ order base stand.
-    let v = c.args.self.now in
-    let old = (g.M.Media.state c.args.media.now).contents in
-    let new = (g.M.Media.state c.commit.new.media).contents in
-    let s = c.requires.left.held in
-    let is = c.requires.left.up c.requires.up in
-    let by = drove_held v c.commit.new.self (g.M.Media.state c.args.media.now) (g.M.Media.state c.commit.new.media) (ssc_failed c.commit.result) (ssc_lost c.commit.result) c.requires.left c.requires.up c.commit.ensures.geometry c.commit.ensures.drives in
+    let by = drove_held v c.commit.new.self (g.M.Media.state c.args.media.now) (g.M.Media.state c.commit.new.media) (ssc_failed c.commit.result) (ssc_lost c.commit.result) c.requires.left c.requires.up c.commit.ensures.runs.geometry c.commit.ensures.runs.drives in
     let shown = commit_shows v old s c.requires.left.own is new.flash.page (c.commit.ensures.images s is.holds (with_newest new) (newest_image new)) in
     let w : CachedDisk = record v { cache = c.commit.new.self } in
-    refused_same Flushes (state_in order v) (state_in order w) new base refl refl (refused_stands v c.commit.new.self old new s by shown.list shown.shows shown.stands base stand) c.cache_error.result
+    record {
+      left = refused_left v c.commit.new.self old new s by shown.list shown.shows shown.stands
+          (stopped_down v c.commit.new.self (c.in-Err.ensures.runs.stopped ∙ gives_up c.in-Err.error (λ n limit full. c.in-Err.ensures.runs.full n limit (ap Err full)) (λ none. c.in-Err.ensures.runs.memory (ap Err none))));
+      was = λ order base stand. refused_same Flushes (state_in order v) (state_in order w) new base refl refl (refused_stands v c.commit.new.self old new s by shown.list shown.shows shown.stands base stand) c.cache_error.result;
+      goes = search rules;
+      dirty = search rules;
+      options = search rules;
+      within = search rules;
+    }

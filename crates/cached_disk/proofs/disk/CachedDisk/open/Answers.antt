@@ -18,7 +18,7 @@ returns-clause-owns g c =
     let stands : FlashStandsFor c.args.options.now.geometry old.flash.page s = some.1 in
     let may = c.requires.agrees s stands in
     opened_left v old (g.M.Media.state c.open_cache.new.media).contents s c.in_ok-cache.ensures.opened c.in_ok-cache.ensures.opens stands may.0 may.1
-    (subst (λ (x : Shape). FitsOn c.args.options.now.geometry x) (sym c.in_ok-cache.ensures.passes.shape) c.requires.shape)
+    (subst (λ (x : Shape). FitsOn c.args.options.now.geometry x) (sym c.in_ok-cache.ensures.goes.passes.shape) c.requires.shape)
 
 pub returns-clause-opened : goal.returns-clause-opened
 returns-clause-opened g c = λ s stands.

@@ -37,22 +37,24 @@ read_missing-requires-clause-absent g c =
     let read : ReadOf (get s c.args.lba) false c.read.new.block = subst (λ (x : Bool). ReadOf (get s c.args.lba) x c.read.new.block) is (c.in-Ok-false.ensures.found s holds) in
     ap (λ (k : Ssc). get (entries_of k) c.args.lba) c.read.ensures.same ∙ absent_entry v.cache old s holds c.args.lba (read_absent (get s c.args.lba) c.read.new.block read)
 
-pub returns-in-Ok-false-clause-was : goal.returns-in-Ok-false-clause-was
-returns-in-Ok-false-clause-was g c = λ order base stand.
-    let v = c.args.self.now in
-    subst (λ (k : Ssc). WasDone ImageIs (Reads c.args.lba c.read_missing.new.block) (state_in order (record v { cache = k })) (state_in order c.read_missing.new.self) (g.M.Media.state c.read_missing.new.media).contents c.read_missing.result base) c.read.ensures.same
-    (c.read_missing.ensures.was order base (subst (λ (x : Contents). StandFor (ImageIs (told_of v)) x base) (sym c.read.ensures.reads.contents) stand))
-
-pub returns-in-Ok-false-clause-goes : goal.returns-in-Ok-false-clause-goes
-returns-in-Ok-false-clause-goes g c = λ order.
+pub returns-in-Ok-false-clause-serves : goal.returns-in-Ok-false-clause-serves
+returns-in-Ok-false-clause-serves g c =
     let v = c.args.self.now in
     let u : CachedDisk = record v { cache = c.read.new.self } in
     let before = g.M.Media.state c.args.media.now in
     let between = g.M.Media.state c.read.new.media in
     let after = g.M.Media.state c.read_missing.new.media in
-    subst (λ (k : Ssc). Goes (state_in order (record v { cache = k })) (state_in order c.read_missing.new.self) before after c.read_missing.result) c.read.ensures.same
-    (goes_after before between after c.read.ensures.reads.contents c.in-Ok-false.ensures.reads.cause.flash (let x = c.in-Ok-false.ensures.reads.cause.disk in omega (arith, x))
-    c.in-Ok-false.ensures.reads.cause.cuts c.in-Ok-false.ensures.reads.passes (state_in order u) (state_in order c.read_missing.new.self) c.read_missing.result (c.read_missing.ensures.goes order))
+    record {
+      left = search rules;
+      was = λ order base stand. subst (λ (k : Ssc). WasDone ImageIs (Reads c.args.lba c.read_missing.new.block) (state_in order (record v { cache = k })) (state_in order c.read_missing.new.self) (g.M.Media.state c.read_missing.new.media).contents c.read_missing.result base) c.read.ensures.same
+          (c.read_missing.ensures.serves.was order base (subst (λ (x : Contents). StandFor (ImageIs (told_of v)) x base) (sym c.read.ensures.reads.contents) stand));
+      goes = λ order. subst (λ (k : Ssc). Goes (state_in order (record v { cache = k })) (state_in order c.read_missing.new.self) before after c.read_missing.result) c.read.ensures.same
+          (goes_after before between after c.read.ensures.reads.contents c.in-Ok-false.ensures.reads.cause.flash (let x = c.in-Ok-false.ensures.reads.cause.disk in omega (arith, x))
+          c.in-Ok-false.ensures.reads.cause.cuts c.in-Ok-false.ensures.reads.passes (state_in order u) (state_in order c.read_missing.new.self) c.read_missing.result (c.read_missing.ensures.serves.goes order));
+      dirty = search rules;
+      options = search rules;
+      within = search rules;
+    }
 
 pub returns-in-Ok-false-clause-costs : goal.returns-in-Ok-false-clause-costs
 returns-in-Ok-false-clause-costs g c = λ order.
@@ -69,15 +71,8 @@ returns-in-Ok-false-clause-costs g c = λ order.
 
 -- the cache holds it
 
-pub returns-in-Ok-true-clause-left : goal.returns-in-Ok-true-clause-left
-returns-in-Ok-true-clause-left g c =
-    let v = c.args.self.now in
-    let old = (g.M.Media.state c.args.media.now).contents in
-    let mid = (g.M.Media.state c.read.new.media).contents in
-    left_same v c.read.new.self old mid c.read.ensures.same c.read.ensures.reads.contents c.requires.left
-
-pub returns-in-Ok-true-clause-was : goal.returns-in-Ok-true-clause-was
-returns-in-Ok-true-clause-was g c = λ order base stand.
+pub returns-in-Ok-true-clause-serves : goal.returns-in-Ok-true-clause-serves
+returns-in-Ok-true-clause-serves g c =
     let v = c.args.self.now in
     let old = (g.M.Media.state c.args.media.now).contents in
     let mid = (g.M.Media.state c.read.new.media).contents in
@@ -86,23 +81,31 @@ returns-in-Ok-true-clause-was g c = λ order base stand.
     let held = c.requires.left.up c.requires.up in
     let is : c.in-Ok-true.field-0 ≡ true = search rules in
     let read : ReadOf (get s c.args.lba) true c.read.new.block = subst (λ (x : Bool). ReadOf (get s c.args.lba) x c.read.new.block) is (c.in-Ok-true.ensures.found s held.holds) in
-    answered_same (Reads c.args.lba c.read.new.block) (state_in order v) (state_in order w) mid base refl refl
-    (subst (λ (x : Contents). StandFor (ImageIs (told_of v)) x base) (sym c.read.ensures.reads.contents) stand) tt refl
-    (found_held v old s c.requires.left.own held c.args.lba c.read.new.block c.requires.lba read base stand)
+    record {
+      left = left_same v c.read.new.self old mid c.read.ensures.same c.read.ensures.reads.contents c.requires.left;
+      was = λ order base stand. answered_same (Reads c.args.lba c.read.new.block) (state_in order v) (state_in order w) mid base refl refl
+          (subst (λ (x : Contents). StandFor (ImageIs (told_of v)) x base) (sym c.read.ensures.reads.contents) stand) tt refl
+          (found_held v old s c.requires.left.own held c.args.lba c.read.new.block c.requires.lba read base stand);
+      goes = search rules;
+      dirty = search rules;
+      options = search rules;
+      within = search rules;
+    }
 
 -- the flash was refused
 
-pub returns-in-Err-clause-left : goal.returns-in-Err-clause-left
-returns-in-Err-clause-left g c =
+pub returns-in-Err-clause-serves : goal.returns-in-Err-clause-serves
+returns-in-Err-clause-serves g c =
     let v = c.args.self.now in
     let old = (g.M.Media.state c.args.media.now).contents in
     let mid = (g.M.Media.state c.read.new.media).contents in
-    left_same v c.read.new.self old mid c.read.ensures.same c.read.ensures.reads.contents c.requires.left
-
-pub returns-in-Err-clause-was : goal.returns-in-Err-clause-was
-returns-in-Err-clause-was g c = λ order base stand.
-    let v = c.args.self.now in
-    let mid = (g.M.Media.state c.read.new.media).contents in
     let w : CachedDisk = record v { cache = c.read.new.self } in
-    refused_same (Reads c.args.lba c.read.new.block) (state_in order v) (state_in order w) mid base refl refl
-    (subst (λ (x : Contents). StandFor (ImageIs (told_of v)) x base) (sym c.read.ensures.reads.contents) stand) c.cache_error.result
+    record {
+      left = left_same v c.read.new.self old mid c.read.ensures.same c.read.ensures.reads.contents c.requires.left;
+      was = λ order base stand. refused_same (Reads c.args.lba c.read.new.block) (state_in order v) (state_in order w) mid base refl refl
+          (subst (λ (x : Contents). StandFor (ImageIs (told_of v)) x base) (sym c.read.ensures.reads.contents) stand) c.cache_error.result;
+      goes = search rules;
+      dirty = search rules;
+      options = search rules;
+      within = search rules;
+    }

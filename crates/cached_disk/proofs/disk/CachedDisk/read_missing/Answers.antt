@@ -21,32 +21,39 @@ use Rattle.cached_disk.proofs.disk.CachedDisk.read_missing.Goals as goal
 
 -- the memory wasn't there
 
-pub returns-then-is_err-clause-left : goal.returns-then-is_err-clause-left
-returns-then-is_err-clause-left g c =
+pub returns-then-is_err-clause-serves : goal.returns-then-is_err-clause-serves
+returns-then-is_err-clause-serves g c =
     let v = c.args.self.now in
     let k = c.reserve.new.self in
     let reserved : IsReserved v.cache k = record { geometry = c.reserve.ensures.same; holds = c.reserve.ensures.holds; pending = c.reserve.ensures.pending; stopped = c.reserve.ensures.stopped } in
     let old = (g.M.Media.state c.args.media.now).contents in
-    reserved_left v k reserved old old refl c.requires.left
+    record {
+      left = reserved_left v k reserved old old refl c.requires.left;
+      was = search rules;
+      goes = search rules;
+      dirty = search rules;
+      options = search rules;
+      within = search rules;
+    }
 
 -- the disk was refused
 
-pub returns-in-Err-clause-left : goal.returns-in-Err-clause-left
-returns-in-Err-clause-left g c =
+pub returns-in-Err-clause-serves : goal.returns-in-Err-clause-serves
+returns-in-Err-clause-serves g c =
     let v = c.args.self.now in
     let k = c.reserve.new.self in
     let reserved : IsReserved v.cache k = record { geometry = c.reserve.ensures.same; holds = c.reserve.ensures.holds; pending = c.reserve.ensures.pending; stopped = c.reserve.ensures.stopped } in
     let before = g.M.Media.state c.args.media.now in
     let mid = g.M.Media.state c.read_block.new.self in
-    reserved_left v k reserved before.contents mid.contents c.read_block.ensures.contents c.requires.left
-
-pub returns-in-Err-clause-was : goal.returns-in-Err-clause-was
-returns-in-Err-clause-was g c = λ order base stand.
-    let v = c.args.self.now in
-    let k = c.reserve.new.self in
-    let mid = g.M.Media.state c.read_block.new.self in
     let u : CachedDisk = record v { cache = k } in
-    refused_same (Reads c.args.lba c.args.block.now) (state_in order v) (state_in order u) mid.contents base refl refl (subst (λ (x : Contents). StandFor (ImageIs (told_of v)) x base) (sym c.read_block.ensures.contents) stand) c.disk_error.result
+    record {
+      left = reserved_left v k reserved before.contents mid.contents c.read_block.ensures.contents c.requires.left;
+      was = λ order base stand. refused_same (Reads c.args.lba c.args.block.now) (state_in order v) (state_in order u) mid.contents base refl refl (subst (λ (x : Contents). StandFor (ImageIs (told_of v)) x base) (sym c.read_block.ensures.contents) stand) c.disk_error.result;
+      goes = search rules;
+      dirty = search rules;
+      options = search rules;
+      within = search rules;
+    }
 
 pub write_clean-requires-clause-up : goal.write_clean-requires-clause-up
 write_clean-requires-clause-up g c =
@@ -62,8 +69,8 @@ write_clean-requires-clause-up g c =
 
 -- the cache holds the block
 
-pub returns-in-Ok-clause-left : goal.returns-in-Ok-clause-left
-returns-in-Ok-clause-left g c =
+pub returns-in-Ok-clause-serves : goal.returns-in-Ok-clause-serves
+returns-in-Ok-clause-serves g c =
     let v = c.args.self.now in
     let k = c.reserve.new.self in
     let reserved : IsReserved v.cache k = record { geometry = c.reserve.ensures.same; holds = c.reserve.ensures.holds; pending = c.reserve.ensures.pending; stopped = c.reserve.ensures.stopped } in
@@ -75,44 +82,22 @@ returns-in-Ok-clause-left g c =
     let after = g.M.Media.state c.write_clean.new.media in
     let put = c.write_clean.new.self in
     let s = left.held in
-    let by = drove_held u put mid after (ssc_failed c.write_clean.result) (ssc_lost c.write_clean.result) left up c.write_clean.ensures.geometry c.write_clean.ensures.drives in
-    let absent = absent_held k mid.contents s (left.up up).holds c.args.lba (ap (λ (m : Entries). get m c.args.lba) c.reserve.ensures.entries ∙ c.requires.absent) in
-    let newest = c.in_default.ensures.found ∙ sym (ap (λ (x : Contents). (x.disk c.args.lba).newest) c.read_block.ensures.contents) in
-    let h = c.in-Ok.ensures.done s by.is.holds in
-    put_left u put mid.contents after.contents s by c.args.lba c.read_block.new.block absent newest h (c.in-Ok.ensures.at_absent s by.is.holds absent)
-
-pub returns-in-Ok-clause-was : goal.returns-in-Ok-clause-was
-returns-in-Ok-clause-was g c = λ order base stand.
-    let v = c.args.self.now in
-    let k = c.reserve.new.self in
-    let reserved : IsReserved v.cache k = record { geometry = c.reserve.ensures.same; holds = c.reserve.ensures.holds; pending = c.reserve.ensures.pending; stopped = c.reserve.ensures.stopped } in
-    let before = g.M.Media.state c.args.media.now in
-    let mid = g.M.Media.state c.read_block.new.self in
-    let up = reserved_up v k reserved c.requires.up in
-    let left = reserved_left v k reserved before.contents mid.contents c.read_block.ensures.contents c.requires.left in
-    let u : CachedDisk = record v { cache = k } in
-    let after = g.M.Media.state c.write_clean.new.media in
-    let put = c.write_clean.new.self in
-    let s = left.held in
-    let by = drove_held u put mid after (ssc_failed c.write_clean.result) (ssc_lost c.write_clean.result) left up c.write_clean.ensures.geometry c.write_clean.ensures.drives in
+    let by = drove_held u put mid after (ssc_failed c.write_clean.result) (ssc_lost c.write_clean.result) left up c.write_clean.ensures.runs.geometry c.write_clean.ensures.runs.drives in
     let absent = absent_held k mid.contents s (left.up up).holds c.args.lba (ap (λ (m : Entries). get m c.args.lba) c.reserve.ensures.entries ∙ c.requires.absent) in
     let newest = c.in_default.ensures.found ∙ sym (ap (λ (x : Contents). (x.disk c.args.lba).newest) c.read_block.ensures.contents) in
     let h = c.in-Ok.ensures.done s by.is.holds in
     let w : CachedDisk = record v { cache = put } in
-    answered_same (Reads c.args.lba c.read_block.new.block) (state_in order v) (state_in order w) after.contents base refl refl
-    (put_stands u put mid.contents after.contents s by c.args.lba c.read_block.new.block absent newest h (c.in-Ok.ensures.at_absent s by.is.holds absent) base (subst (λ (x : Contents). StandFor (ImageIs (told_of v)) x base) (sym c.read_block.ensures.contents) stand)) tt refl
-    (newest ∙ found_absent u mid.contents s left.own (left.up up) c.args.lba c.requires.lba absent base (subst (λ (x : Contents). StandFor (ImageIs (told_of v)) x base) (sym c.read_block.ensures.contents) stand))
-
-pub returns-in-Ok-clause-goes : goal.returns-in-Ok-clause-goes
-returns-in-Ok-clause-goes g c = λ order.
-    let v = c.args.self.now in
-    let before = g.M.Media.state c.args.media.now in
-    let mid = g.M.Media.state c.read_block.new.self in
-    let after = g.M.Media.state c.write_clean.new.media in
-    let put = c.write_clean.new.self in
-    let w : CachedDisk = record v { cache = put } in
-    goes_after before mid after c.read_block.ensures.contents (let x = c.in_default.ensures.cause.flash in omega (arith, x)) c.in_default.ensures.cause.disk c.in_default.ensures.cause.cuts c.in_default.ensures.passes (state_in order v) (state_in order w) (Ok tt)
-    (goes_driven tt mid after (state_in order v) (state_in order w) refl (still_up v put c.requires.up c.in-Ok.ensures.stopped) c.in-Ok.ensures.drives)
+    record {
+      left = put_left u put mid.contents after.contents s by c.args.lba c.read_block.new.block absent newest h (c.in-Ok.ensures.at_absent s by.is.holds absent);
+      was = λ order base stand. answered_same (Reads c.args.lba c.read_block.new.block) (state_in order v) (state_in order w) after.contents base refl refl
+          (put_stands u put mid.contents after.contents s by c.args.lba c.read_block.new.block absent newest h (c.in-Ok.ensures.at_absent s by.is.holds absent) base (subst (λ (x : Contents). StandFor (ImageIs (told_of v)) x base) (sym c.read_block.ensures.contents) stand)) tt refl
+          (newest ∙ found_absent u mid.contents s left.own (left.up up) c.args.lba c.requires.lba absent base (subst (λ (x : Contents). StandFor (ImageIs (told_of v)) x base) (sym c.read_block.ensures.contents) stand));
+      goes = λ order. goes_after before mid after c.read_block.ensures.contents (let x = c.in_default.ensures.cause.flash in omega (arith, x)) c.in_default.ensures.cause.disk c.in_default.ensures.cause.cuts c.in_default.ensures.passes (state_in order v) (state_in order w) (Ok tt)
+          (goes_driven tt mid after (state_in order v) (state_in order w) refl (still_up v put c.requires.up c.in-Ok.ensures.runs.stopped) c.in-Ok.ensures.runs.drives);
+      dirty = λ still. put_dirty u put mid.contents after.contents s by c.args.lba c.read_block.new.block absent newest h ∙ ap dirty_lbas c.reserve.ensures.entries;
+      options = search rules;
+      within = search rules;
+    }
 
 pub returns-in-Ok-clause-costs : goal.returns-in-Ok-clause-costs
 returns-in-Ok-clause-costs g c = λ order.
@@ -127,7 +112,7 @@ returns-in-Ok-clause-costs g c = λ order.
     let after = g.M.Media.state c.write_clean.new.media in
     let put = c.write_clean.new.self in
     let s = left.held in
-    let by = drove_held u put mid after (ssc_failed c.write_clean.result) (ssc_lost c.write_clean.result) left up c.write_clean.ensures.geometry c.write_clean.ensures.drives in
+    let by = drove_held u put mid after (ssc_failed c.write_clean.result) (ssc_lost c.write_clean.result) left up c.write_clean.ensures.runs.geometry c.write_clean.ensures.runs.drives in
     let absent = absent_held k mid.contents s (left.up up).holds c.args.lba (ap (λ (m : Entries). get m c.args.lba) c.reserve.ensures.entries ∙ c.requires.absent) in
     let newest = c.in_default.ensures.found ∙ sym (ap (λ (x : Contents). (x.disk c.args.lba).newest) c.read_block.ensures.contents) in
     let h = c.in-Ok.ensures.done s by.is.holds in
@@ -136,31 +121,12 @@ returns-in-Ok-clause-costs g c = λ order.
     (ap (waiting_in v.options.geometry.p order) (put_dirty u put mid.contents after.contents s by c.args.lba c.read_block.new.block absent newest h ∙ ap dirty_lbas c.reserve.ensures.entries))
     (subst (λ (m : Entries). calls.HoldsAfter (told_of v) (Reads c.args.lba c.read_block.new.block) (λ a. is_some (get m a)) (λ a. is_some (get (entries_of put) a))) c.reserve.ensures.entries
     (put_held u put mid.contents after.contents s by c.args.lba c.read_block.new.block absent newest h c.read_block.new.block))
-    c.in_default.ensures.counts c.write_clean.ensures.drives.disk_reads c.write_clean.ensures.drives.disk_writes
-
-pub returns-in-Ok-clause-dirty : goal.returns-in-Ok-clause-dirty
-returns-in-Ok-clause-dirty g c = λ up.
-    let v = c.args.self.now in
-    let k = c.reserve.new.self in
-    let reserved : IsReserved v.cache k = record { geometry = c.reserve.ensures.same; holds = c.reserve.ensures.holds; pending = c.reserve.ensures.pending; stopped = c.reserve.ensures.stopped } in
-    let before = g.M.Media.state c.args.media.now in
-    let mid = g.M.Media.state c.read_block.new.self in
-    let up = reserved_up v k reserved c.requires.up in
-    let left = reserved_left v k reserved before.contents mid.contents c.read_block.ensures.contents c.requires.left in
-    let u : CachedDisk = record v { cache = k } in
-    let after = g.M.Media.state c.write_clean.new.media in
-    let put = c.write_clean.new.self in
-    let s = left.held in
-    let by = drove_held u put mid after (ssc_failed c.write_clean.result) (ssc_lost c.write_clean.result) left up c.write_clean.ensures.geometry c.write_clean.ensures.drives in
-    let absent = absent_held k mid.contents s (left.up up).holds c.args.lba (ap (λ (m : Entries). get m c.args.lba) c.reserve.ensures.entries ∙ c.requires.absent) in
-    let newest = c.in_default.ensures.found ∙ sym (ap (λ (x : Contents). (x.disk c.args.lba).newest) c.read_block.ensures.contents) in
-    let h = c.in-Ok.ensures.done s by.is.holds in
-    put_dirty u put mid.contents after.contents s by c.args.lba c.read_block.new.block absent newest h ∙ ap dirty_lbas c.reserve.ensures.entries
+    c.in_default.ensures.counts c.write_clean.ensures.runs.drives.disk_reads c.write_clean.ensures.runs.drives.disk_writes
 
 -- it was refused or cut
 
-pub returns-in-Err-write_clean-clause-left : goal.returns-in-Err-write_clean-clause-left
-returns-in-Err-write_clean-clause-left g c =
+pub returns-in-Err-write_clean-clause-serves : goal.returns-in-Err-write_clean-clause-serves
+returns-in-Err-write_clean-clause-serves g c =
     let v = c.args.self.now in
     let k = c.reserve.new.self in
     let reserved : IsReserved v.cache k = record { geometry = c.reserve.ensures.same; holds = c.reserve.ensures.holds; pending = c.reserve.ensures.pending; stopped = c.reserve.ensures.stopped } in
@@ -172,44 +138,20 @@ returns-in-Err-write_clean-clause-left g c =
     let after = g.M.Media.state c.write_clean.new.media in
     let put = c.write_clean.new.self in
     let s = left.held in
-    let by = drove_held u put mid after (ssc_failed c.write_clean.result) (ssc_lost c.write_clean.result) left up c.write_clean.ensures.geometry c.write_clean.ensures.drives in
+    let by = drove_held u put mid after (ssc_failed c.write_clean.result) (ssc_lost c.write_clean.result) left up c.write_clean.ensures.runs.geometry c.write_clean.ensures.runs.drives in
     let absent = absent_held k mid.contents s (left.up up).holds c.args.lba (ap (λ (m : Entries). get m c.args.lba) c.reserve.ensures.entries ∙ c.requires.absent) in
     let newest = c.in_default.ensures.found ∙ sym (ap (λ (x : Contents). (x.disk c.args.lba).newest) c.read_block.ensures.contents) in
-    let memory : c.in-Err-write_clean.error ≡ OutOfMemory → ⊥ = λ is. false≢true (sym (c.in-Err-write_clean.ensures.memory (ap Err is)).0 ∙ on_ok_of c.reserve.result (sym c.if-is_err.ensures.value) c.reserve.ensures.ready) in
-    let down = stopped_down v put (c.in-Err-write_clean.ensures.stopped ∙ gives_up c.in-Err-write_clean.error (search rules) memory) in
-    let stands = c.write_clean.ensures.images s by.is.holds (with_newest after.contents) (newest_image after.contents) in
-    cut_left u put mid.contents after.contents s by c.args.lba c.read_block.new.block absent newest stands down
-
-pub returns-in-Err-write_clean-clause-was : goal.returns-in-Err-write_clean-clause-was
-returns-in-Err-write_clean-clause-was g c = λ order base stand.
-    let v = c.args.self.now in
-    let k = c.reserve.new.self in
-    let reserved : IsReserved v.cache k = record { geometry = c.reserve.ensures.same; holds = c.reserve.ensures.holds; pending = c.reserve.ensures.pending; stopped = c.reserve.ensures.stopped } in
-    let before = g.M.Media.state c.args.media.now in
-    let mid = g.M.Media.state c.read_block.new.self in
-    let up = reserved_up v k reserved c.requires.up in
-    let left = reserved_left v k reserved before.contents mid.contents c.read_block.ensures.contents c.requires.left in
-    let u : CachedDisk = record v { cache = k } in
-    let after = g.M.Media.state c.write_clean.new.media in
-    let put = c.write_clean.new.self in
-    let s = left.held in
-    let by = drove_held u put mid after (ssc_failed c.write_clean.result) (ssc_lost c.write_clean.result) left up c.write_clean.ensures.geometry c.write_clean.ensures.drives in
-    let absent = absent_held k mid.contents s (left.up up).holds c.args.lba (ap (λ (m : Entries). get m c.args.lba) c.reserve.ensures.entries ∙ c.requires.absent) in
-    let newest = c.in_default.ensures.found ∙ sym (ap (λ (x : Contents). (x.disk c.args.lba).newest) c.read_block.ensures.contents) in
+    let memory : c.in-Err-write_clean.error ≡ OutOfMemory → ⊥ = λ is. false≢true (sym (c.in-Err-write_clean.ensures.refused.memory (ap Err is)).0 ∙ on_ok_of c.reserve.result (sym c.if-is_err.ensures.value) c.reserve.ensures.ready) in
+    let down = stopped_down v put (c.in-Err-write_clean.ensures.runs.stopped ∙ gives_up c.in-Err-write_clean.error (search rules) memory) in
     let stands = c.write_clean.ensures.images s by.is.holds (with_newest after.contents) (newest_image after.contents) in
     let w : CachedDisk = record v { cache = put } in
-    refused_same (Reads c.args.lba c.args.block.now) (state_in order v) (state_in order w) after.contents base refl refl
-    (cut_stands u put mid.contents after.contents s by c.args.lba c.read_block.new.block absent newest stands base (subst (λ (x : Contents). StandFor (ImageIs (told_of v)) x base) (sym c.read_block.ensures.contents) stand)) c.cache_error.result
-
-pub returns-in-Err-write_clean-clause-goes : goal.returns-in-Err-write_clean-clause-goes
-returns-in-Err-write_clean-clause-goes g c = λ order.
-    let v = c.args.self.now in
-    let before = g.M.Media.state c.args.media.now in
-    let mid = g.M.Media.state c.read_block.new.self in
-    let after = g.M.Media.state c.write_clean.new.media in
-    let put = c.write_clean.new.self in
-    let memory : c.in-Err-write_clean.error ≡ OutOfMemory → ⊥ = λ is. false≢true (sym (c.in-Err-write_clean.ensures.memory (ap Err is)).0 ∙ on_ok_of c.reserve.result (sym c.if-is_err.ensures.value) c.reserve.ensures.ready) in
-    let down = stopped_down v put (c.in-Err-write_clean.ensures.stopped ∙ gives_up c.in-Err-write_clean.error (search rules) memory) in
-    let w : CachedDisk = record v { cache = put } in
-    goes_after before mid after c.read_block.ensures.contents (let x = c.in_default.ensures.cause.flash in omega (arith, x)) c.in_default.ensures.cause.disk c.in_default.ensures.cause.cuts c.in_default.ensures.passes (state_in order v) (state_in order w) (Err c.cache_error.result)
-    (goes_down mid after (state_in order v) (state_in order w) c.in-Err-write_clean.error c.cache_error.result refl down c.cache_error.ensures memory c.in-Err-write_clean.ensures.drives)
+    record {
+      left = cut_left u put mid.contents after.contents s by c.args.lba c.read_block.new.block absent newest stands down;
+      was = λ order base stand. refused_same (Reads c.args.lba c.args.block.now) (state_in order v) (state_in order w) after.contents base refl refl
+          (cut_stands u put mid.contents after.contents s by c.args.lba c.read_block.new.block absent newest stands base (subst (λ (x : Contents). StandFor (ImageIs (told_of v)) x base) (sym c.read_block.ensures.contents) stand)) c.cache_error.result;
+      goes = λ order. goes_after before mid after c.read_block.ensures.contents (let x = c.in_default.ensures.cause.flash in omega (arith, x)) c.in_default.ensures.cause.disk c.in_default.ensures.cause.cuts c.in_default.ensures.passes (state_in order v) (state_in order w) (Err c.cache_error.result)
+          (goes_down mid after (state_in order v) (state_in order w) c.in-Err-write_clean.error c.cache_error.result refl down c.cache_error.ensures memory c.in-Err-write_clean.ensures.runs.drives);
+      dirty = search rules;
+      options = search rules;
+      within = search rules;
+    }

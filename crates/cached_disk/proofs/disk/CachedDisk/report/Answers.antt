@@ -1,4 +1,4 @@
-use Rattle.std.proofs.Common.{◌≡◌, false, [], Ok, Err, refl, sym, ◌∙◌, ap, subst}
+use Rattle.std.proofs.Common.{◌≡◌, false, [], Ok, Err, refl, sym, ◌∙◌, ap, subst, rules}
 use Rattle.ft_base.specs.Contents.{Contents}
 use Rattle.ft_volume.specs.Opening.{ImageIs}
 use Rattle.ft_volume.specs.Volume.{Reports, dirty_lbas}
@@ -16,15 +16,19 @@ use Rattle.cached_disk.proofs.disk.CachedDisk.report.Goals as goal
 
 -- the flush was refused
 
-pub returns-in-Err-clause-was : goal.returns-in-Err-clause-was
-returns-in-Err-clause-was g c = λ order base stand.
+pub returns-in-Err-clause-serves : goal.returns-in-Err-clause-serves
+returns-in-Err-clause-serves g c =
     let v = c.args.self.now in
     let u = c.flush.new.self in
     let mid = (g.M.Media.state c.flush.new.media).contents in
-    refused_same Reports (state_in order v) (state_in order u) mid base refl refl (flushed_stands (state_in order v) (state_in order u) mid c.flush.result base refl (c.flush.ensures.was order base stand)) c.in-Err.error
-
-pub returns-in-Err-clause-goes : goal.returns-in-Err-clause-goes
-returns-in-Err-clause-goes g c = λ order. goes_at {S = Unit {0}} {T = Report} (state_in order c.args.self.now) (state_in order c.flush.new.self) (g.M.Media.state c.args.media.now) (g.M.Media.state c.flush.new.media) c.in-Err.error (c.in-Err.ensures.goes order)
+    record {
+      left = search rules;
+      was = λ order base stand. refused_same Reports (state_in order v) (state_in order u) mid base refl refl (flushed_stands (state_in order v) (state_in order u) mid c.flush.result base refl (c.flush.ensures.serves.was order base stand)) c.in-Err.error;
+      goes = λ order. goes_at {S = Unit {0}} {T = Report} (state_in order c.args.self.now) (state_in order c.flush.new.self) (g.M.Media.state c.args.media.now) (g.M.Media.state c.flush.new.media) c.in-Err.error (c.in-Err.ensures.serves.goes order);
+      dirty = search rules;
+      options = search rules;
+      within = search rules;
+    }
 
 pub returns-in-Err-clause-costs : goal.returns-in-Err-clause-costs
 returns-in-Err-clause-costs g c = λ order. costs_at {S = Unit {0}} {T = Report} (state_in order c.args.self.now) (state_in order c.flush.new.self) (g.M.Media.state c.args.media.now) (g.M.Media.state c.flush.new.media) c.in-Err.error (c.in-Err.ensures.costs order)
@@ -37,37 +41,36 @@ returns-in-Err-clause-nothing_waits g c = λ up. absurd (both (is_down c.flush.n
 pub scrub-requires : goal.scrub-requires
 scrub-requires g c =
     let u = c.flush.new.self in
-    let left = c.flush.ensures.left in
-    let up : is_down u ≡ false = (c.in_default.ensures.goes []).up in
+    let left = c.flush.ensures.serves.left in
+    let up : is_down u ≡ false = (c.in_default.ensures.serves.goes []).up in
     record { up = is_up u (g.M.Media.state c.flush.new.media).contents left.held up (left.up up) }
 
 -- each page was read
 
-pub returns-in-Ok-clause-left : goal.returns-in-Ok-clause-left
-returns-in-Ok-clause-left g c = left_same c.flush.new.self c.scrub.new.self (g.M.Media.state c.flush.new.media).contents (g.M.Media.state c.scrub.new.media).contents c.scrub.ensures.same c.scrub.ensures.reads.contents c.flush.ensures.left
-
-pub returns-in-Ok-clause-was : goal.returns-in-Ok-clause-was
-returns-in-Ok-clause-was g c = λ order base stand.
-    let v = c.args.self.now in
-    let u = c.flush.new.self in
-    let w : CachedDisk = record u { cache = c.scrub.new.self } in
-    let mid = (g.M.Media.state c.flush.new.media).contents in
-    let after = (g.M.Media.state c.scrub.new.media).contents in
-    let stands = flushed_stands (state_in order v) (state_in order u) mid c.flush.result base refl (c.flush.ensures.was order base stand) in
-    answered_same Reports (state_in order v) (state_in order w) after base refl refl (subst (λ (x : Contents). StandFor (ImageIs (told_of u)) x base) (sym c.scrub.ensures.reads.contents) stands) _ refl tt
-
-pub returns-in-Ok-clause-goes : goal.returns-in-Ok-clause-goes
-returns-in-Ok-clause-goes g c = λ order.
+pub returns-in-Ok-clause-serves : goal.returns-in-Ok-clause-serves
+returns-in-Ok-clause-serves g c =
     let v = c.args.self.now in
     let u = c.flush.new.self in
     let w : CachedDisk = record u { cache = c.scrub.new.self } in
     let before = g.M.Media.state c.args.media.now in
-    let mid = g.M.Media.state c.flush.new.media in
-    let after = g.M.Media.state c.scrub.new.media in
-    let first = c.in_default.ensures.goes order in
-    let same = ap (λ (k : Ssc). state_in order (record u { cache = k })) c.scrub.ensures.same in
-    let up : is_down w ≡ false = ap (λ (k : Ssc). is_down (record u { cache = k })) c.scrub.ensures.same ∙ first.up in
-    goes_both (state_in order v) (state_in order u) (state_in order w) before mid after tt (Ok _) first (goes_read Report (state_in order u) (state_in order w) same mid after up _ c.in-Ok.ensures.reads) (λ is. absurd (cc))
+    record {
+      left = left_same c.flush.new.self c.scrub.new.self (g.M.Media.state c.flush.new.media).contents (g.M.Media.state c.scrub.new.media).contents c.scrub.ensures.same c.scrub.ensures.reads.contents c.flush.ensures.serves.left;
+      was = λ order base stand.
+          let mid = (g.M.Media.state c.flush.new.media).contents in
+          let after = (g.M.Media.state c.scrub.new.media).contents in
+          let stands = flushed_stands (state_in order v) (state_in order u) mid c.flush.result base refl (c.flush.ensures.serves.was order base stand) in
+          answered_same Reports (state_in order v) (state_in order w) after base refl refl (subst (λ (x : Contents). StandFor (ImageIs (told_of u)) x base) (sym c.scrub.ensures.reads.contents) stands) _ refl tt;
+      goes = λ order.
+          let mid = g.M.Media.state c.flush.new.media in
+          let after = g.M.Media.state c.scrub.new.media in
+          let first = c.in_default.ensures.serves.goes order in
+          let same = ap (λ (k : Ssc). state_in order (record u { cache = k })) c.scrub.ensures.same in
+          let up : is_down w ≡ false = ap (λ (k : Ssc). is_down (record u { cache = k })) c.scrub.ensures.same ∙ first.up in
+          goes_both (state_in order v) (state_in order u) (state_in order w) before mid after tt (Ok _) first (goes_read Report (state_in order u) (state_in order w) same mid after up _ c.in-Ok.ensures.reads) (λ is. absurd (cc));
+      dirty = λ still. ap (λ (k : Ssc). dirty_lbas (entries_of k)) c.scrub.ensures.same ∙ c.in_default.ensures.serves.dirty (c.in_default.ensures.serves.goes []).up;
+      options = search rules;
+      within = search rules;
+    }
 
 pub returns-in-Ok-clause-costs : goal.returns-in-Ok-clause-costs
 returns-in-Ok-clause-costs g c = λ order.
@@ -82,9 +85,9 @@ returns-in-Ok-clause-report g c =
     let w : CachedDisk = record u { cache = c.scrub.new.self } in
     let mid = (g.M.Media.state c.flush.new.media).contents in
     let after = (g.M.Media.state c.scrub.new.media).contents in
-    let left = left_same u c.scrub.new.self mid after c.scrub.ensures.same c.scrub.ensures.reads.contents c.flush.ensures.left in
-    let up : is_down w ≡ false = ap (λ (k : Ssc). is_down (record u { cache = k })) c.scrub.ensures.same ∙ (c.in_default.ensures.goes []).up in
-    report_is c.args.self.now w after c.flush.ensures.options.0 left up (ap pending c.scrub.ensures.same ∙ c.in_default.ensures.nothing_waits) _ c.held.ensures.count c.dirty_groups.ensures c.buckets.ensures.bound
+    let left = left_same u c.scrub.new.self mid after c.scrub.ensures.same c.scrub.ensures.reads.contents c.flush.ensures.serves.left in
+    let up : is_down w ≡ false = ap (λ (k : Ssc). is_down (record u { cache = k })) c.scrub.ensures.same ∙ (c.in_default.ensures.serves.goes []).up in
+    report_is c.args.self.now w after c.flush.ensures.serves.options.0 left up (ap pending c.scrub.ensures.same ∙ c.in_default.ensures.nothing_waits) _ c.held.ensures.count c.dirty_groups.ensures c.buckets.ensures.bound
     (c.in-Ok.ensures.found.pages ∙ ap (λ (k : Ssc). held_count (entries_of k)) (sym c.scrub.ensures.same))
 
 pub returns-in-Ok-clause-loads : goal.returns-in-Ok-clause-loads
@@ -93,45 +96,41 @@ returns-in-Ok-clause-loads g c =
     let w : CachedDisk = record u { cache = c.scrub.new.self } in
     let mid = (g.M.Media.state c.flush.new.media).contents in
     let after = (g.M.Media.state c.scrub.new.media).contents in
-    let left = left_same u c.scrub.new.self mid after c.scrub.ensures.same c.scrub.ensures.reads.contents c.flush.ensures.left in
-    let up : is_down w ≡ false = ap (λ (k : Ssc). is_down (record u { cache = k })) c.scrub.ensures.same ∙ (c.in_default.ensures.goes []).up in
-    loads_left c.args.self.now w after c.flush.ensures.options.0 left up (ap pending c.scrub.ensures.same ∙ c.in_default.ensures.nothing_waits)
-
-pub returns-in-Ok-clause-dirty : goal.returns-in-Ok-clause-dirty
-returns-in-Ok-clause-dirty g c = λ up. ap (λ (k : Ssc). dirty_lbas (entries_of k)) c.scrub.ensures.same ∙ c.in_default.ensures.dirty (c.in_default.ensures.goes []).up
+    let left = left_same u c.scrub.new.self mid after c.scrub.ensures.same c.scrub.ensures.reads.contents c.flush.ensures.serves.left in
+    let up : is_down w ≡ false = ap (λ (k : Ssc). is_down (record u { cache = k })) c.scrub.ensures.same ∙ (c.in_default.ensures.serves.goes []).up in
+    loads_left c.args.self.now w after c.flush.ensures.serves.options.0 left up (ap pending c.scrub.ensures.same ∙ c.in_default.ensures.nothing_waits)
 
 pub returns-in-Ok-clause-nothing_waits : goal.returns-in-Ok-clause-nothing_waits
 returns-in-Ok-clause-nothing_waits g c = λ up. ap pending c.scrub.ensures.same ∙ c.in_default.ensures.nothing_waits
 
 -- a page could not be read
 
-pub returns-in-Err-scrub-clause-left : goal.returns-in-Err-scrub-clause-left
-returns-in-Err-scrub-clause-left g c = left_same c.flush.new.self c.scrub.new.self (g.M.Media.state c.flush.new.media).contents (g.M.Media.state c.scrub.new.media).contents c.scrub.ensures.same c.scrub.ensures.reads.contents c.flush.ensures.left
-
-pub returns-in-Err-scrub-clause-was : goal.returns-in-Err-scrub-clause-was
-returns-in-Err-scrub-clause-was g c = λ order base stand.
-    let v = c.args.self.now in
-    let u = c.flush.new.self in
-    let w : CachedDisk = record u { cache = c.scrub.new.self } in
-    let mid = (g.M.Media.state c.flush.new.media).contents in
-    let after = (g.M.Media.state c.scrub.new.media).contents in
-    let stands = flushed_stands (state_in order v) (state_in order u) mid c.flush.result base refl (c.flush.ensures.was order base stand) in
-    refused_same Reports (state_in order v) (state_in order w) after base refl refl (subst (λ (x : Contents). StandFor (ImageIs (told_of u)) x base) (sym c.scrub.ensures.reads.contents) stands) c.cache_error.result
-
-pub returns-in-Err-scrub-clause-goes : goal.returns-in-Err-scrub-clause-goes
-returns-in-Err-scrub-clause-goes g c = λ order.
+pub returns-in-Err-scrub-clause-serves : goal.returns-in-Err-scrub-clause-serves
+returns-in-Err-scrub-clause-serves g c =
     let v = c.args.self.now in
     let u = c.flush.new.self in
     let w : CachedDisk = record u { cache = c.scrub.new.self } in
     let before = g.M.Media.state c.args.media.now in
-    let mid = g.M.Media.state c.flush.new.media in
-    let after = g.M.Media.state c.scrub.new.media in
-    let first = c.in_default.ensures.goes order in
-    let same = ap (λ (k : Ssc). state_in order (record u { cache = k })) c.scrub.ensures.same in
-    let up : is_down w ≡ false = ap (λ (k : Ssc). is_down (record u { cache = k })) c.scrub.ensures.same ∙ first.up in
-    goes_both (state_in order v) (state_in order u) (state_in order w) before mid after tt (Err c.cache_error.result) first
-    (goes_unread Report (state_in order u) (state_in order w) same mid after up c.in-Err-scrub.error c.cache_error.result c.cache_error.ensures c.in-Err-scrub.ensures.reads)
-    (λ is. not_disk c.in-Err-scrub.error c.cache_error.result c.cache_error.ensures (cc))
+    record {
+      left = left_same c.flush.new.self c.scrub.new.self (g.M.Media.state c.flush.new.media).contents (g.M.Media.state c.scrub.new.media).contents c.scrub.ensures.same c.scrub.ensures.reads.contents c.flush.ensures.serves.left;
+      was = λ order base stand.
+          let mid = (g.M.Media.state c.flush.new.media).contents in
+          let after = (g.M.Media.state c.scrub.new.media).contents in
+          let stands = flushed_stands (state_in order v) (state_in order u) mid c.flush.result base refl (c.flush.ensures.serves.was order base stand) in
+          refused_same Reports (state_in order v) (state_in order w) after base refl refl (subst (λ (x : Contents). StandFor (ImageIs (told_of u)) x base) (sym c.scrub.ensures.reads.contents) stands) c.cache_error.result;
+      goes = λ order.
+          let mid = g.M.Media.state c.flush.new.media in
+          let after = g.M.Media.state c.scrub.new.media in
+          let first = c.in_default.ensures.serves.goes order in
+          let same = ap (λ (k : Ssc). state_in order (record u { cache = k })) c.scrub.ensures.same in
+          let up : is_down w ≡ false = ap (λ (k : Ssc). is_down (record u { cache = k })) c.scrub.ensures.same ∙ first.up in
+          goes_both (state_in order v) (state_in order u) (state_in order w) before mid after tt (Err c.cache_error.result) first
+          (goes_unread Report (state_in order u) (state_in order w) same mid after up c.in-Err-scrub.error c.cache_error.result c.cache_error.ensures c.in-Err-scrub.ensures.reads)
+          (λ is. not_disk c.in-Err-scrub.error c.cache_error.result c.cache_error.ensures (cc));
+      dirty = λ still. ap (λ (k : Ssc). dirty_lbas (entries_of k)) c.scrub.ensures.same ∙ c.in_default.ensures.serves.dirty (c.in_default.ensures.serves.goes []).up;
+      options = search rules;
+      within = search rules;
+    }
 
 pub returns-in-Err-scrub-clause-costs : goal.returns-in-Err-scrub-clause-costs
 returns-in-Err-scrub-clause-costs g c = λ order.
@@ -139,9 +138,6 @@ returns-in-Err-scrub-clause-costs g c = λ order.
     let w : CachedDisk = record u { cache = c.scrub.new.self } in
     let same = ap (λ (k : Ssc). state_in order (record u { cache = k })) c.scrub.ensures.same in
     costs_unread (state_in order c.args.self.now) (state_in order u) (state_in order w) same (g.M.Media.state c.args.media.now) (g.M.Media.state c.flush.new.media) (g.M.Media.state c.scrub.new.media) tt c.scrub.ensures.reads.counts (c.in_default.ensures.costs order) Report c.cache_error.result
-
-pub returns-in-Err-scrub-clause-dirty : goal.returns-in-Err-scrub-clause-dirty
-returns-in-Err-scrub-clause-dirty g c = λ up. ap (λ (k : Ssc). dirty_lbas (entries_of k)) c.scrub.ensures.same ∙ c.in_default.ensures.dirty (c.in_default.ensures.goes []).up
 
 pub returns-in-Err-scrub-clause-nothing_waits : goal.returns-in-Err-scrub-clause-nothing_waits
 returns-in-Err-scrub-clause-nothing_waits g c = λ up. ap pending c.scrub.ensures.same ∙ c.in_default.ensures.nothing_waits

@@ -16,8 +16,8 @@ returns-then-not-is_dirty-clause-done g c = λ s holds.
     let same = no_dirty_entry c.args.self.now old s c.args.lba holds (λ e. false≢true (c.if-not-is_dirty.ensures.1 e)) in
     subst (λ (t : CacheList). Holds c.args.self.now old t) (sym same) holds
 
-pub mark_clean-requires-clause-few : goal.mark_clean-requires-clause-few
-mark_clean-requires-clause-few g c = few_buffered c.args.self.now (g.M.Media.state c.args.media.now).contents c.requires.up.list c.requires.up.holds
+pub mark_clean-requires : goal.mark_clean-requires
+mark_clean-requires g c = record { may = record { agree = c.requires.up.holds.agree; lba = c.requires.lba; few = few_buffered c.args.self.now (g.M.Media.state c.args.media.now).contents c.requires.up.list c.requires.up.holds } }
 
 pub returns-in-Ok-clause-done : goal.returns-in-Ok-clause-done
 returns-in-Ok-clause-done g c = λ s holds.

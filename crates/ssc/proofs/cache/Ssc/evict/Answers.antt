@@ -15,8 +15,8 @@ returns-then-not-is_held-clause-done g c = λ s holds.
     let absent = no_entry c.args.self.now old s c.args.lba holds (λ e. false≢true (c.if-not-is_held.ensures.1 e)) in
     subst (λ (t : CacheList). Holds c.args.self.now old t) (sym (evicted_absent s c.args.lba absent)) holds
 
-pub take_out-requires-clause-few : goal.take_out-requires-clause-few
-take_out-requires-clause-few g c = few_buffered c.args.self.now (g.M.Media.state c.args.media.now).contents c.requires.up.list c.requires.up.holds
+pub take_out-requires : goal.take_out-requires
+take_out-requires g c = record { may = record { agree = c.requires.up.holds.agree; lba = c.requires.lba; few = few_buffered c.args.self.now (g.M.Media.state c.args.media.now).contents c.requires.up.list c.requires.up.holds } }
 
 pub returns-in-Ok-clause-done : goal.returns-in-Ok-clause-done
 returns-in-Ok-clause-done g c = λ s holds.

@@ -1,4 +1,4 @@
-use Rattle.std.proofs.Common.{Err, true, false, refl, ◌∙◌, ap, subst}
+use Rattle.std.proofs.Common.{rules, Err, true, false, refl, ◌∙◌, ap, subst}
 use Rattle.std.proofs.lemmas.Bool.{false≢true}
 use Rattle.ft_base.specs.Count.{Rose}
 use Rattle.ft_media.specs.declared.rig.Counts.{Counts}
@@ -85,14 +85,14 @@ returns-in-Err-PowerLost-clause-drives g c =
     (reads_drives (g.M.Media.state c.args.media.now) (g.M.Media.state c.load.new.media) false false (g.met.M.Media.off_is_crashed c.args.media.now) c.in_ok-loaded.ensures.reads)
     (subst (λ (e : MediaError). DrivesFlash (g.M.Media.state c.load.new.media) (g.M.Media.state c.make_checkpoint.new.media) (failed {T = Unit {0}} (Err e)) (lost {T = Unit {0}} (Err e))) c.in-Err-PowerLost.field-0-is c.in-Err-PowerLost.ensures.drives.flash)
 
-pub returns-in-Ok-clause-log : goal.returns-in-Ok-clause-log
-returns-in-Ok-clause-log g c = ap (λ (l : LogValue). l.next) c.in-Ok.ensures.log
-
-pub returns-in-Ok-clause-empty_log : goal.returns-in-Ok-clause-empty_log
-returns-in-Ok-clause-empty_log g c = full_room c.make_checkpoint.new.cache c.args.geometry.now (ap (λ (p : Parts). p.geometry) c.make_checkpoint.ensures.cache ∙ c.in_ok-parts.ensures.geometry) (ap (λ (l : LogValue). l.next) c.in-Ok.ensures.log)
-
-pub returns-in-Ok-clause-closed : goal.returns-in-Ok-clause-closed
-returns-in-Ok-clause-closed g c = ap (λ (p : Parts). p.logs.room) c.make_checkpoint.ensures.cache ∙ c.in_ok-parts.ensures.closed
-
 pub returns-in-Ok-clause-own : goal.returns-in-Ok-clause-own
 returns-in-Ok-clause-own g c = λ loads. record { list = loads.list; holds = returns-in-Ok-clause-holds g c loads.list loads.stands; own = loads.own }
+
+pub returns-in-Ok-clause-opened : goal.returns-in-Ok-clause-opened
+returns-in-Ok-clause-opened g c = record {
+  nothing_waits = search rules;
+  log = ap (λ (l : LogValue). l.next) c.in-Ok.ensures.log;
+  empty_log = full_room c.make_checkpoint.new.cache c.args.geometry.now (ap (λ (p : Parts). p.geometry) c.make_checkpoint.ensures.cache ∙ c.in_ok-parts.ensures.geometry) (ap (λ (l : LogValue). l.next) c.in-Ok.ensures.log);
+  closed = ap (λ (p : Parts). p.logs.room) c.make_checkpoint.ensures.cache ∙ c.in_ok-parts.ensures.closed;
+  up = refl;
+}

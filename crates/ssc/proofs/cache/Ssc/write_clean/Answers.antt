@@ -1,4 +1,4 @@
-use Rattle.std.proofs.Common.{◌<◌, inl, sym, ap, subst, false}
+use Rattle.std.proofs.Common.{rules, ◌<◌, inl, sym, ap, subst, false}
 use Rattle.ft_base.specs.declared.geometry.Geometry.{Geometry}
 use Rattle.cache_model.specs.Cache.{Inserted, undo, written_clean}
 use Rattle.merge_engine.specs.declared.parts.Parts.{Parts}
@@ -11,28 +11,18 @@ use Rattle.ssc.proofs.WriteLemmas.{images_kept, images_written, log_room_left, w
 use Rattle.ssc.proofs.OwnLemmas.{given_up_not, kept_held, kept_write}
 use Rattle.ssc.proofs.cache.Ssc.write_clean.Goals as goal
 
-pub put_clean-requires-clause-agree : goal.put_clean-requires-clause-agree
-put_clean-requires-clause-agree g c = (c.reserve.ensures.holds (g.M.Media.state c.args.media.now).contents c.requires.up.list c.requires.up.holds).agree
-
-pub put_clean-requires-clause-lba : goal.put_clean-requires-clause-lba
-put_clean-requires-clause-lba g c = subst (λ (h : Geometry). c.args.lba < h.size) (sym c.reserve.ensures.same) c.requires.lba
+pub put_clean-requires-clause-may : goal.put_clean-requires-clause-may
+put_clean-requires-clause-may g c = record {
+  agree = (c.reserve.ensures.holds (g.M.Media.state c.args.media.now).contents c.requires.up.list c.requires.up.holds).agree;
+  lba = subst (λ (h : Geometry). c.args.lba < h.size) (sym c.reserve.ensures.same) c.requires.lba;
+  few = few_buffered c.reserve.new.self (g.M.Media.state c.args.media.now).contents c.requires.up.list (c.reserve.ensures.holds (g.M.Media.state c.args.media.now).contents c.requires.up.list c.requires.up.holds);
+}
 
 pub put_clean-requires-clause-memory : goal.put_clean-requires-clause-memory
 put_clean-requires-clause-memory g c = (c.reserve.ensures.holds (g.M.Media.state c.args.media.now).contents c.requires.up.list c.requires.up.holds).memory (not_refused c.reserve.result c.is_err.result c.is_err.ensures.value c.if-is_err.false c.reserve.ensures.ready)
 
-pub put_clean-requires-clause-few : goal.put_clean-requires-clause-few
-put_clean-requires-clause-few g c = few_buffered c.reserve.new.self (g.M.Media.state c.args.media.now).contents c.requires.up.list (c.reserve.ensures.holds (g.M.Media.state c.args.media.now).contents c.requires.up.list c.requires.up.holds)
-
 pub returns-in-Ok-clause-done : goal.returns-in-Ok-clause-done
 returns-in-Ok-clause-done g c = λ s holds. written_from c.reserve.new.self.parts _ (g.M.Media.state c.put_clean.new.media).contents s c.args.lba (written_clean c.args.lba c.args.block.now) c.put_clean.ensures.geometry
-    (left_clean c.reserve.new.self _ (g.M.Media.state c.args.media.now).contents (g.M.Media.state c.put_clean.new.media).contents s c.args.lba c.args.block.now (c.reserve.ensures.holds (g.M.Media.state c.args.media.now).contents s holds)
-    (settled_unready c.put_clean.new.self (g.M.Media.state c.put_clean.new.media).contents (ap (λ (v : Ssc). v.ready) c.put_clean.ensures.cache) c.in-Ok.ensures.agree)
-    c.in-Ok.ensures.few c.in-Ok.ensures.over_held (held_none c.reserve.new.self (g.M.Media.state c.args.media.now).contents s c.args.lba
-    (c.reserve.ensures.holds (g.M.Media.state c.args.media.now).contents s holds))
-    (c.in-Ok.ensures.lists s (undo (pending c.reserve.new.self) s) (c.reserve.ensures.holds (g.M.Media.state c.args.media.now).contents s holds).lists))
-
-pub returns-in-Ok-clause-inside : goal.returns-in-Ok-clause-inside
-returns-in-Ok-clause-inside g c = λ room s holds. inside_from c.reserve.new.self.parts _ (g.M.Media.state c.put_clean.new.media).contents s (written_clean c.args.lba c.args.block.now) (inl (room_left c.args.self.now c.reserve.new.self c.reserve.ensures.parts room))
     (left_clean c.reserve.new.self _ (g.M.Media.state c.args.media.now).contents (g.M.Media.state c.put_clean.new.media).contents s c.args.lba c.args.block.now (c.reserve.ensures.holds (g.M.Media.state c.args.media.now).contents s holds)
     (settled_unready c.put_clean.new.self (g.M.Media.state c.put_clean.new.media).contents (ap (λ (v : Ssc). v.ready) c.put_clean.ensures.cache) c.in-Ok.ensures.agree)
     c.in-Ok.ensures.few c.in-Ok.ensures.over_held (held_none c.reserve.new.self (g.M.Media.state c.args.media.now).contents s c.args.lba
@@ -48,43 +38,15 @@ returns-in-Ok-clause-at_absent g c = λ s holds absent.
     (pends_written c.reserve.new.self c.put_clean.new.self (g.M.Media.state c.put_clean.new.media).contents s (undo (pending c.reserve.new.self) s) c.args.lba c.args.block.now
     (c.in-Ok.ensures.lists s (undo (pending c.reserve.new.self) s) (c.reserve.ensures.holds (g.M.Media.state c.args.media.now).contents s holds).lists))
 
-pub returns-in-Ok-clause-one_program : goal.returns-in-Ok-clause-one_program
-returns-in-Ok-clause-one_program g c = λ s holds absent room few.
-    one_pends c.args.self.now c.reserve.new.self c.put_clean.new.self c.args.lba _ _ (ap (λ (p : Parts). p.log) c.reserve.ensures.parts)
-    (c.in-Ok.ensures.one_program (none_of_absent c.reserve.new.self (g.M.Media.state c.args.media.now).contents s c.args.lba
-    (c.reserve.ensures.holds (g.M.Media.state c.args.media.now).contents s holds) absent) (room_left c.args.self.now c.reserve.new.self c.reserve.ensures.parts room)
-    (few_left c.args.self.now c.reserve.new.self c.reserve.ensures.parts few))
-
 pub returns-in-Ok-clause-images : goal.returns-in-Ok-clause-images
 returns-in-Ok-clause-images g c = λ s holds.
     images_written c.args.self.now c.reserve.new.self (g.M.Media.state c.put_clean.new.media).contents s c.args.lba (written_clean c.args.lba c.args.block.now) c.reserve.ensures.same c.reserve.ensures.pending
-    (c.put_clean.ensures.stands s (undo (pending c.reserve.new.self) s) (c.reserve.ensures.holds (g.M.Media.state c.args.media.now).contents s holds).lists)
+    (c.put_clean.ensures.leaves.stands s (undo (pending c.reserve.new.self) s) (c.reserve.ensures.holds (g.M.Media.state c.args.media.now).contents s holds).lists)
 
 pub returns-in-Err-clause-images : goal.returns-in-Err-clause-images
 returns-in-Err-clause-images g c = λ s holds.
     images_written c.args.self.now c.reserve.new.self (g.M.Media.state c.put_clean.new.media).contents s c.args.lba (written_clean c.args.lba c.args.block.now) c.reserve.ensures.same c.reserve.ensures.pending
-    (c.put_clean.ensures.stands s (undo (pending c.reserve.new.self) s) (c.reserve.ensures.holds (g.M.Media.state c.args.media.now).contents s holds).lists)
-
-pub returns-in-Err-clause-drives : goal.returns-in-Err-clause-drives
-returns-in-Err-clause-drives g c = drives_given_up (Unit {0}) (g.M.Media.state c.args.media.now) (g.M.Media.state c.put_clean.new.media) c.give_up.result c.in-Err.error c.give_up.ensures.error c.in-Err.ensures.drives
-
-pub returns-in-Ok-clause-kept : goal.returns-in-Ok-clause-kept
-returns-in-Ok-clause-kept g c = λ room s holds. inside_from c.reserve.new.self.parts _ (g.M.Media.state c.put_clean.new.media).contents s (written_clean c.args.lba c.args.block.now) (log_room_left c.args.self.now c.reserve.new.self c.reserve.ensures.parts c.reserve.ensures.entries room)
-    (left_clean c.reserve.new.self _ (g.M.Media.state c.args.media.now).contents (g.M.Media.state c.put_clean.new.media).contents s c.args.lba c.args.block.now (c.reserve.ensures.holds (g.M.Media.state c.args.media.now).contents s holds)
-    (settled_unready c.put_clean.new.self (g.M.Media.state c.put_clean.new.media).contents (ap (λ (v : Ssc). v.ready) c.put_clean.ensures.cache) c.in-Ok.ensures.agree)
-    c.in-Ok.ensures.few c.in-Ok.ensures.over_held (held_none c.reserve.new.self (g.M.Media.state c.args.media.now).contents s c.args.lba
-    (c.reserve.ensures.holds (g.M.Media.state c.args.media.now).contents s holds))
-    (c.in-Ok.ensures.lists s (undo (pending c.reserve.new.self) s) (c.reserve.ensures.holds (g.M.Media.state c.args.media.now).contents s holds).lists))
-
-pub returns-in-Ok-clause-kept_images : goal.returns-in-Ok-clause-kept_images
-returns-in-Ok-clause-kept_images g c = λ room s holds.
-    images_kept c.args.self.now c.reserve.new.self (g.M.Media.state c.put_clean.new.media).contents s (written_clean c.args.lba c.args.block.now s) c.reserve.ensures.same c.reserve.ensures.pending
-    (c.put_clean.ensures.kept (log_room_left c.args.self.now c.reserve.new.self c.reserve.ensures.parts c.reserve.ensures.entries room) s (undo (pending c.reserve.new.self) s) (c.reserve.ensures.holds (g.M.Media.state c.args.media.now).contents s holds).lists)
-
-pub returns-in-Err-clause-kept_images : goal.returns-in-Err-clause-kept_images
-returns-in-Err-clause-kept_images g c = λ room s holds.
-    images_kept c.args.self.now c.reserve.new.self (g.M.Media.state c.put_clean.new.media).contents s (written_clean c.args.lba c.args.block.now s) c.reserve.ensures.same c.reserve.ensures.pending
-    (c.put_clean.ensures.kept (log_room_left c.args.self.now c.reserve.new.self c.reserve.ensures.parts c.reserve.ensures.entries room) s (undo (pending c.reserve.new.self) s) (c.reserve.ensures.holds (g.M.Media.state c.args.media.now).contents s holds).lists)
+    (c.put_clean.ensures.leaves.stands s (undo (pending c.reserve.new.self) s) (c.reserve.ensures.holds (g.M.Media.state c.args.media.now).contents s holds).lists)
 
 pub returns-then-is_err-clause-own : goal.returns-then-is_err-clause-own
 returns-then-is_err-clause-own g c = kept_held c.args.self.now c.reserve.new.self (g.M.Media.state c.args.media.now).contents (c.reserve.ensures.holds (g.M.Media.state c.args.media.now).contents)
@@ -93,4 +55,51 @@ pub returns-in-Ok-clause-own : goal.returns-in-Ok-clause-own
 returns-in-Ok-clause-own g c = kept_write c.args.self.now _ (g.M.Media.state c.args.media.now).contents (g.M.Media.state c.put_clean.new.media).contents c.args.lba c.args.block.now false (λ up. returns-in-Ok-clause-done g c) (returns-in-Ok-clause-images g c)
 
 pub returns-in-Err-clause-own : goal.returns-in-Err-clause-own
-returns-in-Err-clause-own g c = kept_write c.args.self.now c.give_up.new.self (g.M.Media.state c.args.media.now).contents (g.M.Media.state c.put_clean.new.media).contents c.args.lba c.args.block.now false (λ up. given_up_not c.give_up.new.self (ap (λ (k : Ssc). k.stopped) c.give_up.ensures.cache) up) (returns-in-Err-clause-images g c)
+returns-in-Err-clause-own g c = kept_write c.args.self.now c.give_up.new.self (g.M.Media.state c.args.media.now).contents (g.M.Media.state c.put_clean.new.media).contents c.args.lba c.args.block.now false
+    (λ up. given_up_not c.give_up.new.self (ap (λ (k : Ssc). k.stopped) c.give_up.ensures.cache) up) (returns-in-Err-clause-images g c)
+
+pub returns-in-Err-clause-runs : goal.returns-in-Err-clause-runs
+returns-in-Err-clause-runs g c = record {
+  geometry = search rules;
+  stopped = search rules;
+  drives = drives_given_up (Unit {0}) (g.M.Media.state c.args.media.now) (g.M.Media.state c.put_clean.new.media) c.give_up.result c.in-Err.error c.give_up.ensures.error c.in-Err.ensures.drives.flash;
+}
+
+pub returns-in-Ok-clause-in_room : goal.returns-in-Ok-clause-in_room
+returns-in-Ok-clause-in_room g c = record {
+  inside = λ room s holds. inside_from c.reserve.new.self.parts _ (g.M.Media.state c.put_clean.new.media).contents s (written_clean c.args.lba c.args.block.now) (inl (room_left c.args.self.now c.reserve.new.self c.reserve.ensures.parts room))
+      (left_clean c.reserve.new.self _ (g.M.Media.state c.args.media.now).contents (g.M.Media.state c.put_clean.new.media).contents s c.args.lba c.args.block.now (c.reserve.ensures.holds (g.M.Media.state c.args.media.now).contents s holds)
+      (settled_unready c.put_clean.new.self (g.M.Media.state c.put_clean.new.media).contents (ap (λ (v : Ssc). v.ready) c.put_clean.ensures.cache) c.in-Ok.ensures.agree)
+      c.in-Ok.ensures.few c.in-Ok.ensures.over_held (held_none c.reserve.new.self (g.M.Media.state c.args.media.now).contents s c.args.lba
+      (c.reserve.ensures.holds (g.M.Media.state c.args.media.now).contents s holds))
+      (c.in-Ok.ensures.lists s (undo (pending c.reserve.new.self) s) (c.reserve.ensures.holds (g.M.Media.state c.args.media.now).contents s holds).lists));
+  kept = λ room s holds. inside_from c.reserve.new.self.parts _ (g.M.Media.state c.put_clean.new.media).contents s (written_clean c.args.lba c.args.block.now) (log_room_left c.args.self.now c.reserve.new.self c.reserve.ensures.parts c.reserve.ensures.entries room)
+      (left_clean c.reserve.new.self _ (g.M.Media.state c.args.media.now).contents (g.M.Media.state c.put_clean.new.media).contents s c.args.lba c.args.block.now (c.reserve.ensures.holds (g.M.Media.state c.args.media.now).contents s holds)
+      (settled_unready c.put_clean.new.self (g.M.Media.state c.put_clean.new.media).contents (ap (λ (v : Ssc). v.ready) c.put_clean.ensures.cache) c.in-Ok.ensures.agree)
+      c.in-Ok.ensures.few c.in-Ok.ensures.over_held (held_none c.reserve.new.self (g.M.Media.state c.args.media.now).contents s c.args.lba
+      (c.reserve.ensures.holds (g.M.Media.state c.args.media.now).contents s holds))
+      (c.in-Ok.ensures.lists s (undo (pending c.reserve.new.self) s) (c.reserve.ensures.holds (g.M.Media.state c.args.media.now).contents s holds).lists));
+  kept_images = λ room s holds.
+      images_kept c.args.self.now c.reserve.new.self (g.M.Media.state c.put_clean.new.media).contents s (written_clean c.args.lba c.args.block.now s) c.reserve.ensures.same c.reserve.ensures.pending
+      (c.put_clean.ensures.leaves.kept (log_room_left c.args.self.now c.reserve.new.self c.reserve.ensures.parts c.reserve.ensures.entries room) s (undo (pending c.reserve.new.self) s) (c.reserve.ensures.holds (g.M.Media.state c.args.media.now).contents s holds).lists);
+}
+
+pub returns-in-Err-clause-in_room : goal.returns-in-Err-clause-in_room
+returns-in-Err-clause-in_room g c = record {
+  inside = search rules;
+  kept = search rules;
+  kept_images = λ room s holds.
+      images_kept c.args.self.now c.reserve.new.self (g.M.Media.state c.put_clean.new.media).contents s (written_clean c.args.lba c.args.block.now s) c.reserve.ensures.same c.reserve.ensures.pending
+      (c.put_clean.ensures.leaves.kept (log_room_left c.args.self.now c.reserve.new.self c.reserve.ensures.parts c.reserve.ensures.entries room) s (undo (pending c.reserve.new.self) s) (c.reserve.ensures.holds (g.M.Media.state c.args.media.now).contents s holds).lists);
+}
+
+pub returns-in-Ok-clause-costs : goal.returns-in-Ok-clause-costs
+returns-in-Ok-clause-costs g c = record {
+  one_program = λ s holds absent room few.
+      one_pends c.args.self.now c.reserve.new.self c.put_clean.new.self c.args.lba _ _ (ap (λ (p : Parts). p.log) c.reserve.ensures.parts)
+      (c.in-Ok.ensures.one_program (none_of_absent c.reserve.new.self (g.M.Media.state c.args.media.now).contents s c.args.lba
+      (c.reserve.ensures.holds (g.M.Media.state c.args.media.now).contents s holds) absent) (room_left c.args.self.now c.reserve.new.self c.reserve.ensures.parts room)
+      (few_left c.args.self.now c.reserve.new.self c.reserve.ensures.parts few));
+  programs = search rules;
+  spends = search rules;
+}

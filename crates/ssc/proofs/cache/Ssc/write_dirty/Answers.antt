@@ -1,4 +1,4 @@
-use Rattle.std.proofs.Common.{◌<◌, true, inl, refl, sym, subst, ap}
+use Rattle.std.proofs.Common.{rules, ◌<◌, true, inl, refl, sym, subst, ap}
 use Rattle.ft_base.specs.declared.geometry.Geometry.{Geometry}
 use Rattle.cache_model.specs.Cache.{written_block, undo, written_dirty}
 use Rattle.ssc.specs.CacheState.{pending}
@@ -19,17 +19,15 @@ returns-then-is_full-clause-full g c = λ s holds.
 pub returns-then-is_err-clause-full : goal.returns-then-is_err-clause-full
 returns-then-is_err-clause-full g c = λ s holds. not_full c.args.self.now (g.M.Media.state c.args.media.now).contents s c.args.lba holds (c.is_full.ensures.room c.if-is_full.false)
 
-pub write_committed-requires-clause-agree : goal.write_committed-requires-clause-agree
-write_committed-requires-clause-agree g c = (c.reserve.ensures.holds (g.M.Media.state c.args.media.now).contents c.requires.up.list c.requires.up.holds).agree
-
-pub write_committed-requires-clause-lba : goal.write_committed-requires-clause-lba
-write_committed-requires-clause-lba g c = subst (λ (h : Geometry). c.args.lba < h.size) (sym c.reserve.ensures.same) c.requires.lba
+pub write_committed-requires-clause-may : goal.write_committed-requires-clause-may
+write_committed-requires-clause-may g c = record {
+  agree = (c.reserve.ensures.holds (g.M.Media.state c.args.media.now).contents c.requires.up.list c.requires.up.holds).agree;
+  lba = subst (λ (h : Geometry). c.args.lba < h.size) (sym c.reserve.ensures.same) c.requires.lba;
+  few = few_buffered c.reserve.new.self (g.M.Media.state c.args.media.now).contents c.requires.up.list (c.reserve.ensures.holds (g.M.Media.state c.args.media.now).contents c.requires.up.list c.requires.up.holds);
+}
 
 pub write_committed-requires-clause-memory : goal.write_committed-requires-clause-memory
 write_committed-requires-clause-memory g c = (c.reserve.ensures.holds (g.M.Media.state c.args.media.now).contents c.requires.up.list c.requires.up.holds).memory (not_refused c.reserve.result c.is_err.result c.is_err.ensures.value c.if-is_err.false c.reserve.ensures.ready)
-
-pub write_committed-requires-clause-few : goal.write_committed-requires-clause-few
-write_committed-requires-clause-few g c = few_buffered c.reserve.new.self (g.M.Media.state c.args.media.now).contents c.requires.up.list (c.reserve.ensures.holds (g.M.Media.state c.args.media.now).contents c.requires.up.list c.requires.up.holds)
 
 pub write_committed-requires-clause-dirty : goal.write_committed-requires-clause-dirty
 write_committed-requires-clause-dirty g c = λ t. room_for c.args.self.now c.reserve.new.self c.args.lba c.reserve.ensures.same c.reserve.ensures.entries (c.is_full.ensures.room c.if-is_full.false)
@@ -45,41 +43,15 @@ returns-in-Ok-clause-done g c = λ s holds. written_from c.reserve.new.self.part
     (left_committed c.reserve.new.self.parts _ (g.M.Media.state c.write_committed.new.media).contents s c.args.lba (written_block c.args.lba c.args.block.now true) (settled_unready _ (g.M.Media.state c.write_committed.new.media).contents refl c.in-Ok.ensures.agree) c.in-Ok.ensures.nothing_waits
     (c.in-Ok.ensures.lists s (undo (pending c.reserve.new.self) s) (c.reserve.ensures.holds (g.M.Media.state c.args.media.now).contents s holds).lists))
 
-pub returns-in-Ok-clause-inside : goal.returns-in-Ok-clause-inside
-returns-in-Ok-clause-inside g c = λ room s holds. inside_from c.reserve.new.self.parts _ (g.M.Media.state c.write_committed.new.media).contents s (written_dirty c.args.lba c.args.block.now) (inl (room_left c.args.self.now c.reserve.new.self c.reserve.ensures.parts room))
-    (left_committed c.reserve.new.self.parts _ (g.M.Media.state c.write_committed.new.media).contents s c.args.lba (written_block c.args.lba c.args.block.now true) (settled_unready _ (g.M.Media.state c.write_committed.new.media).contents refl c.in-Ok.ensures.agree) c.in-Ok.ensures.nothing_waits
-    (c.in-Ok.ensures.lists s (undo (pending c.reserve.new.self) s) (c.reserve.ensures.holds (g.M.Media.state c.args.media.now).contents s holds).lists))
-
 pub returns-in-Ok-clause-images : goal.returns-in-Ok-clause-images
 returns-in-Ok-clause-images g c = λ s holds.
     images_written c.args.self.now c.reserve.new.self (g.M.Media.state c.write_committed.new.media).contents s c.args.lba (written_dirty c.args.lba c.args.block.now) c.reserve.ensures.same c.reserve.ensures.pending
-    (c.write_committed.ensures.stands s (undo (pending c.reserve.new.self) s) (c.reserve.ensures.holds (g.M.Media.state c.args.media.now).contents s holds).lists)
+    (c.write_committed.ensures.leaves.stands s (undo (pending c.reserve.new.self) s) (c.reserve.ensures.holds (g.M.Media.state c.args.media.now).contents s holds).lists)
 
 pub returns-in-Err-clause-images : goal.returns-in-Err-clause-images
 returns-in-Err-clause-images g c = λ s holds.
     images_written c.args.self.now c.reserve.new.self (g.M.Media.state c.write_committed.new.media).contents s c.args.lba (written_dirty c.args.lba c.args.block.now) c.reserve.ensures.same c.reserve.ensures.pending
-    (c.write_committed.ensures.stands s (undo (pending c.reserve.new.self) s) (c.reserve.ensures.holds (g.M.Media.state c.args.media.now).contents s holds).lists)
-
-pub returns-in-Ok-clause-two_programs : goal.returns-in-Ok-clause-two_programs
-returns-in-Ok-clause-two_programs g c = λ room left. c.in-Ok.ensures.two_programs (room_left c.args.self.now c.reserve.new.self c.reserve.ensures.parts room) (log_left c.args.self.now c.reserve.new.self c.reserve.ensures.parts left)
-
-pub returns-in-Err-clause-drives : goal.returns-in-Err-clause-drives
-returns-in-Err-clause-drives g c = drives_given_up (Unit {0}) (g.M.Media.state c.args.media.now) (g.M.Media.state c.write_committed.new.media) c.give_up.result c.in-Err.error c.give_up.ensures.error c.in-Err.ensures.drives
-
-pub returns-in-Ok-clause-kept : goal.returns-in-Ok-clause-kept
-returns-in-Ok-clause-kept g c = λ room s holds. inside_from c.reserve.new.self.parts _ (g.M.Media.state c.write_committed.new.media).contents s (written_dirty c.args.lba c.args.block.now) (log_room_left c.args.self.now c.reserve.new.self c.reserve.ensures.parts c.reserve.ensures.entries room)
-    (left_committed c.reserve.new.self.parts _ (g.M.Media.state c.write_committed.new.media).contents s c.args.lba (written_block c.args.lba c.args.block.now true) (settled_unready _ (g.M.Media.state c.write_committed.new.media).contents refl c.in-Ok.ensures.agree) c.in-Ok.ensures.nothing_waits
-    (c.in-Ok.ensures.lists s (undo (pending c.reserve.new.self) s) (c.reserve.ensures.holds (g.M.Media.state c.args.media.now).contents s holds).lists))
-
-pub returns-in-Ok-clause-kept_images : goal.returns-in-Ok-clause-kept_images
-returns-in-Ok-clause-kept_images g c = λ room s holds.
-    images_kept c.args.self.now c.reserve.new.self (g.M.Media.state c.write_committed.new.media).contents s (written_dirty c.args.lba c.args.block.now s) c.reserve.ensures.same c.reserve.ensures.pending
-    (c.write_committed.ensures.kept (log_room_left c.args.self.now c.reserve.new.self c.reserve.ensures.parts c.reserve.ensures.entries room) s (undo (pending c.reserve.new.self) s) (c.reserve.ensures.holds (g.M.Media.state c.args.media.now).contents s holds).lists)
-
-pub returns-in-Err-clause-kept_images : goal.returns-in-Err-clause-kept_images
-returns-in-Err-clause-kept_images g c = λ room s holds.
-    images_kept c.args.self.now c.reserve.new.self (g.M.Media.state c.write_committed.new.media).contents s (written_dirty c.args.lba c.args.block.now s) c.reserve.ensures.same c.reserve.ensures.pending
-    (c.write_committed.ensures.kept (log_room_left c.args.self.now c.reserve.new.self c.reserve.ensures.parts c.reserve.ensures.entries room) s (undo (pending c.reserve.new.self) s) (c.reserve.ensures.holds (g.M.Media.state c.args.media.now).contents s holds).lists)
+    (c.write_committed.ensures.leaves.stands s (undo (pending c.reserve.new.self) s) (c.reserve.ensures.holds (g.M.Media.state c.args.media.now).contents s holds).lists)
 
 pub returns-then-is_full-clause-own : goal.returns-then-is_full-clause-own
 returns-then-is_full-clause-own g c = kept_held c.args.self.now c.args.self.now (g.M.Media.state c.args.media.now).contents (λ s holds. holds)
@@ -91,4 +63,41 @@ pub returns-in-Ok-clause-own : goal.returns-in-Ok-clause-own
 returns-in-Ok-clause-own g c = kept_write c.args.self.now _ (g.M.Media.state c.args.media.now).contents (g.M.Media.state c.write_committed.new.media).contents c.args.lba c.args.block.now true (λ up. returns-in-Ok-clause-done g c) (returns-in-Ok-clause-images g c)
 
 pub returns-in-Err-clause-own : goal.returns-in-Err-clause-own
-returns-in-Err-clause-own g c = kept_write c.args.self.now c.give_up.new.self (g.M.Media.state c.args.media.now).contents (g.M.Media.state c.write_committed.new.media).contents c.args.lba c.args.block.now true (λ up. given_up_not c.give_up.new.self (ap (λ (k : Ssc). k.stopped) c.give_up.ensures.cache) up) (returns-in-Err-clause-images g c)
+returns-in-Err-clause-own g c = kept_write c.args.self.now c.give_up.new.self (g.M.Media.state c.args.media.now).contents (g.M.Media.state c.write_committed.new.media).contents c.args.lba c.args.block.now true
+    (λ up. given_up_not c.give_up.new.self (ap (λ (k : Ssc). k.stopped) c.give_up.ensures.cache) up) (returns-in-Err-clause-images g c)
+
+pub returns-in-Err-clause-runs : goal.returns-in-Err-clause-runs
+returns-in-Err-clause-runs g c = record {
+  geometry = search rules;
+  stopped = search rules;
+  drives = drives_given_up (Unit {0}) (g.M.Media.state c.args.media.now) (g.M.Media.state c.write_committed.new.media) c.give_up.result c.in-Err.error c.give_up.ensures.error c.in-Err.ensures.drives.flash;
+}
+
+pub returns-in-Ok-clause-in_room : goal.returns-in-Ok-clause-in_room
+returns-in-Ok-clause-in_room g c = record {
+  inside = λ room s holds. inside_from c.reserve.new.self.parts _ (g.M.Media.state c.write_committed.new.media).contents s (written_dirty c.args.lba c.args.block.now) (inl (room_left c.args.self.now c.reserve.new.self c.reserve.ensures.parts room))
+      (left_committed c.reserve.new.self.parts _ (g.M.Media.state c.write_committed.new.media).contents s c.args.lba (written_block c.args.lba c.args.block.now true) (settled_unready _ (g.M.Media.state c.write_committed.new.media).contents refl c.in-Ok.ensures.agree) c.in-Ok.ensures.nothing_waits
+      (c.in-Ok.ensures.lists s (undo (pending c.reserve.new.self) s) (c.reserve.ensures.holds (g.M.Media.state c.args.media.now).contents s holds).lists));
+  kept = λ room s holds. inside_from c.reserve.new.self.parts _ (g.M.Media.state c.write_committed.new.media).contents s (written_dirty c.args.lba c.args.block.now) (log_room_left c.args.self.now c.reserve.new.self c.reserve.ensures.parts c.reserve.ensures.entries room)
+      (left_committed c.reserve.new.self.parts _ (g.M.Media.state c.write_committed.new.media).contents s c.args.lba (written_block c.args.lba c.args.block.now true) (settled_unready _ (g.M.Media.state c.write_committed.new.media).contents refl c.in-Ok.ensures.agree) c.in-Ok.ensures.nothing_waits
+      (c.in-Ok.ensures.lists s (undo (pending c.reserve.new.self) s) (c.reserve.ensures.holds (g.M.Media.state c.args.media.now).contents s holds).lists));
+  kept_images = λ room s holds.
+      images_kept c.args.self.now c.reserve.new.self (g.M.Media.state c.write_committed.new.media).contents s (written_dirty c.args.lba c.args.block.now s) c.reserve.ensures.same c.reserve.ensures.pending
+      (c.write_committed.ensures.leaves.kept (log_room_left c.args.self.now c.reserve.new.self c.reserve.ensures.parts c.reserve.ensures.entries room) s (undo (pending c.reserve.new.self) s) (c.reserve.ensures.holds (g.M.Media.state c.args.media.now).contents s holds).lists);
+}
+
+pub returns-in-Err-clause-in_room : goal.returns-in-Err-clause-in_room
+returns-in-Err-clause-in_room g c = record {
+  inside = search rules;
+  kept = search rules;
+  kept_images = λ room s holds.
+      images_kept c.args.self.now c.reserve.new.self (g.M.Media.state c.write_committed.new.media).contents s (written_dirty c.args.lba c.args.block.now s) c.reserve.ensures.same c.reserve.ensures.pending
+      (c.write_committed.ensures.leaves.kept (log_room_left c.args.self.now c.reserve.new.self c.reserve.ensures.parts c.reserve.ensures.entries room) s (undo (pending c.reserve.new.self) s) (c.reserve.ensures.holds (g.M.Media.state c.args.media.now).contents s holds).lists);
+}
+
+pub returns-in-Ok-clause-costs : goal.returns-in-Ok-clause-costs
+returns-in-Ok-clause-costs g c = record {
+  two_programs = λ room left. c.in-Ok.ensures.two_programs (room_left c.args.self.now c.reserve.new.self c.reserve.ensures.parts room) (log_left c.args.self.now c.reserve.new.self c.reserve.ensures.parts left);
+  programs = search rules;
+  spends = search rules;
+}

@@ -1,7 +1,8 @@
 use Rattle.std.proofs.Common.{◌≡◌, Bool, true, cond, nat_le, length, inl, sym, subst, ap, ◌∙◌, arith}
 use Rattle.std.proofs.lemmas.Bool.Decides.{nat_tests}
 use Rattle.ft_base.specs.Table.{last_size, without_last}
-use Rattle.write_back.specs.Left.{WritesDisk, state_of}
+use Rattle.cached_disk.specs.Kept.{WritesDisk}
+use Rattle.write_back.specs.Left.{state_of}
 use Rattle.write_back.proofs.WriteLemmas.{full_is, none_back, ok_then, room_left, room_there}
 use Rattle.write_back.proofs.volume.WriteBack.make_room.Goals as goal
 
@@ -21,7 +22,7 @@ pub returns-clause-room : goal.returns-clause-room
 returns-clause-room g c =
     let v = c.args.self.now in
     let to = c.write_oldest_back.ensures in
-    ok_then c.write_oldest_back.result (room_left v c.write_oldest_back.new.self (g.M.Media.state c.args.media.now).contents (g.M.Media.state c.write_oldest_back.new.media).contents c.args.group c.requires.left c.requires.up to.left to.goes.told) to.table
+    ok_then c.write_oldest_back.result (room_left v c.write_oldest_back.new.self (g.M.Media.state c.args.media.now).contents (g.M.Media.state c.write_oldest_back.new.media).contents c.args.group c.requires.left c.requires.up to.steps.left to.steps.goes.told) to.table
 
 pub returns-clause-table : goal.returns-clause-table
 returns-clause-table g c =

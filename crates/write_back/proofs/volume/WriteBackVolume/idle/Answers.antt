@@ -11,7 +11,7 @@ returns-in-Ok-clause-disk g c = done_through ImageIs Loads (state_of c.args.self
 
 pub returns-in-Ok-clause-goes : goal.returns-in-Ok-clause-goes
 returns-in-Ok-clause-goes g c = goes_through ImageIs Loads (state_of c.args.self.now) (state_of c.bring_up.new.self) (state_of c.idle_up.new.self) (g.R.Media.state c.args.rig.now)
-    (g.R.Media.state c.bring_up.new.media) (g.R.Media.state c.idle_up.new.media) tt c.in-Ok.ensures.comes c.idle_up.result c.idle_up.ensures.goes
+    (g.R.Media.state c.bring_up.new.media) (g.R.Media.state c.idle_up.new.media) tt c.in-Ok.ensures.comes c.idle_up.result c.idle_up.ensures.steps.goes
 
 pub returns-in-Err-clause-disk : goal.returns-in-Err-clause-disk
 returns-in-Err-clause-disk g c = done_refused ImageIs Loads Idles (state_of c.args.self.now) (state_of c.bring_up.new.self) (g.R.Media.state c.args.rig.now) (g.R.Media.state c.bring_up.new.media) c.in-Err.error c.in-Err.ensures.comes

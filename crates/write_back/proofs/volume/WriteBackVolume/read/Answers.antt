@@ -8,12 +8,12 @@ use Rattle.write_back.proofs.volume.WriteBackVolume.read.Goals as goal
 pub returns-in-Ok-clause-disk : goal.returns-in-Ok-clause-disk
 returns-in-Ok-clause-disk g c = done_through ImageIs Loads (state_of c.args.self.now) (state_of c.bring_up.new.self) (state_of (record { disk = c.read.new.self; dirty = c.bring_up.new.self.dirty }))
     (g.R.Media.state c.args.rig.now) (g.R.Media.state c.bring_up.new.media) (g.R.Media.state c.read.new.media) tt c.in-Ok.ensures.comes c.read.result (Reads c.args.lba c.read.new.block)
-    (c.read.ensures.was c.bring_up.new.self.dirty.order)
+    (c.read.ensures.serves.was c.bring_up.new.self.dirty.order)
 
 pub returns-in-Ok-clause-goes : goal.returns-in-Ok-clause-goes
 returns-in-Ok-clause-goes g c = goes_through ImageIs Loads (state_of c.args.self.now) (state_of c.bring_up.new.self) (state_of (record { disk = c.read.new.self; dirty = c.bring_up.new.self.dirty }))
     (g.R.Media.state c.args.rig.now) (g.R.Media.state c.bring_up.new.media) (g.R.Media.state c.read.new.media) tt c.in-Ok.ensures.comes c.read.result
-    (c.read.ensures.goes c.bring_up.new.self.dirty.order)
+    (c.read.ensures.serves.goes c.bring_up.new.self.dirty.order)
 
 pub returns-in-Ok-clause-costs : goal.returns-in-Ok-clause-costs
 returns-in-Ok-clause-costs g c = λ m has. costs_through ImageIs Loads (state_of c.args.self.now) (state_of c.bring_up.new.self)

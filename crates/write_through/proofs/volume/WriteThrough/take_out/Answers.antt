@@ -1,4 +1,4 @@
-use Rattle.std.proofs.Common.{Err, ap, ◌∙◌}
+use Rattle.std.proofs.Common.{Err, ap, ◌∙◌, rules}
 use Rattle.ft_base.proofs.Images.{newest_image, with_newest}
 use Rattle.cache_model.specs.Cache.{evicted}
 use Rattle.ssc.specs.Errors.{ssc_failed, ssc_lost}
@@ -10,25 +10,29 @@ use Rattle.write_through.proofs.volume.WriteThrough.take_out.Goals as goal
 
 pub evict-requires-clause-up : goal.evict-requires-clause-up
 evict-requires-clause-up g c =
-    let left = c.requires.left.disk in
-    is_up c.args.self.now.disk (g.M.Media.state c.args.media.now).contents left.held c.requires.up (left.up c.requires.up)
+    let left = c.requires.may.left.disk in
+    is_up c.args.self.now.disk (g.M.Media.state c.args.media.now).contents left.held c.requires.may.up (left.up c.requires.may.up)
 
-pub returns-in-Ok-clause-left : goal.returns-in-Ok-clause-left
-returns-in-Ok-clause-left g c =
+pub returns-in-Ok-clause-steps : goal.returns-in-Ok-clause-steps
+returns-in-Ok-clause-steps g c =
     let v = c.args.self.now.disk in
     let k = c.evict.new.self in
     let lba = c.args.lba in
     let before = g.M.Media.state c.args.media.now in
     let after = g.M.Media.state c.evict.new.media in
-    let left = c.requires.left.disk in
+    let left = c.requires.may.left.disk in
     let s = left.held in
-    let is = left.up c.requires.up in
-    let through = c.requires.left.mode in
-    let by = drove_held v k before after (ssc_failed c.evict.result) (ssc_lost c.evict.result) left c.requires.up c.evict.ensures.geometry c.evict.ensures.drives in
+    let is = left.up c.requires.may.up in
+    let through = c.requires.may.left.mode in
+    let by = drove_held v k before after (ssc_failed c.evict.result) (ssc_lost c.evict.result) left c.requires.may.up c.evict.ensures.runs.geometry c.evict.ensures.runs.drives in
     let may = evicted_may v before.contents s left.own is through lba k (c.in-Ok.ensures.held s is.holds) (λ none. (c.in-Ok.ensures.absent s is.holds none).0) in
     record {
-      disk = done_left v k before.contents after.contents s by (evicted lba s) (evicted_shows v before.contents s left.own is through lba) (c.in-Ok.ensures.done s is.holds) (evicted_keeps v before.contents s left.own is through lba) may;
-      mode = through;
+      left = record {
+        disk = done_left v k before.contents after.contents s by (evicted lba s) (evicted_shows v before.contents s left.own is through lba) (c.in-Ok.ensures.done s is.holds) (evicted_keeps v before.contents s left.own is through lba) may;
+        mode = through;
+      };
+      goes = search rules;
+      within = search rules;
     }
 
 pub returns-in-Ok-clause-stands : goal.returns-in-Ok-clause-stands
@@ -38,41 +42,45 @@ returns-in-Ok-clause-stands g c =
     let lba = c.args.lba in
     let before = g.M.Media.state c.args.media.now in
     let after = g.M.Media.state c.evict.new.media in
-    let left = c.requires.left.disk in
+    let left = c.requires.may.left.disk in
     let s = left.held in
-    let is = left.up c.requires.up in
-    let through = c.requires.left.mode in
-    let by = drove_held v k before after (ssc_failed c.evict.result) (ssc_lost c.evict.result) left c.requires.up c.evict.ensures.geometry c.evict.ensures.drives in
+    let is = left.up c.requires.may.up in
+    let through = c.requires.may.left.mode in
+    let by = drove_held v k before after (ssc_failed c.evict.result) (ssc_lost c.evict.result) left c.requires.may.up c.evict.ensures.runs.geometry c.evict.ensures.runs.drives in
     let may = evicted_may v before.contents s left.own is through lba k (c.in-Ok.ensures.held s is.holds) (λ none. (c.in-Ok.ensures.absent s is.holds none).0) in
     done_stands v k before.contents after.contents s by (evicted lba s) (evicted_shows v before.contents s left.own is through lba) (c.in-Ok.ensures.done s is.holds) (evicted_keeps v before.contents s left.own is through lba) may
 
 pub returns-in-Ok-clause-absent : goal.returns-in-Ok-clause-absent
 returns-in-Ok-clause-absent g c =
-    let left = c.requires.left.disk in
-    evicted_absent c.args.self.now.disk.cache c.evict.new.self (g.M.Media.state c.args.media.now).contents (g.M.Media.state c.evict.new.media).contents left.held c.args.lba (c.in-Ok.ensures.done left.held (left.up c.requires.up).holds)
+    let left = c.requires.may.left.disk in
+    evicted_absent c.args.self.now.disk.cache c.evict.new.self (g.M.Media.state c.args.media.now).contents (g.M.Media.state c.evict.new.media).contents left.held c.args.lba (c.in-Ok.ensures.done left.held (left.up c.requires.may.up).holds)
 
 pub returns-in-Ok-clause-held : goal.returns-in-Ok-clause-held
 returns-in-Ok-clause-held g c =
-    let left = c.requires.left.disk in
-    let holds = (left.up c.requires.up).holds in
+    let left = c.requires.may.left.disk in
+    let holds = (left.up c.requires.may.up).holds in
     evicted_held c.args.self.now.disk.cache c.evict.new.self (g.M.Media.state c.args.media.now).contents (g.M.Media.state c.evict.new.media).contents left.held c.args.lba (c.in-Ok.ensures.done left.held holds) holds
 
-pub returns-in-Err-clause-left : goal.returns-in-Err-clause-left
-returns-in-Err-clause-left g c =
+pub returns-in-Err-clause-steps : goal.returns-in-Err-clause-steps
+returns-in-Err-clause-steps g c =
     let v = c.args.self.now.disk in
     let k = c.evict.new.self in
     let before = g.M.Media.state c.args.media.now in
     let after = g.M.Media.state c.evict.new.media in
-    let left = c.requires.left.disk in
+    let left = c.requires.may.left.disk in
     let s = left.held in
-    let is = left.up c.requires.up in
-    let through = c.requires.left.mode in
-    let by = drove_held v k before after (ssc_failed c.evict.result) (ssc_lost c.evict.result) left c.requires.up c.evict.ensures.geometry c.evict.ensures.drives in
+    let is = left.up c.requires.may.up in
+    let through = c.requires.may.left.mode in
+    let by = drove_held v k before after (ssc_failed c.evict.result) (ssc_lost c.evict.result) left c.requires.may.up c.evict.ensures.runs.geometry c.evict.ensures.runs.drives in
     let shown = evict_shows v before.contents s left.own is through c.args.lba after.contents.flash.page (c.evict.ensures.images s is.holds (with_newest after.contents) (newest_image after.contents)) in
     record {
-      disk = refused_left v k before.contents after.contents s by shown.list shown.shows shown.stands
-          (stopped_down v k (c.in-Err.ensures.stopped ∙ gives_up c.in-Err.error (λ n limit full. c.in-Err.ensures.full n limit (ap Err full)) (λ none. c.in-Err.ensures.memory (ap Err none))));
-      mode = through;
+      left = record {
+        disk = refused_left v k before.contents after.contents s by shown.list shown.shows shown.stands
+            (stopped_down v k (c.in-Err.ensures.runs.stopped ∙ gives_up c.in-Err.error (λ n limit full. c.in-Err.ensures.runs.full n limit (ap Err full)) (λ none. c.in-Err.ensures.runs.memory (ap Err none))));
+        mode = through;
+      };
+      goes = search rules;
+      within = search rules;
     }
 
 pub returns-in-Err-clause-stands : goal.returns-in-Err-clause-stands
@@ -81,9 +89,9 @@ returns-in-Err-clause-stands g c =
     let k = c.evict.new.self in
     let before = g.M.Media.state c.args.media.now in
     let after = g.M.Media.state c.evict.new.media in
-    let left = c.requires.left.disk in
+    let left = c.requires.may.left.disk in
     let s = left.held in
-    let is = left.up c.requires.up in
-    let by = drove_held v k before after (ssc_failed c.evict.result) (ssc_lost c.evict.result) left c.requires.up c.evict.ensures.geometry c.evict.ensures.drives in
-    let shown = evict_shows v before.contents s left.own is c.requires.left.mode c.args.lba after.contents.flash.page (c.evict.ensures.images s is.holds (with_newest after.contents) (newest_image after.contents)) in
+    let is = left.up c.requires.may.up in
+    let by = drove_held v k before after (ssc_failed c.evict.result) (ssc_lost c.evict.result) left c.requires.may.up c.evict.ensures.runs.geometry c.evict.ensures.runs.drives in
+    let shown = evict_shows v before.contents s left.own is c.requires.may.left.mode c.args.lba after.contents.flash.page (c.evict.ensures.images s is.holds (with_newest after.contents) (newest_image after.contents)) in
     refused_stands v k before.contents after.contents s by shown.list shown.shows shown.stands

@@ -13,13 +13,18 @@ use Rattle.write_through.specs.Left.{state_of}
 use Rattle.write_through.proofs.WriteLemmas.{fault_downs, goes_then, programs_then, told_as, was_of, written_costs, written_was}
 use Rattle.write_through.proofs.volume.WriteThrough.write_up.Goals as goal
 
-pub take_out-requires-clause-left : goal.take_out-requires-clause-left
-take_out-requires-clause-left g c = c.reserve.ensures.left (g.M.Media.state c.args.media.now).contents c.requires.left
+pub take_out-requires : goal.take_out-requires
+take_out-requires g c = record { may = record { left = c.reserve.ensures.left (g.M.Media.state c.args.media.now).contents c.requires.may.left; up = search rules; lba = search rules } }
 
 -- the memory was refused
 
-pub returns-in_err-reserve-clause-left : goal.returns-in_err-reserve-clause-left
-returns-in_err-reserve-clause-left g c = c.reserve.ensures.left (g.M.Media.state c.args.media.now).contents c.requires.left
+pub returns-in_err-reserve-clause-steps : goal.returns-in_err-reserve-clause-steps
+returns-in_err-reserve-clause-steps g c =
+    record {
+      left = c.reserve.ensures.left (g.M.Media.state c.args.media.now).contents c.requires.may.left;
+      goes = search rules;
+      within = search rules;
+    }
 
 pub returns-in_err-reserve-clause-was : goal.returns-in_err-reserve-clause-was
 returns-in_err-reserve-clause-was g c = λ d stand.
@@ -44,7 +49,7 @@ returns-in_err-take_out-clause-was g c = λ d stand.
     let call = Writes c.args.lba c.args.block.now in
     let is : c.from_residual-in_err-take_out.result ≡ Err c.in_err-take_out.field-0.0 = search rules in
     subst (λ (r : Result (Unit {0}) VolumeError). WasDone ImageIs call v v2 new r d) (sym is)
-    (refused_same call v v2 new d refl refl (told_as v1.told v2.told new d c.take_out.ensures.goes.told (c.take_out.ensures.stands d before)) c.in_err-take_out.field-0.0)
+    (refused_same call v v2 new d refl refl (told_as v1.told v2.told new d c.take_out.ensures.steps.goes.told (c.take_out.ensures.stands d before)) c.in_err-take_out.field-0.0)
 
 -- the disk was refused
 
@@ -58,14 +63,14 @@ returns-in_err-put_on_disk-clause-was g c = λ d stand.
     let v2 = state_of c.take_out.new.self in
     let v3 = state_of c.put_on_disk.new.self in
     let before = told_as v.told v1.told old d (ap (λ (s : VolumeState). s.told) c.reserve.ensures.same) stand in
-    let between = told_as v1.told v2.told mid d c.take_out.ensures.goes.told (c.take_out.ensures.stands d before) in
+    let between = told_as v1.told v2.told mid d c.take_out.ensures.steps.goes.told (c.take_out.ensures.stands d before) in
     let call = Writes c.args.lba c.args.block.now in
     let is : c.from_residual-in_err-put_on_disk.result ≡ Err c.in_err-put_on_disk.field-0.0 = search rules in
     subst (λ (r : Result (Unit {0}) VolumeError). WasDone ImageIs call v v3 new r d) (sym is)
     (was_of call v v2 v3 new (Err c.in_err-put_on_disk.field-0.0) d refl (c.in_err-put_on_disk.ensures.was d between))
 
-pub returns-in_err-put_on_disk-clause-goes : goal.returns-in_err-put_on_disk-clause-goes
-returns-in_err-put_on_disk-clause-goes g c =
+pub returns-in_err-put_on_disk-clause-steps : goal.returns-in_err-put_on_disk-clause-steps
+returns-in_err-put_on_disk-clause-steps g c =
     let v = state_of c.args.self.now in
     let v1 = state_of c.reserve.new.self in
     let v2 = state_of c.take_out.new.self in
@@ -74,9 +79,13 @@ returns-in_err-put_on_disk-clause-goes g c =
     let b = g.M.Media.state c.take_out.new.media in
     let e = g.M.Media.state c.put_on_disk.new.media in
     let is : c.from_residual-in_err-put_on_disk.result ≡ Err c.in_err-put_on_disk.field-0.0 = search rules in
-    subst (λ (r : Result (Unit {0}) VolumeError). Goes v v3 a e r) (sym is)
-    (subst (λ (s : VolumeState). Goes {T = Unit {0}} s v3 a e (Err c.in_err-put_on_disk.field-0.0)) c.reserve.ensures.same
-    (goes_then v1 v2 v3 a b e (Err c.in_err-put_on_disk.field-0.0) c.in_ok-take_out.ensures.goes c.in_err-put_on_disk.ensures.goes c.in_err-put_on_disk.ensures.faulted))
+    record {
+      left = search rules;
+      goes = subst (λ (r : Result (Unit {0}) VolumeError). Goes v v3 a e r) (sym is)
+          (subst (λ (s : VolumeState). Goes {T = Unit {0}} s v3 a e (Err c.in_err-put_on_disk.field-0.0)) c.reserve.ensures.same
+          (goes_then v1 v2 v3 a b e (Err c.in_err-put_on_disk.field-0.0) c.in_ok-take_out.ensures.steps.goes c.in_err-put_on_disk.ensures.steps.goes c.in_err-put_on_disk.ensures.faulted));
+      within = search rules;
+    }
 
 -- the block is on the disk
 
@@ -93,16 +102,16 @@ returns-clause-was g c = λ d stand.
     let v4 = state_of c.put_in_cache.new.self in
     let with_block = set d c.args.lba c.args.block.now in
     let before = told_as v.told v1.told old d (ap (λ (s : VolumeState). s.told) c.reserve.ensures.same) stand in
-    let between = told_as v1.told v2.told mid d c.take_out.ensures.goes.told (c.take_out.ensures.stands d before) in
-    let there = told_as v2.told v3.told put with_block c.put_on_disk.ensures.goes.told (c.in_ok-put_on_disk.ensures.stands d between) in
-    let stays = told_as v3.told v4.told new with_block c.put_in_cache.ensures.goes.told (c.put_in_cache.ensures.stands with_block there) in
+    let between = told_as v1.told v2.told mid d c.take_out.ensures.steps.goes.told (c.take_out.ensures.stands d before) in
+    let there = told_as v2.told v3.told put with_block c.put_on_disk.ensures.steps.goes.told (c.in_ok-put_on_disk.ensures.stands d between) in
+    let stays = told_as v3.told v4.told new with_block c.put_in_cache.ensures.steps.goes.told (c.put_in_cache.ensures.stands with_block there) in
     written_was c.args.lba c.args.block.now v v4 new d c.put_in_cache.result refl refl stays c.put_in_cache.ensures.memory c.put_in_cache.ensures.refused
 
 pub returns-clause-faulted : goal.returns-clause-faulted
 returns-clause-faulted g c = fault_downs c.put_in_cache.result (state_of c.put_in_cache.new.self).down c.put_in_cache.ensures.refused
 
-pub returns-clause-goes : goal.returns-clause-goes
-returns-clause-goes g c =
+pub returns-clause-steps : goal.returns-clause-steps
+returns-clause-steps g c =
     let v = state_of c.args.self.now in
     let v1 = state_of c.reserve.new.self in
     let v2 = state_of c.take_out.new.self in
@@ -114,8 +123,12 @@ returns-clause-goes g c =
     let f = g.M.Media.state c.put_in_cache.new.media in
     let r = c.put_in_cache.result in
     let faulted = fault_downs r v4.down c.put_in_cache.ensures.refused in
-    subst (λ (s : VolumeState). Goes s v4 a f r) c.reserve.ensures.same
-    (goes_then v1 v2 v4 a b f r c.in_ok-take_out.ensures.goes (goes_then v2 v3 v4 b e f r c.in_ok-put_on_disk.ensures.goes c.put_in_cache.ensures.goes faulted) faulted)
+    record {
+      left = search rules;
+      goes = subst (λ (s : VolumeState). Goes s v4 a f r) c.reserve.ensures.same
+          (goes_then v1 v2 v4 a b f r c.in_ok-take_out.ensures.steps.goes (goes_then v2 v3 v4 b e f r c.in_ok-put_on_disk.ensures.steps.goes c.put_in_cache.ensures.steps.goes faulted) faulted);
+      within = search rules;
+    }
 
 pub returns-clause-costs : goal.returns-clause-costs
 returns-clause-costs g c =
@@ -129,12 +142,12 @@ returns-clause-costs g c =
     let before = c.take_out.ensures.disk_writes in
     let after = c.put_in_cache.ensures.disk_writes in
     let read_before = c.take_out.ensures.disk_reads in
-    let put = c.put_on_disk.ensures.most in
-    let rose : RoseBy 1 a.counts.disk_writes f.counts.disk_writes = λ below. let one = c.in_ok-put_on_disk.ensures.writes (omega (arith, below, after)) in omega (arith, before, after, one) in
+    let put = c.put_on_disk.ensures.writes.most in
+    let rose : RoseBy 1 a.counts.disk_writes f.counts.disk_writes = λ below. let one = c.in_ok-put_on_disk.ensures.writes.exact (omega (arith, below, after)) in omega (arith, before, after, one) in
     let most : f.counts.disk_writes ≤ a.counts.disk_writes + 1 = omega (arith, before, after, put) in
-    let reads = c.put_in_cache.ensures.disk_reads ∙ c.put_on_disk.ensures.reads ∙ read_before in
+    let reads = c.put_in_cache.ensures.disk_reads ∙ c.put_on_disk.ensures.writes.reads ∙ read_before in
     subst (λ (s : VolumeState). Costs (Writes c.args.lba c.args.block.now) s v4 a f r) c.reserve.ensures.same
-    (written_costs c.args.lba c.args.block.now v1 v3 v4 a f r (c.reserve.ensures.made.1 ∙ c.requires.left.mode) refl refl (c.put_on_disk.ensures.goes.told ∙ c.take_out.ensures.goes.told)
+    (written_costs c.args.lba c.args.block.now v1 v3 v4 a f r (c.reserve.ensures.made.1 ∙ c.requires.may.left.mode) refl refl (c.put_on_disk.ensures.steps.goes.told ∙ c.take_out.ensures.steps.goes.told)
     (λ k. ap (λ (x : Ssc). is_some (get (entries_of x) k)) c.put_on_disk.ensures.cache ∙ c.in_ok-take_out.ensures.held k) c.put_in_cache.ensures.held rose most reads)
 
 pub returns-clause-programs : goal.returns-clause-programs
@@ -144,4 +157,4 @@ returns-clause-programs g c =
     let e = g.M.Media.state c.put_on_disk.new.media in
     let f = g.M.Media.state c.put_in_cache.new.media in
     let r = c.put_in_cache.result in
-    programs_then a b f r c.in_ok-take_out.ensures.goes.passes (programs_then b e f r c.in_ok-put_on_disk.ensures.goes.passes c.put_in_cache.ensures.programs)
+    programs_then a b f r c.in_ok-take_out.ensures.steps.goes.passes (programs_then b e f r c.in_ok-put_on_disk.ensures.steps.goes.passes c.put_in_cache.ensures.programs)

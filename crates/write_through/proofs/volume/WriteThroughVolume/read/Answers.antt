@@ -8,11 +8,11 @@ use Rattle.write_through.proofs.volume.WriteThroughVolume.read.Goals as goal
 
 pub returns-in-Ok-clause-disk : goal.returns-in-Ok-clause-disk
 returns-in-Ok-clause-disk g c = done_through ImageIs Loads (state_of c.args.self.now) (state_of c.bring_up.new.self) (state_in [] c.read.new.self) (g.R.Media.state c.args.rig.now)
-    (g.R.Media.state c.bring_up.new.media) (g.R.Media.state c.read.new.media) tt c.in-Ok.ensures.comes c.read.result (Reads c.args.lba c.read.new.block) (c.read.ensures.was [])
+    (g.R.Media.state c.bring_up.new.media) (g.R.Media.state c.read.new.media) tt c.in-Ok.ensures.comes c.read.result (Reads c.args.lba c.read.new.block) (c.read.ensures.serves.was [])
 
 pub returns-in-Ok-clause-goes : goal.returns-in-Ok-clause-goes
 returns-in-Ok-clause-goes g c = goes_through ImageIs Loads (state_of c.args.self.now) (state_of c.bring_up.new.self) (state_in [] c.read.new.self) (g.R.Media.state c.args.rig.now)
-    (g.R.Media.state c.bring_up.new.media) (g.R.Media.state c.read.new.media) tt c.in-Ok.ensures.comes c.read.result (c.read.ensures.goes [])
+    (g.R.Media.state c.bring_up.new.media) (g.R.Media.state c.read.new.media) tt c.in-Ok.ensures.comes c.read.result (c.read.ensures.serves.goes [])
 
 pub returns-in-Ok-clause-costs : goal.returns-in-Ok-clause-costs
 returns-in-Ok-clause-costs g c = λ m has. costs_through ImageIs Loads (state_of c.args.self.now) (state_of c.bring_up.new.self) (state_in [] c.read.new.self) (g.R.Media.state c.args.rig.now)

@@ -11,7 +11,7 @@ returns-in-Ok-clause-disk g c = done_through ImageIs Loads (state_of c.args.self
 
 pub returns-in-Ok-clause-goes : goal.returns-in-Ok-clause-goes
 returns-in-Ok-clause-goes g c = goes_through ImageIs Loads (state_of c.args.self.now) (state_of c.bring_up.new.self) (state_of c.write_up.new.self) (g.R.Media.state c.args.rig.now)
-    (g.R.Media.state c.bring_up.new.media) (g.R.Media.state c.write_up.new.media) tt c.in-Ok.ensures.comes c.write_up.result c.write_up.ensures.goes
+    (g.R.Media.state c.bring_up.new.media) (g.R.Media.state c.write_up.new.media) tt c.in-Ok.ensures.comes c.write_up.result c.write_up.ensures.steps.goes
 
 pub returns-in-Ok-clause-programs : goal.returns-in-Ok-clause-programs
 returns-in-Ok-clause-programs g c = programs_through ImageIs Loads (state_of c.args.self.now) (state_of c.bring_up.new.self) (state_of c.write_up.new.self) (g.R.Media.state c.args.rig.now)

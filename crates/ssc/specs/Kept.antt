@@ -1,0 +1,76 @@
+-- What the commands have in common, and what the writes and the opening leave.
+use Rattle.std.specs.Prelude.{◌≡◌, ◌≤◌, ◌+◌, ◌++◌, ◌∷◌, [], ℕ, length, false, None, Result, OnOk, IsErrOf}
+use Rattle.std.specs.FinMap.{get}
+use Rattle.ft_base.specs.declared.geometry.Geometry.{Geometry}
+use Rattle.ft_base.specs.Contents.{Contents}
+use Rattle.ft_base.specs.Count.{Rose}
+use Rattle.ft_base.specs.Layout.{log_pages, page_records}
+use Rattle.ft_media.specs.State.{State}
+use Rattle.ft_media.specs.Drives.{DrivesFlash}
+use Rattle.ft_media.specs.Passes.{Spends}
+use Rattle.ft_media.specs.Media.{program_counted}
+use Rattle.cache_model.specs.Cache.{Inserted}
+use Rattle.cache_model.specs.CacheList.{CacheList}
+use Rattle.merge_engine.specs.Steps.{HasLogRoom}
+use Rattle.ssc.specs.declared.cache.Ssc.{Ssc}
+use Rattle.ssc.specs.declared.error.SscError.{SscError}
+use Rattle.ssc.specs.declared.error.SscError.TheVariants.{Full, OutOfMemory}
+use Rattle.ssc.specs.Errors.{ssc_failed, ssc_lost, stops}
+use Rattle.ssc.specs.CacheState.{Holds, IsAsBefore, geometry_of, log_room, open_room, pending}
+use Rattle.ssc.specs.Commands.{ImagesOf}
+
+-- ---- every command that drives the flash
+
+-- the geometry stays, the cache is given up exactly where the flash failed or power was lost, and the flash alone is driven
+pub record RunsCommand {T : Type 0} (old new : Ssc) (before after : State) (result : Result T SscError) : Type 0 where
+  pub geometry : geometry_of new ≡ geometry_of old
+  pub stopped : new.stopped ≡ stops result
+  pub drives : DrivesFlash before after (ssc_failed result) (ssc_lost result)
+
+-- the same of a command that takes no memory: it never answers that it's full or that memory is wanted, and what a write has ready stays so
+pub record RunsInPlace {T : Type 0} (old new : Ssc) (before after : State) (result : Result T SscError) : Type 0 where
+  pub geometry : geometry_of new ≡ geometry_of old
+  pub full : (n l : ℕ) → IsErrOf result (Full n l) → ⊥
+  pub memory : IsErrOf result OutOfMemory → ⊥
+  pub stopped : new.stopped ≡ stops result
+  pub ready : new.ready ≡ old.ready
+  pub drives : DrivesFlash before after (ssc_failed result) (ssc_lost result)
+
+-- ---- the writes
+
+-- refused for want of room or of memory, a write changes nothing but the buckets of the map
+pub record RefusesWrite {T : Type 0} (old new : Ssc) (before after : State) (result : Result T SscError) : Type 0 where
+  pub full_keeps : (n l : ℕ) → IsErrOf result (Full n l) → (new ≡ old) × (after ≡ before)
+  pub memory : IsErrOf result OutOfMemory → (old.ready ≡ false) × IsAsBefore old new × (after ≡ before)
+  pub memory_holds : IsErrOf result OutOfMemory → (contents : Contents) (s : CacheList) → Holds old contents s → Holds new contents s
+
+-- nothing gives way where the open log block has a page left; nor where a log block can be had without a merge, whatever is answered
+pub record KeepsInRoom {T : Type 0} (old new : Ssc) (before after : State) (step : CacheList → CacheList)
+    (result : Result T SscError) : Type 0 where
+  pub inside : OnOk result (1 ≤ open_room old → (s : CacheList) → Holds old before.contents s → Holds new after.contents (step s))
+  pub kept : OnOk result (HasLogRoom old.parts → (s : CacheList) → Holds old before.contents s → Holds new after.contents (step s))
+  pub kept_images : HasLogRoom old.parts → (s : CacheList) → Holds old before.contents s → ImagesOf old after.contents s (step s)
+
+-- a dirty write spends two device writes at least; it programs just two pages where the open log block and the log have room
+pub record CostsDirty {T : Type 0} (old : Ssc) (before after : State) (result : Result T SscError) : Type 0 where
+  pub two_programs : OnOk result (1 ≤ open_room old → 1 ≤ log_room old → after.counts ≡ program_counted (program_counted before.counts))
+  pub programs : OnOk result (Rose before.counts.programs after.counts.programs)
+  pub spends : OnOk result (Spends 2 before after)
+
+-- a clean write spends a device write at least; it programs one page where the address is absent and the open log block and the buffer have room
+pub record CostsClean {T : Type 0} (old new : Ssc) (lba : ℕ) (before after : State) (result : Result T SscError) : Type 0 where
+  pub one_program : OnOk result ((s : CacheList) → Holds old before.contents s → get s lba ≡ None → 1 ≤ open_room old
+      → length (pending old) + 2 ≤ page_records (geometry_of old)
+      → (after.counts ≡ program_counted before.counts) × (pending new ≡ pending old ++ Inserted lba ∷ []))
+  pub programs : OnOk result (Rose before.counts.programs after.counts.programs)
+  pub spends : OnOk result (Spends 1 before after)
+
+-- ---- the opening
+
+-- a cache that was just opened: nothing waits, its log is empty, no log block is open, and it was not given up
+pub record IsJustOpened (g : Geometry) (c : Ssc) : Type 0 where
+  pub nothing_waits : pending c ≡ []
+  pub log : c.parts.log.next ≡ 0
+  pub empty_log : log_room c ≡ log_pages g
+  pub closed : open_room c ≡ 0
+  pub up : c.stopped ≡ false
