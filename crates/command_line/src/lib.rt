@@ -9,8 +9,6 @@ mod laws;
 mod matching;
 mod number;
 mod settings;
-#[cfg(test)]
-mod tests;
 
 pub use command::{Command, command_of};
 pub use laws::command_law;

@@ -28,8 +28,6 @@ mod scratch;
 mod script;
 mod stream;
 mod tally;
-#[cfg(test)]
-mod tests;
 mod touched;
 mod writing;
 

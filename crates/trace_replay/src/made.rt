@@ -184,31 +184,3 @@ pub fn replay_made<O: Sink, R: Rig, V: Volume<R>>(
     let mut script = MadeScript::new(alloc, made, sink);
     replay_script(alloc, &mut script, rig, volume)
 }
-
-#[cfg(test)]
-mod tests {
-    use super::MadeScript;
-    use crate::Script;
-    use ft_base::{Geometry, MemSink};
-    use std::test::Fail;
-    use trace_gen::TraceGen;
-    use trace_model::{Answer, Line};
-
-    #[test]
-    fn nothing_is_printed_but_the_end_line(rt: HostRuntime) -> Result<(), Fail> {
-        let alloc = rt.alloc();
-        let small = Geometry::new(4, 2, 2, 1, 64)?;
-        let mut sink = MemSink::new(alloc, 100, 100, Vec::new(alloc))?;
-        let made = TraceGen::new(1, 1, &small);
-        let mut script = MadeScript::new(alloc, made, &mut sink);
-        let read = Line::Read { lba: 1, count: 8 };
-        assert_eq!(rt; script.next(0), Ok(Some(read)));
-        assert_eq!(rt; script.answer(&Answer::Idle), Ok(()));
-        assert_eq!(rt; script.next(0), Ok(None));
-        assert_eq!(rt; script.end(1, 2, 3), Ok(()));
-        let printed =
-            b"end 1 2 3 e3b0c44298fc1c149afbf4c8996fb92427ae41e4649b934ca495991b7852b855\n";
-        assert_eq!(rt; sink.bytes(), printed.as_slice());
-        Ok(())
-    }
-}

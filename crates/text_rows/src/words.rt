@@ -1,0 +1,404 @@
+//! The words after the program's name, as commands or none.
+
+use command_line::{Command, command_law, command_of};
+use ft_volume::{Mode, Options};
+use std::alloc::Global;
+use std::test::Fail;
+
+/// The command of the words between these spaces.
+fn command_in(alloc: Global, line: &str) -> Result<Option<Command>, Fail> {
+    let mut words = Vec::new(alloc);
+    for word in line.split(' ') {
+        words.push(String::from_str(alloc, word)?)?;
+    }
+    Ok(command_of(alloc, words.as_slice())?)
+}
+
+// ---- no commands
+
+/// The first line of which the words are a command.
+fn first_command(alloc: Global, lines: &[&str]) -> Result<Option<usize>, Fail> {
+    for i in 0..lines.len() {
+        if command_in(alloc, lines[i])?.is_some() {
+            return Ok(Some(i));
+        }
+    }
+    Ok(None)
+}
+
+const OTHER_WORDS: [&str; 39] = [
+    "",
+    "play",
+    "Replay",
+    "REPLAY",
+    "replay x",
+    "x replay",
+    "replay replay",
+    "generate",
+    "Gen",
+    "sweep",
+    "inspect inspect",
+    "inspect replay",
+    "inspect --number 1",
+    "Inspect",
+    "gen replay",
+    "gen 1",
+    "replay gen",
+    "gen --help",
+    "gen --",
+    "help",
+    "--help",
+    "-h",
+    "--version",
+    "-V",
+    "replay help",
+    "replay --help",
+    "replay -h",
+    "replay --version",
+    "replay -V",
+    "--",
+    "-- replay",
+    "replay -",
+    "replay --",
+    "replay -- --pages 8",
+    "replay --pages 8 --",
+    "replay --pages -- 8",
+    "replay ",
+    "replay --pages 8 ",
+    "replay --pages 8 8",
+];
+
+#[test]
+fn no_other_words_are_a_command(rt: HostRuntime) -> Result<(), Fail> {
+    assert!(rt; command_of(rt.alloc(), &[])?.is_none());
+    assert_eq!(rt; first_command(rt.alloc(), &OTHER_WORDS)?, None);
+    Ok(())
+}
+
+const OTHER_OPTIONS: [&str; 25] = [
+    "replay --siz=64",
+    "replay --sizes=64",
+    "replay --SIZE=64",
+    "replay -size=64",
+    "replay -s 64",
+    "replay size=64",
+    "replay --size64",
+    "replay --=64",
+    "replay --number 1",
+    "replay --count 5",
+    "replay --pages",
+    "replay --pages --data 2",
+    "replay --pages -",
+    "replay --pages --",
+    "replay --mode",
+    "replay --mode=",
+    "replay --mode forward",
+    "replay --mode Back",
+    "replay --mode back through",
+    "replay --mode=backs",
+    "replay --size=64 --size=64",
+    "replay --size 64 --size 64",
+    "replay --size=64 --size 64",
+    "replay --size 64 --data 2 --size=64",
+    "replay --mode back --mode=back",
+];
+
+#[test]
+fn an_option_has_its_name_and_its_value(rt: HostRuntime) -> Result<(), Fail> {
+    assert_eq!(rt; first_command(rt.alloc(), &OTHER_OPTIONS)?, None);
+    Ok(())
+}
+
+const OTHER_SPELLINGS: [&str; 15] = [
+    "replay --pages=",
+    "replay --pages ",
+    "replay --pages 08",
+    "replay --pages=08",
+    "replay --pages=+8",
+    "replay --pages +8",
+    "replay --pages=-8",
+    "replay --pages -8",
+    "replay --pages 8x",
+    "replay --pages 0x8",
+    "replay --pages=8=8",
+    "replay --pages \t8",
+    "replay --pages 4294967304",
+    "replay --size 18446744073709551680",
+    "replay --size 18446744073709551616",
+];
+
+#[test]
+fn a_number_has_one_spelling(rt: HostRuntime) -> Result<(), Fail> {
+    assert_eq!(rt; first_command(rt.alloc(), &OTHER_SPELLINGS)?, None);
+    Ok(())
+}
+
+const OUT_OF_RANGE: [&str; 15] = [
+    "replay --pages 3",
+    "replay --pages 65",
+    "replay --data 0",
+    "replay --data 513",
+    "replay --log 1",
+    "replay --log 65",
+    "replay --journal 0",
+    "replay --journal 17",
+    "replay --size 0",
+    "replay --size 1099511627777",
+    "replay --size 18446744073709551615",
+    "replay --dirty 0",
+    "replay --dirty 129",
+    "replay --data 2 --dirty 3",
+    "replay --dirty=3 --data=2",
+];
+
+#[test]
+fn a_number_is_in_its_range(rt: HostRuntime) -> Result<(), Fail> {
+    assert_eq!(rt; first_command(rt.alloc(), &OUT_OF_RANGE)?, None);
+    Ok(())
+}
+
+const NO_MADE_TRACES: [&str; 12] = [
+    "gen --count 0",
+    "gen --count 1000001",
+    "gen --count=01",
+    "gen --count",
+    "gen --count=",
+    "gen --count -1",
+    "gen --number=18446744073709551616",
+    "gen --number=",
+    "gen --number 1 --number 1",
+    "gen --number=1 --count 5 --count=5",
+    "gen --size 0",
+    "gen --outcome torn",
+];
+
+#[test]
+fn a_made_trace_has_its_options_once_and_in_range(rt: HostRuntime) -> Result<(), Fail> {
+    assert_eq!(rt; first_command(rt.alloc(), &NO_MADE_TRACES)?, None);
+    Ok(())
+}
+
+// ---- commands
+
+/// The numbers in the order of the options.
+fn numbers_of(options: &Options) -> [u64; 6] {
+    let numbers = options.geometry;
+    [
+        u64::from(numbers.p()),
+        u64::from(numbers.c()),
+        u64::from(numbers.l()),
+        u64::from(numbers.j()),
+        numbers.size(),
+        u64::from(options.dirty),
+    ]
+}
+
+/// Which command it is.
+#[derive(Clone, Copy, PartialEq, Eq)]
+enum Kind {
+    Replay,
+    Inspect,
+    /// A made trace of this number, and how many lines it has.
+    Gen(u64, u64),
+}
+
+/// A line, and what its words say: the command, the mode, and the numbers in the order of the options.
+type Row<'a> = (&'a str, Kind, Mode, [u64; 6]);
+
+fn says(command: Command, kind: Kind, mode: Mode, numbers: [u64; 6]) -> bool {
+    let (found, how, options) = match command {
+        Command::Replay { mode, options } => (Kind::Replay, mode, options),
+        Command::Inspect { mode, options } => (Kind::Inspect, mode, options),
+        Command::Gen {
+            mode,
+            options,
+            number,
+            count,
+        } => (Kind::Gen(number, count), mode, options),
+    };
+    found == kind && how == mode && numbers_of(&options) == numbers
+}
+
+fn is_said(alloc: Global, row: Row) -> Result<bool, Fail> {
+    let (line, kind, mode, numbers) = row;
+    match command_in(alloc, line)? {
+        Some(command) => Ok(says(command, kind, mode, numbers)),
+        None => Ok(false),
+    }
+}
+
+/// The first line of which the words say something else.
+fn first_other(alloc: Global, rows: &[Row]) -> Result<Option<usize>, Fail> {
+    for i in 0..rows.len() {
+        if !is_said(alloc, rows[i])? {
+            return Ok(Some(i));
+        }
+    }
+    Ok(None)
+}
+
+const NUMBERS: [u64; 6] = [64, 128, 16, 2, 1048576, 64];
+
+const INSPECTION: [Row; 1] = [(
+    "inspect --mode=through --pages 4 --data=2 --log 2 --journal=1 --size 64 --dirty=1",
+    Kind::Inspect,
+    Mode::Through,
+    [4, 2, 2, 1, 64, 1],
+)];
+
+#[test]
+fn an_inspection_has_the_options_of_a_replay(rt: HostRuntime) -> Result<(), Fail> {
+    assert_eq!(rt; first_other(rt.alloc(), &INSPECTION)?, None);
+    Ok(())
+}
+
+const DEFAULTS: [Row; 13] = [
+    ("replay", Kind::Replay, Mode::Back, NUMBERS),
+    ("replay --mode back", Kind::Replay, Mode::Back, NUMBERS),
+    (
+        "replay --mode=through",
+        Kind::Replay,
+        Mode::Through,
+        NUMBERS,
+    ),
+    (
+        "replay --pages 4",
+        Kind::Replay,
+        Mode::Back,
+        [4, 128, 16, 2, 1048576, 64],
+    ),
+    (
+        "replay --data=1",
+        Kind::Replay,
+        Mode::Back,
+        [64, 1, 16, 2, 1048576, 1],
+    ),
+    (
+        "replay --data 2",
+        Kind::Replay,
+        Mode::Back,
+        [64, 2, 16, 2, 1048576, 1],
+    ),
+    (
+        "replay --data 3",
+        Kind::Replay,
+        Mode::Back,
+        [64, 3, 16, 2, 1048576, 2],
+    ),
+    (
+        "replay --data=512",
+        Kind::Replay,
+        Mode::Back,
+        [64, 512, 16, 2, 1048576, 256],
+    ),
+    (
+        "replay --log=2",
+        Kind::Replay,
+        Mode::Back,
+        [64, 128, 2, 2, 1048576, 64],
+    ),
+    (
+        "replay --journal 16",
+        Kind::Replay,
+        Mode::Back,
+        [64, 128, 16, 16, 1048576, 64],
+    ),
+    (
+        "replay --size=1",
+        Kind::Replay,
+        Mode::Back,
+        [64, 128, 16, 2, 1, 64],
+    ),
+    (
+        "replay --dirty 128",
+        Kind::Replay,
+        Mode::Back,
+        [64, 128, 16, 2, 1048576, 128],
+    ),
+    (
+        "replay --dirty=1 --data=1",
+        Kind::Replay,
+        Mode::Back,
+        [64, 1, 16, 2, 1048576, 1],
+    ),
+];
+
+#[test]
+fn what_is_not_given_is_the_default(rt: HostRuntime) -> Result<(), Fail> {
+    command_law();
+    assert_eq!(rt; first_other(rt.alloc(), &DEFAULTS)?, None);
+    Ok(())
+}
+
+const SMALL: [u64; 6] = [4, 2, 2, 1, 64, 2];
+
+const GREAT: [u64; 6] = [64, 512, 64, 16, 1099511627776, 512];
+
+const ANY_ORDER: [Row; 5] = [
+    (
+        "replay --mode through --pages 4 --data 2 --log 2 --journal 1 --size 64 --dirty 2",
+        Kind::Replay,
+        Mode::Through,
+        SMALL,
+    ),
+    (
+        "replay --dirty=2 --size=64 --journal=1 --log=2 --data=2 --pages=4 --mode=through",
+        Kind::Replay,
+        Mode::Through,
+        SMALL,
+    ),
+    (
+        "replay --size 64 --dirty=2 --mode through --data=2 --pages 4 --journal=1 --log 2",
+        Kind::Replay,
+        Mode::Through,
+        SMALL,
+    ),
+    (
+        "replay --pages 64 --data 512 --log 64 --journal 16 --size 1099511627776 --dirty 512",
+        Kind::Replay,
+        Mode::Back,
+        GREAT,
+    ),
+    (
+        "replay --dirty 512 --log=64 --size=1099511627776 --mode=back --data 512 --journal=16",
+        Kind::Replay,
+        Mode::Back,
+        GREAT,
+    ),
+];
+
+#[test]
+fn options_come_in_any_order(rt: HostRuntime) -> Result<(), Fail> {
+    assert_eq!(rt; first_other(rt.alloc(), &ANY_ORDER)?, None);
+    Ok(())
+}
+
+const MADE_TRACES: [Row; 6] = [
+    ("gen", Kind::Gen(1, 20000), Mode::Back, NUMBERS),
+    ("gen --number 0", Kind::Gen(0, 20000), Mode::Back, NUMBERS),
+    ("gen --count=1", Kind::Gen(1, 1), Mode::Back, NUMBERS),
+    (
+        "gen --count 1000000 --number 7",
+        Kind::Gen(7, 1000000),
+        Mode::Back,
+        NUMBERS,
+    ),
+    (
+        "gen --number=18446744073709551615",
+        Kind::Gen(18446744073709551615, 20000),
+        Mode::Back,
+        NUMBERS,
+    ),
+    (
+        "gen --count 300 --mode=through --pages 4 --data 2 --log=2 --journal 1 --size 64 --number 9",
+        Kind::Gen(9, 300),
+        Mode::Through,
+        [4, 2, 2, 1, 64, 1],
+    ),
+];
+
+#[test]
+fn a_made_trace_has_a_number_and_a_count(rt: HostRuntime) -> Result<(), Fail> {
+    assert_eq!(rt; first_other(rt.alloc(), &MADE_TRACES)?, None);
+    Ok(())
+}
