@@ -226,7 +226,7 @@ pub fn first_free<V: Drop>(groups: &[Group<V>], from: u64) -> Seat
     ensures first { IsFirstFree (slots_of groups.now) from result.bucket }
     ensures rank { IsRankOf groups.now result.bucket result.rank }
 {
-    // Most of these are free, and a processor goes on by that guess before it has read which are.
+    // While the buckets double most homes are free: a test of that bucket alone is guessed right, and nothing waits for it.
     let start = &groups[(from / 32) as usize];
     if !start.is_occupied((from % 32) as u32) {
         return Seat {
