@@ -261,6 +261,15 @@ impl Bench {
 
     // ---- what is seen
 
+    /// Whether what a line tells is so, where device writes are counted from so many on.
+    fn tells(&mut self, from: (u64, u64), line: Line) -> Result<bool, Fail> {
+        match line {
+            Line::Wrote(erases, programs) => Ok(self.writes() == more(from, erases, programs)),
+            Line::See(fact) => self.holds(fact),
+            _ => Ok(true),
+        }
+    }
+
     fn holds(&mut self, fact: Fact) -> Result<bool, Fail> {
         match fact {
             Fact::Data(at, lba, tag) => {
@@ -383,13 +392,8 @@ fn first_wrong(start: Bench, lines: &[Line]) -> Result<Option<usize>, Fail> {
         match lines[i] {
             Line::Do(step) => bench = bench.step(step)?,
             Line::Count => from = bench.writes(),
-            Line::Wrote(erases, programs) => {
-                if bench.writes() != more(from, erases, programs) {
-                    return Ok(Some(i));
-                }
-            }
-            Line::See(fact) => {
-                if !bench.holds(fact)? {
+            line => {
+                if !bench.tells(from, line)? {
                     return Ok(Some(i));
                 }
             }

@@ -196,10 +196,20 @@ fn made_of(alloc: Global, story: &Story, number: u64) -> Result<Became, Fail> {
     if bench.count_until_stopped(story.begun)? < story.begun.len() {
         return Ok(Became::Untouched);
     }
+    looked_at(alloc, story, bench)
+}
+
+/// What becomes of it in the commands that are looked at.
+fn looked_at(alloc: Global, story: &Story, bench: Bench) -> Result<Became, Fail> {
     let (given, rig) = bench.run_until_stopped(story.stopped)?;
     if given == story.stopped.len() {
         return Ok(Became::Untouched);
     }
+    opened_after(alloc, story, given, rig)
+}
+
+/// What an opening finds of it, where so many of the commands were given.
+fn opened_after(alloc: Global, story: &Story, given: usize, rig: MemRig) -> Result<Became, Fail> {
     let found = Bench::open(alloc, rig)?.seen(alloc)?;
     if is_left(story, given, &found) {
         return Ok(Became::Kept);
