@@ -9,9 +9,12 @@ use Rattle.std.specs.Vec.{vec_len, with_items}
 use Rattle.std.proofs.lemmas.List.{length-set, nil_from_length, with_items_is}
 use Rattle.std.proofs.lemmas.Bool.{cases_eq, eq-eqb, ne_eqb, cond-true, cond-false, false≢true}
 use Rattle.sparse_map.specs.declared.group.Group.{Group}
+use Rattle.sparse_map.specs.declared.table.Touched.{Touched}
+use Rattle.sparse_map.specs.declared.table.Touched.TheVariants.{Nowhere}
 use Rattle.sparse_map.specs.declared.map.SparseMap.TheInside.{Inside}
 use Rattle.sparse_map.specs.Slots.{slot_at, key_at, items_of}
-use Rattle.sparse_map.specs.Groups.{slots_of, small_groups}
+use Rattle.sparse_map.specs.Groups.{slots_of}
+use Rattle.sparse_map.specs.Places.{sizes_of, lacking}
 use Rattle.sparse_map.specs.Packed.{IsPacked, PackedTable, map_of}
 use Rattle.sparse_map.specs.Kept.{KeepsTable}
 use Rattle.sparse_map.specs.Seen.{seen_of}
@@ -52,11 +55,12 @@ module _ {V : Type 0} (s : List (Option (ℕ × V))) (b k : ℕ) (v : V) (packed
     pub new_found : (q : ℕ) → find nat_cmp q (items_of (set s b (Some (k, v)))) ≡ cond (eqb q k) (Some v) (find nat_cmp q (items_of s))
     new_found = find-set_new s b k packed.once v place.inside place.free place.absent
 
-module _ {V : Type 0} (bits len spare blanks : ℕ) (us : List (Group V)) (kept : KeepsTable bits len spare blanks us) where
+module _ {V : Type 0} (bits len spare blanks : ℕ) (touched : Touched) (us : List (Group V)) (kept : KeepsTable bits len spare blanks touched us) where
   -- the same number of buckets, other items
-  pub kept_changed : (len_2 spare_2 blanks_2 : ℕ) (ws : List (Group V)) → length (slots_of ws) ≡ length (slots_of us) → IsPacked (slots_of ws) → len_2 ≡ length (items_of (slots_of ws))
-      → len_2 + spare_2 ≤ len + spare → min spare_2 (small_groups ws) ≤ blanks_2 → KeepsTable bits len_2 spare_2 blanks_2 ws
-  kept_changed len_2 spare_2 blanks_2 ws long packed counted less stocked =
+  pub kept_changed : (len_2 spare_2 blanks_2 : ℕ) (touched_2 : Touched) (ws : List (Group V)) → length (slots_of ws) ≡ length (slots_of us) → IsPacked (slots_of ws) → len_2 ≡ length (items_of (slots_of ws))
+      → len_2 + spare_2 ≤ len + spare → min spare_2 (lacking spare_2 Nowhere (sizes_of ws)) ≤ blanks_2 → lacking 1 touched_2 (sizes_of ws) ≤ lacking 1 touched (sizes_of us)
+      → KeepsTable bits len_2 spare_2 blanks_2 touched_2 ws
+  kept_changed len_2 spare_2 blanks_2 touched_2 ws long packed counted less stocked ready =
       record {
         few = kept.few;
         many = kept.many;
@@ -65,6 +69,7 @@ module _ {V : Type 0} (bits len spare blanks : ℕ) (us : List (Group V)) (kept 
         counted = counted;
         room = omega (arith, kept.room, long);
         stocked = stocked;
+        ready = omega (arith, ready, kept.ready);
       }
 
   -- a key that is there, or room for one, shows that there are buckets
@@ -73,22 +78,22 @@ module _ {V : Type 0} (bits len spare blanks : ℕ) (us : List (Group V)) (kept 
     | inl there ↦ elim (cases_eq bits 0) [
       | inr some ↦ omega arith
       | inl none ↦
-          let empty : length t.slots ≡ 0 = sym (ap length same) ∙ kept_none bits len spare blanks us kept none in
+          let empty : length t.slots ≡ 0 = sym (ap length same) ∙ kept_none bits len spare blanks touched us kept none in
           let no_items : items_of t.slots ≡ [] = nil_from_length (items_of t.slots) (omega (arith, length-items_of-le t.slots)) in
           absurd (false≢true (sym (ap is_some (get-map_of t key ∙ ap (find nat_cmp key) no_items)) ∙ there))
     ]
-    | inr more ↦ kept_some bits len spare blanks us kept (omega (arith, kept.room))
+    | inr more ↦ kept_some bits len spare blanks touched us kept (omega (arith, kept.room))
   ]
 
 -- a list written through `as_mut_slice`
 pub written : {X Z : Type 0} (v : Vec X Z) (ws : List X) → length ws ≡ vec_len v → (with_items v ws).items ≡ ws
 written v ws long = with_items_is v ws long
 
-module _ {V : Type 0} (m : Inside V) (t : PackedTable V) (kept : KeepsTable m.bits m.len m.spare (vec_len m.stock) m.groups.items)
-    (is : ◌≡◌ {A = PackedTable V} (seen_of m.groups.items m.spare (vec_len m.stock) m.grown) t) where
+module _ {V : Type 0} (m : Inside V) (t : PackedTable V) (kept : KeepsTable m.bits m.len m.spare (vec_len m.stock) m.touched m.groups.items)
+    (is : ◌≡◌ {A = PackedTable V} (seen_of m.groups.items m.spare (vec_len m.stock) m.touched) t) where
   pub seen_ready : (key : ℕ) → ((map.contains_key (map_of t) key ≡ true) ⊎ (1 ≤ t.spare)) → 0 < m.bits
   seen_ready key ready =
-      ready_has_buckets m.bits m.len m.spare (vec_len m.stock) m.groups.items kept t key (ap (λ (x : PackedTable V). x.slots) is) (ap (λ (x : PackedTable V). x.spare) is) ready
+      ready_has_buckets m.bits m.len m.spare (vec_len m.stock) m.touched m.groups.items kept t key (ap (λ (x : PackedTable V). x.slots) is) (ap (λ (x : PackedTable V). x.spare) is) ready
 
   -- a key that is nowhere needs room
   pub absent_needs_room : (key : ℕ) → ((b : ℕ) → key_at (slots_of m.groups.items) b ≢ Some key) → ((map.contains_key (map_of t) key ≡ true) ⊎ (1 ≤ t.spare)) → 1 ≤ m.spare
@@ -130,41 +135,48 @@ module _ {V : Type 0} (m : Inside V) (t : PackedTable V) (kept : KeepsTable m.bi
     same_long : length (slots_of ws) ≡ length (slots_of m.groups.items)
     same_long = ap length e ∙ length-set (slots_of m.groups.items) b (Some (key, v))
 
-    pub kept_value : key_at (slots_of m.groups.items) b ≡ Some key → small_groups ws ≡ small_groups m.groups.items → KeepsTable m.bits m.len m.spare (vec_len m.stock) ws
-    kept_value has small =
-        kept_changed m.bits m.len m.spare (vec_len m.stock) m.groups.items kept m.len m.spare (vec_len m.stock) ws same_long
+    pub kept_value : key_at (slots_of m.groups.items) b ≡ Some key → sizes_of ws ≡ sizes_of m.groups.items → KeepsTable m.bits m.len m.spare (vec_len m.stock) m.touched ws
+    kept_value has sizes =
+        kept_changed m.bits m.len m.spare (vec_len m.stock) m.touched m.groups.items kept m.len m.spare (vec_len m.stock) m.touched ws same_long
         (subst (λ s. IsPacked s) (sym e) (value_packed (slots_of m.groups.items) b key v kept.packed has))
         (kept.counted ∙ sym (ap (λ s. length (items_of s)) e ∙ value_count (slots_of m.groups.items) b key v kept.packed has))
         (omega arith)
-        (subst (λ n. min m.spare n ≤ vec_len m.stock) (sym small) kept.stocked)
+        (subst (λ s. min m.spare (lacking m.spare Nowhere s) ≤ vec_len m.stock) (sym sizes) kept.stocked)
+        (omega (arith, ap (lacking 1 m.touched) sizes))
 
     pub map_value : (u : PackedTable V) → u.slots ≡ slots_of ws → key_at (slots_of m.groups.items) b ≡ Some key → map_of u ≡ map.insert (map_of t) key v
     map_value u at has =
         map_changed u ws at key v (λ q. ap (λ s. find nat_cmp q (items_of s)) e ∙ value_found (slots_of m.groups.items) b key v kept.packed has q)
 
-    pub kept_new_key : (blanks : ℕ) → IsFreeFor (slots_of m.groups.items) key b → 1 ≤ m.spare → vec_len m.stock ≤ blanks + 1
-        → vec_len m.stock + small_groups ws ≤ blanks + small_groups m.groups.items → KeepsTable m.bits (m.len + 1) (m.spare - 1) blanks ws
-    kept_new_key blanks place more one_less one_widened =
-        kept_changed m.bits m.len m.spare (vec_len m.stock) m.groups.items kept (m.len + 1) (m.spare - 1) blanks ws same_long
+    pub kept_new_key : (blanks : ℕ) (touched : Touched) → IsFreeFor (slots_of m.groups.items) key b → 1 ≤ m.spare → vec_len m.stock ≤ blanks + 1
+        → ((n : ℕ) → vec_len m.stock + lacking n Nowhere (sizes_of ws) ≤ blanks + lacking (n + 1) Nowhere (sizes_of m.groups.items))
+        → lacking 1 touched (sizes_of ws) ≤ lacking 1 m.touched (sizes_of m.groups.items) → KeepsTable m.bits (m.len + 1) (m.spare - 1) blanks touched ws
+    kept_new_key blanks touched place more one_less fewer_lack ready =
+        let before : m.spare - 1 + 1 ≡ m.spare = omega (arith, more) in
+        let fewer : vec_len m.stock + lacking (m.spare - 1) Nowhere (sizes_of ws) ≤ blanks + lacking m.spare Nowhere (sizes_of m.groups.items) =
+        subst (λ n. vec_len m.stock + lacking (m.spare - 1) Nowhere (sizes_of ws) ≤ blanks + lacking n Nowhere (sizes_of m.groups.items)) before (fewer_lack (m.spare - 1)) in
+        kept_changed m.bits m.len m.spare (vec_len m.stock) m.touched m.groups.items kept (m.len + 1) (m.spare - 1) blanks touched ws same_long
         (subst (λ s. IsPacked s) (sym e) (new_packed (slots_of m.groups.items) b key v kept.packed place))
         (let count = ap (λ s. length (items_of s)) e ∙ new_count (slots_of m.groups.items) b key v kept.packed place in
         ap (λ n. n + 1) kept.counted ∙ sym count)
         (omega arith)
-        (omega (arith, kept.stocked, one_less, one_widened))
+        (omega (arith, kept.stocked, one_less, fewer, more))
+        ready
 
     pub map_new_key : (u : PackedTable V) → u.slots ≡ slots_of ws → IsFreeFor (slots_of m.groups.items) key b → map_of u ≡ map.insert (map_of t) key v
     map_new_key u at place =
         map_changed u ws at key v (λ q. ap (λ s. find nat_cmp q (items_of s)) e ∙ new_found (slots_of m.groups.items) b key v kept.packed place q)
 
   pub kept_removed : (ws : List (Group V)) → length ws ≡ vec_len m.groups → IsPacked (slots_of ws) → length (items_of (slots_of ws)) + 1 ≡ length (items_of (slots_of m.groups.items))
-      → small_groups ws ≡ small_groups m.groups.items → KeepsTable m.bits (m.len - 1) m.spare (vec_len m.stock) ws
-  kept_removed ws long packed count small =
-      kept_changed m.bits m.len m.spare (vec_len m.stock) m.groups.items kept (m.len - 1) m.spare (vec_len m.stock) ws
+      → ((n : ℕ) (t : Touched) → lacking n t (sizes_of ws) ≤ lacking n t (sizes_of m.groups.items)) → KeepsTable m.bits (m.len - 1) m.spare (vec_len m.stock) m.touched ws
+  kept_removed ws long packed count fewer =
+      kept_changed m.bits m.len m.spare (vec_len m.stock) m.touched m.groups.items kept (m.len - 1) m.spare (vec_len m.stock) m.touched ws
       (length-slots_of ws ∙ ap (λ n. 32 * n) (long ∙ m.groups.ok.0) ∙ sym (length-slots_of m.groups.items))
       packed
       (omega (arith, kept.counted, count))
       (omega arith)
-      (subst (λ n. min m.spare n ≤ vec_len m.stock) (sym small) kept.stocked)
+      (omega (arith, kept.stocked, fewer m.spare Nowhere))
+      (fewer 1 m.touched)
 
 -- without a key that is nowhere a map is as it is
 pub absent_stays : {V : Type 0} (t : PackedTable V) (key : ℕ) → ((b : ℕ) → key_at t.slots b ≢ Some key) → map_of t ≡ map.remove (map_of t) key

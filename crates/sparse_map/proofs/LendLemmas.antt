@@ -15,7 +15,7 @@ use Rattle.sparse_map.specs.Seen.{seen_of}
 use Rattle.sparse_map.specs.Lending.{with_value, EndsWithValue}
 use Rattle.sparse_map.proofs.GroupLemmas.{taken, get_or-group_slots, unpacked_item, slots-replace}
 use Rattle.sparse_map.proofs.SlotLemmas.{slot_of_key}
-use Rattle.sparse_map.proofs.TableLemmas.{length-slots_of, slot_of_bucket, set_bucket, small_groups-same}
+use Rattle.sparse_map.proofs.TableLemmas.{length-slots_of, slot_of_bucket, set_bucket}
 use Rattle.sparse_map.proofs.PlacesLemmas.{sizes-same}
 use Rattle.sparse_map.proofs.PackedLemmas.{key_inside}
 use Rattle.sparse_map.proofs.ViewLemmas.{seen_slots, seen_spare, seen_places, seen_blanks, seen_loose}
@@ -36,8 +36,8 @@ module _ {V : Type 0} where
   pub group_of_key : (m : Inside V) (b key : ℕ) → key_at (slots_of m.groups.items) b ≡ Some key → b / 32 < vec_len m.groups
   group_of_key m b key has = omega (arith, key_inside (slots_of m.groups.items) b key has, length-slots_of m.groups.items, m.groups.ok.0)
 
-  module _ (m : Inside V) (t : PackedTable V) (kept : KeepsTable m.bits m.len m.spare (vec_len m.stock) m.groups.items)
-      (view : ◌≡◌ {A = PackedTable V} (seen_of m.groups.items m.spare (vec_len m.stock) m.grown) t)
+  module _ (m : Inside V) (t : PackedTable V) (kept : KeepsTable m.bits m.len m.spare (vec_len m.stock) m.touched m.groups.items)
+      (view : ◌≡◌ {A = PackedTable V} (seen_of m.groups.items m.spare (vec_len m.stock) m.touched) t)
       (b key : ℕ) (u : Group V) (has : key_at (slots_of m.groups.items) b ≡ Some key) (is : u ≡ get_or m.groups.items (b / 32) u) where
     inside : b < 32 * length m.groups.items
     inside = omega (arith, key_inside (slots_of m.groups.items) b key has, length-slots_of m.groups.items)
@@ -59,26 +59,26 @@ module _ {V : Type 0} where
         let lt : b % 32 < 32 = omega arith in
         set_bucket m.groups.items b u u inside is (with_value u (b % 32) w) (Some (key, w)) (slots_in-with_value u (b % 32) key lent_slot.0 w lt lent_slot.1)
 
-    pub lent_kept : (w : V) → KeepsTable m.bits m.len m.spare (vec_len m.stock) (set m.groups.items (b / 32) (with_value u (b % 32) w))
+    pub lent_kept : (w : V) → KeepsTable m.bits m.len m.spare (vec_len m.stock) m.touched (set m.groups.items (b / 32) (with_value u (b % 32) w))
     unfolding ends
     lent_kept w =
         kept_value m t kept view (ends w) b key w (ends_slots w) has
-        (small_groups-same m.groups.items (b / 32) u u (with_value u (b % 32) w) (omega (arith, inside)) is refl)
+        (sizes-same m.groups.items (b / 32) u u (with_value u (b % 32) w) (omega (arith, inside)) is refl refl)
 
     ends_sizes : (w : V) → sizes_of (ends w) ≡ sizes_of m.groups.items
     unfolding ends
     ends_sizes w = sizes-same m.groups.items (b / 32) u u (with_value u (b % 32) w) (omega (arith, inside)) is refl refl
 
-    pub lent_ends : (w : V) → EndsWithValue t (seen_of (set m.groups.items (b / 32) (with_value u (b % 32) w)) m.spare (vec_len m.stock) m.grown) key w
+    pub lent_ends : (w : V) → EndsWithValue t (seen_of (set m.groups.items (b / 32) (with_value u (b % 32) w)) m.spare (vec_len m.stock) m.touched) key w
     unfolding ends
     lent_ends w =
         record {
-          map = map_value m t kept view (ends w) b key w (ends_slots w) (seen_of (ends w) m.spare (vec_len m.stock) m.grown) refl has;
+          map = map_value m t kept view (ends w) b key w (ends_slots w) (seen_of (ends w) m.spare (vec_len m.stock) m.touched) refl has;
           buckets = ap length (ends_slots w) ∙ length-set (slots_of m.groups.items) b (Some (key, w)) ∙ ap length (seen_slots m t kept view);
           spare = seen_spare m t kept view;
           places = ap places_of (ends_sizes w) ∙ seen_places m t kept view;
           blanks = seen_blanks m t kept view;
-          loose = ap (loose_of m.grown) (ends_sizes w) ∙ seen_loose m t kept view;
+          loose = ap (loose_of m.touched) (ends_sizes w) ∙ seen_loose m t kept view;
         }
 
     pub lent_value : (v : V) → option_map (λ e. e.1) (slot_at (slots_in u) (b % 32)) ≡ Some v → Some v ≡ map.get (map_of t) key

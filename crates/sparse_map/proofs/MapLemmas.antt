@@ -7,10 +7,14 @@ use Rattle.std.specs.FinMap as map
 use Rattle.std.specs.FinMap.{find, nat_cmp-IsAntisymmetric, same_map, get-from_entries, get-insert, get-remove, len-insert, len-empty}
 use Rattle.std.proofs.lemmas.Bool.{cases_eq, eq-eqb, ne_eqb, cond-true, cond-false}
 use Rattle.sparse_map.specs.declared.group.Group.{Group}
+use Rattle.sparse_map.specs.declared.table.Touched.{Touched}
+use Rattle.sparse_map.specs.declared.table.Touched.TheVariants.{Nowhere}
 use Rattle.sparse_map.specs.Slots.{items_of}
-use Rattle.sparse_map.specs.Groups.{slots_of, small_groups}
+use Rattle.sparse_map.specs.Groups.{slots_of}
 use Rattle.sparse_map.specs.Packed.{IsPacked, PackedTable, map_of, len_of, IsSound}
 use Rattle.sparse_map.specs.Kept.{KeepsTable, HasFreeBucket}
+use Rattle.sparse_map.specs.Places.{lacks, lacking}
+use Rattle.sparse_map.proofs.PlacesLemmas.{sizes-new, no-untouched}
 use Rattle.sparse_map.specs.Moved.{IsDistinct}
 use Rattle.sparse_map.proofs.SlotLemmas.{Once, bucket_of_found, key_of_slot}
 use Rattle.std.proofs.lemmas.Nat.{pow_pos}
@@ -67,7 +71,7 @@ module _ {V : Type 0} where
   len_of-items t once = len-from_entries (items_of t.slots) (IsDistinct-items_of t.slots once)
 
   -- ---- what the fields keep gives what holds of every map
-  module _ (bits len spare blanks : ℕ) (groups : List (Group V)) (kept : KeepsTable bits len spare blanks groups) where
+  module _ (bits len spare blanks : ℕ) (touched : Touched) (groups : List (Group V)) (kept : KeepsTable bits len spare blanks touched groups) where
     pub kept_buckets : 0 < bits → length (slots_of groups) ≡ 2 ^ bits
     kept_buckets some = kept.buckets ∙ cond-false (eqb bits 0) _ _ (ne_eqb bits 0 (λ e. omega arith))
 
@@ -115,10 +119,6 @@ module _ {V : Type 0} where
   unfolding slots_of
   no_slots us e = rw e refl
 
-  no_small : (us : List (Group V)) → us ≡ [] → small_groups us ≡ 0
-  unfolding small_groups
-  no_small us e = rw e refl
-
   pub buckets-new : (us : List (Group V)) → us ≡ [] → length (slots_of us) ≡ 0
   buckets-new us e = ap length (no_slots us e)
 
@@ -126,7 +126,7 @@ module _ {V : Type 0} where
   unfolding map_of items_of
   map_of-new u us same e = ap (λ s. map.from_entries {R = nat_cmp} (items_of s)) (same ∙ no_slots us e)
 
-  pub kept_new : (us : List (Group V)) (blanks : ℕ) → us ≡ [] → KeepsTable 0 0 0 blanks us
+  pub kept_new : (us : List (Group V)) (blanks : ℕ) → us ≡ [] → KeepsTable 0 0 0 blanks Nowhere us
   unfolding items_of
   kept_new us blanks e =
       let none = no_slots us e in
@@ -141,4 +141,5 @@ module _ {V : Type 0} where
         counted = sym (ap (λ s. length (items_of s)) none);
         room = omega arith;
         stocked = omega arith;
+        ready = ap (lacking 1 Nowhere) (sizes-new us e) ∙ no-untouched (lacks 1);
       }

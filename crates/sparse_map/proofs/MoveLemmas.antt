@@ -8,13 +8,15 @@ use Rattle.std.proofs.lemmas.List.{append-nil, get_or_append_left, get_or-append
 use Rattle.std.proofs.lemmas.List.Concat.{flat_map-append}
 use Rattle.std.proofs.lemmas.Bool.{cases_lt, cases_eq, cases_Bool, ne_eqb, cond-true, cond-false, false≢true}
 use Rattle.sparse_map.specs.declared.group.Group.{Group}
+use Rattle.sparse_map.specs.declared.table.Touched.{Touched}
+use Rattle.sparse_map.specs.declared.table.Touched.TheVariants.{Nowhere}
 use Rattle.sparse_map.specs.Slots.{slot_at, key_at, items_of}
-use Rattle.sparse_map.specs.Groups.{slots_in, slots_of, small_groups}
+use Rattle.sparse_map.specs.Groups.{slots_in, slots_of}
+use Rattle.sparse_map.specs.Places.{sizes_of, lacking}
 use Rattle.sparse_map.specs.Packed.{IsPacked}
 use Rattle.sparse_map.specs.Kept.{KeepsTable}
 use Rattle.sparse_map.specs.Moved.{IsDistinct, after_items}
 use Rattle.sparse_map.proofs.SlotLemmas.{find_here, find_later, items_of-none, items_of-nil, is_some-key_at}
-use Rattle.sparse_map.proofs.TableLemmas.{length-slots_of, small_groups-at_most}
 
 module _ {V : Type 0} where
   -- ---- a group's items and those of the groups after it
@@ -115,8 +117,8 @@ module _ {V : Type 0} where
       }
 
   pub kept_groups : (bits len spare blanks : ℕ) (us : List (Group V)) → 5 ≤ bits → bits ≤ 31 → length (slots_of us) ≡ 2 ^ bits → IsPacked (slots_of us) → len ≡ length (items_of (slots_of us))
-      → 4 * (len + spare) ≤ 3 * 2 ^ bits → min spare (length us) ≤ blanks → KeepsTable bits len spare blanks us
-  kept_groups bits len spare blanks us many few size packed counted room stocked =
+      → 4 * (len + spare) ≤ 3 * 2 ^ bits → min spare (lacking spare Nowhere (sizes_of us)) ≤ blanks → lacking 1 Nowhere (sizes_of us) ≡ 0 → KeepsTable bits len spare blanks Nowhere us
+  kept_groups bits len spare blanks us many few size packed counted room stocked ready =
       record {
         few = few;
         many = λ _. many;
@@ -124,40 +126,22 @@ module _ {V : Type 0} where
         packed = packed;
         counted = counted;
         room = omega (arith, room, size);
-        stocked = omega (arith, stocked, small_groups-at_most us);
+        stocked = stocked;
+        ready = ready;
       }
 
-  -- ---- more room
-  pub kept_more_room : (bits len spare blanks : ℕ) (us : List (Group V)) (spare_2 blanks_2 : ℕ) → KeepsTable bits len spare blanks us → 4 * (len + spare_2) ≤ 3 * length (slots_of us) → min spare_2 (length us) ≤ blanks_2
-      → KeepsTable bits len spare_2 blanks_2 us
-  kept_more_room bits len spare blanks us spare_2 blanks_2 kept room stocked =
-      record {
-        few = kept.few;
-        many = kept.many;
-        buckets = kept.buckets;
-        packed = kept.packed;
-        counted = kept.counted;
-        room = room;
-        stocked = omega (arith, stocked, small_groups-at_most us);
-      }
-
-  -- other groups with the same buckets, and blank lists for those that are short
-  pub kept_stocked : (bits len spare blanks : ℕ) (us ws : List (Group V)) (blanks_2 : ℕ) → KeepsTable bits len spare blanks us → slots_of ws ≡ slots_of us → min spare (small_groups ws) ≤ blanks_2
-      → KeepsTable bits len spare blanks_2 ws
-  kept_stocked bits len spare blanks us ws blanks_2 kept same stocked =
+  -- ---- other groups with the same buckets, perhaps with more room
+  pub kept_stocked : (bits len spare blanks : ℕ) (touched : Touched) (us ws : List (Group V)) (spare_2 blanks_2 : ℕ) (touched_2 : Touched) → KeepsTable bits len spare blanks touched us → slots_of ws ≡ slots_of us
+      → 4 * (len + spare_2) ≤ 3 * length (slots_of us) → min spare_2 (lacking spare_2 Nowhere (sizes_of ws)) ≤ blanks_2 → lacking 1 touched_2 (sizes_of ws) ≤ lacking 1 touched (sizes_of us)
+      → KeepsTable bits len spare_2 blanks_2 touched_2 ws
+  kept_stocked bits len spare blanks touched us ws spare_2 blanks_2 touched_2 kept same room stocked ready =
       record {
         few = kept.few;
         many = kept.many;
         buckets = ap length same ∙ kept.buckets;
         packed = subst (λ s. IsPacked s) (sym same) kept.packed;
         counted = kept.counted ∙ ap (λ s. length (items_of s)) (sym same);
-        room = omega (arith, kept.room, ap length same);
+        room = omega (arith, room, ap length same);
         stocked = stocked;
+        ready = omega (arith, ready, kept.ready);
       }
-
-  -- or for all of them
-  pub kept_same_slots : (bits len spare blanks : ℕ) (us ws : List (Group V)) (blanks_2 : ℕ) → KeepsTable bits len spare blanks us → slots_of ws ≡ slots_of us → min spare (length us) ≤ blanks_2
-      → KeepsTable bits len spare blanks_2 ws
-  kept_same_slots bits len spare blanks us ws blanks_2 kept same stocked =
-      let long : length ws ≡ length us = omega (arith, length-slots_of ws, length-slots_of us, ap length same) in
-      kept_stocked bits len spare blanks us ws blanks_2 kept same (omega (arith, stocked, small_groups-at_most ws, long))

@@ -1,86 +1,122 @@
 -- How the sizes of the lists change with one group.
-use Rattle.std.proofs.Common.{◌≡◌, ℕ, zero, suc, ◌+◌, ◌*◌, ◌/◌, ◌<◌, ◌≤◌, List, [], ◌∷◌, length, get_or, set, take, cond, Result, Ok, Err, refl, sym, ap, ◌∙◌, inl, inr, arith}
-use Rattle.std.specs.Prelude.{OnOk, is_ok}
+use Rattle.std.proofs.Common.{◌≡◌, ℕ, zero, suc, ◌+◌, ◌*◌, ◌/◌, ◌<◌, ◌≤◌, ◌⊎◌, min, max, List, [], ◌∷◌, length, get_or, set, take, cond, refl, sym, ap, ◌∙◌, subst, inl, inr, arith}
 use Rattle.std.specs.List.{All, sum_by}
 use Rattle.std.specs.Vec.{vec_len, vec_capacity}
 use Rattle.std.proofs.lemmas.List.{get_or-map, get_or_past, get_or-set_same, get_or-set_other, set-set, set-get_or, take_all, length-append}
-use Rattle.std.proofs.lemmas.List.Sums.{sum_by-set, sum_by-cons, sum_by_more, get_or-le-sum_by}
+use Rattle.std.proofs.lemmas.List.Sums.{sum_by-set, sum_by-cons, sum_by_more, get_or-le-sum_by, sum_by-le-sum_by}
 use Rattle.std.proofs.lemmas.List.Elements.{All-head, All-tail}
-use Rattle.std.proofs.lemmas.Bool.{cases_eq}
+use Rattle.std.proofs.lemmas.Bool.{cases_lt, cases_eq, lt-ltb, le-ltb}
 use Rattle.sparse_map.specs.declared.group.Group.{Group}
-use Rattle.sparse_map.specs.declared.table.Grown.{Grown}
-use Rattle.sparse_map.specs.declared.table.Grown.TheVariants.{Nowhere, In, Anywhere}
-use Rattle.sparse_map.specs.Trimmed.{MayHaveGrown, IsTrimmed}
+use Rattle.sparse_map.specs.declared.table.Touched.{Touched}
+use Rattle.sparse_map.specs.declared.table.Touched.TheVariants.{Nowhere, In, Anywhere}
+use Rattle.sparse_map.specs.Trimmed.{MayBeTouched, IsTrimmed, IsReady}
 use Rattle.sparse_map.specs.Moved.{items_in}
-use Rattle.sparse_map.specs.Places.{size_of, sizes_of, size_at, places_of, extra, loose_of, IsShortEnough, AreAsLong}
-use Rattle.sparse_map.proofs.TableLemmas.{small_groups-same}
+use Rattle.sparse_map.specs.Places.{size_of, sizes_of, places_of, extra, lacks, sum_untouched, loose_of, lacking}
+
+-- ---- a list that has no place for so many items more
+pub lacks-no : (n : ℕ) (x : ℕ × ℕ) → min 32 (x.0 + n) ≤ x.1 → lacks n x ≡ 0
+unfolding lacks
+lacks-no n x le = ap (λ b. cond b 1 0) (le-ltb x.1 (min 32 (x.0 + n)) le)
+
+pub lacks-yes : (n : ℕ) (x : ℕ × ℕ) → x.1 < min 32 (x.0 + n) → lacks n x ≡ 1
+unfolding lacks
+lacks-yes n x lt = ap (λ b. cond b 1 0) (lt-ltb x.1 (min 32 (x.0 + n)) lt)
+
+lacks-most : (n : ℕ) (x : ℕ × ℕ) → lacks n x ≤ 1
+lacks-most n x = elim (cases_lt x.1 (min 32 (x.0 + n))) [
+  | inl lt ↦ omega (arith, lacks-yes n x lt)
+  | inr le ↦ omega (arith, lacks-no n x le)
+]
+
+pub lacks-le : (n m : ℕ) (x y : ℕ × ℕ) → (x.1 < min 32 (x.0 + n) → y.1 < min 32 (y.0 + m)) → lacks n x ≤ lacks m y
+lacks-le n m x y more = elim (cases_lt x.1 (min 32 (x.0 + n))) [
+  | inl lt ↦ let one = lacks-yes n x lt in let other = lacks-yes m y (more lt) in omega (arith, one, other)
+  | inr le ↦ omega (arith, lacks-no n x le)
+]
+
+lacks-next : (n m : ℕ) → n ≤ m → (x : ℕ × ℕ) → lacks n x ≤ lacks m x
+lacks-next n m le x = lacks-le n m x x (λ lt. omega (arith, lt, le))
 
 -- ---- one size in a list of sizes
-module _ (s : List (ℕ × ℕ)) (i : ℕ) (x : ℕ × ℕ) (inside : i < length s) where
-  places-set : places_of (set s i x) + (get_or s i (0, 0)).1 ≡ places_of s + x.1
-  unfolding places_of
-  places-set = sum_by-set (λ y. y.1) s i x (0, 0) inside
+places-set : (s : List (ℕ × ℕ)) (i : ℕ) (x : ℕ × ℕ) → i < length s → places_of (set s i x) + (get_or s i (32, 32)).1 ≡ places_of s + x.1
+unfolding places_of
+places-set s i x inside = sum_by-set (λ y. y.1) s i x (32, 32) inside
 
-  extra-set : sum_by extra (set s i x) + extra (get_or s i (0, 0)) ≡ sum_by extra s + extra x
-  extra-set = sum_by-set extra s i x (0, 0) inside
+module _ (f : ℕ × ℕ → ℕ) (s : List (ℕ × ℕ)) (i : ℕ) (x : ℕ × ℕ) (inside : i < length s) where
+  one-set : sum_by f (set s i x) + f (get_or s i (32, 32)) ≡ sum_by f s + f x
+  one-set = sum_by-set f s i x (32, 32) inside
 
-  extra-within : extra (get_or s i (0, 0)) ≤ sum_by extra s
-  extra-within = get_or-le-sum_by extra s i (0, 0) inside
+  one-within : f (get_or s i (32, 32)) ≤ sum_by f s
+  one-within = get_or-le-sum_by f s i (32, 32) inside
 
-  extra-here : (j : ℕ) → j ≡ i → extra (get_or (set s i x) j (0, 0)) ≡ extra x
-  extra-here j e = ap (λ k. extra (get_or (set s i x) k (0, 0))) e ∙ ap extra (get_or-set_same s i x (0, 0) inside)
+  one-here : (j : ℕ) → j ≡ i → f (get_or (set s i x) j (32, 32)) ≡ f x
+  one-here j e = ap (λ k. f (get_or (set s i x) k (32, 32))) e ∙ ap f (get_or-set_same s i x (32, 32) inside)
 
-  extra-there : (j : ℕ) → j ≡ i → extra (get_or s j (0, 0)) ≡ extra (get_or s i (0, 0))
-  extra-there j e = ap (λ k. extra (get_or s k (0, 0))) e
+  one-there : (j : ℕ) → j ≡ i → f (get_or s j (32, 32)) ≡ f (get_or s i (32, 32))
+  one-there j e = ap (λ k. f (get_or s k (32, 32))) e
 
-  loose-set : (g : Grown) (n : ℕ) → extra x ≤ extra (get_or s i (0, 0)) + n → loose_of g (set s i x) ≤ loose_of g s + n
-  unfolding loose_of
-  loose-set Nowhere n le = omega (arith, extra-set, le)
-  loose-set (In b) n le = elim (cases_eq (b / 32) i) [
-    | inl e ↦ omega (arith, extra-set, extra-here (b / 32) e, extra-there (b / 32) e, extra-within)
+  untouched-set : (g : Touched) (n : ℕ) → f x ≤ f (get_or s i (32, 32)) + n → sum_untouched f g (set s i x) ≤ sum_untouched f g s + n
+  unfolding sum_untouched
+  untouched-set Nowhere n le = omega (arith, one-set, le)
+  untouched-set (In b) n le = elim (cases_eq (b / 32) i) [
+    | inl e ↦ omega (arith, one-set, one-here (b / 32) e, one-there (b / 32) e, one-within)
     | inr ne ↦
-        let same : extra (get_or (set s i x) (b / 32) (0, 0)) ≡ extra (get_or s (b / 32) (0, 0)) = ap extra (get_or-set_other s i (b / 32) x (0, 0) ne) in
-        omega (arith, extra-set, same, le)
+        let same : f (get_or (set s i x) (b / 32) (32, 32)) ≡ f (get_or s (b / 32) (32, 32)) = ap f (get_or-set_other s i (b / 32) x (32, 32) ne) in
+        omega (arith, one-set, same, le)
   ]
-  loose-set Anywhere n le = omega arith
+  untouched-set Anywhere n le = omega arith
 
-  loose-at : (g : Grown) → MayHaveGrown g i → loose_of g (set s i x) ≤ loose_of g s
-  unfolding loose_of
-  loose-at Nowhere may = absurd may
-  loose-at (In b) may = omega (arith, extra-set, extra-here (b / 32) (sym may), extra-there (b / 32) (sym may), extra-within)
-  loose-at Anywhere may = omega arith
+  untouched-at : (g : Touched) → MayBeTouched g i → sum_untouched f g (set s i x) ≤ sum_untouched f g s
+  unfolding sum_untouched
+  untouched-at Nowhere may = absurd may
+  untouched-at (In b) may = omega (arith, one-set, one-here (b / 32) (sym may), one-there (b / 32) (sym may), one-within)
+  untouched-at Anywhere may = omega arith
 
-  loose-trimmed : (b : ℕ) → i ≡ b / 32 → extra x ≡ 0 → loose_of Nowhere (set s i x) ≤ loose_of (In b) s
-  unfolding loose_of
-  loose-trimmed b e none = omega (arith, extra-set, none, extra-there (b / 32) (sym e), extra-within)
+  untouched-fitted : (b : ℕ) → i ≡ b / 32 → f x ≡ 0 → sum_untouched f Nowhere (set s i x) ≤ sum_untouched f (In b) s
+  unfolding sum_untouched
+  untouched-fitted b e none = omega (arith, one-set, none, one-there (b / 32) (sym e), one-within)
+
+  -- the sum by f after the change and that by a larger h before
+  sum-next : (h : ℕ × ℕ → ℕ) (d : ℕ) → ((y : ℕ × ℕ) → f y ≤ h y) → f (32, 32) ≡ 0 → h (32, 32) ≡ 0 → f x + d ≤ h (get_or s i (32, 32)) → sum_by f (set s i x) + d ≤ sum_by h s
+  sum-next h d less none none_2 le =
+      let rest = sum_by-le-sum_by f h (set s i (32, 32)) less in
+      let first = sum_by-set f s i (32, 32) (32, 32) inside in
+      let second = sum_by-set h s i (32, 32) (32, 32) inside in
+      omega (arith, one-set, rest, first, second, none, none_2, le)
 
 -- set one way and back again
-set_back : (s : List (ℕ × ℕ)) (i : ℕ) (x y : ℕ × ℕ) → y ≡ get_or s i (0, 0) → set (set s i x) i y ≡ s
-set_back s i x y is = set-set s i x y ∙ ap (set s i) is ∙ set-get_or s i (0, 0)
+set_back : (s : List (ℕ × ℕ)) (i : ℕ) (x y : ℕ × ℕ) → y ≡ get_or s i (32, 32) → set (set s i x) i y ≡ s
+set_back s i x y is = set-set s i x y ∙ ap (set s i) is ∙ set-get_or s i (32, 32)
 
--- with more groups that may have grown no more places are loose
-pub loose-wider : (s : List (ℕ × ℕ)) (g h : Grown) → ((i : ℕ) → MayHaveGrown g i → MayHaveGrown h i) → loose_of h s ≤ loose_of g s
-unfolding loose_of
-loose-wider s Nowhere Nowhere more = omega arith
-loose-wider s Nowhere (In c) more = omega arith
-loose-wider s Nowhere Anywhere more = omega arith
-loose-wider s (In b) Nowhere more = absurd (more (b / 32) refl)
-loose-wider s (In b) (In c) more =
+-- with more groups that may have been touched no more is counted
+pub untouched-wider : (f : ℕ × ℕ → ℕ) (s : List (ℕ × ℕ)) (g h : Touched) → ((i : ℕ) → MayBeTouched g i → MayBeTouched h i) → sum_untouched f h s ≤ sum_untouched f g s
+unfolding sum_untouched
+untouched-wider f s Nowhere Nowhere more = omega arith
+untouched-wider f s Nowhere (In c) more = omega arith
+untouched-wider f s Nowhere Anywhere more = omega arith
+untouched-wider f s (In b) Nowhere more = absurd (more (b / 32) refl)
+untouched-wider f s (In b) (In c) more =
     let e : b / 32 ≡ c / 32 = more (b / 32) refl in
-    let same : extra (get_or s (b / 32) (0, 0)) ≡ extra (get_or s (c / 32) (0, 0)) = ap (λ j. extra (get_or s j (0, 0))) e in
+    let same : f (get_or s (b / 32) (32, 32)) ≡ f (get_or s (c / 32) (32, 32)) = ap (λ j. f (get_or s j (32, 32))) e in
     omega (arith, same)
-loose-wider s (In b) Anywhere more = omega arith
-loose-wider s Anywhere Nowhere more = absurd (more 0 tt)
-loose-wider s Anywhere (In c) more = let first : 0 ≡ c / 32 = more 0 tt in let second : 1 ≡ c / 32 = more 1 tt in absurd (omega arith)
-loose-wider s Anywhere Anywhere more = omega arith
+untouched-wider f s (In b) Anywhere more = omega arith
+untouched-wider f s Anywhere Nowhere more = absurd (more 0 tt)
+untouched-wider f s Anywhere (In c) more = let first : 0 ≡ c / 32 = more 0 tt in let second : 1 ≡ c / 32 = more 1 tt in absurd (omega arith)
+untouched-wider f s Anywhere Anywhere more = omega arith
 
 -- a bucket of no group
-pub loose-outside : (s : List (ℕ × ℕ)) (b : ℕ) → length s ≤ b / 32 → loose_of Nowhere s ≤ loose_of (In b) s
-unfolding loose_of extra
-loose-outside s b past =
-    let none : get_or s (b / 32) (0, 0) ≡ (0, 0) = get_or_past s (b / 32) (0, 0) past in
-    let few : extra (get_or s (b / 32) (0, 0)) ≡ 0 = ap extra none in
-    omega (arith, few)
+pub untouched-past : (f : ℕ × ℕ → ℕ) (s : List (ℕ × ℕ)) (b : ℕ) → f (32, 32) ≡ 0 → length s ≤ b / 32 → sum_untouched f Nowhere s ≤ sum_untouched f (In b) s
+unfolding sum_untouched
+untouched-past f s b none past =
+    let here : f (get_or s (b / 32) (32, 32)) ≡ 0 = ap f (get_or_past s (b / 32) (32, 32) past) ∙ none in
+    omega (arith, here)
+
+pub extra-full : extra (32, 32) ≡ 0
+unfolding extra
+extra-full = refl
+
+pub lacks-full : (n : ℕ) → lacks n (32, 32) ≡ 0
+lacks-full n = lacks-no n (32, 32) (omega arith)
 
 pub no-places : places_of [] ≡ 0
 unfolding places_of
@@ -90,15 +126,42 @@ pub places-none : (V : Type 0) → places_of (sizes_of {V = V} []) ≡ 0
 unfolding places_of sizes_of
 places-none V = refl
 
-pub no-loose : loose_of Nowhere [] ≡ 0
-unfolding loose_of
-no-loose = refl
+pub no-untouched : (f : ℕ × ℕ → ℕ) → sum_untouched f Nowhere [] ≡ 0
+unfolding sum_untouched
+no-untouched f = refl
 
--- after all lists were trimmed, or one was refused
-pub loose-after : {T E : Type 0} (r : Result T E) (s : List (ℕ × ℕ)) (g : Grown) → g ≡ cond (is_ok r) Nowhere Anywhere → OnOk r (loose_of Nowhere s ≡ 0) → loose_of g s ≡ 0
-unfolding loose_of
-loose-after (Ok x) s g is none = ap (λ h. loose_of h s) is ∙ none
-loose-after (Err e) s g is none = ap (λ h. loose_of h s) is
+pub all-touched : (f : ℕ × ℕ → ℕ) (s : List (ℕ × ℕ)) → sum_untouched f Anywhere s ≡ 0
+unfolding sum_untouched
+all-touched f s = refl
+
+-- ---- how many lists have no place for n items more
+pub lacking-at_most : (n : ℕ) (s : List (ℕ × ℕ)) → lacking n Nowhere s ≤ length s
+unfolding sum_untouched
+lacking-at_most n [] = omega arith
+lacking-at_most n (x ∷ s) = omega (arith, sum_by-cons (lacks n) x s, lacks-most n x, lacking-at_most n s)
+
+pub lacking-le : (n m : ℕ) (s : List (ℕ × ℕ)) → n ≤ m → lacking n Nowhere s ≤ lacking m Nowhere s
+unfolding sum_untouched
+lacking-le n m s le = sum_by-le-sum_by (lacks n) (lacks m) s (lacks-next n m le)
+
+-- no blank list is needed for one new key where no list is full, nor where there is one for each group
+pub stocked_for : (spare blanks : ℕ) (s : List (ℕ × ℕ)) → (min spare (length s) ≤ blanks) ⊎ ((spare ≤ 1) × (lacking 1 Nowhere s ≡ 0)) → min spare (lacking spare Nowhere s) ≤ blanks
+stocked_for spare blanks s enough = elim enough [
+  | inl all ↦ omega (arith, all, lacking-at_most spare s)
+  | inr one ↦ elim (cases_eq spare 1) [
+    | inl e ↦ subst (λ n. min n (lacking n Nowhere s) ≤ blanks) (sym e) (omega (arith, one.1))
+    | inr ne ↦ omega (arith, one.0, ne)
+  ]
+]
+
+-- blank lists for one new key stay enough where no list becomes full
+pub stocked_still : (spare blanks blanks_2 : ℕ) (s r : List (ℕ × ℕ)) → spare ≤ 1 → lacking 1 Nowhere r ≤ lacking 1 Nowhere s → min spare (lacking spare Nowhere s) ≤ blanks → blanks ≤ blanks_2 → min spare (lacking spare Nowhere r) ≤ blanks_2
+stocked_still spare blanks blanks_2 s r one fewer stocked more = elim (cases_eq spare 1) [
+  | inl e ↦
+      let before : min 1 (lacking 1 Nowhere s) ≤ blanks = subst (λ n. min n (lacking n Nowhere s) ≤ blanks) e stocked in
+      subst (λ n. min n (lacking n Nowhere r) ≤ blanks_2) (sym e) (omega (arith, fewer, before, more))
+  | inr ne ↦ omega (arith, one, ne)
+]
 
 module _ {V : Type 0} where
   sizes-set : (us : List (Group V)) (i : ℕ) (w : Group V) → sizes_of (set us i w) ≡ set (sizes_of us) i (size_of w)
@@ -138,21 +201,32 @@ module _ {V : Type 0} where
   unfolding extra
   extra-most u w n capacity len = omega arith
 
-  extra-none : (w : Group V) → IsTrimmed w → extra (size_of w) ≡ 0
+  pub extra-few : (u w : Group V) → vec_len w.items ≡ vec_len u.items → vec_capacity w.items ≤ max (vec_capacity u.items) (vec_len w.items + 4) → extra (size_of w) ≤ extra (size_of u)
+  unfolding extra
+  extra-few u w len few = omega arith
+
+  pub extra-none : (w : Group V) → IsTrimmed w → extra (size_of w) ≡ 0
   unfolding extra
   extra-none w trimmed = omega (arith, trimmed)
 
-  pub none_loose : (us : List (Group V)) → All IsTrimmed us → loose_of Nowhere (sizes_of us) ≡ 0
-  unfolding loose_of sizes_of
-  none_loose [] all = refl
-  none_loose (u ∷ us) all =
-      let here : extra (size_of u) ≡ 0 = extra-none u (All-head IsTrimmed u us all) in
-      let later : sum_by extra (sizes_of us) ≡ 0 = none_loose us (All-tail IsTrimmed u us all) in
-      omega (arith, sum_by-cons extra (size_of u) (sizes_of us), here, later)
+  pub lacks-none : (w : Group V) → IsReady w → lacks 1 (size_of w) ≡ 0
+  lacks-none w ready = lacks-no 1 (size_of w) ready
+
+  pub lacks-room : (u w : Group V) → vec_len w.items ≡ vec_len u.items → min (vec_capacity u.items) (vec_len u.items + 4) ≤ vec_capacity w.items → lacks 1 (size_of w) ≤ lacks 1 (size_of u)
+  lacks-room u w len room = lacks-le 1 1 (size_of w) (size_of u) (λ lt. omega (arith, lt, len, room))
+
+  -- each list counts nothing, so all do
+  pub none-counted : (f : ℕ × ℕ → ℕ) (P : Group V → Type 0) → ((u : Group V) → P u → f (size_of u) ≡ 0) → (us : List (Group V)) → All P us → sum_untouched f Nowhere (sizes_of us) ≡ 0
+  unfolding sum_untouched sizes_of
+  none-counted f P none [] all = refl
+  none-counted f P none (u ∷ us) all =
+      let here : f (size_of u) ≡ 0 = none u (All-head P u us all) in
+      let later : sum_by f (sizes_of us) ≡ 0 = none-counted f P none us (All-tail P u us all) in
+      omega (arith, sum_by-cons f (size_of u) (sizes_of us), here, later)
 
   -- the places of all lists are those of the items, four for each list, and the loose ones
   pub places-bound : (us : List (Group V)) → places_of (sizes_of us) ≤ length (items_in us) + 4 * length us + loose_of Nowhere (sizes_of us)
-  unfolding places_of loose_of sizes_of extra
+  unfolding places_of sum_untouched sizes_of extra
   places-bound [] = omega arith
   places-bound (u ∷ us) =
       let long : length (items_in (u ∷ us)) ≡ length u.items.items + length (items_in us) = length-append u.items.items (items_in us) in
@@ -166,53 +240,54 @@ module _ {V : Type 0} where
     inside_sizes : i < length (sizes_of us)
     inside_sizes = omega (arith, length-sizes us)
 
-    pub size-at : get_or (sizes_of us) i (0, 0) ≡ size_of u
+    pub size-at : get_or (sizes_of us) i (32, 32) ≡ size_of u
     unfolding sizes_of
-    size-at = get_or-map size_of us i e (0, 0) inside ∙ ap size_of (sym is)
-
-    pub size-set : get_or (sizes_of (set us i w)) i (0, 0) ≡ size_of w
-    size-set = ap (λ s. get_or s i (0, 0)) (sizes-set us i w) ∙ get_or-set_same (sizes_of us) i (size_of w) (0, 0) inside_sizes
+    size-at = get_or-map size_of us i e (32, 32) inside ∙ ap size_of (sym is)
 
     pub places_in-set : places_of (sizes_of (set us i w)) + vec_capacity u.items ≡ places_of (sizes_of us) + vec_capacity w.items
     places_in-set =
         let now : places_of (sizes_of (set us i w)) ≡ places_of (set (sizes_of us) i (size_of w)) = ap places_of (sizes-set us i w) in
-        let before : (get_or (sizes_of us) i (0, 0)).1 ≡ vec_capacity u.items = ap (λ (y : ℕ × ℕ). y.1) size-at in
+        let before : (get_or (sizes_of us) i (32, 32)).1 ≡ vec_capacity u.items = ap (λ (y : ℕ × ℕ). y.1) size-at in
         omega (arith, places-set (sizes_of us) i (size_of w) inside_sizes, now, before)
 
-    pub loose_in-set : (g : Grown) (n : ℕ) → extra (size_of w) ≤ extra (size_of u) + n → loose_of g (sizes_of (set us i w)) ≤ loose_of g (sizes_of us) + n
-    loose_in-set g n le =
-        let now : loose_of g (sizes_of (set us i w)) ≡ loose_of g (set (sizes_of us) i (size_of w)) = ap (loose_of g) (sizes-set us i w) in
-        let before : extra (get_or (sizes_of us) i (0, 0)) ≡ extra (size_of u) = ap extra size-at in
-        let most : extra (size_of w) ≤ extra (get_or (sizes_of us) i (0, 0)) + n = omega (arith, le, before) in
-        omega (arith, loose-set (sizes_of us) i (size_of w) inside_sizes g n most, now)
+    pub untouched_in-set : (f : ℕ × ℕ → ℕ) (g : Touched) (n : ℕ) → f (size_of w) ≤ f (size_of u) + n → sum_untouched f g (sizes_of (set us i w)) ≤ sum_untouched f g (sizes_of us) + n
+    untouched_in-set f g n le =
+        let now : sum_untouched f g (sizes_of (set us i w)) ≡ sum_untouched f g (set (sizes_of us) i (size_of w)) = ap (sum_untouched f g) (sizes-set us i w) in
+        let before : f (get_or (sizes_of us) i (32, 32)) ≡ f (size_of u) = ap f size-at in
+        let most : f (size_of w) ≤ f (get_or (sizes_of us) i (32, 32)) + n = omega (arith, le, before) in
+        omega (arith, untouched-set f (sizes_of us) i (size_of w) inside_sizes g n most, now)
 
-    pub loose_in-at : (g : Grown) → MayHaveGrown g i → loose_of g (sizes_of (set us i w)) ≤ loose_of g (sizes_of us)
-    loose_in-at g may =
-        let now : loose_of g (sizes_of (set us i w)) ≡ loose_of g (set (sizes_of us) i (size_of w)) = ap (loose_of g) (sizes-set us i w) in
-        omega (arith, loose-at (sizes_of us) i (size_of w) inside_sizes g may, now)
+    pub untouched_in-at : (f : ℕ × ℕ → ℕ) (g : Touched) → MayBeTouched g i → sum_untouched f g (sizes_of (set us i w)) ≤ sum_untouched f g (sizes_of us)
+    untouched_in-at f g may =
+        let now : sum_untouched f g (sizes_of (set us i w)) ≡ sum_untouched f g (set (sizes_of us) i (size_of w)) = ap (sum_untouched f g) (sizes-set us i w) in
+        omega (arith, untouched-at f (sizes_of us) i (size_of w) inside_sizes g may, now)
 
-    pub loose_in-trimmed : (b : ℕ) → i ≡ b / 32 → IsTrimmed w → loose_of Nowhere (sizes_of (set us i w)) ≤ loose_of (In b) (sizes_of us)
-    loose_in-trimmed b at trimmed =
-        let now : loose_of Nowhere (sizes_of (set us i w)) ≡ loose_of Nowhere (set (sizes_of us) i (size_of w)) = ap (loose_of Nowhere) (sizes-set us i w) in
-        omega (arith, loose-trimmed (sizes_of us) i (size_of w) inside_sizes b at (extra-none w trimmed), now)
+    pub untouched_in-fitted : (f : ℕ × ℕ → ℕ) (b : ℕ) → i ≡ b / 32 → f (size_of w) ≡ 0 → sum_untouched f Nowhere (sizes_of (set us i w)) ≤ sum_untouched f (In b) (sizes_of us)
+    untouched_in-fitted f b at none =
+        let now : sum_untouched f Nowhere (sizes_of (set us i w)) ≡ sum_untouched f Nowhere (set (sizes_of us) i (size_of w)) = ap (sum_untouched f Nowhere) (sizes-set us i w) in
+        omega (arith, untouched-fitted f (sizes_of us) i (size_of w) inside_sizes b at none, now)
+
+    -- one place less is asked for of each list, and w in place of u has one item more, or a long list
+    pub lacking_in-next : (n d : ℕ) → lacks n (size_of w) + d ≤ lacks (n + 1) (size_of u) → lacking n Nowhere (sizes_of (set us i w)) + d ≤ lacking (n + 1) Nowhere (sizes_of us)
+    unfolding sum_untouched
+    lacking_in-next n d le =
+        let now : sum_by (lacks n) (sizes_of (set us i w)) ≡ sum_by (lacks n) (set (sizes_of us) i (size_of w)) = ap (sum_by (lacks n)) (sizes-set us i w) in
+        let before : lacks (n + 1) (get_or (sizes_of us) i (32, 32)) ≡ lacks (n + 1) (size_of u) = ap (lacks (n + 1)) size-at in
+        let most : lacks n (size_of w) + d ≤ lacks (n + 1) (get_or (sizes_of us) i (32, 32)) = omega (arith, le, before) in
+        let next = sum-next (lacks n) (sizes_of us) i (size_of w) inside_sizes (lacks (n + 1)) d (lacks-next n (n + 1) (omega arith)) (lacks-full n) (lacks-full (n + 1)) most in
+        omega (arith, next, now)
+
+    pub lacking-one : (n : ℕ) → lacks n (size_of u) ≤ lacking n Nowhere (sizes_of us)
+    unfolding sum_untouched
+    lacking-one n =
+        let here : lacks n (get_or (sizes_of us) i (32, 32)) ≡ lacks n (size_of u) = ap (lacks n) size-at in
+        omega (arith, here, one-within (lacks n) (sizes_of us) i (size_of w) inside_sizes)
 
     pub sizes-same : vec_len w.items ≡ vec_len u.items → vec_capacity w.items ≡ vec_capacity u.items → sizes_of (set us i w) ≡ sizes_of us
     sizes-same len capacity =
         sizes-set us i w
         ∙ ap (set (sizes_of us) i) ((λ j. (len j, capacity j)) ∙ sym size-at)
-        ∙ set-get_or (sizes_of us) i (0, 0)
-
-    pub as_long : size_of w ≡ size_of u → AreAsLong us (set us i w)
-    as_long same =
-        let len = ap (λ (s : ℕ × ℕ). s.0) same in
-        let capacity = ap (λ (s : ℕ × ℕ). s.1) same in
-        record { sizes = sizes-same len capacity; small = small_groups-same us i u e w inside is capacity }
-
-  -- no group has that bucket
-  pub size_past : (us : List (Group V)) (b : ℕ) → length us ≤ b / 32 → IsShortEnough (size_at us b)
-  size_past us b past =
-      let none : size_at us b ≡ (0, 0) = get_or_past (sizes_of us) (b / 32) (0, 0) (omega (arith, past, length-sizes us)) in
-      λ long. absurd (let short = ap (λ (s : ℕ × ℕ). s.1) none in omega (arith, short, long))
+        ∙ set-get_or (sizes_of us) i (32, 32)
 
   -- ---- a group that loses an item and then gets one
   pub sizes-back : (us ws : List (Group V)) (i : ℕ) (u e v x f w : Group V) → i < length us → u ≡ get_or us i e → sizes_of ws ≡ sizes_of (set us i v) → i < length ws → x ≡ get_or ws i f
@@ -221,7 +296,7 @@ module _ {V : Type 0} where
   sizes-back us ws i u e v x f w inside is between inside_2 is_2 less same more same_2 =
       let there : sizes_of ws ≡ set (sizes_of us) i (size_of v) = between ∙ sizes-set us i v in
       let seen : size_of x ≡ size_of v =
-      sym (size-at ws i x f w inside_2 is_2) ∙ ap (λ s. get_or s i (0, 0)) there ∙ get_or-set_same (sizes_of us) i (size_of v) (0, 0) (inside_sizes us i u e w inside is) in
+      sym (size-at ws i x f w inside_2 is_2) ∙ ap (λ s. get_or s i (32, 32)) there ∙ get_or-set_same (sizes_of us) i (size_of v) (32, 32) (inside_sizes us i u e w inside is) in
       let len : vec_len w.items ≡ vec_len u.items = more ∙ ap (λ (y : ℕ × ℕ). y.0 + 1) seen ∙ less in
       let capacity : vec_capacity w.items ≡ vec_capacity u.items = same_2 ∙ ap (λ (y : ℕ × ℕ). y.1) seen ∙ same in
       sizes-set ws i w

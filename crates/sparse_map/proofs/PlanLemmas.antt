@@ -1,19 +1,20 @@
 -- Where keys come to stand that go in one after another, and what is counted of them.
-use Rattle.std.proofs.Common.{◌≡◌, ℕ, zero, suc, ◌+◌, ◌/◌, ◌<◌, ◌≤◌, Bool, true, false, List, [], ◌∷◌, ◌++◌, Option, Some, None, length, get_or, set, drop, map, eqb, refl, sym, ap, ◌∙◌, subst, inl, inr, arith}
+use Rattle.std.proofs.Common.{◌≡◌, ℕ, zero, suc, ◌+◌, ◌/◌, ◌<◌, ◌≤◌, Bool, true, false, List, [], ◌∷◌, ◌++◌, Option, Some, None, length, get_or, set, drop, map, refl, sym, ap, ◌∙◌, subst, inl, inr, arith}
 use Rattle.std.specs.Prelude.{is_some, IsSome, replicate}
 use Rattle.std.specs.List.{sum_by}
 use Rattle.std.specs.Vec.{vec_len, vec_capacity}
 use Rattle.std.proofs.lemmas.List.{map-set, get_or-map, get_or-set_same, set-get_or, length-append}
 use Rattle.std.proofs.lemmas.List.Sums.{sum_by-cons}
-use Rattle.std.proofs.lemmas.Bool.{cases_lt, cases_eq, eq-eqb, ne_eqb, cond-true, cond-false}
+use Rattle.std.proofs.lemmas.Bool.{cases_lt, cond-true, cond-false}
 use Rattle.sparse_map.specs.declared.group.Group.{Group}
-use Rattle.sparse_map.specs.declared.table.Grown.TheVariants.{Nowhere}
+use Rattle.sparse_map.specs.declared.table.Touched.TheVariants.{Nowhere}
 use Rattle.sparse_map.specs.Home.{home, steps}
 use Rattle.sparse_map.specs.Slots.{slot_at, key_at}
-use Rattle.sparse_map.specs.Places.{size_of, sizes_of, places_of, extra, loose_of}
+use Rattle.sparse_map.specs.Places.{size_of, sizes_of, places_of, extra, lacks, sum_untouched, loose_of, lacking}
 use Rattle.sparse_map.specs.Probe.{IsFreeFor}
 use Rattle.sparse_map.specs.Plan.{Plan, planned, first_unmarked, with_key, with_items, places_for, CanCount, lens_of, rooms_of}
 use Rattle.sparse_map.specs.Moved.{items_in}
+use Rattle.sparse_map.proofs.PlacesLemmas.{lacks-no}
 use Rattle.sparse_map.proofs.RoundLemmas.{next, next_below, steps_self, steps_below, steps_same, steps-next}
 use Rattle.sparse_map.proofs.SlotLemmas.{is_some-key_at}
 
@@ -122,35 +123,29 @@ module _ {V : Type 0} (n : ℕ) where
       can_count_items (with_key n p e.0) es more (can_count n p e.0 (length es + more) (λ i. omega (arith, small i)))
 
 -- ---- lists that fit
-places_for-le : (c : ℕ) → places_for c ≤ c + 1
-places_for-le c = elim (cases_eq c 0) [
-  | inl e ↦ let is : places_for c ≡ 0 = cond-true (eqb c 0) 0 (c + 1) (eq-eqb c 0 e) in omega (arith, is)
-  | inr ne ↦ let is : places_for c ≡ c + 1 = cond-false (eqb c 0) 0 (c + 1) (ne_eqb c 0 ne) in omega (arith, is)
-]
-
-le-places_for : (c : ℕ) → c ≤ places_for c
-le-places_for c = elim (cases_eq c 0) [
-  | inl e ↦ let is : places_for c ≡ 0 = cond-true (eqb c 0) 0 (c + 1) (eq-eqb c 0 e) in omega (arith, e, is)
-  | inr ne ↦ let is : places_for c ≡ c + 1 = cond-false (eqb c 0) 0 (c + 1) (ne_eqb c 0 ne) in omega (arith, is)
-]
-
 pub fits_places : (cs : List ℕ) (i : ℕ) → get_or cs i 0 ≤ get_or (map places_for cs) i 0
 fits_places [] i = omega arith
-fits_places (c ∷ cs) zero = le-places_for c
+fits_places (c ∷ cs) zero = omega arith
 fits_places (c ∷ cs) (suc i) = fits_places cs i
 
 module _ {V : Type 0} where
-  place_each : (u : Group V) (us : List (Group V)) → rooms_of (u ∷ us) ≡ map places_for (lens_of (u ∷ us)) → vec_capacity u.items ≤ vec_len u.items + 1
-  place_each u us e =
-      let here : vec_capacity u.items ≡ places_for (vec_len u.items) = ap (λ r. get_or r 0 0) e in
-      omega (arith, here, places_for-le (vec_len u.items))
+  place_each : (u : Group V) (us : List (Group V)) → rooms_of (u ∷ us) ≡ map places_for (lens_of (u ∷ us)) → vec_capacity u.items ≡ vec_len u.items + 1
+  place_each u us e = ap (λ r. get_or r 0 0) e
+
+  exact-none : (f : ℕ × ℕ → ℕ) → ((n : ℕ) → f (n, n + 1) ≡ 0) → (us : List (Group V)) → rooms_of us ≡ map places_for (lens_of us) → sum_untouched f Nowhere (sizes_of us) ≡ 0
+  unfolding sum_untouched sizes_of
+  exact-none f none [] e = refl
+  exact-none f none (u ∷ us) e =
+      let here : f (size_of u) ≡ 0 = ap (λ c. f (vec_len u.items, c)) (place_each u us e) ∙ none (vec_len u.items) in
+      let later : sum_by f (sizes_of us) ≡ 0 = exact-none f none us (ap (drop 1) e) in
+      omega (arith, sum_by-cons f (size_of u) (sizes_of us), here, later)
 
   pub exact-loose : (us : List (Group V)) → rooms_of us ≡ map places_for (lens_of us) → loose_of Nowhere (sizes_of us) ≡ 0
-  unfolding loose_of sizes_of extra
-  exact-loose [] e = refl
-  exact-loose (u ∷ us) e =
-      let later : sum_by extra (sizes_of us) ≡ 0 = exact-loose us (ap (drop 1) e) in
-      omega (arith, sum_by-cons extra (size_of u) (sizes_of us), place_each u us e, later)
+  unfolding extra
+  exact-loose us e = exact-none extra (λ n. omega arith) us e
+
+  pub exact-ready : (us : List (Group V)) → rooms_of us ≡ map places_for (lens_of us) → lacking 1 Nowhere (sizes_of us) ≡ 0
+  exact-ready us e = exact-none (lacks 1) (λ n. lacks-no 1 (n, n + 1) (omega arith)) us e
 
   pub exact-places : (us : List (Group V)) → rooms_of us ≡ map places_for (lens_of us) → places_of (sizes_of us) ≤ length (items_in us) + length us
   unfolding places_of sizes_of

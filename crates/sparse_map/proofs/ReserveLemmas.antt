@@ -1,6 +1,6 @@
 -- What a reservation keeps and makes.
 use Rattle.std.proofs.Common.{◌≡◌, ◌≢◌, ℕ, ◌+◌, ◌*◌, ◌^◌, ◌<◌, ◌≤◌, max, List, Option, Some, None, Result, Ok, Err, length, cond, leb, eqb, refl, sym, ap, ◌∙◌, subst, inl, inr, arith}
-use Rattle.std.specs.Prelude.{is_some, IfSome, IfNone, IfOk, OnOk, OnErr}
+use Rattle.std.specs.Prelude.{is_some, OnOk, OnErr}
 use Rattle.std.specs.Ordering.{nat_cmp}
 use Rattle.std.specs.FinMap as map
 use Rattle.std.specs.FinMap.{find}
@@ -27,24 +27,6 @@ on_ok_then (Err e) P Q f p = tt
 pub on_err_then : {T E : Type 0} (r : Result T E) (P Q : Type 0) → (P → Q) → OnErr r P → OnErr r Q
 on_err_then (Ok x) P Q f p = tt
 on_err_then (Err e) P Q f p = f p
-
-pub if_none_then : {T : Type 0} (o : Option T) (P Q : Type 0) → (P → Q) → IfNone o P → IfNone o Q
-if_none_then None P Q f p = f p
-if_none_then (Some x) P Q f p = tt
-
-pub if_some_then : {T : Type 0} (o : Option T) (P Q : Type 0) → (P → Q) → IfSome o (λ _. P) → IfSome o (λ _. Q)
-if_some_then None P Q f p = tt
-if_some_then (Some x) P Q f p = f p
-
-pub taken_then : {T E : Type 0} (r : Result (Option T) E) (P Q : Type 0) → (P → Q) → IfOk r (λ o. IfSome o (λ _. P)) → IfOk r (λ o. IfSome o (λ _. Q))
-taken_then (Ok (Some x)) P Q f p = f p
-taken_then (Ok None) P Q f p = tt
-taken_then (Err e) P Q f p = tt
-
-pub left_then : {T E : Type 0} (r : Result (Option T) E) (P Q : Type 0) → (P → Q) → IfOk r (λ o. IfNone o P) → IfOk r (λ o. IfNone o Q)
-left_then (Ok (Some x)) P Q f p = tt
-left_then (Ok None) P Q f p = f p
-left_then (Err e) P Q f p = tt
 
 pub on_err_both : {T E : Type 0} (r : Result T E) (P Q : Type 0) → P → OnErr r Q → OnErr r (P × Q)
 on_err_both (Ok x) P Q p q = tt

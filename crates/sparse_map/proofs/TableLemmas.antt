@@ -1,13 +1,10 @@
 -- A change of one group seen in the table of all buckets.
-use Rattle.std.proofs.Common.{◌≡◌, ◌≢◌, ℕ, zero, suc, ◌+◌, ◌-◌, ◌*◌, ◌/◌, ◌%◌, ◌<◌, ◌≤◌, List, [], ◌∷◌, ◌++◌, Option, None, length, get_or, set, true, false, cond, ltb, refl, sym, ap, ◌∙◌, arith}
-use Rattle.std.specs.Vec.{vec_capacity}
-use Rattle.std.specs.List.{flat_map, count_by}
+use Rattle.std.proofs.Common.{◌≡◌, ◌≢◌, ℕ, zero, suc, ◌+◌, ◌-◌, ◌*◌, ◌/◌, ◌%◌, ◌<◌, ◌≤◌, List, [], ◌∷◌, ◌++◌, Option, None, length, get_or, set, refl, sym, ap, ◌∙◌, arith}
+use Rattle.std.specs.List.{flat_map}
 use Rattle.std.proofs.lemmas.List.{length-append, get_or_append_left, get_or-append_right, set-append_left, set-append_right, set_comm, set-set}
-use Rattle.std.proofs.lemmas.List.Sums.{sum_by-set, get_or-le-sum_by, sum_by-cons}
-use Rattle.std.proofs.lemmas.Bool.{lt-ltb, le-ltb}
 use Rattle.sparse_map.specs.declared.group.Group.{Group}
 use Rattle.sparse_map.specs.Slots.{group_slots, slot_at}
-use Rattle.sparse_map.specs.Groups.{slots_in, slots_of, small_groups}
+use Rattle.sparse_map.specs.Groups.{slots_in, slots_of}
 use Rattle.sparse_map.proofs.GroupLemmas.{length-group_slots}
 
 module _ {V : Type 0} where
@@ -69,51 +66,6 @@ module _ {V : Type 0} where
     set_bucket w o new =
         let at : 32 * (b / 32) + b % 32 ≡ b = omega arith in
         set_in_group us (b / 32) (b % 32) u e w o group_inside within_group is new ∙ ap (λ p. set (slots_of us) p o) at
-
-  -- how the count of short lists changes with one group
-  module _ (us : List (Group V)) (i : ℕ) (u e w : Group V) (inside : i < length us) (is : u ≡ get_or us i e) where
-    is_small : Group V → ℕ
-    is_small x = cond (ltb (vec_capacity x.items) 32) 1 0
-
-    changed : small_groups (set us i w) + is_small u ≡ small_groups us + is_small w
-    unfolding small_groups is_small
-    changed = ap (λ x. count_by (λ x. ltb (vec_capacity x.items) 32) (set us i w) + is_small x) is ∙ sum_by-set is_small us i w e inside
-
-    pub small_groups-same : vec_capacity w.items ≡ vec_capacity u.items → small_groups (set us i w) ≡ small_groups us
-    unfolding is_small
-    small_groups-same same =
-        let alike : is_small w ≡ is_small u = ap (λ c. cond (ltb c 32) 1 0) same in
-        omega (arith, changed)
-
-    pub small_groups-wider : vec_capacity u.items < 32 → 32 ≤ vec_capacity w.items → small_groups (set us i w) + 1 ≡ small_groups us
-    unfolding is_small
-    small_groups-wider short long =
-        let before : is_small u ≡ 1 = ap (λ b. cond b 1 0) (lt-ltb (vec_capacity u.items) 32 short) in
-        let after : is_small w ≡ 0 = ap (λ b. cond b 1 0) (le-ltb (vec_capacity w.items) 32 long) in
-        omega (arith, changed)
-
-    pub small_groups-more : small_groups (set us i w) ≤ small_groups us + 1
-    unfolding is_small
-    small_groups-more =
-        let most : cond (ltb (vec_capacity w.items) 32) 1 0 ≤ 1 = elim (ltb (vec_capacity w.items) 32) as (λ b. cond b 1 0 ≤ 1) [ true ↦ omega arith | false ↦ omega arith ] in
-        omega (arith, changed, most)
-
-    pub small_groups-one : vec_capacity u.items < 32 → 0 < small_groups us
-    unfolding small_groups is_small
-    small_groups-one short =
-        let here : is_small u ≡ 1 = ap (λ b. cond b 1 0) (lt-ltb (vec_capacity u.items) 32 short) in
-        let at : is_small (get_or us i e) ≡ 1 = ap is_small (sym is) ∙ here in
-        let le : is_small (get_or us i e) ≤ small_groups us = get_or-le-sum_by is_small us i e inside in
-        omega arith
-
-  pub small_groups-at_most : (us : List (Group V)) → small_groups us ≤ length us
-  unfolding small_groups
-  small_groups-at_most [] = omega arith
-  small_groups-at_most (u ∷ us) =
-      let one : cond (ltb (vec_capacity u.items) 32) 1 0 ≤ 1 = elim (ltb (vec_capacity u.items) 32) as (λ b. cond b 1 0 ≤ 1) [ true ↦ omega arith | false ↦ omega arith ] in
-      let first : count_by (λ x. ltb (vec_capacity x.items) 32) (u ∷ us) ≡ cond (ltb (vec_capacity u.items) 32) 1 0 + count_by (λ x. ltb (vec_capacity x.items) 32) us =
-      sum_by-cons (λ (x : Group V). cond (ltb (vec_capacity x.items) 32) 1 0) u us in
-      omega (arith, first, one, small_groups-at_most us)
 
 -- to free one of two buckets, set the other and set the first is to set both
 pub set_both : {X : Type 0} (l : List X) (a b : ℕ) (z x y : X) → a ≢ b → set (set (set l a z) b x) a y ≡ set (set l a y) b x

@@ -1,7 +1,6 @@
 -- The groups of a map as one table of buckets.
-use Rattle.std.specs.Prelude.{ℕ, List, Option, nat_lt, count_by}
+use Rattle.std.specs.Prelude.{ℕ, List, Option}
 use Rattle.std.specs.List.{flat_map}
-use Rattle.std.specs.Vec.{vec_capacity}
 use Rattle.sparse_map.specs.declared.group.Group.{Group}
 use Rattle.sparse_map.specs.Slots.{group_slots}
 
@@ -13,7 +12,3 @@ module _ {V : Type 0} where
   -- the buckets of all groups, in order
   unfoldable pub slots_of : List (Group V) → List (Option (ℕ × V))
   slots_of = flat_map slots_in
-
-  -- how many groups have a list that is shorter than a group may need
-  unfoldable pub small_groups : List (Group V) → ℕ
-  small_groups = count_by (λ g. nat_lt (vec_capacity g.items) 32)

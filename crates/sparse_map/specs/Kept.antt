@@ -1,19 +1,23 @@
 -- What a map keeps true of its fields.
 use Rattle.std.specs.Prelude.{◌≡◌, ℕ, ◌+◌, ◌*◌, ◌^◌, ◌<◌, ◌≤◌, ◌==◌, List, length, min, if◌then◌else◌}
 use Rattle.sparse_map.specs.declared.group.Group.{Group}
+use Rattle.sparse_map.specs.declared.table.Touched.{Touched}
+use Rattle.sparse_map.specs.declared.table.Touched.TheVariants.{Nowhere}
 use Rattle.sparse_map.specs.Slots.{items_of}
-use Rattle.sparse_map.specs.Groups.{slots_of, small_groups}
+use Rattle.sparse_map.specs.Groups.{slots_of}
+use Rattle.sparse_map.specs.Places.{sizes_of, lacking}
 use Rattle.sparse_map.specs.Packed.{IsPacked}
 
--- `bits` is the number of bits of a bucket number, or 0 with no bucket; there are blank lists for the next new keys, or for all short groups
-pub record KeepsTable {V : Type 0} (bits len spare blanks : ℕ) (groups : List (Group V)) : Type 0 where
+-- `bits` is the number of bits of a bucket number, or 0 with no bucket; there are blank lists for the next new keys, or for all lists without places for so many; a list without a free place belongs to a group that was touched
+pub record KeepsTable {V : Type 0} (bits len spare blanks : ℕ) (touched : Touched) (groups : List (Group V)) : Type 0 where
   pub few : bits ≤ 31
   pub many : 0 < bits → 5 ≤ bits
   pub buckets : length (slots_of groups) ≡ (if bits == 0 then 0 else 2 ^ bits)
   pub packed : IsPacked (slots_of groups)
   pub counted : len ≡ length (items_of (slots_of groups))
   pub room : 4 * (len + spare) ≤ 3 * length (slots_of groups)
-  pub stocked : min spare (small_groups groups) ≤ blanks
+  pub stocked : min spare (lacking spare Nowhere (sizes_of groups)) ≤ blanks
+  pub ready : lacking 1 touched (sizes_of groups) ≡ 0
 
 -- 2^bits buckets under the packed law, of which at least one is free
 pub record HasFreeBucket {V : Type 0} (bits : ℕ) (groups : List (Group V)) : Type 0 where

@@ -33,9 +33,9 @@ CanCount more counts = (i : ℕ) → slice_index_or counts i 0 + more < 2 ^ 32
 abbrev pub blank_plan : ℕ → Plan
 blank_plan n = planned (replicate n false) (replicate (n / 32) 0)
 
--- the places of a list for so many items: one more, and none for none
+-- the places of a list for so many items: one more
 abbrev pub places_for : ℕ → ℕ
-places_for count = if count == 0 then 0 else count + 1
+places_for count = count + 1
 
 -- a list in each group for what is counted there
 abbrev pub RoomsFit : List ℕ → List ℕ → Type 0

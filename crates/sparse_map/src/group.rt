@@ -5,7 +5,7 @@ ghost use Rattle.std.specs.Vec.{vec_capacity};
 use std::alloc::{AllocError, Global};
 use std::mem;
 
-/// Item slots that a group keeps free when it is trimmed, so that not each insertion moves its list.
+/// Free places of a list when it is made to fit, so that not each insertion lengthens it.
 const SLACK: usize = 4;
 
 /// An empty list with room for the items of a whole group, kept ready for a group whose own list is full.
@@ -66,12 +66,11 @@ fn insert_item<V: Drop>(items: &mut Vec<(u64, V)>, place: usize, item: (u64, V))
 }
 
 impl<V: Drop> Group<V> {
-    ghost use Rattle.std.specs.Prelude.{◌≡◌, ◌≢◌, ◌<◌, ◌≤◌, ◌↔◌, ℕ, vec_len, Some, None, IsSome, IfSome, IfNone, IfOk, IsTrue, OnOk, OnErr, is_some, option_map, slice_set};
+    ghost use Rattle.std.specs.Prelude.{◌≡◌, ◌≢◌, ◌<◌, ◌≤◌, ◌↔◌, ℕ, vec_len, min, max, Some, None, IsSome, IfSome, IfNone, IfOk, IsTrue, OnOk, OnErr, is_some, option_map, slice_set};
     ghost use Rattle.std.specs.Vec.{vec_capacity};
     ghost use Rattle.sparse_map.specs.Slots.{slot_at, key_at, rank, exchanged};
     ghost use Rattle.sparse_map.specs.Groups.{slots_in};
-    ghost use Rattle.sparse_map.specs.Trimmed.{IsTrimmed};
-    ghost use Rattle.sparse_map.specs.Places.{size_of, IsTooLong, IsShortEnough, IsShortened};
+    ghost use Rattle.sparse_map.specs.Trimmed.{IsTrimmed, IsReady};
     ghost use Rattle.std.specs.Borrow.{sem};
     ghost use Rattle.sparse_map.specs.Lending.{LendsGroupValue};
 
@@ -271,54 +270,66 @@ impl<V: Drop> Group<V> {
         self.items = list;
     }
 
-    /// Moves the items out of a list for a whole group into one that fits, and gives the long one as a blank list, so that
-    /// no new one has to be made. There is none to give where the list isn't such a one, or has no places to spare. Refused,
-    /// for want of memory for the short one, the group is as before.
-    pub fn shorten(&mut self, alloc: Global) -> Result<Option<Blank<V>>, AllocError>
+    /// Gives back what the list holds beyond its items and a little room. Refused, for want of memory, it holds no more than
+    /// before.
+    pub fn trim(&mut self) -> Result<(), AllocError>
         ensures occupied { self.new.occupied ≡ self.old.occupied }
         ensures items { self.new.items.items ≡ self.old.items.items }
         ensures capacity { vec_capacity self.new.items ≤ vec_capacity self.old.items }
-        ensures some { IfOk result (λ blank. IfSome blank (λ _. IsShortened (size_of self.old) (size_of self.new))) }
-        ensures none { IfOk result (λ blank. IfNone blank (IsShortEnough (size_of self.old))) }
-        ensures kept { IfOk result (λ blank. IfNone blank (size_of self.new ≡ size_of self.old)) }
-        ensures err { OnErr result (IsTooLong (size_of self.old) × (size_of self.new ≡ size_of self.old)) }
+        ensures room { min (vec_capacity self.old.items) (vec_len self.old.items + 4) ≤ vec_capacity self.new.items }
+        ensures ok { OnOk result (IsTrimmed self.new) }
     {
         let wanted = self.items.len() + SLACK;
-        if self.items.capacity() != 32 || wanted >= 32 {
-            return Ok(None);
+        self.items.shrink_to(wanted);
+        if self.items.capacity() > wanted {
+            return Err(AllocError);
         }
-        let mut list = Vec::with_capacity(alloc, wanted)?;
-        let mut long = mem::replace(&mut self.items, Vec::new(alloc));
-        match list.append(&mut long) {
+        Ok(())
+    }
+
+    /// Moves the items of a list that is full into one that is a little longer, but no longer than a whole group needs.
+    /// Refused, for want of memory for it, the list is as before.
+    pub fn grow(&mut self, alloc: Global) -> Result<(), AllocError>
+        ensures occupied { self.new.occupied ≡ self.old.occupied }
+        ensures items { self.new.items.items ≡ self.old.items.items }
+        ensures capacity { vec_capacity self.old.items ≤ vec_capacity self.new.items }
+        ensures few { vec_capacity self.new.items ≤ max (vec_capacity self.old.items) (vec_len self.new.items + 4) }
+        ensures ok { OnOk result (IsReady self.new) }
+        ensures err { OnErr result (vec_capacity self.new.items ≡ vec_capacity self.old.items) }
+    {
+        let len = self.items.len();
+        if len < self.items.capacity() || len >= 32 {
+            return Ok(());
+        }
+        let places = (len + SLACK).min(32);
+        let mut list = Vec::with_capacity(alloc, places)?;
+        let mut full = mem::replace(&mut self.items, Vec::new(alloc));
+        match list.append(&mut full) {
             Ok(()) => {}
             Err(_) => unreachable!(),
         }
         // What `append` has room for it doesn't lengthen, but it doesn't promise that: a longer list passes for none.
-        if list.capacity() > wanted {
-            move_items(list, &mut long);
-            self.items = long;
+        if list.capacity() > places {
+            move_items(list, &mut full);
+            self.items = full;
             return Err(AllocError);
         }
         self.items = list;
-        Ok(Some(Blank { list: long }))
+        Ok(())
     }
 
-    /// Gives back what the list holds beyond its items and a little room: a list of just that length takes its place.
-    /// Refused, for want of memory for it, the group is as before.
-    pub fn trim(&mut self, alloc: Global) -> Result<(), AllocError>
+    /// Makes the list fit: it has a free place then, or places for a whole group, and no more than a few are free. Refused,
+    /// for want of memory, it has no more places than before.
+    pub fn fit(&mut self, alloc: Global) -> Result<(), AllocError>
         ensures occupied { self.new.occupied ≡ self.old.occupied }
         ensures items { self.new.items.items ≡ self.old.items.items }
-        ensures capacity { vec_capacity self.new.items ≤ vec_capacity self.old.items }
-        ensures ok { OnOk result (IsTrimmed self.new) }
-        ensures err { OnErr result (vec_len self.new.items + 4 < vec_capacity self.new.items) }
+        ensures room { min (vec_capacity self.old.items) (vec_len self.old.items + 4) ≤ vec_capacity self.new.items }
+        ensures few { vec_capacity self.new.items ≤ max (vec_capacity self.old.items) (vec_len self.new.items + 4) }
+        ensures trimmed { OnOk result (IsTrimmed self.new) }
+        ensures ready { OnOk result (IsReady self.new) }
+        ensures err { OnErr result (vec_capacity self.new.items ≤ vec_capacity self.old.items) }
     {
-        let wanted = self.items.len() + SLACK;
-        if self.items.capacity() <= wanted {
-            return Ok(());
-        }
-        let mut list = Vec::with_capacity(alloc, wanted)?;
-        move_items(mem::replace(&mut self.items, Vec::new(alloc)), &mut list);
-        self.items = list;
-        Ok(())
+        self.trim()?;
+        self.grow(alloc)
     }
 }

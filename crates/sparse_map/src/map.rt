@@ -15,7 +15,8 @@ use crate::group::{Blank, Group};
 use crate::home::bits_for;
 use crate::moving::{groups_ahead, place_groups};
 use crate::table::{
-    Grown, Place, find, places_of, probe, put, remove_at, replace, take_back, trim_grown, value_at,
+    Place, Touched, blanks_for, find, fit_touched, places_of, probe, put, remove_at, replace,
+    value_at,
 };
 use std::alloc::{AllocError, Global};
 use std::marker::Model;
@@ -30,8 +31,8 @@ pub struct SparseMap<V> {
     len: u64,
     spare: u64,
     stock: Vec<Blank<V>>,
-    // The groups that may have grown into a blank list since the last `reserve`.
-    grown: Grown,
+    // The groups whose lists became full, or gave way to a blank one, since the last `reserve`.
+    touched: Touched,
 }
 
 impl<V> Model for SparseMap<V> {
@@ -44,9 +45,9 @@ impl<V> Model for SparseMap<V> {
 
     ghost coded = { table_code V.code };
 
-    ghost view = { λ m. seen_of m.groups.items m.spare (vec_len m.stock) m.grown };
+    ghost view = { λ m. seen_of m.groups.items m.spare (vec_len m.stock) m.touched };
 
-    ghost invariant = { λ m. KeepsTable m.bits m.len m.spare (vec_len m.stock) m.groups.items };
+    ghost invariant = { λ m. KeepsTable m.bits m.len m.spare (vec_len m.stock) m.touched m.groups.items };
 }
 
 impl<V: Drop> SparseMap<V> {
@@ -70,7 +71,7 @@ impl<V: Drop> SparseMap<V> {
             len: 0,
             spare: 0,
             stock: Vec::new(alloc),
-            grown: Grown::Nowhere,
+            touched: Touched::Nowhere,
         }
     }
 
@@ -180,7 +181,7 @@ impl<V: Drop> SparseMap<V> {
                 Some(old)
             }
             Place::Free(bucket) => {
-                let grew = put(
+                let touched = put(
                     self.alloc,
                     self.groups.as_mut_slice(),
                     &mut self.stock,
@@ -190,8 +191,7 @@ impl<V: Drop> SparseMap<V> {
                 );
                 self.len += 1;
                 self.spare -= 1;
-                let grown = self.grown.with(grew, bucket);
-                self.grown = grown;
+                self.touched = self.touched.with(touched, bucket);
                 None
             }
         }
@@ -248,8 +248,8 @@ impl<V: Drop> SparseMap<V> {
         }
     }
 
-    /// Keeps blank lists ready for `n` new keys, within the buckets that there are, and gives back what the groups that
-    /// grew into such lists don't need of them. Refused, the next call tries that again.
+    /// Makes room for `n` new keys within the buckets that there are: the lists of the groups that were touched are made to
+    /// fit, and blank ones are made for more than one key. What can be refused and adds memory to a list comes last.
     fn stock_up(&mut self, n: u64) -> Result<(), AllocError>
         requires { 4 * (len_of self.old + n) ≤ 3 * buckets_of self.old }
         ensures slots { self.new.slots ≡ self.old.slots }
@@ -261,37 +261,11 @@ impl<V: Drop> SparseMap<V> {
         ensures refused { OnErr result ((self.new.places ≤ self.old.places)
             × (self.new.blanks ≤ max self.old.blanks (max self.old.spare n))) }
     {
-        let wanted = self.spare.max(n);
-        // Refused, a list for a whole group is made anew.
-        let _ = take_back(
-            self.alloc,
-            self.groups.as_mut_slice(),
-            &mut self.stock,
-            &mut self.grown,
-            wanted,
-        );
-        self.restock(n)
-    }
-
-    /// Makes blank lists for `n` new keys, within the buckets that there are, and gives back what the groups that
-    /// grew into such lists don't need of them. Refused, the next call tries that again.
-    fn restock(&mut self, n: u64) -> Result<(), AllocError>
-        requires { 4 * (len_of self.old + n) ≤ 3 * buckets_of self.old }
-        ensures slots { self.new.slots ≡ self.old.slots }
-        ensures spare { OnOk result (self.new.spare ≡ max self.old.spare n) }
-        ensures memory { OnOk result (self.new.places ≤ len_of self.new + buckets_of self.new / 8 + self.new.loose) }
-        ensures blanks { OnOk result (self.new.blanks ≤ self.new.spare) }
-        ensures loose { self.new.loose ≤ self.old.loose }
-        ensures err { OnErr result (self.new.spare ≡ self.old.spare) }
-        ensures refused { OnErr result ((self.new.places ≤ self.old.places)
-            × (self.new.blanks ≤ max self.old.blanks (max self.old.spare n))) }
-    {
         let spare = self.spare.max(n);
-        let wanted = spare.min(self.groups());
+        let wanted = blanks_for(self.touched, spare, self.groups());
         add_blanks(self.alloc, &mut self.stock, wanted)?;
-        trim_grown(self.alloc, self.groups.as_mut_slice(), self.grown)?;
-        self.grown = Grown::Nowhere;
-        self.stock.truncate(wanted as usize);
+        fit_touched(self.alloc, self.groups.as_mut_slice(), &mut self.touched)?;
+        self.stock.truncate(spare as usize);
         self.spare = spare;
         Ok(())
     }
@@ -315,14 +289,15 @@ impl<V: Drop> SparseMap<V> {
         let spare = self.spare.max(n);
         let mut groups = groups_ahead(self.alloc, self.groups.as_slice(), bits)?;
         let mut stock = Vec::new(self.alloc);
-        add_blanks(self.alloc, &mut stock, spare.min(groups.len() as u64))?;
+        let wanted = blanks_for(Touched::Nowhere, spare, groups.len() as u64);
+        add_blanks(self.alloc, &mut stock, wanted)?;
         let old = mem::replace(&mut self.groups, Vec::new(self.alloc));
         place_groups(groups.as_mut_slice(), bits, old);
         self.bits = bits;
         self.groups = groups;
         self.spare = spare;
         self.stock = stock;
-        self.grown = Grown::Nowhere;
+        self.touched = Touched::Nowhere;
         Ok(())
     }
 }

@@ -12,14 +12,7 @@ use crate::plan::count_ahead;
 use crate::table::first_free;
 use std::alloc::{AllocError, Global};
 
-/// How many places a list gets for so many items: one more, and none for none.
-fn places_for(count: u32) -> usize
-    ensures { result ≡ places_for count }
-{
-    if count == 0 { 0 } else { count as usize + 1 }
-}
-
-/// Groups with no item, with lists that fit so many in each.
+/// Groups with no item, with lists that fit so many in each, and one more.
 fn groups_for<V: Drop>(alloc: Global, counts: &[u32]) -> Result<Vec<Group<V>>, AllocError>
     ensures count { IfOk result (λ us. vec_len us ≡ length counts.now) }
     ensures free { IfOk result (λ us. (b : ℕ) → slot_at (slots_of us.items) b ≡ None) }
@@ -28,7 +21,7 @@ fn groups_for<V: Drop>(alloc: Global, counts: &[u32]) -> Result<Vec<Group<V>>, A
 {
     let mut groups = Vec::with_capacity(alloc, counts.len())?;
     for count in counts {
-        let group = Group::with_places(alloc, places_for(*count))?;
+        let group = Group::with_places(alloc, *count as usize + 1)?;
         groups.push(group)?;
     }
     Ok(groups)

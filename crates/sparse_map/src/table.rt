@@ -5,16 +5,16 @@ ghost use Rattle.std.specs.Ordering.{nat_cmp};
 ghost use Rattle.std.specs.FinMap.{find};
 ghost use Rattle.std.specs.Vec.{vec_capacity};
 ghost use Rattle.sparse_map.specs.Slots.{slot_at, key_at, items_of, exchanged};
-ghost use Rattle.sparse_map.specs.Groups.{slots_in, slots_of, small_groups};
+ghost use Rattle.sparse_map.specs.Groups.{slots_in, slots_of};
 ghost use Rattle.sparse_map.specs.Packed.{IsPacked};
 ghost use Rattle.sparse_map.specs.Ranks.{IsRankOf, IsRankAt, IsSeated};
 ghost use Rattle.sparse_map.specs.Kept.{HasFreeBucket};
 ghost use Rattle.sparse_map.specs.Probe.{IsPlaceOf, IsFirstFree, IsShifted};
 ghost use Rattle.sparse_map.specs.Removal.{shifted_back};
-ghost use Rattle.sparse_map.specs.Trimmed.{IsTrimmed, AreTrimmed, MayHaveGrown};
-ghost use Rattle.sparse_map.specs.Places.{sizes_of, size_at, places_of, loose_of, IsTooLong, IsShortEnough, IsShortened, AreAsLong};
-ghost use Rattle.sparse_map.specs.declared.table.Grown.{Grown};
-ghost use Rattle.sparse_map.specs.declared.table.Grown.TheVariants.{Nowhere, In, Anywhere};
+ghost use Rattle.sparse_map.specs.Trimmed.{MayBeTouched};
+ghost use Rattle.sparse_map.specs.Places.{sizes_of, places_of, loose_of, lacking};
+ghost use Rattle.sparse_map.specs.declared.table.Touched.{Touched};
+ghost use Rattle.sparse_map.specs.declared.table.Touched.TheVariants.{Nowhere, In, Anywhere};
 
 use crate::group::{Blank, Group};
 use crate::home::{bucket_count, home_of, leads_over, next_bucket};
@@ -44,9 +44,10 @@ pub struct Seat {
     pub rank: u32,
 }
 
-/// Which groups may have grown into a blank list since they were last trimmed.
+/// Which groups may have been touched since the last reservation: a new key took the last free place of their list, or their
+/// list gave way to a blank one.
 #[derive(Clone, Copy)]
-pub enum Grown {
+pub enum Touched {
     /// No group.
     Nowhere,
     /// No other than the group of this bucket.
@@ -55,21 +56,21 @@ pub enum Grown {
     Anywhere,
 }
 
-impl Grown {
-    /// The same once a new key went into a bucket, and the list of its group grew for it or not.
-    pub fn with(self, grew: bool, bucket: u64) -> Self
-        ensures added { IsTrue grew → MayHaveGrown result (bucket / 32) }
-        ensures kept { (i : ℕ) → MayHaveGrown self i → MayHaveGrown result i }
-        ensures first { IsTrue grew → self ≡ Nowhere → result ≡ In bucket }
-        ensures same { grew ≡ false → result ≡ self }
+impl Touched {
+    /// The same once a new key went into a bucket, and touched its group or not.
+    pub fn with(self, touched: bool, bucket: u64) -> Self
+        ensures added { IsTrue touched → MayBeTouched result (bucket / 32) }
+        ensures kept { (i : ℕ) → MayBeTouched self i → MayBeTouched result i }
+        ensures first { IsTrue touched → self ≡ Nowhere → result ≡ In bucket }
+        ensures same { touched ≡ false → result ≡ self }
     {
-        if !grew {
+        if !touched {
             return self;
         }
         match self {
-            Grown::Nowhere => Grown::In(bucket),
-            Grown::In(last) if last / 32 == bucket / 32 => self,
-            _ => Grown::Anywhere,
+            Touched::Nowhere => Touched::In(bucket),
+            Touched::In(last) if last / 32 == bucket / 32 => self,
+            _ => Touched::Anywhere,
         }
     }
 }
@@ -103,14 +104,14 @@ pub fn value_at<V: Drop>(groups: &[Group<V>], bucket: u64, rank: u32) -> &V
 /// whether it did.
 fn make_room<V: Drop>(alloc: Global, group: &mut Group<V>, stock: &mut Vec<Blank<V>>) -> bool
     requires below { vec_len group.old.items < 32 }
-    requires stocked { vec_capacity group.old.items < 32 → 0 < vec_len stock.old }
+    requires stocked { vec_len group.old.items ≡ vec_capacity group.old.items → 0 < vec_len stock.old }
     ensures slots { slots_in group.new ≡ slots_in group.old }
     ensures occupied { group.new.occupied ≡ group.old.occupied }
     ensures room { vec_len group.new.items < vec_capacity group.new.items }
     ensures len { vec_len group.new.items ≡ vec_len group.old.items }
     ensures widened { ((result ≡ false) × (vec_capacity group.new.items ≡ vec_capacity group.old.items)
         × (vec_len stock.new ≡ vec_len stock.old))
-        ⊎ ((result ≡ true) × (vec_capacity group.old.items < 32) × (vec_capacity group.new.items ≡ 32)
+        ⊎ ((result ≡ true) × (vec_len group.old.items ≡ vec_capacity group.old.items) × (vec_capacity group.new.items ≡ 32)
         × (vec_len stock.old ≡ vec_len stock.new + 1)) }
 {
     if !group.is_full() {
@@ -123,7 +124,8 @@ fn make_room<V: Drop>(alloc: Global, group: &mut Group<V>, stock: &mut Vec<Blank
     true
 }
 
-/// Sets the item of a free bucket, with a blank list for a group whose own is full. Answers whether the group took one.
+/// Sets the item of a free bucket, with a blank list for a group whose own is full. Answers whether the group was touched:
+/// it took a blank list, or its own is full now.
 pub fn put<V: Drop>(
     alloc: Global,
     groups: &mut [Group<V>],
@@ -135,20 +137,23 @@ pub fn put<V: Drop>(
     requires within { bucket < 32 * length groups.old }
     requires free { slot_at (slots_of groups.old) bucket ≡ None }
     requires rank { IsRankOf groups.old bucket rank }
-    requires stocked { 0 < small_groups groups.old → 0 < vec_len stock.old }
+    requires stocked { 0 < lacking 1 Nowhere (sizes_of groups.old) → 0 < vec_len stock.old }
     ensures slots { slots_of groups.new ≡ slice_set (slots_of groups.old) bucket (Some item) }
     ensures one_less { vec_len stock.old ≤ vec_len stock.new + 1 }
-    ensures one_widened { vec_len stock.old + small_groups groups.new ≤ vec_len stock.new + small_groups groups.old }
-    ensures taken { IsTrue result → vec_len stock.old ≡ vec_len stock.new + 1 }
+    ensures fewer_lack { (n : ℕ) → vec_len stock.old + lacking n Nowhere (sizes_of groups.new)
+        ≤ vec_len stock.new + lacking (n + 1) Nowhere (sizes_of groups.old) }
     ensures places { places_of (sizes_of groups.new) + 32 * vec_len stock.new ≤ places_of (sizes_of groups.old) + 32 * vec_len stock.old }
-    ensures loose { (before after : Grown) → (IsTrue result → MayHaveGrown after (bucket / 32))
-        → ((i : ℕ) → MayHaveGrown before i → MayHaveGrown after i)
+    ensures loose { (before after : Touched) → (IsTrue result → MayBeTouched after (bucket / 32))
+        → ((i : ℕ) → MayBeTouched before i → MayBeTouched after i)
         → loose_of after (sizes_of groups.new) ≤ loose_of before (sizes_of groups.old) }
+    ensures ready { (before after : Touched) → (IsTrue result → MayBeTouched after (bucket / 32))
+        → ((i : ℕ) → MayBeTouched before i → MayBeTouched after i)
+        → lacking 1 after (sizes_of groups.new) ≤ lacking 1 before (sizes_of groups.old) }
 {
     let group = &mut groups[(bucket / 32) as usize];
     let grew = make_room(alloc, group, stock);
     group.insert((bucket % 32) as u32, rank, item);
-    grew
+    grew | group.is_full()
 }
 
 /// Sets the item of an occupied bucket, and gives the old one.
@@ -157,7 +162,6 @@ pub fn replace<V: Drop>(groups: &mut [Group<V>], bucket: u64, rank: u32, item: (
     ensures item { slot_at (slots_of groups.old) bucket ≡ Some result }
     ensures slots { slots_of groups.new ≡ slice_set (slots_of groups.old) bucket (Some item) }
     ensures sizes { sizes_of groups.new ≡ sizes_of groups.old }
-    ensures small { small_groups groups.new ≡ small_groups groups.old }
 {
     groups[(bucket / 32) as usize].replace((bucket % 32) as u32, rank, item)
 }
@@ -167,9 +171,9 @@ fn take<V: Drop>(groups: &mut [Group<V>], bucket: u64, rank: u32) -> (u64, V)
     requires seat { IsSeated groups.old bucket rank }
     ensures item { slot_at (slots_of groups.old) bucket ≡ Some result }
     ensures slots { slots_of groups.new ≡ slice_set (slots_of groups.old) bucket None }
-    ensures small { small_groups groups.new ≡ small_groups groups.old }
     ensures places { places_of (sizes_of groups.new) ≡ places_of (sizes_of groups.old) }
-    ensures loose { (grown : Grown) → loose_of grown (sizes_of groups.new) ≤ loose_of grown (sizes_of groups.old) + 1 }
+    ensures loose { (t : Touched) → loose_of t (sizes_of groups.new) ≤ loose_of t (sizes_of groups.old) + 1 }
+    ensures lacking { (n : ℕ) (t : Touched) → lacking n t (sizes_of groups.new) ≤ lacking n t (sizes_of groups.old) }
 {
     groups[(bucket / 32) as usize].remove((bucket % 32) as u32, rank)
 }
@@ -181,7 +185,6 @@ fn exchange_within<V: Drop>(groups: &mut [Group<V>], a: u64, a_rank: u32, b: u64
     requires together { a / 32 ≡ b / 32 }
     ensures slots { slots_of groups.new ≡ exchanged (slots_of groups.old) a b }
     ensures sizes { sizes_of groups.new ≡ sizes_of groups.old }
-    ensures small { small_groups groups.new ≡ small_groups groups.old }
 {
     groups[(a / 32) as usize].exchange((a % 32) as u32, a_rank, (b % 32) as u32, b_rank);
 }
@@ -193,7 +196,6 @@ fn exchange_across<V: Drop>(groups: &mut [Group<V>], a: u64, a_rank: u32, b: u64
     requires apart { a / 32 ≢ b / 32 }
     ensures slots { slots_of groups.new ≡ exchanged (slots_of groups.old) a b }
     ensures sizes { sizes_of groups.new ≡ sizes_of groups.old }
-    ensures small { small_groups groups.new ≡ small_groups groups.old }
 {
     let first = groups[(a / 32) as usize].remove((a % 32) as u32, a_rank);
     let second = groups[(b / 32) as usize].replace((b % 32) as u32, b_rank, first);
@@ -207,7 +209,6 @@ fn exchange<V: Drop>(groups: &mut [Group<V>], a: u64, a_rank: u32, b: u64, b_ran
     requires apart { a ≢ b }
     ensures slots { slots_of groups.new ≡ exchanged (slots_of groups.old) a b }
     ensures sizes { sizes_of groups.new ≡ sizes_of groups.old }
-    ensures small { small_groups groups.new ≡ small_groups groups.old }
     ensures occupied { (c : ℕ) → is_some (slot_at (slots_of groups.new) c) ≡ is_some (slot_at (slots_of groups.old) c) }
     ensures ranks { (c place : ℕ) → IsRankOf groups.old c place → IsRankOf groups.new c place }
 {
@@ -320,7 +321,6 @@ fn shift_back<V: Drop>(groups: &mut [Group<V>], bits: u32, bucket: u64, rank: u3
     ensures walk { slice_set (slots_of groups.new) result.0 None ≡ shifted_back (2 ^ bits) (2 ^ bits - 1) bucket bucket
         (slice_set (slots_of groups.old) bucket None) }
     ensures sizes { sizes_of groups.new ≡ sizes_of groups.old }
-    ensures small { small_groups groups.new ≡ small_groups groups.old }
 {
     let buckets = bucket_count(bits);
     let mut hole = bucket;
@@ -355,124 +355,109 @@ pub fn remove_at<V: Drop>(groups: &mut [Group<V>], bits: u32, bucket: u64, rank:
     ensures packed { IsPacked (slots_of groups.new) }
     ensures walk { slots_of groups.new ≡ shifted_back (2 ^ bits) (2 ^ bits - 1) bucket bucket
         (slice_set (slots_of groups.old) bucket None) }
-    ensures small { small_groups groups.new ≡ small_groups groups.old }
     ensures places { places_of (sizes_of groups.new) ≡ places_of (sizes_of groups.old) }
-    ensures loose { (grown : Grown) → loose_of grown (sizes_of groups.new) ≤ loose_of grown (sizes_of groups.old) + 1 }
+    ensures loose { (t : Touched) → loose_of t (sizes_of groups.new) ≤ loose_of t (sizes_of groups.old) + 1 }
+    ensures lacking { (n : ℕ) (t : Touched) → lacking n t (sizes_of groups.new) ≤ lacking n t (sizes_of groups.old) }
 {
     let (hole, hole_rank) = shift_back(groups, bits, bucket, rank);
     take(groups, hole, hole_rank)
 }
 
 /// Gives back the memory that the groups' lists hold beyond their items and a little room. Refused at the first list for
-/// whose shorter one there is no memory.
-pub fn trim_all<V: Drop>(alloc: Global, groups: &mut [Group<V>]) -> Result<(), AllocError>
+/// which there is no memory.
+fn trim_all<V: Drop>(groups: &mut [Group<V>]) -> Result<(), AllocError>
     ensures slots { slots_of groups.new ≡ slots_of groups.old }
     ensures fewer { places_of (sizes_of groups.new) ≤ places_of (sizes_of groups.old) }
-    ensures loose { (g : Grown) → loose_of g (sizes_of groups.new) ≤ loose_of g (sizes_of groups.old) }
-    ensures ok { OnOk result (All IsTrimmed groups.new) }
+    ensures loose { (t : Touched) → loose_of t (sizes_of groups.new) ≤ loose_of t (sizes_of groups.old) }
+    ensures lacking { (t : Touched) → lacking 1 t (sizes_of groups.new) ≤ lacking 1 t (sizes_of groups.old) }
     ensures none_loose { OnOk result (loose_of Nowhere (sizes_of groups.new) ≡ 0) }
 {
     for group in groups.iter_mut() {
-        group.trim(alloc)?;
+        group.trim()?;
     }
     Ok(())
 }
 
-/// Gives back what the groups hold that may have grown.
-#[tactic(auto, using(crate::proofs::TableLemmas::slots_of_trimmed))]
-pub fn trim_grown<V: Drop>(
-    alloc: Global,
-    groups: &mut [Group<V>],
-    grown: Grown,
-) -> Result<(), AllocError>
+/// Gives each group whose list is full a little longer one. Refused at the first one for which there is no memory.
+fn grow_all<V: Drop>(alloc: Global, groups: &mut [Group<V>]) -> Result<(), AllocError>
     ensures slots { slots_of groups.new ≡ slots_of groups.old }
-    ensures fewer { places_of (sizes_of groups.new) ≤ places_of (sizes_of groups.old) }
-    ensures loose { (g : Grown) → loose_of g (sizes_of groups.new) ≤ loose_of g (sizes_of groups.old) }
-    ensures ok { OnOk result (AreTrimmed grown groups.new) }
-    ensures none_grown { OnOk result (loose_of Nowhere (sizes_of groups.new) ≤ loose_of grown (sizes_of groups.old)) }
+    ensures loose { (t : Touched) → loose_of t (sizes_of groups.new) ≤ loose_of t (sizes_of groups.old) }
+    ensures lacking { (t : Touched) → lacking 1 t (sizes_of groups.new) ≤ lacking 1 t (sizes_of groups.old) }
+    ensures none_lacks { OnOk result (lacking 1 Nowhere (sizes_of groups.new) ≡ 0) }
 {
-    match grown {
-        Grown::Nowhere => Ok(()),
-        Grown::In(bucket) => trim_one(alloc, groups, bucket),
-        Grown::Anywhere => trim_all(alloc, groups),
+    for group in groups.iter_mut() {
+        group.grow(alloc)?;
     }
-}
-
-/// Moves the items of the group of a bucket out of a list for a whole group into one that fits, and gives the long one as
-/// a blank list. There is none to give where no group has that bucket, or its list isn't such a one, or has no places to
-/// spare. Refused, for want of memory for the short list, the groups are as before.
-fn take_blank<V: Drop>(
-    alloc: Global,
-    groups: &mut [Group<V>],
-    bucket: u64,
-) -> Result<Option<Blank<V>>, AllocError>
-    ensures slots { slots_of groups.new ≡ slots_of groups.old }
-    ensures some { IfOk result (λ blank. IfSome blank (λ _. IsShortened (size_at groups.old bucket) (size_at groups.new bucket))) }
-    ensures none { IfOk result (λ blank. IfNone blank (IsShortEnough (size_at groups.old bucket))) }
-    ensures kept { IfOk result (λ blank. IfNone blank (AreAsLong groups.old groups.new)) }
-    ensures err { OnErr result (IsTooLong (size_at groups.old bucket) × AreAsLong groups.old groups.new) }
-    ensures fewer { places_of (sizes_of groups.new) ≤ places_of (sizes_of groups.old) }
-    ensures one_more { small_groups groups.new ≤ small_groups groups.old + 1 }
-    ensures loose { IfOk result (λ blank. IfSome blank
-        (λ _. loose_of Nowhere (sizes_of groups.new) ≤ loose_of (In bucket) (sizes_of groups.old))) }
-{
-    let i = (bucket / 32) as usize;
-    if i >= groups.len() {
-        return Ok(None);
-    }
-    groups[i].shorten(alloc)
-}
-
-/// Where one group grew into a blank list, its items move into a list that fits, and the long one is blank again, while
-/// there are fewer than are wanted and the stock has a place for one. So in a run of single reservations no list for a
-/// whole group is made anew. Refused, for want of memory for the short list, all is as before.
-pub fn take_back<V: Drop>(
-    alloc: Global,
-    groups: &mut [Group<V>],
-    stock: &mut Vec<Blank<V>>,
-    grown: &mut Grown,
-    wanted: u64,
-) -> Result<(), AllocError>
-    ensures slots { slots_of groups.new ≡ slots_of groups.old }
-    ensures fewer { places_of (sizes_of groups.new) ≤ places_of (sizes_of groups.old) }
-    ensures kept { vec_len stock.old ≤ vec_len stock.new }
-    ensures blanks { vec_len stock.new ≤ max (vec_len stock.old) wanted }
-    ensures stocked { vec_len stock.old + small_groups groups.new ≤ vec_len stock.new + small_groups groups.old }
-    ensures loose { loose_of grown.new (sizes_of groups.new) ≤ loose_of grown.old (sizes_of groups.old) }
-    ensures ok { OnOk result ((b : ℕ) → grown.new ≡ In b → vec_len stock.new < min wanted (vec_capacity stock.new)
-        → IsShortEnough (size_at groups.new b)) }
-    ensures err { OnErr result (AreAsLong groups.old groups.new × (vec_len stock.new ≡ vec_len stock.old) × (grown.new ≡ grown.old)) }
-    ensures needless { OnErr result ((b : ℕ) → grown.old ≡ In b → IsTooLong (size_at groups.old b)) }
-{
-    let kept = stock.len();
-    if kept as u64 >= wanted || kept >= stock.capacity() {
-        return Ok(());
-    }
-    let Grown::In(bucket) = *grown else {
-        return Ok(());
-    };
-    let Some(blank) = take_blank(alloc, groups, bucket)? else {
-        return Ok(());
-    };
-    stock.push_reserved(blank);
-    *grown = Grown::Nowhere;
     Ok(())
 }
 
-/// Gives back what the group of a bucket holds beyond its items and a little room.
-#[tactic(auto, using(crate::proofs::TableLemmas::slots_of_trimmed))]
-fn trim_one<V: Drop>(alloc: Global, groups: &mut [Group<V>], bucket: u64) -> Result<(), AllocError>
+/// Makes the list of the group of a bucket fit.
+fn fit_one<V: Drop>(alloc: Global, groups: &mut [Group<V>], bucket: u64) -> Result<(), AllocError>
     ensures slots { slots_of groups.new ≡ slots_of groups.old }
-    ensures fewer { places_of (sizes_of groups.new) ≤ places_of (sizes_of groups.old) }
-    ensures loose { (g : Grown) → loose_of g (sizes_of groups.new) ≤ loose_of g (sizes_of groups.old) }
-    ensures ok { OnOk result (AreTrimmed (In bucket) groups.new) }
-    ensures none_grown { OnOk result (loose_of Nowhere (sizes_of groups.new) ≤ loose_of (In bucket) (sizes_of groups.old)) }
+    ensures loose { (t : Touched) → loose_of t (sizes_of groups.new) ≤ loose_of t (sizes_of groups.old) }
+    ensures lacking { (t : Touched) → lacking 1 t (sizes_of groups.new) ≤ lacking 1 t (sizes_of groups.old) }
+    ensures not_loose { OnOk result (loose_of Nowhere (sizes_of groups.new) ≤ loose_of (In bucket) (sizes_of groups.old)) }
+    ensures not_lacking { OnOk result (lacking 1 Nowhere (sizes_of groups.new) ≤ lacking 1 (In bucket) (sizes_of groups.old)) }
+    ensures err { OnErr result (places_of (sizes_of groups.new) ≤ places_of (sizes_of groups.old)) }
 {
     let i = (bucket / 32) as usize;
     if i >= groups.len() {
         return Ok(());
     }
-    groups[i].trim(alloc)
+    groups[i].fit(alloc)
+}
+
+/// Makes the lists of all groups fit, and answers whether each has a free place, or places for a whole group: where memory
+/// fails for one that is full, it stays so. Refused, for want of memory for a shorter one, no list got longer.
+fn fit_all<V: Drop>(alloc: Global, groups: &mut [Group<V>]) -> Result<bool, AllocError>
+    ensures slots { slots_of groups.new ≡ slots_of groups.old }
+    ensures loose { (t : Touched) → loose_of t (sizes_of groups.new) ≤ loose_of t (sizes_of groups.old) }
+    ensures lacking { (t : Touched) → lacking 1 t (sizes_of groups.new) ≤ lacking 1 t (sizes_of groups.old) }
+    ensures none_loose { OnOk result (loose_of Nowhere (sizes_of groups.new) ≡ 0) }
+    ensures none_lacks { IfOk result (λ all. IsTrue all → lacking 1 Nowhere (sizes_of groups.new) ≡ 0) }
+    ensures err { OnErr result (places_of (sizes_of groups.new) ≤ places_of (sizes_of groups.old)) }
+{
+    trim_all(groups)?;
+    Ok(grow_all(alloc, groups).is_ok())
+}
+
+/// Makes the lists fit that may have been touched. Where any may have been, and memory fails for one that is full, any stays
+/// touched. Refused, for want of memory, no list got longer.
+pub fn fit_touched<V: Drop>(
+    alloc: Global,
+    groups: &mut [Group<V>],
+    touched: &mut Touched,
+) -> Result<(), AllocError>
+    ensures slots { slots_of groups.new ≡ slots_of groups.old }
+    ensures loose { loose_of touched.new (sizes_of groups.new) ≤ loose_of touched.old (sizes_of groups.old) }
+    ensures ready { lacking 1 touched.new (sizes_of groups.new) ≤ lacking 1 touched.old (sizes_of groups.old) }
+    ensures lacking { lacking 1 Nowhere (sizes_of groups.new) ≤ lacking 1 Nowhere (sizes_of groups.old) }
+    ensures none_loose { OnOk result (loose_of Nowhere (sizes_of groups.new) ≤ loose_of touched.new (sizes_of groups.new)) }
+    ensures settled { OnOk result (touched.old ≢ Anywhere → touched.new ≡ Nowhere) }
+    ensures err { OnErr result (places_of (sizes_of groups.new) ≤ places_of (sizes_of groups.old)) }
+{
+    match *touched {
+        Touched::Nowhere => return Ok(()),
+        Touched::In(bucket) => fit_one(alloc, groups, bucket)?,
+        Touched::Anywhere => {
+            if !fit_all(alloc, groups)? {
+                return Ok(());
+            }
+        }
+    }
+    *touched = Touched::Nowhere;
+    Ok(())
+}
+
+/// How many blank lists are kept for so many new keys: none for a single one, unless any list may be full.
+pub fn blanks_for(touched: Touched, spare: u64, groups: u64) -> u64
+    ensures few { result ≤ spare }
+    ensures enough { (min spare groups ≤ result) ⊎ ((spare ≤ 1) × (touched ≢ Anywhere)) }
+{
+    match touched {
+        Touched::Nowhere | Touched::In(_) if spare <= 1 => 0,
+        _ => spare.min(groups),
+    }
 }
 
 /// How many places the lists of all groups have, free ones included.

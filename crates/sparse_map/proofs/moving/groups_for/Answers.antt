@@ -25,7 +25,7 @@ loop-count-preserved g c =
     let i = c.loop-count.count-index in
     let cs = c.args.counts.now in
     let before = c.loop-count.invariant in
-    let room : vec_capacity u.items ≡ places_for (get_or cs i 0) = c.in_ok-group.ensures.places ∙ c.places_for.ensures in
+    let room : vec_capacity u.items ≡ places_for (get_or cs i 0) = c.in_ok-group.ensures.places in
     record {
       count = c.in_ok-push.ensures.len ∙ ap (λ n. n + 1) before.count;
       free = λ b. ap (λ us. slot_at (slots_of us) b) c.in_ok-push.ensures.items ∙ slots_of-free_more us u before.free c.in_ok-group.ensures.slots b;

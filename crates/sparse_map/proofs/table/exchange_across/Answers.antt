@@ -4,7 +4,7 @@ use Rattle.std.proofs.lemmas.List.{length-set, get_or-set_same, get_or-set_other
 use Rattle.sparse_map.specs.declared.group.Group.{Group}
 use Rattle.sparse_map.specs.Slots.{rank, slot_at}
 use Rattle.sparse_map.specs.Groups.{slots_of}
-use Rattle.sparse_map.proofs.TableLemmas.{length-slots_of, slot_of_bucket, set_bucket, small_groups-same, set_both}
+use Rattle.sparse_map.proofs.TableLemmas.{length-slots_of, slot_of_bucket, set_bucket, set_both}
 use Rattle.sparse_map.proofs.PlacesLemmas.{sizes-same, sizes-back}
 use Rattle.sparse_map.proofs.table.exchange_across.Goals as goal
 
@@ -70,22 +70,6 @@ returns-clause-slots g c =
     ∙ ap (λ l. set l c.args.a (Some c.replace-second.result)) (moved ∙ ap (λ l. set l c.args.b (Some c.remove-first.result)) freed)
     ∙ set_both (slots_of us) c.args.a c.args.b None (Some c.remove-first.result) (Some c.replace-second.result) (λ e. c.requires.apart (ap (λ x. x / 32) e))
     ∙ (λ i. set (set (slots_of us) c.args.a (sym second i)) c.args.b (sym first i))
-
-pub returns-clause-small : goal.returns-clause-small
-returns-clause-small g c =
-    let us = c.args.groups.now in
-    let read = c.index-groups-a.result in
-    let vs = set us (c.args.a / 32) c.remove-first.new.self in
-    let other = c.index-groups-b.result in
-    let ws = set vs (c.args.b / 32) c.replace-second.new.self in
-    let again = c.index-groups-a-2.result in
-    let long = length-set us (c.args.a / 32) c.remove-first.new.self in
-    let longer = length-set vs (c.args.b / 32) c.replace-second.new.self in
-    let a_inside = c.requires.a.within in
-    let b_inside = c.requires.b.within in
-    small_groups-same ws (c.args.a / 32) (get_or ws (c.args.a / 32) again) again c.insert.new.self (omega arith) refl c.insert.ensures.capacity
-    ∙ small_groups-same vs (c.args.b / 32) (get_or vs (c.args.b / 32) other) other c.replace-second.new.self (omega arith) refl c.replace-second.ensures.capacity
-    ∙ small_groups-same us (c.args.a / 32) (get_or us (c.args.a / 32) read) read c.remove-first.new.self (omega arith) refl c.remove-first.ensures.capacity
 
 pub returns-clause-sizes : goal.returns-clause-sizes
 returns-clause-sizes g c =

@@ -1,7 +1,7 @@
 use Rattle.std.proofs.Common.{◌≡◌, ◌/◌, ◌%◌, refl, sym, ap, subst, get_or, arith}
 use Rattle.std.specs.Prelude.{IsSome}
 use Rattle.sparse_map.specs.Slots.{rank}
-use Rattle.sparse_map.proofs.TableLemmas.{slot_of_bucket, small_groups-same}
+use Rattle.sparse_map.proofs.TableLemmas.{slot_of_bucket}
 use Rattle.sparse_map.proofs.PlacesLemmas.{sizes-same}
 use Rattle.sparse_map.proofs.RankedLemmas.{exchanged_in}
 use Rattle.sparse_map.proofs.table.exchange_within.Goals as goal
@@ -32,13 +32,6 @@ returns-clause-slots g c =
     let read = c.index-groups-a.result in
     let us = c.args.groups.now in
     exchanged_in us c.args.a c.args.b (get_or us (c.args.a / 32) read) read c.exchange.new.self c.requires.a.within c.requires.b.within c.requires.together refl c.exchange.ensures.slots
-
-pub returns-clause-small : goal.returns-clause-small
-returns-clause-small g c =
-    let read = c.index-groups-a.result in
-    let us = c.args.groups.now in
-    let inside = c.requires.a.within in
-    small_groups-same us (c.args.a / 32) (get_or us (c.args.a / 32) read) read c.exchange.new.self (omega arith) refl c.exchange.ensures.capacity
 
 pub returns-clause-sizes : goal.returns-clause-sizes
 returns-clause-sizes g c =

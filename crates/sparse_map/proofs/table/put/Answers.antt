@@ -1,11 +1,21 @@
-use Rattle.std.proofs.Common.{◌<◌, ◌%◌, ◌/◌, Some, refl, sym, ap, ◌∙◌, get_or, inl, inr, arith, length, set, ◌≤◌}
-use Rattle.std.specs.Vec.{vec_capacity}
+use Rattle.std.proofs.Common.{◌<◌, ◌+◌, ◌%◌, ◌/◌, Some, Bool, true, false, refl, sym, ap, ◌∙◌, get_or, inl, inr, arith, length, set}
+use Rattle.std.specs.Prelude.{IsTrue, ◌||◌}
+use Rattle.std.specs.Vec.{vec_len, vec_capacity}
+use Rattle.std.proofs.lemmas.Bool.{cases_eq, false≢true}
 use Rattle.sparse_map.specs.Slots.{rank, slot_at}
 use Rattle.sparse_map.proofs.GroupLemmas.{free_below_32}
-use Rattle.sparse_map.proofs.TableLemmas.{slot_of_bucket, set_bucket, small_groups-same, small_groups-wider, small_groups-one}
-use Rattle.sparse_map.specs.Places.{sizes_of}
-use Rattle.sparse_map.proofs.PlacesLemmas.{loose-wider, extra-most, places_in-set, loose_in-set, loose_in-at}
+use Rattle.sparse_map.proofs.TableLemmas.{slot_of_bucket, set_bucket}
+use Rattle.sparse_map.specs.Places.{size_of, sizes_of, extra, lacks}
+use Rattle.sparse_map.proofs.PlacesLemmas.{untouched-wider, extra-most, lacks-le, lacks-no, lacks-yes, places_in-set, untouched_in-set, untouched_in-at, lacking_in-next, lacking-one}
 use Rattle.sparse_map.proofs.table.put.Goals as goal
+
+or_left : (a b : Bool) → IsTrue a → IsTrue (a || b)
+or_left true b e = refl
+or_left false b e = absurd (false≢true e)
+
+or_right : (a b : Bool) → IsTrue b → IsTrue (a || b)
+or_right true b e = refl
+or_right false b e = e
 
 pub make_room-grew-requires-clause-below : goal.make_room-grew-requires-clause-below
 make_room-grew-requires-clause-below g c =
@@ -14,13 +24,6 @@ make_room-grew-requires-clause-below g c =
     let u = get_or us (c.args.bucket / 32) read in
     let lt : c.args.bucket % 32 < 32 = omega arith in
     free_below_32 u (c.args.bucket % 32) lt (sym (slot_of_bucket us c.args.bucket u read c.requires.within refl) ∙ c.requires.free)
-
-pub make_room-grew-requires-clause-stocked : goal.make_room-grew-requires-clause-stocked
-make_room-grew-requires-clause-stocked g c =
-    let read = c.index-groups-bucket.result in
-    let us = c.args.groups.now in
-    let u = get_or us (c.args.bucket / 32) read in
-    λ short. c.requires.stocked (small_groups-one us (c.args.bucket / 32) u read u (omega (arith, c.requires.within)) refl short)
 
 pub insert-requires-clause-free : goal.insert-requires-clause-free
 insert-requires-clause-free g c =
@@ -39,22 +42,6 @@ returns-clause-slots g c =
     set_bucket us c.args.bucket u read c.requires.within refl c.insert.new.self (Some c.args.item)
     (c.insert.ensures.slots ∙ ap (λ l. set l (c.args.bucket % 32) (Some c.args.item)) c.make_room-grew.ensures.slots)
 
-pub returns-clause-one_widened : goal.returns-clause-one_widened
-returns-clause-one_widened g c =
-    let read = c.index-groups-bucket.result in
-    let us = c.args.groups.now in
-    let u = get_or us (c.args.bucket / 32) read in
-    let inside : c.args.bucket / 32 < length us = omega (arith, c.requires.within) in
-    elim c.make_room-grew.ensures.widened [
-      | inl kept ↦
-          let same = small_groups-same us (c.args.bucket / 32) u read c.insert.new.self inside refl (c.insert.ensures.capacity ∙ kept.1) in
-          omega (arith, same, kept.2)
-      | inr wider ↦
-          let long : 32 ≤ vec_capacity c.insert.new.self.items = omega (arith, c.insert.ensures.capacity, wider.2) in
-          let less = small_groups-wider us (c.args.bucket / 32) u read c.insert.new.self inside refl wider.1 long in
-          omega (arith, less, wider.3)
-    ]
-
 pub returns-clause-places : goal.returns-clause-places
 returns-clause-places g c =
     let read = c.index-groups-bucket.result in
@@ -67,6 +54,47 @@ returns-clause-places g c =
       | inr wider ↦ omega (arith, changed, c.insert.ensures.capacity, wider.2, wider.3)
     ]
 
+pub insert-requires-clause-place : goal.insert-requires-clause-place
+insert-requires-clause-place g c =
+    let read = c.index-groups-bucket.result in
+    let us = c.args.groups.now in
+    c.requires.rank read ∙ ap (λ n. rank n (c.args.bucket % 32)) (sym c.make_room-grew.ensures.occupied)
+
+pub make_room-grew-requires-clause-stocked : goal.make_room-grew-requires-clause-stocked
+make_room-grew-requires-clause-stocked g c =
+    let read = c.index-groups-bucket.result in
+    let us = c.args.groups.now in
+    let i = c.args.bucket / 32 in
+    let u = get_or us i read in
+    let inside : i < length us = omega (arith, c.requires.within) in
+    let lt : c.args.bucket % 32 < 32 = omega arith in
+    let below = free_below_32 u (c.args.bucket % 32) lt (sym (slot_of_bucket us c.args.bucket u read c.requires.within refl) ∙ c.requires.free) in
+    λ full.
+    let one = lacks-yes 1 (size_of u) (omega (arith, full, below)) in
+    c.requires.stocked (omega (arith, one, lacking-one us i u read u inside refl 1))
+
+pub returns-clause-fewer_lack : goal.returns-clause-fewer_lack
+returns-clause-fewer_lack g c =
+    let read = c.index-groups-bucket.result in
+    let us = c.args.groups.now in
+    let i = c.args.bucket / 32 in
+    let u = get_or us i read in
+    let w = c.insert.new.self in
+    let inside : i < length us = omega (arith, c.requires.within) in
+    let lt : c.args.bucket % 32 < 32 = omega arith in
+    let below = free_below_32 u (c.args.bucket % 32) lt (sym (slot_of_bucket us c.args.bucket u read c.requires.within refl) ∙ c.requires.free) in
+    λ n. elim c.make_room-grew.ensures.widened [
+      | inl kept ↦
+          let less = lacks-le n (n + 1) (size_of w) (size_of u) (λ lacked. omega (arith, lacked, c.insert.ensures.len, c.make_room-grew.ensures.len, c.insert.ensures.capacity, kept.1)) in
+          let fewer = lacking_in-next us i u read w inside refl n 0 (omega (arith, less)) in
+          omega (arith, fewer, kept.2)
+      | inr wider ↦
+          let none = lacks-no n (size_of w) (omega (arith, c.insert.ensures.capacity, wider.2)) in
+          let one = lacks-yes (n + 1) (size_of u) (omega (arith, wider.1, below)) in
+          let fewer = lacking_in-next us i u read w inside refl n 1 (omega (arith, none, one)) in
+          omega (arith, fewer, wider.3)
+    ]
+
 pub returns-clause-loose : goal.returns-clause-loose
 returns-clause-loose g c =
     let read = c.index-groups-bucket.result in
@@ -74,18 +102,29 @@ returns-clause-loose g c =
     let i = c.args.bucket / 32 in
     let u = get_or us i read in
     let w = c.insert.new.self in
-    let inside : c.args.bucket / 32 < length us = omega (arith, c.requires.within) in
+    let inside : i < length us = omega (arith, c.requires.within) in
     λ before after may more.
-    let wider = loose-wider (sizes_of us) before after more in
+    let wider = untouched-wider extra (sizes_of us) before after more in
     elim c.make_room-grew.ensures.widened [
       | inl kept ↦
           let most = extra-most u w 0 (omega (arith, c.insert.ensures.capacity, kept.1)) (omega (arith, c.insert.ensures.len, c.make_room-grew.ensures.len)) in
-          omega (arith, wider, loose_in-set us i u read w inside refl after 0 most)
-      | inr grew ↦ omega (arith, wider, loose_in-at us i u read w inside refl after (may grew.0))
+          omega (arith, wider, untouched_in-set us i u read w inside refl extra after 0 most)
+      | inr grew ↦ omega (arith, wider, untouched_in-at us i u read w inside refl extra after (may (or_left c.make_room-grew.result c.is_full.result grew.0)))
     ]
 
-pub insert-requires-clause-place : goal.insert-requires-clause-place
-insert-requires-clause-place g c =
+pub returns-clause-ready : goal.returns-clause-ready
+returns-clause-ready g c =
     let read = c.index-groups-bucket.result in
     let us = c.args.groups.now in
-    c.requires.rank read ∙ ap (λ n. rank n (c.args.bucket % 32)) (sym c.make_room-grew.ensures.occupied)
+    let i = c.args.bucket / 32 in
+    let u = get_or us i read in
+    let w = c.insert.new.self in
+    let inside : i < length us = omega (arith, c.requires.within) in
+    λ before after may more.
+    let wider = untouched-wider (lacks 1) (sizes_of us) before after more in
+    elim (cases_eq (vec_len w.items) (vec_capacity w.items)) [
+      | inl full ↦ omega (arith, wider, untouched_in-at us i u read w inside refl (lacks 1) after (may (or_right c.make_room-grew.result c.is_full.result (c.is_full.ensures.1 full))))
+      | inr ne ↦
+          let none = lacks-no 1 (size_of w) (omega (arith, ne, c.make_room-grew.ensures.room, c.insert.ensures.len, c.insert.ensures.capacity)) in
+          omega (arith, wider, untouched_in-set us i u read w inside refl (lacks 1) after 0 (omega (arith, none)))
+    ]

@@ -4,7 +4,7 @@ use Rattle.std.specs.Ordering.{nat_cmp}
 use Rattle.std.specs.FinMap.{find}
 use Rattle.sparse_map.specs.Slots.{items_of, slot_at}
 use Rattle.sparse_map.specs.Groups.{slots_of}
-use Rattle.sparse_map.specs.Places.{places_of, loose_of}
+use Rattle.sparse_map.specs.Places.{places_of, loose_of, lacking}
 use Rattle.sparse_map.proofs.TableLemmas.{length-slots_of}
 use Rattle.sparse_map.proofs.SlotLemmas.{find-set_none, length-items_of-set}
 use Rattle.sparse_map.proofs.table.remove_at.Goals as goal
@@ -44,7 +44,10 @@ pub returns-clause-places : goal.returns-clause-places
 returns-clause-places g c = c.take.ensures.places ∙ ap places_of c.shift_back-hole.ensures.sizes
 
 pub returns-clause-loose : goal.returns-clause-loose
-returns-clause-loose g c = λ grown. omega (arith, c.take.ensures.loose grown, ap (loose_of grown) c.shift_back-hole.ensures.sizes)
+returns-clause-loose g c = λ t. omega (arith, c.take.ensures.loose t, ap (loose_of t) c.shift_back-hole.ensures.sizes)
+
+pub returns-clause-lacking : goal.returns-clause-lacking
+returns-clause-lacking g c = λ n t. omega (arith, c.take.ensures.lacking n t, ap (lacking n t) c.shift_back-hole.ensures.sizes)
 
 pub returns-clause-walk : goal.returns-clause-walk
 returns-clause-walk g c = c.take.ensures.slots ∙ c.shift_back-hole.ensures.walk

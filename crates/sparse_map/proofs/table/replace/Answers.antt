@@ -1,6 +1,6 @@
 use Rattle.std.proofs.Common.{refl, ◌∙◌, subst, get_or, arith, ◌/◌, Some}
 use Rattle.std.specs.Prelude.{IsSome}
-use Rattle.sparse_map.proofs.TableLemmas.{slot_of_bucket, set_bucket, small_groups-same}
+use Rattle.sparse_map.proofs.TableLemmas.{slot_of_bucket, set_bucket}
 use Rattle.sparse_map.proofs.PlacesLemmas.{sizes-same}
 use Rattle.sparse_map.proofs.table.replace.Goals as goal
 
@@ -21,12 +21,6 @@ returns-clause-slots g c =
     let read = c.index-groups-bucket.result in
     let us = c.args.groups.now in
     set_bucket us c.args.bucket (get_or us (c.args.bucket / 32) read) read c.requires.seat.within refl c.replace.new.self (Some c.args.item) c.replace.ensures.slots
-
-pub returns-clause-small : goal.returns-clause-small
-returns-clause-small g c =
-    let read = c.index-groups-bucket.result in
-    let us = c.args.groups.now in
-    small_groups-same us (c.args.bucket / 32) (get_or us (c.args.bucket / 32) read) read c.replace.new.self (omega arith) refl c.replace.ensures.capacity
 
 pub returns-clause-sizes : goal.returns-clause-sizes
 returns-clause-sizes g c =

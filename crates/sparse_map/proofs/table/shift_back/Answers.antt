@@ -4,7 +4,7 @@ use Rattle.std.specs.Prelude.{is_some, IsSome}
 use Rattle.sparse_map.specs.Home.{home, steps}
 use Rattle.sparse_map.specs.Slots.{slot_at, key_at, exchanged}
 use Rattle.sparse_map.specs.Ranks.{IsRankOf}
-use Rattle.sparse_map.specs.Groups.{slots_of, small_groups}
+use Rattle.sparse_map.specs.Groups.{slots_of}
 use Rattle.sparse_map.specs.Places.{sizes_of}
 use Rattle.sparse_map.specs.Removal.{shifted_back}
 use Rattle.sparse_map.proofs.RemovalLemmas.{back_ends, back_stays, back_moves}
@@ -24,7 +24,7 @@ loop-step-init g c =
     let s = slots_of c.args.groups.now in
     let long = c.requires.table.buckets ∙ sym e in
     let inside : c.args.bucket < n = omega (arith, c.requires.seat.within, length-slots_of c.args.groups.now, c.requires.table.buckets, e) in
-    record { walked = walked_start n s c.args.bucket (PackedAt-from n s long c.requires.table.packed) long inside c.requires.seat.occupied; small = refl; back = refl; sizes = refl; here = c.requires.seat.occupied; at_rank = c.requires.seat.rank; hole_rank = c.requires.seat.rank }
+    record { walked = walked_start n s c.args.bucket (PackedAt-from n s long c.requires.table.packed) long inside c.requires.seat.occupied; back = refl; sizes = refl; here = c.requires.seat.occupied; at_rank = c.requires.seat.rank; hole_rank = c.requires.seat.rank }
 
 pub next_rank-at_rank-requires : goal.next_rank-at_rank-requires
 next_rank-at_rank-requires g c =
@@ -88,7 +88,6 @@ loop-step-preserved g c =
             walked = subst (λ t. Walked n old t c.args.bucket c.if-leads_over.hole c.next_bucket-at.result (c.loop-step._step + 1)) (sym slots)
                 (subst (λ x. Walked n old (exchanged new hole (next n c.loop-step.at)) c.args.bucket x c.next_bucket-at.result (c.loop-step._step + 1)) (sym b.hole-is)
                 (subst (λ x. Walked n old (exchanged new hole (next n c.loop-step.at)) c.args.bucket x x (c.loop-step._step + 1)) (sym on) moved));
-            small = ap small_groups b.groups-is ∙ b.exchange.ensures.small ∙ c.loop-step.invariant.small;
             back =
                 (λ i. shifted_back n (n - (c.loop-step._step + 1)) ((b.hole-is ∙ on) i) (on i) (set (slots i) ((b.hole-is ∙ on) i) None))
                 ∙ sym (back_moves n (n - (c.loop-step._step + 1)) hole c.loop-step.at new apart inside_hole key is over)
@@ -115,7 +114,6 @@ loop-step-preserved g c =
             walked = subst (λ t. Walked n old t c.args.bucket c.if-leads_over.hole c.next_bucket-at.result (c.loop-step._step + 1)) (sym (ap slots_of b.groups-is))
                 (subst (λ x. Walked n old new c.args.bucket x c.next_bucket-at.result (c.loop-step._step + 1)) (sym b.hole-is)
                 (subst (λ x. Walked n old new c.args.bucket hole x (c.loop-step._step + 1)) (sym on) stayed));
-            small = ap small_groups b.groups-is ∙ c.loop-step.invariant.small;
             back =
                 (λ i. shifted_back n (n - (c.loop-step._step + 1)) (b.hole-is i) (on i) (set (slots_of (b.groups-is i)) (b.hole-is i) None))
                 ∙ sym (back_stays n (n - (c.loop-step._step + 1)) hole c.loop-step.at new apart inside_hole key is short)

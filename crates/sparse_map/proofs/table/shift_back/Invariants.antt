@@ -2,7 +2,7 @@ use Rattle.std.proofs.Common.{◌≡◌, ◌-◌, set, None}
 use Rattle.std.specs.Prelude.{IsSome}
 use Rattle.sparse_map.specs.Slots.{slot_at}
 use Rattle.sparse_map.specs.Ranks.{IsRankOf}
-use Rattle.sparse_map.specs.Groups.{slots_of, small_groups}
+use Rattle.sparse_map.specs.Groups.{slots_of}
 use Rattle.sparse_map.specs.Places.{sizes_of}
 use Rattle.sparse_map.specs.Removal.{shifted_back}
 use Rattle.sparse_map.proofs.ShiftLemmas.{Walked}
@@ -11,7 +11,6 @@ use Rattle.sparse_map.proofs.table.shift_back.Given as goal
 abbrev pub invariant-loop-step : goal.invariant-loop-step
 invariant-loop-step g l = record {
   walked : Walked l.buckets (slots_of l.initial.groups) (slots_of l.groups) l.bucket l.hole l.at l._step;
-  small : small_groups l.groups ≡ small_groups l.initial.groups;
   back : shifted_back l.buckets (l.buckets - l._step) l.hole l.at (set (slots_of l.groups) l.hole None) ≡ shifted_back l.buckets (l.buckets - 1) l.bucket l.bucket (set (slots_of l.initial.groups) l.bucket None);
   sizes : sizes_of l.groups ≡ sizes_of l.initial.groups;
   here : IsSome (slot_at (slots_of l.groups) l.at);

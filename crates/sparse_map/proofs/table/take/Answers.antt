@@ -1,7 +1,8 @@
 use Rattle.std.proofs.Common.{refl, ◌∙◌, subst, get_or, arith, ◌/◌, None}
 use Rattle.std.specs.Prelude.{IsSome}
-use Rattle.sparse_map.proofs.TableLemmas.{slot_of_bucket, set_bucket, small_groups-same}
-use Rattle.sparse_map.proofs.PlacesLemmas.{extra-most, places_in-set, loose_in-set}
+use Rattle.sparse_map.proofs.TableLemmas.{slot_of_bucket, set_bucket}
+use Rattle.sparse_map.specs.Places.{size_of, extra, lacks}
+use Rattle.sparse_map.proofs.PlacesLemmas.{extra-most, lacks-le, places_in-set, untouched_in-set}
 use Rattle.sparse_map.proofs.table.take.Goals as goal
 
 pub remove-requires-clause-occupied : goal.remove-requires-clause-occupied
@@ -22,12 +23,6 @@ returns-clause-slots g c =
     let us = c.args.groups.now in
     set_bucket us c.args.bucket (get_or us (c.args.bucket / 32) read) read c.requires.seat.within refl c.remove.new.self None c.remove.ensures.slots
 
-pub returns-clause-small : goal.returns-clause-small
-returns-clause-small g c =
-    let read = c.index-groups-bucket.result in
-    let us = c.args.groups.now in
-    small_groups-same us (c.args.bucket / 32) (get_or us (c.args.bucket / 32) read) read c.remove.new.self (omega arith) refl c.remove.ensures.capacity
-
 pub returns-clause-places : goal.returns-clause-places
 returns-clause-places g c =
     let read = c.index-groups-bucket.result in
@@ -41,7 +36,17 @@ returns-clause-loose g c =
     let us = c.args.groups.now in
     let u = get_or us (c.args.bucket / 32) read in
     let most = extra-most u c.remove.new.self 1 (omega (arith, c.remove.ensures.capacity)) (omega (arith, c.remove.ensures.len)) in
-    λ grown. loose_in-set us (c.args.bucket / 32) u read c.remove.new.self (omega arith) refl grown 1 most
+    λ t. untouched_in-set us (c.args.bucket / 32) u read c.remove.new.self (omega arith) refl extra t 1 most
+
+pub returns-clause-lacking : goal.returns-clause-lacking
+returns-clause-lacking g c =
+    let read = c.index-groups-bucket.result in
+    let us = c.args.groups.now in
+    let u = get_or us (c.args.bucket / 32) read in
+    let w = c.remove.new.self in
+    λ n t.
+    let less = lacks-le n n (size_of w) (size_of u) (λ lacked. omega (arith, lacked, c.remove.ensures.len, c.remove.ensures.capacity)) in
+    omega (arith, untouched_in-set us (c.args.bucket / 32) u read w (omega arith) refl (lacks n) t 0 (omega (arith, less)))
 
 pub remove-requires-clause-place : goal.remove-requires-clause-place
 remove-requires-clause-place g c = c.requires.seat.rank c.index-groups-bucket.result

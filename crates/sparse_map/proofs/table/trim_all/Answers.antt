@@ -1,39 +1,44 @@
-use Rattle.std.proofs.Common.{rules, refl, ap, ◌∙◌, get_or, length, ◌<◌, arith}
+use Rattle.std.proofs.Common.{rules, refl, ap, ◌≡◌, ◌∙◌, get_or, length, ◌<◌, arith}
 use Rattle.std.proofs.lemmas.List.Elements.{AllWithin-none, AllWithin-more_set}
 use Rattle.std.specs.List.{All}
+use Rattle.std.specs.Vec.{vec_len}
 use Rattle.sparse_map.specs.Trimmed.{IsTrimmed}
+use Rattle.sparse_map.specs.Places.{extra, lacks}
 use Rattle.sparse_map.proofs.TableLemmas.{slots_of-set_same, slots_in-same}
-use Rattle.sparse_map.proofs.PlacesLemmas.{extra-most, places_in-set, loose_in-set, none_loose}
+use Rattle.sparse_map.proofs.PlacesLemmas.{extra-few, extra-none, lacks-room, none-counted, places_in-set, untouched_in-set}
 use Rattle.sparse_map.proofs.table.trim_all.Goals as goal
 
 pub loop-group-init : goal.loop-group-init
-loop-group-init g c = record { slots = refl; fewer = omega arith; loose = λ grown. omega arith; trimmed = AllWithin-none IsTrimmed c.args.groups.now 0 }
-
-pub returns-in_err-trim-clause-slots : goal.returns-in_err-trim-clause-slots
-returns-in_err-trim-clause-slots g c =
-    let us = c.loop-group.groups in
-    let i = c.loop-group.group-index in
-    let u = get_or us i c.group-item.result in
-    let inside : i < length us = omega (arith, c.loop-group-test.true) in
-    slots_of-set_same us i u c.group-item.result c.trim.new.self inside refl (slots_in-same u c.trim.new.self c.trim.ensures.occupied c.trim.ensures.items)
-    ∙ c.loop-group.invariant.slots
+loop-group-init g c = record { slots = refl; fewer = omega arith; loose = λ t. omega arith; lacking = λ t. omega arith; trimmed = AllWithin-none IsTrimmed c.args.groups.now 0 }
 
 pub loop-group-preserved : goal.loop-group-preserved
 loop-group-preserved g c =
     let us = c.loop-group.groups in
     let i = c.loop-group.group-index in
-    let u = get_or us i c.group-item.result in
+    let read = c.group-item.result in
+    let u = get_or us i read in
+    let w = c.trim.new.self in
     let inside : i < length us = omega (arith, c.loop-group-test.true) in
-    let most = extra-most u c.trim.new.self 0 c.trim.ensures.capacity (omega (arith, ap length c.trim.ensures.items, u.items.ok.0, c.trim.new.self.items.ok.0)) in
+    let len : vec_len w.items ≡ vec_len u.items = omega (arith, ap length c.trim.ensures.items, u.items.ok.0, w.items.ok.0) in
+    let few = extra-few u w len (omega (arith, c.trim.ensures.capacity)) in
+    let room = lacks-room u w len c.trim.ensures.room in
     record {
-      slots =
-          slots_of-set_same us i u c.group-item.result c.trim.new.self inside refl (slots_in-same u c.trim.new.self c.trim.ensures.occupied c.trim.ensures.items)
-          ∙ c.loop-group.invariant.slots;
-      fewer = omega (arith, places_in-set us i u c.group-item.result c.trim.new.self inside refl, c.trim.ensures.capacity, c.loop-group.invariant.fewer);
-      loose = λ grown.
-          omega (arith, loose_in-set us i u c.group-item.result c.trim.new.self inside refl grown 0 most, c.loop-group.invariant.loose grown);
-      trimmed = AllWithin-more_set us i c.trim.new.self inside IsTrimmed c.loop-group.invariant.trimmed c.in_ok-trim.ensures.ok;
+      slots = slots_of-set_same us i u read w inside refl (slots_in-same u w c.trim.ensures.occupied c.trim.ensures.items) ∙ c.loop-group.invariant.slots;
+      fewer = omega (arith, places_in-set us i u read w inside refl, c.trim.ensures.capacity, c.loop-group.invariant.fewer);
+      loose = λ t. omega (arith, untouched_in-set us i u read w inside refl extra t 0 (omega (arith, few)), c.loop-group.invariant.loose t);
+      lacking = λ t. omega (arith, untouched_in-set us i u read w inside refl (lacks 1) t 0 (omega (arith, room)), c.loop-group.invariant.lacking t);
+      trimmed = AllWithin-more_set us i w inside IsTrimmed c.loop-group.invariant.trimmed c.in_ok-trim.ensures.ok;
     }
+
+pub returns-in_err-trim-clause-slots : goal.returns-in_err-trim-clause-slots
+returns-in_err-trim-clause-slots g c =
+    let us = c.loop-group.groups in
+    let i = c.loop-group.group-index in
+    let read = c.group-item.result in
+    let u = get_or us i read in
+    let inside : i < length us = omega (arith, c.loop-group-test.true) in
+    slots_of-set_same us i u read c.trim.new.self inside refl (slots_in-same u c.trim.new.self c.trim.ensures.occupied c.trim.ensures.items)
+    ∙ c.loop-group.invariant.slots
 
 pub returns-in_err-trim-clause-fewer : goal.returns-in_err-trim-clause-fewer
 returns-in_err-trim-clause-fewer g c =
@@ -46,12 +51,27 @@ pub returns-in_err-trim-clause-loose : goal.returns-in_err-trim-clause-loose
 returns-in_err-trim-clause-loose g c =
     let us = c.loop-group.groups in
     let i = c.loop-group.group-index in
-    let u = get_or us i c.group-item.result in
+    let read = c.group-item.result in
+    let u = get_or us i read in
+    let w = c.trim.new.self in
     let inside : i < length us = omega (arith, c.loop-group-test.true) in
-    let most = extra-most u c.trim.new.self 0 c.trim.ensures.capacity (omega (arith, ap length c.trim.ensures.items, u.items.ok.0, c.trim.new.self.items.ok.0)) in
-    λ grown. omega (arith, loose_in-set us i u c.group-item.result c.trim.new.self inside refl grown 0 most, c.loop-group.invariant.loose grown)
+    let len : vec_len w.items ≡ vec_len u.items = omega (arith, ap length c.trim.ensures.items, u.items.ok.0, w.items.ok.0) in
+    let few = extra-few u w len (omega (arith, c.trim.ensures.capacity)) in
+    λ t. omega (arith, untouched_in-set us i u read w inside refl extra t 0 (omega (arith, few)), c.loop-group.invariant.loose t)
+
+pub returns-in_err-trim-clause-lacking : goal.returns-in_err-trim-clause-lacking
+returns-in_err-trim-clause-lacking g c =
+    let us = c.loop-group.groups in
+    let i = c.loop-group.group-index in
+    let read = c.group-item.result in
+    let u = get_or us i read in
+    let w = c.trim.new.self in
+    let inside : i < length us = omega (arith, c.loop-group-test.true) in
+    let len : vec_len w.items ≡ vec_len u.items = omega (arith, ap length c.trim.ensures.items, u.items.ok.0, w.items.ok.0) in
+    let room = lacks-room u w len c.trim.ensures.room in
+    λ t. omega (arith, untouched_in-set us i u read w inside refl (lacks 1) t 0 (omega (arith, room)), c.loop-group.invariant.lacking t)
 
 pub returns-clause-none_loose : goal.returns-clause-none_loose
 returns-clause-none_loose g c =
     let all : All IsTrimmed c.loop-group.groups = search rules in
-    none_loose c.loop-group.groups all
+    none-counted extra IsTrimmed extra-none c.loop-group.groups all

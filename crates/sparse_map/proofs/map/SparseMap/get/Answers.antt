@@ -35,7 +35,7 @@ find-requires-clause-buckets g c = ap (λ us. length (slots_of us)) c.as_slice-g
 pub find-requires-clause-room : goal.find-requires-clause-room
 find-requires-clause-room g c =
     let m = c.self.inside in
-    find_room m.bits m.len m.spare (vec_len m.stock) m.groups.items c.self.invariant c.as_slice-groups.result.now c.as_slice-groups.ensures.value
+    find_room m.bits m.len m.spare (vec_len m.stock) m.touched m.groups.items c.self.invariant c.as_slice-groups.result.now c.as_slice-groups.ensures.value
 
 pub value_at-requires : goal.value_at-requires
 value_at-requires g c = record { seat = seated c.as_slice-groups.result.now c.in_ok-seat.seat.bucket c.in_ok-seat.seat.rank c.args.key c.in_ok-seat.ensures.found c.in_ok-seat.ensures.rank }

@@ -44,4 +44,4 @@ find-requires-clause-buckets g c = ap (λ us. length (slots_of us)) c.as_slice.e
 pub find-requires-clause-room : goal.find-requires-clause-room
 find-requires-clause-room g c =
     let m = c.self.inside in
-    find_room m.bits m.len m.spare (vec_len m.stock) m.groups.items c.self.invariant c.as_slice.result.now c.as_slice.ensures.value
+    find_room m.bits m.len m.spare (vec_len m.stock) m.touched m.groups.items c.self.invariant c.as_slice.result.now c.as_slice.ensures.value

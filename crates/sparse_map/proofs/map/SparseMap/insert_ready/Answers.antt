@@ -2,11 +2,13 @@ use Rattle.std.proofs.Common.{◌≡◌, ◌+◌, ◌-◌, length, refl, set, So
 use Rattle.std.specs.Prelude.{option_map}
 use Rattle.std.specs.Vec.{vec_len}
 use Rattle.sparse_map.specs.Slots.{slot_at, key_at}
-use Rattle.sparse_map.specs.Groups.{slots_of, small_groups}
+use Rattle.sparse_map.specs.Groups.{slots_of}
 use Rattle.sparse_map.specs.Ranks.{IsRankOf, IsSeated}
 use Rattle.sparse_map.proofs.RankedLemmas.{seated, key_found, free_found, rank_found, rank_free}
 use Rattle.sparse_map.specs.Kept.{KeepsTable}
-use Rattle.sparse_map.specs.Places.{sizes_of, places_of, loose_of}
+use Rattle.sparse_map.specs.declared.table.Touched.TheVariants.{Nowhere}
+use Rattle.sparse_map.specs.Places.{sizes_of, places_of, loose_of, lacking}
+use Rattle.sparse_map.proofs.PlacesLemmas.{lacking-le}
 use Rattle.sparse_map.specs.Probe.{IsFreeFor}
 use Rattle.sparse_map.proofs.SlotLemmas.{slot_of_key}
 use Rattle.sparse_map.proofs.TableLemmas.{length-slots_of}
@@ -22,23 +24,23 @@ invariant_of-self g c =
     let long : length ws ≡ vec_len m.groups = c.replace-old.auto.groups ∙ c.as_mut_slice.ensures.len in
     let slots = c.replace-old.ensures.slots ∙ ap (λ us. set (slots_of us) c.in-Found.bucket (Some (c.args.key, c.args.value))) c.as_mut_slice.ensures.value in
     let has = ap (λ us. key_at (slots_of us) c.in-Found.bucket) (sym c.as_slice.ensures.value) ∙ (key_found (slots_of c.as_slice.result.now) c.args.key c.in-Found.bucket c.probe-spot.result.at c.probe-spot.ensures.place c.in-Found.is) in
-    subst (λ us. KeepsTable m.bits m.len m.spare (vec_len m.stock) us) (sym (written m.groups ws long))
-    (kept_value m c.args.self.now c.self.invariant c.self.view_is ws c.in-Found.bucket c.args.key c.args.value slots has (c.replace-old.ensures.small ∙ ap small_groups c.as_mut_slice.ensures.value))
+    subst (λ us. KeepsTable m.bits m.len m.spare (vec_len m.stock) m.touched us) (sym (written m.groups ws long))
+    (kept_value m c.args.self.now c.self.invariant c.self.view_is ws c.in-Found.bucket c.args.key c.args.value slots has (c.replace-old.ensures.sizes ∙ ap sizes_of c.as_mut_slice.ensures.value))
 
-pub put-grew-requires-clause-within : goal.put-grew-requires-clause-within
-put-grew-requires-clause-within g c =
+pub put-touched-requires-clause-within : goal.put-touched-requires-clause-within
+put-touched-requires-clause-within g c =
     let place = (free_found (slots_of c.as_slice.result.now) c.args.key c.in-Free.bucket c.probe-spot.result.at c.probe-spot.ensures.place c.in-Free.is) in
     let same : length c.as_mut_slice-in-Free.result.now ≡ length c.as_slice.result.now = ap length (c.as_mut_slice-in-Free.ensures.value ∙ sym c.as_slice.ensures.value) in
     omega (arith, place.inside, same, length-slots_of c.as_slice.result.now)
 
-pub put-grew-requires-clause-stocked : goal.put-grew-requires-clause-stocked
-put-grew-requires-clause-stocked g c =
+pub put-touched-requires-clause-stocked : goal.put-touched-requires-clause-stocked
+put-touched-requires-clause-stocked g c =
     let m = c.self.inside in
     let place : IsFreeFor (slots_of m.groups.items) c.args.key c.in-Free.bucket = subst (λ us. IsFreeFor (slots_of us) c.args.key c.in-Free.bucket) c.as_slice.ensures.value
     (free_found (slots_of c.as_slice.result.now) c.args.key c.in-Free.bucket c.probe-spot.result.at c.probe-spot.ensures.place c.in-Free.is) in
     let more = absent_needs_room m c.args.self.now c.self.invariant c.self.view_is c.args.key place.absent c.requires in
-    let same : small_groups c.as_mut_slice-in-Free.result.now ≡ small_groups m.groups.items = ap small_groups c.as_mut_slice-in-Free.ensures.value in
-    λ some. omega (arith, c.self.invariant.stocked, more, same)
+    let same = ap (λ us. lacking 1 Nowhere (sizes_of us)) c.as_mut_slice-in-Free.ensures.value in
+    λ some. omega (arith, c.self.invariant.stocked, more, same, lacking-le 1 m.spare (sizes_of m.groups.items) more)
 
 pub overflow_sub-self : goal.overflow_sub-self
 overflow_sub-self g c =
@@ -51,15 +53,18 @@ overflow_sub-self g c =
 pub invariant_of-self-in-Free : goal.invariant_of-self-in-Free
 invariant_of-self-in-Free g c =
     let m = c.self.inside in
-    let ws = c.put-grew.new.groups in
-    let long : length ws ≡ vec_len m.groups = c.put-grew.auto.groups ∙ c.as_mut_slice-in-Free.ensures.len in
-    let slots = c.put-grew.ensures.slots ∙ ap (λ us. set (slots_of us) c.in-Free.bucket (Some (c.args.key, c.args.value))) c.as_mut_slice-in-Free.ensures.value in
+    let ws = c.put-touched.new.groups in
+    let long : length ws ≡ vec_len m.groups = c.put-touched.auto.groups ∙ c.as_mut_slice-in-Free.ensures.len in
+    let slots = c.put-touched.ensures.slots ∙ ap (λ us. set (slots_of us) c.in-Free.bucket (Some (c.args.key, c.args.value))) c.as_mut_slice-in-Free.ensures.value in
     let place : IsFreeFor (slots_of m.groups.items) c.args.key c.in-Free.bucket = subst (λ us. IsFreeFor (slots_of us) c.args.key c.in-Free.bucket) c.as_slice.ensures.value
     (free_found (slots_of c.as_slice.result.now) c.args.key c.in-Free.bucket c.probe-spot.result.at c.probe-spot.ensures.place c.in-Free.is) in
     let more = absent_needs_room m c.args.self.now c.self.invariant c.self.view_is c.args.key place.absent c.requires in
-    let same : small_groups c.as_mut_slice-in-Free.result.now ≡ small_groups m.groups.items = ap small_groups c.as_mut_slice-in-Free.ensures.value in
-    subst (λ us. KeepsTable m.bits (m.len + 1) (m.spare - 1) (vec_len c.put-grew.new.stock) us) (sym (written m.groups ws long))
-    (kept_new_key m c.args.self.now c.self.invariant c.self.view_is ws c.in-Free.bucket c.args.key c.args.value slots (vec_len c.put-grew.new.stock) place more c.put-grew.ensures.one_less (omega (arith, c.put-grew.ensures.one_widened, same)))
+    let old = ap sizes_of c.as_mut_slice-in-Free.ensures.value in
+    let after = c.with-self-inside.result in
+    let ready = c.put-touched.ensures.ready m.touched after c.with-self-inside.ensures.added c.with-self-inside.ensures.kept in
+    subst (λ us. KeepsTable m.bits (m.len + 1) (m.spare - 1) (vec_len c.put-touched.new.stock) after us) (sym (written m.groups ws long))
+    (kept_new_key m c.args.self.now c.self.invariant c.self.view_is ws c.in-Free.bucket c.args.key c.args.value slots (vec_len c.put-touched.new.stock) after place more c.put-touched.ensures.one_less
+    (λ n. omega (arith, c.put-touched.ensures.fewer_lack n, ap (lacking (n + 1) Nowhere) old)) (omega (arith, ready, ap (lacking 1 m.touched) old)))
 
 pub returns-in-Found-clause-old : goal.returns-in-Found-clause-old
 returns-in-Found-clause-old g c =
@@ -86,8 +91,8 @@ returns-in-Found-clause-sound g c =
     let long : length ws ≡ vec_len m.groups = c.replace-old.auto.groups ∙ c.as_mut_slice.ensures.len in
     let slots = c.replace-old.ensures.slots ∙ ap (λ us. set (slots_of us) c.in-Found.bucket (Some (c.args.key, c.args.value))) c.as_mut_slice.ensures.value in
     let has = ap (λ us. key_at (slots_of us) c.in-Found.bucket) (sym c.as_slice.ensures.value) ∙ (key_found (slots_of c.as_slice.result.now) c.args.key c.in-Found.bucket c.probe-spot.result.at c.probe-spot.ensures.place c.in-Found.is) in
-    kept_sound m.bits m.len m.spare (vec_len m.stock) ws
-    (kept_value m c.args.self.now c.self.invariant c.self.view_is ws c.in-Found.bucket c.args.key c.args.value slots has (c.replace-old.ensures.small ∙ ap small_groups c.as_mut_slice.ensures.value))
+    kept_sound m.bits m.len m.spare (vec_len m.stock) m.touched ws
+    (kept_value m c.args.self.now c.self.invariant c.self.view_is ws c.in-Found.bucket c.args.key c.args.value slots has (c.replace-old.ensures.sizes ∙ ap sizes_of c.as_mut_slice.ensures.value))
     _ (ap slots_of (written m.groups ws long)) refl
 
 pub returns-in-Free-clause-old : goal.returns-in-Free-clause-old
@@ -100,9 +105,9 @@ returns-in-Free-clause-old g c =
 pub returns-in-Free-clause-map : goal.returns-in-Free-clause-map
 returns-in-Free-clause-map g c =
     let m = c.self.inside in
-    let ws = c.put-grew.new.groups in
-    let long : length ws ≡ vec_len m.groups = c.put-grew.auto.groups ∙ c.as_mut_slice-in-Free.ensures.len in
-    let slots = c.put-grew.ensures.slots ∙ ap (λ us. set (slots_of us) c.in-Free.bucket (Some (c.args.key, c.args.value))) c.as_mut_slice-in-Free.ensures.value in
+    let ws = c.put-touched.new.groups in
+    let long : length ws ≡ vec_len m.groups = c.put-touched.auto.groups ∙ c.as_mut_slice-in-Free.ensures.len in
+    let slots = c.put-touched.ensures.slots ∙ ap (λ us. set (slots_of us) c.in-Free.bucket (Some (c.args.key, c.args.value))) c.as_mut_slice-in-Free.ensures.value in
     let place : IsFreeFor (slots_of m.groups.items) c.args.key c.in-Free.bucket = subst (λ us. IsFreeFor (slots_of us) c.args.key c.in-Free.bucket) c.as_slice.ensures.value
     (free_found (slots_of c.as_slice.result.now) c.args.key c.in-Free.bucket c.probe-spot.result.at c.probe-spot.ensures.place c.in-Free.is) in
     map_new_key m c.args.self.now c.self.invariant c.self.view_is ws c.in-Free.bucket c.args.key c.args.value slots _ (ap slots_of (written m.groups ws long)) place
@@ -110,15 +115,18 @@ returns-in-Free-clause-map g c =
 pub returns-in-Free-clause-sound : goal.returns-in-Free-clause-sound
 returns-in-Free-clause-sound g c =
     let m = c.self.inside in
-    let ws = c.put-grew.new.groups in
-    let long : length ws ≡ vec_len m.groups = c.put-grew.auto.groups ∙ c.as_mut_slice-in-Free.ensures.len in
-    let slots = c.put-grew.ensures.slots ∙ ap (λ us. set (slots_of us) c.in-Free.bucket (Some (c.args.key, c.args.value))) c.as_mut_slice-in-Free.ensures.value in
+    let ws = c.put-touched.new.groups in
+    let long : length ws ≡ vec_len m.groups = c.put-touched.auto.groups ∙ c.as_mut_slice-in-Free.ensures.len in
+    let slots = c.put-touched.ensures.slots ∙ ap (λ us. set (slots_of us) c.in-Free.bucket (Some (c.args.key, c.args.value))) c.as_mut_slice-in-Free.ensures.value in
     let place : IsFreeFor (slots_of m.groups.items) c.args.key c.in-Free.bucket = subst (λ us. IsFreeFor (slots_of us) c.args.key c.in-Free.bucket) c.as_slice.ensures.value
     (free_found (slots_of c.as_slice.result.now) c.args.key c.in-Free.bucket c.probe-spot.result.at c.probe-spot.ensures.place c.in-Free.is) in
     let more = absent_needs_room m c.args.self.now c.self.invariant c.self.view_is c.args.key place.absent c.requires in
-    let same : small_groups c.as_mut_slice-in-Free.result.now ≡ small_groups m.groups.items = ap small_groups c.as_mut_slice-in-Free.ensures.value in
-    kept_sound m.bits (m.len + 1) (m.spare - 1) (vec_len c.put-grew.new.stock) ws
-    (kept_new_key m c.args.self.now c.self.invariant c.self.view_is ws c.in-Free.bucket c.args.key c.args.value slots (vec_len c.put-grew.new.stock) place more c.put-grew.ensures.one_less (omega (arith, c.put-grew.ensures.one_widened, same)))
+    let old = ap sizes_of c.as_mut_slice-in-Free.ensures.value in
+    let after = c.with-self-inside.result in
+    let ready = c.put-touched.ensures.ready m.touched after c.with-self-inside.ensures.added c.with-self-inside.ensures.kept in
+    kept_sound m.bits (m.len + 1) (m.spare - 1) (vec_len c.put-touched.new.stock) after ws
+    (kept_new_key m c.args.self.now c.self.invariant c.self.view_is ws c.in-Free.bucket c.args.key c.args.value slots (vec_len c.put-touched.new.stock) after place more c.put-touched.ensures.one_less
+    (λ n. omega (arith, c.put-touched.ensures.fewer_lack n, ap (lacking (n + 1) Nowhere) old)) (omega (arith, ready, ap (lacking 1 m.touched) old)))
     _ (ap slots_of (written m.groups ws long)) refl
 
 pub returns-in-Found-clause-placed : goal.returns-in-Found-clause-placed
@@ -152,15 +160,15 @@ returns-in-Found-clause-loose g c =
     let ws = c.replace-old.new.groups in
     let long : length ws ≡ vec_len m.groups = c.replace-old.auto.groups ∙ c.as_mut_slice.ensures.len in
     let sizes = ap sizes_of (written m.groups ws long) ∙ c.replace-old.ensures.sizes ∙ ap sizes_of c.as_mut_slice.ensures.value in
-    omega (arith, ap (loose_of m.grown) sizes, seen_loose m t c.self.invariant c.self.view_is)
+    omega (arith, ap (loose_of m.touched) sizes, seen_loose m t c.self.invariant c.self.view_is)
 
 pub returns-in-Free-clause-placed : goal.returns-in-Free-clause-placed
 returns-in-Free-clause-placed g c =
     let m = c.self.inside in
     let t = c.args.self.now in
-    let ws = c.put-grew.new.groups in
-    let long : length ws ≡ vec_len m.groups = c.put-grew.auto.groups ∙ c.as_mut_slice-in-Free.ensures.len in
-    let slots = c.put-grew.ensures.slots ∙ ap (λ us. set (slots_of us) c.in-Free.bucket (Some (c.args.key, c.args.value))) c.as_mut_slice-in-Free.ensures.value in
+    let ws = c.put-touched.new.groups in
+    let long : length ws ≡ vec_len m.groups = c.put-touched.auto.groups ∙ c.as_mut_slice-in-Free.ensures.len in
+    let slots = c.put-touched.ensures.slots ∙ ap (λ us. set (slots_of us) c.in-Free.bucket (Some (c.args.key, c.args.value))) c.as_mut_slice-in-Free.ensures.value in
     let seen = seen_slots m t c.self.invariant c.self.view_is in
     record {
       bucket = c.in-Free.bucket;
@@ -172,30 +180,30 @@ pub returns-in-Free-clause-memory : goal.returns-in-Free-clause-memory
 returns-in-Free-clause-memory g c =
     let m = c.self.inside in
     let t = c.args.self.now in
-    let ws = c.put-grew.new.groups in
-    let long : length ws ≡ vec_len m.groups = c.put-grew.auto.groups ∙ c.as_mut_slice-in-Free.ensures.len in
+    let ws = c.put-touched.new.groups in
+    let long : length ws ≡ vec_len m.groups = c.put-touched.auto.groups ∙ c.as_mut_slice-in-Free.ensures.len in
     let sizes = ap sizes_of (written m.groups ws long) in
     let old = ap sizes_of c.as_mut_slice-in-Free.ensures.value in
-    omega (arith, ap places_of sizes, ap places_of old, c.put-grew.ensures.places, seen_memory m t c.self.invariant c.self.view_is)
+    omega (arith, ap places_of sizes, ap places_of old, c.put-touched.ensures.places, seen_memory m t c.self.invariant c.self.view_is)
 
 pub returns-in-Free-clause-loose : goal.returns-in-Free-clause-loose
 returns-in-Free-clause-loose g c =
     let m = c.self.inside in
     let t = c.args.self.now in
-    let ws = c.put-grew.new.groups in
-    let long : length ws ≡ vec_len m.groups = c.put-grew.auto.groups ∙ c.as_mut_slice-in-Free.ensures.len in
+    let ws = c.put-touched.new.groups in
+    let long : length ws ≡ vec_len m.groups = c.put-touched.auto.groups ∙ c.as_mut_slice-in-Free.ensures.len in
     let sizes = ap sizes_of (written m.groups ws long) in
     let old = ap sizes_of c.as_mut_slice-in-Free.ensures.value in
-    let less = c.put-grew.ensures.loose m.grown c.with-grown.result c.with-grown.ensures.added c.with-grown.ensures.kept in
-    omega (arith, ap (loose_of c.with-grown.result) sizes, ap (loose_of m.grown) old, less, seen_loose m t c.self.invariant c.self.view_is)
+    let less = c.put-touched.ensures.loose m.touched c.with-self-inside.result c.with-self-inside.ensures.added c.with-self-inside.ensures.kept in
+    omega (arith, ap (loose_of c.with-self-inside.result) sizes, ap (loose_of m.touched) old, less, seen_loose m t c.self.invariant c.self.view_is)
 
-pub put-grew-requires-clause-free : goal.put-grew-requires-clause-free
-put-grew-requires-clause-free g c =
+pub put-touched-requires-clause-free : goal.put-touched-requires-clause-free
+put-touched-requires-clause-free g c =
     let place = free_found (slots_of c.as_slice.result.now) c.args.key c.in-Free.bucket c.probe-spot.result.at c.probe-spot.ensures.place c.in-Free.is in
     ap (λ us. slot_at (slots_of us) c.in-Free.bucket) (c.as_mut_slice-in-Free.ensures.value ∙ sym c.as_slice.ensures.value) ∙ place.free
 
-pub put-grew-requires-clause-rank : goal.put-grew-requires-clause-rank
-put-grew-requires-clause-rank g c =
+pub put-touched-requires-clause-rank : goal.put-touched-requires-clause-rank
+put-touched-requires-clause-rank g c =
     subst (λ us. IsRankOf us c.in-Free.bucket c.probe-spot.result.rank) (c.as_slice.ensures.value ∙ sym c.as_mut_slice-in-Free.ensures.value)
     (rank_free c.as_slice.result.now c.in-Free.bucket c.probe-spot.result.rank c.probe-spot.result.at c.probe-spot.ensures.rank c.in-Free.is)
 
@@ -203,7 +211,7 @@ pub probe-spot-requires : goal.probe-spot-requires
 probe-spot-requires g c =
     let m = c.self.inside in
     record {
-      table = kept_free_bucket m.bits m.len m.spare (vec_len m.stock) m.groups.items c.self.invariant c.as_slice.result.now c.as_slice.ensures.value
+      table = kept_free_bucket m.bits m.len m.spare (vec_len m.stock) m.touched m.groups.items c.self.invariant c.as_slice.result.now c.as_slice.ensures.value
           (seen_ready m c.args.self.now c.self.invariant c.self.view_is c.args.key c.requires);
     }
 

@@ -1,8 +1,8 @@
 use Rattle.std.proofs.Common.{refl, ap, arith}
 use Rattle.std.specs.Vec.{vec_len}
-use Rattle.sparse_map.specs.declared.table.Grown.TheVariants.{Nowhere}
-use Rattle.sparse_map.specs.Places.{places_of, loose_of}
-use Rattle.sparse_map.proofs.PlacesLemmas.{sizes-new, no-places, no-loose}
+use Rattle.sparse_map.specs.declared.table.Touched.TheVariants.{Nowhere}
+use Rattle.sparse_map.specs.Places.{places_of, extra, loose_of}
+use Rattle.sparse_map.proofs.PlacesLemmas.{sizes-new, no-places, no-untouched}
 use Rattle.sparse_map.proofs.MapLemmas.{kept_new, buckets-new, map_of-new, kept_sound}
 use Rattle.sparse_map.proofs.map.SparseMap.new.Goals as goal
 
@@ -17,7 +17,7 @@ returns-clause-empty g c = map_of-new _ c.new.result.items refl c.new.ensures.it
 
 pub returns-clause-sound : goal.returns-clause-sound
 returns-clause-sound g c =
-    kept_sound 0 0 0 (vec_len c.new-2.result) c.new.result.items (kept_new c.new.result.items (vec_len c.new-2.result) c.new.ensures.items) _ refl refl
+    kept_sound 0 0 0 (vec_len c.new-2.result) Nowhere c.new.result.items (kept_new c.new.result.items (vec_len c.new-2.result) c.new.ensures.items) _ refl refl
 
 pub returns-clause-memory : goal.returns-clause-memory
 returns-clause-memory g c =
@@ -25,4 +25,4 @@ returns-clause-memory g c =
 
 pub returns-clause-loose : goal.returns-clause-loose
 returns-clause-loose g c =
-    omega (arith, ap (loose_of Nowhere) (sizes-new c.new.result.items c.new.ensures.items), no-loose)
+    omega (arith, ap (loose_of Nowhere) (sizes-new c.new.result.items c.new.ensures.items), no-untouched extra)

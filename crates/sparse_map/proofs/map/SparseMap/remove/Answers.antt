@@ -4,11 +4,11 @@ use Rattle.std.specs.Vec.{vec_len}
 use Rattle.std.specs.Ordering.{nat_cmp}
 use Rattle.std.specs.FinMap.{find}
 use Rattle.sparse_map.specs.Slots.{slot_at, key_at, items_of}
-use Rattle.sparse_map.specs.Groups.{slots_of, small_groups}
+use Rattle.sparse_map.specs.Groups.{slots_of}
 use Rattle.sparse_map.specs.Ranks.{IsSeated}
 use Rattle.sparse_map.proofs.RankedLemmas.{seated}
 use Rattle.sparse_map.specs.Kept.{KeepsTable}
-use Rattle.sparse_map.specs.Places.{sizes_of, places_of, loose_of}
+use Rattle.sparse_map.specs.Places.{sizes_of, places_of, loose_of, lacking}
 use Rattle.sparse_map.proofs.SlotLemmas.{slot_of_key, not_found}
 use Rattle.sparse_map.proofs.TableLemmas.{length-slots_of}
 use Rattle.sparse_map.specs.Removal.{shifted_back}
@@ -36,8 +36,8 @@ invariant_of-self g c =
     let ws = c.remove_at-value.new.groups in
     let long : length ws ≡ vec_len m.groups = c.remove_at-value.auto.groups ∙ c.as_mut_slice.ensures.len in
     let count : length (items_of (slots_of ws)) + 1 ≡ length (items_of (slots_of m.groups.items)) = c.remove_at-value.ensures.count ∙ ap (λ us. length (items_of (slots_of us))) c.as_mut_slice.ensures.value in
-    subst (λ us. KeepsTable m.bits (m.len - 1) m.spare (vec_len m.stock) us) (sym (written m.groups ws long))
-    (kept_removed m c.args.self.now c.self.invariant c.self.view_is ws long c.remove_at-value.ensures.packed count (c.remove_at-value.ensures.small ∙ ap small_groups c.as_mut_slice.ensures.value))
+    subst (λ us. KeepsTable m.bits (m.len - 1) m.spare (vec_len m.stock) m.touched us) (sym (written m.groups ws long))
+    (kept_removed m c.args.self.now c.self.invariant c.self.view_is ws long c.remove_at-value.ensures.packed count (λ n t. omega (arith, c.remove_at-value.ensures.lacking n t, ap (λ us. lacking n t (sizes_of us)) c.as_mut_slice.ensures.value)))
 
 pub returns-clause-value : goal.returns-clause-value
 returns-clause-value g c =
@@ -81,8 +81,8 @@ returns-clause-sound g c =
     let ws = c.remove_at-value.new.groups in
     let long : length ws ≡ vec_len m.groups = c.remove_at-value.auto.groups ∙ c.as_mut_slice.ensures.len in
     let count : length (items_of (slots_of ws)) + 1 ≡ length (items_of (slots_of m.groups.items)) = c.remove_at-value.ensures.count ∙ ap (λ us. length (items_of (slots_of us))) c.as_mut_slice.ensures.value in
-    kept_sound m.bits (m.len - 1) m.spare (vec_len m.stock) ws
-    (kept_removed m c.args.self.now c.self.invariant c.self.view_is ws long c.remove_at-value.ensures.packed count (c.remove_at-value.ensures.small ∙ ap small_groups c.as_mut_slice.ensures.value))
+    kept_sound m.bits (m.len - 1) m.spare (vec_len m.stock) m.touched ws
+    (kept_removed m c.args.self.now c.self.invariant c.self.view_is ws long c.remove_at-value.ensures.packed count (λ n t. omega (arith, c.remove_at-value.ensures.lacking n t, ap (λ us. lacking n t (sizes_of us)) c.as_mut_slice.ensures.value)))
     _ (ap slots_of (written m.groups ws long)) refl
 
 pub returns-clause-memory : goal.returns-clause-memory
@@ -101,7 +101,7 @@ returns-clause-loose g c =
     let long : length ws ≡ vec_len m.groups = c.remove_at-value.auto.groups ∙ c.as_mut_slice.ensures.len in
     let sizes = ap sizes_of (written m.groups ws long) in
     let old = ap sizes_of c.as_mut_slice.ensures.value in
-    omega (arith, ap (loose_of m.grown) sizes, ap (loose_of m.grown) old, c.remove_at-value.ensures.loose m.grown, seen_loose m c.args.self.now c.self.invariant c.self.view_is)
+    omega (arith, ap (loose_of m.touched) sizes, ap (loose_of m.touched) old, c.remove_at-value.ensures.loose m.touched, seen_loose m c.args.self.now c.self.invariant c.self.view_is)
 
 pub returns-clause-shifts : goal.returns-clause-shifts
 returns-clause-shifts g c =
@@ -114,8 +114,8 @@ returns-clause-shifts g c =
     let slots : slots_of c.as_mut_slice.result.now ≡ t.slots = ap slots_of c.as_mut_slice.ensures.value ∙ seen in
     let has : key_at t.slots b ≡ Some c.args.key = ap (λ s. key_at s b) (sym (ap slots_of c.as_slice.ensures.value ∙ seen)) ∙ c.in_ok-seat.ensures.found in
     let some : 0 < length (slots_of m.groups.items) = omega (arith, key_inside t.slots b c.args.key has, ap length seen) in
-    let bits = kept_some m.bits m.len m.spare (vec_len m.stock) m.groups.items c.self.invariant some in
-    let size : 2 ^ m.bits ≡ length t.slots = sym (kept_buckets m.bits m.len m.spare (vec_len m.stock) m.groups.items c.self.invariant bits) ∙ ap length seen in
+    let bits = kept_some m.bits m.len m.spare (vec_len m.stock) m.touched m.groups.items c.self.invariant some in
+    let size : 2 ^ m.bits ≡ length t.slots = sym (kept_buckets m.bits m.len m.spare (vec_len m.stock) m.touched m.groups.items c.self.invariant bits) ∙ ap length seen in
     record {
       bucket = b;
       has = has;
@@ -131,15 +131,15 @@ find-requires-clause-buckets g c = ap (λ us. length (slots_of us)) c.as_slice.e
 pub find-requires-clause-room : goal.find-requires-clause-room
 find-requires-clause-room g c =
     let m = c.self.inside in
-    find_room m.bits m.len m.spare (vec_len m.stock) m.groups.items c.self.invariant c.as_slice.result.now c.as_slice.ensures.value
+    find_room m.bits m.len m.spare (vec_len m.stock) m.touched m.groups.items c.self.invariant c.as_slice.result.now c.as_slice.ensures.value
 
 pub remove_at-value-requires-clause-table : goal.remove_at-value-requires-clause-table
 remove_at-value-requires-clause-table g c =
     let m = c.self.inside in
     let us = c.as_slice.result.now in
     let inside = key_inside (slots_of us) c.in_ok-seat.seat.bucket c.args.key c.in_ok-seat.ensures.found in
-    let bits = kept_some m.bits m.len m.spare (vec_len m.stock) m.groups.items c.self.invariant (omega (arith, inside, ap (λ us. length (slots_of us)) c.as_slice.ensures.value)) in
-    kept_free_bucket m.bits m.len m.spare (vec_len m.stock) m.groups.items c.self.invariant c.as_mut_slice.result.now c.as_mut_slice.ensures.value bits
+    let bits = kept_some m.bits m.len m.spare (vec_len m.stock) m.touched m.groups.items c.self.invariant (omega (arith, inside, ap (λ us. length (slots_of us)) c.as_slice.ensures.value)) in
+    kept_free_bucket m.bits m.len m.spare (vec_len m.stock) m.touched m.groups.items c.self.invariant c.as_mut_slice.result.now c.as_mut_slice.ensures.value bits
 
 pub remove_at-value-requires-clause-seat : goal.remove_at-value-requires-clause-seat
 remove_at-value-requires-clause-seat g c =

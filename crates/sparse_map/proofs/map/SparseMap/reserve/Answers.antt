@@ -20,7 +20,7 @@ stock_up-requires g c =
     let t = c.args.self.now in
     let len = seen_len m t c.self.invariant c.self.view_is in
     let some : 0 < m.bits = omega (arith, c.bits_for-bits.ensures.many, c.if-bits-self.true) in
-    let size = kept_buckets m.bits m.len m.spare (vec_len m.stock) m.groups.items c.self.invariant some in
+    let size = kept_buckets m.bits m.len m.spare (vec_len m.stock) m.touched m.groups.items c.self.invariant some in
     let long : length (slots_of m.groups.items) ≡ buckets_of t = ap length (seen_slots m t c.self.invariant c.self.view_is) in
     let wide : 2 ^ c.bits_for-bits.result ≡ 2 ^ m.bits = ap (λ b. 2 ^ b) c.if-bits-self.true in
     omega (arith, c.bits_for-bits.ensures.doubled.enough, wide, size, long, len)
@@ -50,7 +50,7 @@ returns-then-bits-self-clause-buckets g c =
     let narrow : cond (eqb m.bits 0) 0 (2 ^ m.bits) ≡ buckets_of t = sym c.self.invariant.buckets ∙ ap length (seen_slots m t c.self.invariant c.self.view_is) in
     let wide : 2 ^ c.bits_for-bits.result ≡ buckets_of c.stock_up.new.self =
     ap (λ b. 2 ^ b) c.if-bits-self.true
-    ∙ sym (kept_buckets m.bits m.len m.spare (vec_len m.stock) m.groups.items c.self.invariant some)
+    ∙ sym (kept_buckets m.bits m.len m.spare (vec_len m.stock) m.touched m.groups.items c.self.invariant some)
     ∙ ap length (seen_slots m t c.self.invariant c.self.view_is ∙ sym c.stock_up.ensures.slots) in
     on_ok c.stock_up.result (IsDoubledFor (len_of t + c.args.n) (buckets_of t) (buckets_of c.stock_up.new.self))
     (subst (λ x. IsDoubledFor x (buckets_of t) (buckets_of c.stock_up.new.self)) need
@@ -63,7 +63,7 @@ returns-then-bits-self-clause-sound g c =
     let t = c.args.self.now in
     let len = seen_len m t c.self.invariant c.self.view_is in
     let some : 0 < m.bits = omega (arith, c.bits_for-bits.ensures.many, c.if-bits-self.true) in
-    let size = kept_buckets m.bits m.len m.spare (vec_len m.stock) m.groups.items c.self.invariant some in
+    let size = kept_buckets m.bits m.len m.spare (vec_len m.stock) m.touched m.groups.items c.self.invariant some in
     let long : length (slots_of m.groups.items) ≡ buckets_of t = ap length (seen_slots m t c.self.invariant c.self.view_is) in
     let wide : 2 ^ c.bits_for-bits.result ≡ 2 ^ m.bits = ap (λ b. 2 ^ b) c.if-bits-self.true in
     sound_stocked c.stock_up.result t c.stock_up.new.self c.from-n.result (seen_sound m t c.self.invariant c.self.view_is)

@@ -1,16 +1,16 @@
-use Rattle.std.proofs.Common.{◌≡◌, ◌^◌, length, refl, ap, sym, ◌∙◌, subst, arith}
+use Rattle.std.proofs.Common.{◌≡◌, ◌≤◌, ◌⊎◌, ◌^◌, min, inl, inr, length, refl, ap, sym, ◌∙◌, subst, arith}
 use Rattle.std.specs.Ordering.{nat_cmp}
 use Rattle.std.specs.FinMap.{find}
 use Rattle.std.specs.Vec.{vec_len}
 use Rattle.std.specs.Vec as vec
 use Rattle.std.proofs.lemmas.Nat.{pow_pos}
 use Rattle.sparse_map.proofs.HomeLemmas.{shifted_one}
-use Rattle.sparse_map.specs.declared.table.Grown.TheVariants.{Nowhere}
+use Rattle.sparse_map.specs.declared.table.Touched.TheVariants.{Nowhere}
 use Rattle.sparse_map.specs.Slots.{items_of}
 use Rattle.sparse_map.specs.Groups.{slots_of}
 use Rattle.sparse_map.specs.Packed.{buckets_of}
 use Rattle.sparse_map.specs.Kept.{KeepsTable}
-use Rattle.sparse_map.specs.Places.{sizes_of, places_of, loose_of}
+use Rattle.sparse_map.specs.Places.{sizes_of, places_of, loose_of, lacking}
 use Rattle.sparse_map.specs.Seen.{seen_of}
 use Rattle.sparse_map.proofs.TableLemmas.{length-slots_of}
 use Rattle.sparse_map.proofs.ItemLemmas.{items_of-slots_of}
@@ -18,7 +18,8 @@ use Rattle.sparse_map.proofs.MapLemmas.{map_of-same, kept_len, kept_sound}
 use Rattle.sparse_map.proofs.ViewLemmas.{seen_len, seen_slots}
 use Rattle.sparse_map.proofs.ChangeLemmas.{written}
 use Rattle.sparse_map.proofs.MoveLemmas.{kept_groups}
-use Rattle.sparse_map.proofs.PlanLemmas.{exact-loose, exact-places}
+use Rattle.sparse_map.proofs.PlanLemmas.{exact-loose, exact-ready, exact-places}
+use Rattle.sparse_map.proofs.PlacesLemmas.{length-sizes, stocked_for}
 use Rattle.sparse_map.proofs.TakingLemmas.{can_widen, widened}
 use Rattle.sparse_map.proofs.map.SparseMap.widen.Goals as goal
 
@@ -54,11 +55,16 @@ invariant_of-self g c =
     let len = seen_len m t c.self.invariant c.self.view_is in
     let size : length (slots_of ws) ≡ 2 ^ c.args.bits = length-slots_of ws ∙ omega (arith, long, c.in_ok-groups.ensures.count) in
     let before : length (slots_of m.groups.items) ≡ buckets_of t = ap length (seen_slots m t c.self.invariant c.self.view_is) in
-    subst (λ us. KeepsTable c.args.bits m.len c.max-spare.result (vec_len c.add_blanks.new.stock) us) (sym (written new ws long))
+    let ready = exact-ready ws w.exact in
+    let enough : (min c.max-spare.result (length (sizes_of ws)) ≤ vec_len c.add_blanks.new.stock) ⊎ ((c.max-spare.result ≤ 1) × (lacking 1 Nowhere (sizes_of ws) ≡ 0)) = elim c.blanks_for-wanted.ensures.enough [
+      | inl all ↦ inl (omega (arith, all, c.in_ok-add_blanks.ensures.ok, c.len.ensures, long, length-sizes ws))
+      | inr one ↦ inr (one.0, ready)
+    ] in
+    subst (λ us. KeepsTable c.args.bits m.len c.max-spare.result (vec_len c.add_blanks.new.stock) Nowhere us) (sym (written new ws long))
     (kept_groups c.args.bits m.len c.max-spare.result (vec_len c.add_blanks.new.stock) ws c.requires.many c.requires.few size w.packed
     (c.self.invariant.counted ∙ sym w.count)
     (omega (arith, c.requires.room, c.requires.wider, c.max-spare.ensures, len, before, c.self.invariant.room))
-    (omega (arith, c.in_ok-add_blanks.ensures.ok, c.min.ensures, c.len.ensures, long)))
+    (stocked_for c.max-spare.result (vec_len c.add_blanks.new.stock) (sizes_of ws) enough) ready)
 
 pub returns-clause-map : goal.returns-clause-map
 returns-clause-map g c =
@@ -95,13 +101,18 @@ returns-clause-memory g c =
     let len = seen_len m t c.self.invariant c.self.view_is in
     let size : length (slots_of ws) ≡ 2 ^ c.args.bits = length-slots_of ws ∙ omega (arith, long, c.in_ok-groups.ensures.count) in
     let before : length (slots_of m.groups.items) ≡ buckets_of t = ap length (seen_slots m t c.self.invariant c.self.view_is) in
-    let kept : KeepsTable c.args.bits m.len c.max-spare.result (vec_len c.add_blanks.new.stock) ws =
+    let ready = exact-ready ws w.exact in
+    let enough : (min c.max-spare.result (length (sizes_of ws)) ≤ vec_len c.add_blanks.new.stock) ⊎ ((c.max-spare.result ≤ 1) × (lacking 1 Nowhere (sizes_of ws) ≡ 0)) = elim c.blanks_for-wanted.ensures.enough [
+      | inl all ↦ inl (omega (arith, all, c.in_ok-add_blanks.ensures.ok, c.len.ensures, long, length-sizes ws))
+      | inr one ↦ inr (one.0, ready)
+    ] in
+    let kept : KeepsTable c.args.bits m.len c.max-spare.result (vec_len c.add_blanks.new.stock) Nowhere ws =
     kept_groups c.args.bits m.len c.max-spare.result (vec_len c.add_blanks.new.stock) ws c.requires.many c.requires.few size w.packed
     (c.self.invariant.counted ∙ sym w.count)
     (omega (arith, c.requires.room, c.requires.wider, c.max-spare.ensures, len, before, c.self.invariant.room))
-    (omega (arith, c.in_ok-add_blanks.ensures.ok, c.min.ensures, c.len.ensures, long)) in
+    (stocked_for c.max-spare.result (vec_len c.add_blanks.new.stock) (sizes_of ws) enough) ready in
     let now = written new ws long in
-    let count = kept_len c.args.bits m.len c.max-spare.result (vec_len c.add_blanks.new.stock) ws kept (seen_of (vec.with_items new ws).items c.max-spare.result (vec_len c.add_blanks.new.stock) Nowhere) (ap slots_of now) in
+    let count = kept_len c.args.bits m.len c.max-spare.result (vec_len c.add_blanks.new.stock) Nowhere ws kept (seen_of (vec.with_items new ws).items c.max-spare.result (vec_len c.add_blanks.new.stock) Nowhere) (ap slots_of now) in
     let all = ap length (items_of-slots_of ws) in
     omega (arith, exact-places ws w.exact, ap (λ us. places_of (sizes_of us)) now, ap (λ us. length (slots_of us)) now, length-slots_of ws, all, count, kept.counted)
 
@@ -129,9 +140,14 @@ returns-clause-sound g c =
     let len = seen_len m t c.self.invariant c.self.view_is in
     let size : length (slots_of ws) ≡ 2 ^ c.args.bits = length-slots_of ws ∙ omega (arith, long, c.in_ok-groups.ensures.count) in
     let before : length (slots_of m.groups.items) ≡ buckets_of t = ap length (seen_slots m t c.self.invariant c.self.view_is) in
-    let kept : KeepsTable c.args.bits m.len c.max-spare.result (vec_len c.add_blanks.new.stock) ws =
+    let ready = exact-ready ws w.exact in
+    let enough : (min c.max-spare.result (length (sizes_of ws)) ≤ vec_len c.add_blanks.new.stock) ⊎ ((c.max-spare.result ≤ 1) × (lacking 1 Nowhere (sizes_of ws) ≡ 0)) = elim c.blanks_for-wanted.ensures.enough [
+      | inl all ↦ inl (omega (arith, all, c.in_ok-add_blanks.ensures.ok, c.len.ensures, long, length-sizes ws))
+      | inr one ↦ inr (one.0, ready)
+    ] in
+    let kept : KeepsTable c.args.bits m.len c.max-spare.result (vec_len c.add_blanks.new.stock) Nowhere ws =
     kept_groups c.args.bits m.len c.max-spare.result (vec_len c.add_blanks.new.stock) ws c.requires.many c.requires.few size w.packed
     (c.self.invariant.counted ∙ sym w.count)
     (omega (arith, c.requires.room, c.requires.wider, c.max-spare.ensures, len, before, c.self.invariant.room))
-    (omega (arith, c.in_ok-add_blanks.ensures.ok, c.min.ensures, c.len.ensures, long)) in
-    kept_sound c.args.bits m.len c.max-spare.result (vec_len c.add_blanks.new.stock) ws kept _ (ap slots_of (written new ws long)) refl
+    (stocked_for c.max-spare.result (vec_len c.add_blanks.new.stock) (sizes_of ws) enough) ready in
+    kept_sound c.args.bits m.len c.max-spare.result (vec_len c.add_blanks.new.stock) Nowhere ws kept _ (ap slots_of (written new ws long)) refl
