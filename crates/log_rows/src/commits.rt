@@ -2,20 +2,20 @@
 
 ghost use Rattle.std.specs.Prelude.{◌≡◌, ◌<◌, true, IfOk, OnOk};
 ghost use Rattle.cache_model.specs.Loading.{is_whole};
+ghost use Rattle.mem_rig.specs.Rig.{state_of};
 ghost use Rattle.op_log.specs.Log.{FitsOn};
 ghost use Rattle.checkpoint.specs.Current.{IsCurrent, AreWhole, IsOpenLog, IsCommitted};
 
-use crate::flash::{fit, fits_on, geometry, program_next};
+use crate::flash::{Stuck, assert_none, fit, fits_on, geometry, program_next};
 use crate::pages::{Counted, is_counted};
 use checkpoint::{Checkpoints, Newest, format, newest};
 use ft_base::{Geometry, Outcome, Place, Record, Spare, zero_block};
-use ft_media::{Media, MediaError, PageRead, Rig};
+use ft_media::{Counts, Media, MediaError, PageRead, Rig};
 use mapping::Map;
 use mem_rig::MemRig;
 use op_log::OpLog;
 use std::alloc::Global;
-use std::marker::Model;
-use std::test::Fail;
+use std::process::Abort;
 
 // ---- the parts of a cache on their flash
 
@@ -29,7 +29,7 @@ struct Cache {
 }
 
 /// A cache of nothing, in region 0 and of era 0.
-fn begin<M: Media>(media: &mut M, alloc: Global, geometry: &Geometry) -> Result<Cache, Fail>
+fn begin<M: Media>(media: &mut M, alloc: Global, geometry: &Geometry) -> Result<Cache, Stuck>
     requires shape { FitsOn geometry.now (M.state media.old).contents.shape }
     ensures shape { IfOk result (λ c. FitsOn c.log.geometry (M.state media.new).contents.shape) }
     ensures geometry { IfOk result (λ c. c.geometry ≡ c.log.geometry) }
@@ -64,7 +64,7 @@ fn is_held<M: Media>(media: &mut M, at: Place) -> Result<bool, MediaError>
 }
 
 /// Says in the map that the first pool page has the block of an address, and buffers the change.
-fn hold<M: Media>(media: &mut M, cache: &mut Cache, lba: u64) -> Result<(), Fail>
+fn hold<M: Media>(media: &mut M, cache: &mut Cache, lba: u64) -> Result<(), Stuck>
     requires shape { FitsOn cache.old.log.geometry (M.state media.old).contents.shape }
     requires geometry { cache.old.geometry ≡ cache.old.log.geometry }
     requires map { cache.old.map.geometry ≡ cache.old.log.geometry }
@@ -81,7 +81,7 @@ fn hold<M: Media>(media: &mut M, cache: &mut Cache, lba: u64) -> Result<(), Fail
 {
     let at = Place { block: 4, page: 0 };
     if !is_held(media, at)? {
-        return Err(Fail::from("the page isn't whole"));
+        return Err(Stuck);
     }
     let change = Record::SetPage {
         lba,
@@ -89,7 +89,7 @@ fn hold<M: Media>(media: &mut M, cache: &mut Cache, lba: u64) -> Result<(), Fail
         dirty: true,
     };
     if !cache.map.fits(&change) {
-        return Err(Fail::from("the page doesn't fit"));
+        return Err(Stuck);
     }
     cache.map.reserve(1, 0)?;
     cache.map.apply(&change);
@@ -98,7 +98,7 @@ fn hold<M: Media>(media: &mut M, cache: &mut Cache, lba: u64) -> Result<(), Fail
 }
 
 /// Commits that the first pool page has the block of an address.
-fn put<M: Media>(media: &mut M, cache: &mut Cache, lba: u64) -> Result<(), Fail>
+fn put<M: Media>(media: &mut M, cache: &mut Cache, lba: u64) -> Result<(), Stuck>
     requires shape { FitsOn cache.old.log.geometry (M.state media.old).contents.shape }
     requires geometry { cache.old.geometry ≡ cache.old.log.geometry }
     requires map { cache.old.map.geometry ≡ cache.old.log.geometry }
@@ -117,13 +117,51 @@ fn put<M: Media>(media: &mut M, cache: &mut Cache, lba: u64) -> Result<(), Fail>
     Ok(())
 }
 
-/// What was seen of a checkpoint in which a stop was armed.
+// ---- what is seen
+
+/// What was seen of a cache.
 #[derive(Clone, Copy)]
 struct Seen {
+    /// Whether power was lost.
     lost: bool,
-    erases: u64,
-    programs: u64,
+    /// How many blocks were erased, and how many pages programmed.
+    wrote: (u64, u64),
+    /// The pages that the log has left.
+    room: u32,
     newest: Option<Newest>,
+}
+
+/// What was written since, and what can be seen now.
+fn look<R: Rig>(rig: &mut R, cache: &Cache, before: Counts, lost: bool) -> Result<Seen, MediaError>
+    requires shape { FitsOn cache.now.log.geometry (R.state rig.old).contents.shape }
+    requires geometry { cache.now.geometry ≡ cache.now.log.geometry }
+{
+    let done = rig.counts();
+    Ok(Seen {
+        lost,
+        wrote: (
+            done.erases.wrapping_sub(before.erases),
+            done.programs.wrapping_sub(before.programs),
+        ),
+        room: cache.log.room(),
+        newest: newest(rig, &cache.geometry)?,
+    })
+}
+
+/// The block of an address is put so often, which is committed each time.
+fn put_often<R: Rig>(rig: &mut R, cache: &mut Cache, count: u32) -> Result<Seen, Stuck>
+    requires shape { FitsOn cache.old.log.geometry (R.state rig.old).contents.shape }
+    requires geometry { cache.old.geometry ≡ cache.old.log.geometry }
+    requires map { cache.old.map.geometry ≡ cache.old.log.geometry }
+    requires marks { cache.old.marks ≡ cache.old.log.geometry }
+    requires committed { IsCommitted (R.state rig.old).contents.flash cache.old.log cache.old.map.entries }
+    requires whole { AreWhole (R.state rig.old).contents.flash.page cache.old.map.entries }
+{
+    let before = rig.counts();
+    'puts: for _ in 0..count {
+        put(rig, cache, 5)?;
+    }
+    Ok(look(rig, cache, before, false)?)
 }
 
 /// A checkpoint with a stop armed, and what was done in it and counts after it.
@@ -132,7 +170,7 @@ fn stopped_checkpoint<R: Rig>(
     cache: &mut Cache,
     after: u64,
     outcome: Outcome,
-) -> Result<Seen, Fail>
+) -> Result<Seen, Stuck>
     requires shape { FitsOn cache.old.log.geometry (R.state rig.old).contents.shape }
     requires geometry { cache.old.geometry ≡ cache.old.log.geometry }
     requires map { cache.old.map.geometry ≡ cache.old.log.geometry }
@@ -141,284 +179,208 @@ fn stopped_checkpoint<R: Rig>(
     requires whole { AreWhole (R.state rig.old).contents.flash.page cache.old.map.entries }
 {
     if after == 0 || rig.armed() >= 16 {
-        return Err(Fail::from("no stop can be armed"));
+        return Err(Stuck);
     }
     let before = rig.counts();
     rig.arm(after, outcome);
     let answer = cache.marks.checkpoint(rig, &cache.map, &mut cache.log);
-    let done = rig.counts();
     rig.power_on();
-    Ok(Seen {
-        lost: answer == Err(MediaError::PowerLost),
-        erases: done.erases.wrapping_sub(before.erases),
-        programs: done.programs.wrapping_sub(before.programs),
-        newest: newest(rig, &cache.geometry)?,
-    })
+    let lost = answer == Err(MediaError::PowerLost);
+    Ok(look(rig, cache, before, lost)?)
 }
 
-/// A cache and the rig that it is on, with nothing buffered. A commit that is refused leaves none.
-#[derive(Drop)]
-struct Bench {
-    cache: Cache,
-    rig: MemRig,
-}
+// ---- the examples
 
-impl Model for Bench {
-    ghost use Rattle.std.specs.Prelude.{◌≡◌};
-    ghost use Rattle.ft_base.specs.declared.geometry.Geometry.{Geometry};
-    ghost use Rattle.mem_rig.specs.Rig.{state_of};
-    ghost use Rattle.op_log.specs.Log.{FitsOn};
-    ghost use Rattle.checkpoint.specs.Current.{AreWhole, IsCommitted};
-
-    ghost Value = { Geometry };
-
-    ghost view = { λ b. b.cache.geometry };
-
-    ghost invariant = { λ b. (FitsOn b.cache.log.geometry (state_of b.rig).contents.shape) × (b.cache.geometry ≡ b.cache.log.geometry)
-        × (b.cache.map.geometry ≡ b.cache.log.geometry) × (b.cache.marks ≡ b.cache.log.geometry)
-        × IsCommitted (state_of b.rig).contents.flash b.cache.log b.cache.map.entries
-        × AreWhole (state_of b.rig).contents.flash.page b.cache.map.entries };
-}
-
-impl Bench {
-    /// A cache of nothing, whose first pool page is whole.
-    fn new(alloc: Global) -> Result<Bench, Fail> {
-        let geometry = geometry()?;
-        let mut rig = MemRig::new(alloc);
-        fit(&mut rig, alloc, &geometry)?;
-        if !program_next(&mut rig, 4, &zero_block()) || !fits_on(&rig, &geometry) {
-            return Err(Fail::from("the media don't fit"));
-        }
-        let cache = begin(&mut rig, alloc, &geometry)?;
-        Ok(Bench { cache, rig })
-    }
-
-    /// Commits that the first pool page has the block of an address.
-    fn put(self, lba: u64) -> Result<Bench, Fail> {
-        let Bench { mut cache, mut rig } = self;
-        put(&mut rig, &mut cache, lba)?;
-        Ok(Bench { cache, rig })
-    }
-
-    /// A checkpoint of nothing, in which a stop is armed.
-    fn cut(self, after: u64, outcome: Outcome) -> Result<Seen, Fail> {
-        let Bench { mut cache, mut rig } = self;
-        stopped_checkpoint(&mut rig, &mut cache, after, outcome)
-    }
-
-    /// The same where one address is held, and its change is buffered.
-    fn hold_and_cut(self, after: u64, outcome: Outcome) -> Result<Seen, Fail> {
-        let Bench { mut cache, mut rig } = self;
-        hold(&mut rig, &mut cache, 5)?;
-        stopped_checkpoint(&mut rig, &mut cache, after, outcome)
-    }
-
-    /// Whether this is the checkpoint that counts.
-    fn counts(&mut self, wanted: Counted) -> Result<bool, Fail> {
-        let found = newest(&mut self.rig, &self.cache.geometry)?;
-        Ok(is_counted(found, wanted))
-    }
-
-    /// How many blocks were erased, and how many pages programmed.
-    fn writes(&self) -> (u64, u64) {
-        let done = self.rig.done();
-        (done.erases, done.programs)
-    }
-
-    /// The pages that the log has left.
-    fn room(&self) -> u32 {
-        self.cache.log.room()
-    }
-}
-
-// ---- commits
-
-/// A line of an example.
+/// What is done with a cache of nothing.
 #[derive(Clone, Copy)]
-enum Line {
-    /// The block of an address is put, which is committed.
-    Put(u64),
-    /// From here on device writes are counted anew.
-    Count,
-    /// So many blocks were erased since, and so many pages programmed.
-    Wrote(u64, u64),
-    /// The log has so many pages left.
-    Room(u32),
-    /// The checkpoint that counts then.
-    Counts(Counted),
+enum Act {
+    /// The block of an address is put so often, which is committed each time.
+    Put(u32),
+    /// A checkpoint is made, in which this device write is cut so.
+    Cut(u64, Outcome),
+    /// The same where an address is held, and its change is buffered.
+    HoldAndCut(u64, Outcome),
 }
 
-/// So many more erases and programs.
-fn more(before: (u64, u64), erases: u64, programs: u64) -> (u64, u64) {
-    (
-        before.0.wrapping_add(erases),
-        before.1.wrapping_add(programs),
-    )
-}
-
-/// Goes through the lines, from a cache of nothing on. Says which is the first that tells what isn't so.
-fn first_wrong(alloc: Global, lines: &[Line]) -> Result<Option<usize>, Fail> {
-    let mut bench = Bench::new(alloc)?;
-    let mut from = bench.writes();
-    for i in 0..lines.len() {
-        match lines[i] {
-            Line::Put(lba) => bench = bench.put(lba)?,
-            Line::Count => from = bench.writes(),
-            Line::Wrote(erases, programs) => {
-                if bench.writes() != more(from, erases, programs) {
-                    return Ok(Some(i));
-                }
-            }
-            Line::Room(pages) => {
-                if bench.room() != pages {
-                    return Ok(Some(i));
-                }
-            }
-            Line::Counts(wanted) => {
-                if !bench.counts(wanted)? {
-                    return Ok(Some(i));
-                }
-            }
-        }
-    }
-    Ok(None)
-}
-
-const FULL: [Line; 12] = [
-    Line::Count,
-    Line::Put(5),
-    Line::Put(5),
-    Line::Put(5),
-    Line::Put(5),
-    Line::Wrote(0, 4),
-    Line::Room(0),
-    Line::Count,
-    Line::Put(5),
-    Line::Wrote(2, 2),
-    Line::Counts(Some((1, 1, 1))),
-    Line::Room(4),
-];
-
-#[test]
-fn a_full_log_gives_way_to_a_checkpoint(rt: HostRuntime) -> Result<(), Fail> {
-    assert_eq!(rt; first_wrong(rt.alloc(), &FULL)?, None);
-    Ok(())
-}
-
-// ---- checkpoints that are cut
-
-/// A checkpoint in which a stop is armed, and what is seen then.
+/// What is done with a cache of nothing, and what is seen then.
 #[derive(Clone, Copy)]
-struct Cut {
-    /// Whether one address is held, whose change is buffered.
-    held: bool,
-    /// The device write that is cut, and how.
-    stop: (u64, Outcome),
-    /// Whether power was lost in it.
+struct Example {
+    act: Act,
+    /// Whether power is lost.
     lost: bool,
-    /// How many blocks were erased in it, and how many pages programmed.
+    /// How many blocks are erased, and how many pages programmed.
     wrote: (u64, u64),
-    /// The checkpoint that counts afterwards.
+    /// The pages that the log has left, where that is told.
+    room: Option<u32>,
+    /// The checkpoint that counts then.
     counts: Counted,
 }
 
-fn is_as_seen(cut: Cut, seen: Seen) -> bool {
-    cut.lost == seen.lost
-        && cut.wrote == (seen.erases, seen.programs)
-        && is_counted(seen.newest, cut.counts)
-}
-
-/// Makes these checkpoints, each on media of its own. Says which is the first that is cut otherwise.
-fn first_other(alloc: Global, cuts: &[Cut]) -> Result<Option<usize>, Fail> {
-    for i in 0..cuts.len() {
-        let (after, outcome) = cuts[i].stop;
-        let bench = Bench::new(alloc)?;
-        let seen = if cuts[i].held {
-            bench.hold_and_cut(after, outcome)?
-        } else {
-            bench.cut(after, outcome)?
-        };
-        if !is_as_seen(cuts[i], seen) {
-            return Ok(Some(i));
+fn carry_out<R: Rig>(rig: &mut R, cache: &mut Cache, act: Act) -> Result<Seen, Stuck>
+    requires shape { FitsOn cache.old.log.geometry (R.state rig.old).contents.shape }
+    requires geometry { cache.old.geometry ≡ cache.old.log.geometry }
+    requires map { cache.old.map.geometry ≡ cache.old.log.geometry }
+    requires marks { cache.old.marks ≡ cache.old.log.geometry }
+    requires committed { IsCommitted (R.state rig.old).contents.flash cache.old.log cache.old.map.entries }
+    requires whole { AreWhole (R.state rig.old).contents.flash.page cache.old.map.entries }
+{
+    match act {
+        Act::Put(count) => put_often(rig, cache, count),
+        Act::Cut(after, outcome) => stopped_checkpoint(rig, cache, after, outcome),
+        Act::HoldAndCut(after, outcome) => {
+            hold(rig, cache, 5)?;
+            stopped_checkpoint(rig, cache, after, outcome)
         }
     }
-    Ok(None)
 }
 
-const OF_NOTHING: [Cut; 2] = [
-    // Two erases, and then the seal of a map of nothing.
-    Cut {
-        held: false,
-        stop: (3, Outcome::Torn),
-        lost: true,
-        wrote: (2, 0),
+/// Makes a cache of nothing, and does this with it.
+fn act_anew(
+    alloc: Global,
+    rig: &mut MemRig,
+    geometry: &Geometry,
+    wanted: Act,
+) -> Result<Seen, Stuck>
+    requires { FitsOn geometry.now (state_of rig.old).contents.shape }
+{
+    let mut cache = begin(rig, alloc, geometry)?;
+    carry_out(rig, &mut cache, wanted)
+}
+
+/// The same over media of its own, whose first pool page is whole.
+fn seen_of(alloc: Global, geometry: &Geometry, wanted: Act) -> Result<Seen, Stuck> {
+    let mut rig = MemRig::new(alloc);
+    fit(&mut rig, alloc, geometry)?;
+    if !program_next(&mut rig, 4, &zero_block()) || !fits_on(&rig, geometry) {
+        return Err(Stuck);
+    }
+    act_anew(alloc, &mut rig, geometry, wanted)
+}
+
+fn is_as_told(example: &Example, seen: Seen) -> bool {
+    let room = match example.room {
+        Some(pages) => pages == seen.room,
+        None => true,
+    };
+    room && example.lost == seen.lost
+        && example.wrote == seen.wrote
+        && is_counted(seen.newest, example.counts)
+}
+
+/// Goes through the examples. Says which is the first that is otherwise.
+fn first_other(alloc: Global, examples: &[Example]) -> Option<usize> {
+    let Some(geometry) = geometry() else {
+        return Some(0);
+    };
+    for i in 0..examples.len() {
+        match seen_of(alloc, &geometry, examples[i].act) {
+            Ok(seen) if is_as_told(&examples[i], seen) => {}
+            _ => return Some(i),
+        }
+    }
+    None
+}
+
+/// Goes through the examples, all of which must be so.
+fn assert_all(rt: &(impl Abort + AllocGlobal), examples: &[Example]) {
+    assert_none(rt, first_other(rt.alloc(), examples));
+}
+
+const FULL: [Example; 2] = [
+    Example {
+        act: Act::Put(4),
+        lost: false,
+        wrote: (0, 4),
+        room: Some(0),
         counts: Some((0, 0, 0)),
     },
-    Cut {
-        held: false,
-        stop: (3, Outcome::Whole),
+    // The fifth commit erases two blocks and programs two pages more.
+    Example {
+        act: Act::Put(5),
+        lost: false,
+        wrote: (2, 6),
+        room: Some(4),
+        counts: Some((1, 1, 1)),
+    },
+];
+
+#[test]
+fn a_full_log_gives_way_to_a_checkpoint(rt: HostRuntime) {
+    assert_all(&rt, &FULL);
+}
+
+const OF_NOTHING: [Example; 2] = [
+    // Two erases, and then the seal of a map of nothing.
+    Example {
+        act: Act::Cut(3, Outcome::Torn),
         lost: true,
         wrote: (2, 0),
+        room: None,
+        counts: Some((0, 0, 0)),
+    },
+    Example {
+        act: Act::Cut(3, Outcome::Whole),
+        lost: true,
+        wrote: (2, 0),
+        room: None,
         counts: Some((1, 1, 0)),
     },
 ];
 
 #[test]
-fn a_cut_seal_counts_where_it_is_whole(rt: HostRuntime) -> Result<(), Fail> {
-    assert_eq!(rt; first_other(rt.alloc(), &OF_NOTHING)?, None);
-    Ok(())
+fn a_cut_seal_counts_where_it_is_whole(rt: HostRuntime) {
+    assert_all(&rt, &OF_NOTHING);
 }
 
-const OF_ONE: [Cut; 6] = [
+const OF_ONE: [Example; 6] = [
     // A checkpoint block is erased, then a log block; one map page is programmed, and then the seal.
-    Cut {
-        held: true,
-        stop: (1, Outcome::Torn),
+    Example {
+        act: Act::HoldAndCut(1, Outcome::Torn),
         lost: true,
         wrote: (0, 0),
+        room: None,
         counts: Some((0, 0, 0)),
     },
-    Cut {
-        held: true,
-        stop: (2, Outcome::Torn),
+    Example {
+        act: Act::HoldAndCut(2, Outcome::Torn),
         lost: true,
         wrote: (1, 0),
+        room: None,
         counts: Some((0, 0, 0)),
     },
-    Cut {
-        held: true,
-        stop: (3, Outcome::Torn),
+    Example {
+        act: Act::HoldAndCut(3, Outcome::Torn),
         lost: true,
         wrote: (2, 0),
+        room: None,
         counts: Some((0, 0, 0)),
     },
-    Cut {
-        held: true,
-        stop: (4, Outcome::Torn),
+    Example {
+        act: Act::HoldAndCut(4, Outcome::Torn),
         lost: true,
         wrote: (2, 1),
+        room: None,
         counts: Some((0, 0, 0)),
     },
     // The seal is whole.
-    Cut {
-        held: true,
-        stop: (4, Outcome::Whole),
+    Example {
+        act: Act::HoldAndCut(4, Outcome::Whole),
         lost: true,
         wrote: (2, 1),
+        room: None,
         counts: Some((1, 1, 1)),
     },
     // There is no fifth device write.
-    Cut {
-        held: true,
-        stop: (5, Outcome::Torn),
+    Example {
+        act: Act::HoldAndCut(5, Outcome::Torn),
         lost: false,
         wrote: (2, 2),
+        room: None,
         counts: Some((1, 1, 1)),
     },
 ];
 
 #[test]
-fn a_checkpoint_counts_with_its_seal(rt: HostRuntime) -> Result<(), Fail> {
-    assert_eq!(rt; first_other(rt.alloc(), &OF_ONE)?, None);
-    Ok(())
+fn a_checkpoint_counts_with_its_seal(rt: HostRuntime) {
+    assert_all(&rt, &OF_ONE);
 }

@@ -6,24 +6,39 @@ ghost use Rattle.mem_rig.specs.Rig.{state_of};
 ghost use Rattle.op_log.specs.Log.{FitsOn};
 
 use ft_base::{Block, Geometry, Outcome, Place, Spare, zero_block};
-use ft_media::PageRead;
+use ft_media::{MediaError, PageRead};
 use mem_rig::MemRig;
-use std::alloc::Global;
-use std::test::Fail;
+use std::alloc::{AllocError, Global};
+use std::process::Abort;
 
 /// The block and the page of a place.
 pub(crate) type At = (u32, u32);
 
+/// An example can't be gone through: no memory is left, or a device refuses a call.
+#[derive(Clone, Copy)]
+pub(crate) struct Stuck;
+
+impl From<AllocError> for Stuck {
+    fn from(_error: AllocError) -> Stuck {
+        Stuck
+    }
+}
+
+impl From<MediaError> for Stuck {
+    fn from(_error: MediaError) -> Stuck {
+        Stuck
+    }
+}
+
 /// Erase blocks of 4 pages. The checkpoint regions are the blocks 0 and 1, those of the log 2 and 3, and the pool
 /// the blocks 4 to 8.
-pub(crate) fn geometry() -> Result<Geometry, Fail> {
-    Ok(Geometry::new(4, 2, 2, 1, 64)?)
+pub(crate) fn geometry() -> Option<Geometry> {
+    Geometry::new(4, 2, 2, 1, 64).ok()
 }
 
 /// Makes the media anew, just large enough.
-pub(crate) fn fit(rig: &mut MemRig, alloc: Global, geometry: &Geometry) -> Result<(), Fail> {
-    rig.fit_anew(alloc, geometry.blocks(), geometry.p(), geometry.size())?;
-    Ok(())
+pub(crate) fn fit(rig: &mut MemRig, alloc: Global, geometry: &Geometry) -> Result<(), AllocError> {
+    rig.fit_anew(alloc, geometry.blocks(), geometry.p(), geometry.size())
 }
 
 /// Whether the rig has the pages of the geometry, and enough of the rest.
@@ -69,16 +84,19 @@ pub(crate) fn arm(rig: &mut MemRig, outcome: Outcome) -> bool {
     true
 }
 
-/// The bytes of a page, where it is whole.
-pub(crate) fn read(rig: &mut MemRig, at: At) -> Option<(Block, Spare)> {
+/// Reads a page. False where there is none, or it isn't whole.
+pub(crate) fn read(rig: &mut MemRig, at: At, bytes: &mut Block, spare: &mut Spare) -> bool {
     let (block, page) = at;
     if block >= rig.flash_blocks() || page >= rig.flash_pages() {
-        return None;
+        return false;
     }
-    let mut bytes = zero_block();
-    let mut spare = Spare([0; 32]);
-    match rig.read_flash(Place { block, page }, &mut bytes, &mut spare) {
-        Ok(PageRead::Whole) => Some((bytes, spare)),
-        _ => None,
-    }
+    matches!(
+        rig.read_flash(Place { block, page }, bytes, spare),
+        Ok(PageRead::Whole)
+    )
+}
+
+/// Sees that nothing was found that is otherwise.
+pub(crate) fn assert_none(rt: &impl Abort, other: Option<usize>) {
+    assert_eq!(rt; other, None);
 }

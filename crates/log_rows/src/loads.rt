@@ -1,6 +1,6 @@
 //! What flash with given pages is loaded as, and which checkpoint on it counts.
 
-use crate::flash::{At, fit, fits_on, geometry};
+use crate::flash::{At, assert_none, fit, fits_on, geometry};
 use crate::pages::{Change, Counted, NUMBERS, Put, is_counted, make};
 use checkpoint::newest;
 use ft_base::{Geometry, Outcome, Page, Place, Spare, zero_block};
@@ -11,7 +11,7 @@ use record_codec::{PageKind, Seal};
 use recovery::plain::{PlainLoad, plain_load};
 use recovery::{Loaded, OpenError, load};
 use std::alloc::Global;
-use std::test::Fail;
+use std::process::Abort;
 
 /// What loading answers.
 #[derive(Clone, Copy)]
@@ -47,27 +47,36 @@ enum Line {
 
 // ---- what is loaded
 
-/// All pages of the flash, those of each erase block in turn.
-fn pages_of(alloc: Global, rig: &mut MemRig) -> Result<Vec<Page>, Fail> {
-    let mut pages = Vec::new(alloc);
+/// Puts all pages of the flash into a list, those of each erase block in turn. False where that can't be done.
+fn put_pages(rig: &mut MemRig, pages: &mut Vec<Page>) -> bool {
     for block in 0..rig.flash_blocks() {
         for page in 0..rig.flash_pages() {
-            pages.push(page_of(rig, Place { block, page })?)?;
+            if !put_page(rig, Place { block, page }, pages) {
+                return false;
+            }
         }
     }
-    Ok(pages)
+    true
 }
 
-fn page_of(rig: &mut MemRig, at: Place) -> Result<Page, Fail> {
+fn put_page(rig: &mut MemRig, at: Place, pages: &mut Vec<Page>) -> bool {
+    match page_of(rig, at) {
+        Some(page) => pages.push(page).is_ok(),
+        None => false,
+    }
+}
+
+fn page_of(rig: &mut MemRig, at: Place) -> Option<Page> {
     if at.block >= rig.flash_blocks() || at.page >= rig.flash_pages() {
-        return Ok(Page::Blank);
+        return None;
     }
     let mut block = zero_block();
     let mut spare = Spare([0; 32]);
-    match rig.read_flash(at, &mut block, &mut spare)? {
-        PageRead::Blank => Ok(Page::Blank),
-        PageRead::Whole => Ok(Page::Whole(block, spare)),
-        PageRead::Torn => Ok(Page::Torn),
+    match rig.read_flash(at, &mut block, &mut spare) {
+        Ok(PageRead::Blank) => Some(Page::Blank),
+        Ok(PageRead::Whole) => Some(Page::Whole(block, spare)),
+        Ok(PageRead::Torn) => Some(Page::Torn),
+        Err(_) => None,
     }
 }
 
@@ -116,65 +125,68 @@ fn is_answer(told: &Result<Loaded, OpenError>, wanted: Answer) -> bool {
     }
 }
 
-/// Whether `load` answers this, and the plain program the same.
-fn loads_both(
+/// Whether the plain program answers the same of these pages.
+fn is_plainly(
     alloc: Global,
-    rig: &mut MemRig,
     geometry: &Geometry,
-    wanted: Answer,
-) -> Result<bool, Fail> {
-    if !fits_on(rig, geometry) {
-        return Err(Fail::from("the media don't fit"));
+    pages: &[Page],
+    fast: &Result<Loaded, OpenError>,
+) -> bool {
+    match plain_load(alloc, geometry, pages) {
+        Ok(plain) => is_alike(fast, &plain),
+        Err(_) => false,
     }
-    let fast = load(alloc, rig, geometry);
-    let pages = pages_of(alloc, rig)?;
-    let plain = plain_load(alloc, geometry, &pages)?;
-    Ok(is_answer(&fast, wanted) && is_alike(&fast, &plain))
 }
 
-fn answers(
+/// The same of the pages on the flash.
+fn is_plainly_on(
     alloc: Global,
     rig: &mut MemRig,
     geometry: &Geometry,
-    wanted: Answer,
-) -> Result<bool, Fail> {
+    fast: &Result<Loaded, OpenError>,
+) -> bool {
+    let mut pages = Vec::new(alloc);
+    put_pages(rig, &mut pages) && is_plainly(alloc, geometry, pages.as_slice(), fast)
+}
+
+/// Whether `load` answers this, and the plain program the same, if it is asked.
+fn loads(alloc: Global, rig: &mut MemRig, geometry: &Geometry, wanted: Answer, both: bool) -> bool {
     if !fits_on(rig, geometry) {
-        return Err(Fail::from("the media don't fit"));
+        return false;
     }
-    Ok(is_answer(&load(alloc, rig, geometry), wanted))
+    let fast = load(alloc, rig, geometry);
+    is_answer(&fast, wanted) && (!both || is_plainly_on(alloc, rig, geometry, &fast))
 }
 
 /// Whether the address is loaded as lying there, dirty.
-fn lies(
-    alloc: Global,
-    rig: &mut MemRig,
-    geometry: &Geometry,
-    lba: u64,
-    at: At,
-) -> Result<bool, Fail> {
+fn lies(alloc: Global, rig: &mut MemRig, geometry: &Geometry, lba: u64, at: At) -> bool {
     if !fits_on(rig, geometry) {
-        return Err(Fail::from("the media don't fit"));
+        return false;
     }
-    let loaded = load(alloc, rig, geometry)?;
-    match loaded.map.place(lba) {
-        Some((place, dirty)) => Ok((place.block, place.page) == at && dirty),
-        None => Ok(false),
+    match load(alloc, rig, geometry) {
+        Ok(loaded) => match loaded.map.place(lba) {
+            Some((place, dirty)) => (place.block, place.page) == at && dirty,
+            None => false,
+        },
+        Err(_) => false,
     }
 }
 
-fn counts(rig: &mut MemRig, geometry: &Geometry, wanted: Counted) -> Result<bool, Fail> {
+fn counts(rig: &mut MemRig, geometry: &Geometry, wanted: Counted) -> bool {
     if !fits_on(rig, geometry) {
-        return Err(Fail::from("the media don't fit"));
+        return false;
     }
-    Ok(is_counted(newest(rig, geometry)?, wanted))
+    match newest(rig, geometry) {
+        Ok(found) => is_counted(found, wanted),
+        Err(_) => false,
+    }
 }
 
 // ---- the lines
 
 /// Makes the media anew, with an empty checkpoint.
-fn seal(alloc: Global, rig: &mut MemRig, geometry: &Geometry) -> Result<bool, Fail> {
-    fit(rig, alloc, geometry)?;
-    Ok(make(rig, 0, Put::Seal(0, 0, 0)))
+fn seal(alloc: Global, rig: &mut MemRig, geometry: &Geometry) -> bool {
+    fit(rig, alloc, geometry).is_ok() && make(rig, 0, Put::Seal(0, 0, 0))
 }
 
 /// Programs so many pages of the first pool block.
@@ -187,23 +199,20 @@ fn fill(rig: &mut MemRig, pages: u32) -> bool {
     true
 }
 
-/// Does what the line says. Whether what it tells is so.
-fn is_so(alloc: Global, rig: &mut MemRig, geometry: &Geometry, line: Line) -> Result<bool, Fail> {
+/// Does what the line says. Whether that can be done, and what it tells is so.
+fn is_so(alloc: Global, rig: &mut MemRig, geometry: &Geometry, line: Line) -> bool {
     match line {
-        Line::Anew => {
-            fit(rig, alloc, geometry)?;
-            Ok(true)
-        }
+        Line::Anew => fit(rig, alloc, geometry).is_ok(),
         Line::Sealed => seal(alloc, rig, geometry),
-        Line::SealedBeside(pages) => Ok(seal(alloc, rig, geometry)? && fill(rig, pages)),
-        Line::Put(block, what) => Ok(make(rig, block, what)),
+        Line::SealedBeside(pages) => seal(alloc, rig, geometry) && fill(rig, pages),
+        Line::Put(block, what) => make(rig, block, what),
         Line::Cut => {
             rig.cut_power(Outcome::Whole);
-            Ok(true)
+            true
         }
         Line::Counts(wanted) => counts(rig, geometry, wanted),
-        Line::Loads(wanted) => loads_both(alloc, rig, geometry, wanted),
-        Line::Answers(wanted) => answers(alloc, rig, geometry, wanted),
+        Line::Loads(wanted) => loads(alloc, rig, geometry, wanted, true),
+        Line::Answers(wanted) => loads(alloc, rig, geometry, wanted, false),
         Line::Lies(lba, at) => lies(alloc, rig, geometry, lba, at),
     }
 }
@@ -214,19 +223,27 @@ fn first_wrong_on(
     rig: &mut MemRig,
     geometry: &Geometry,
     lines: &[Line],
-) -> Result<Option<usize>, Fail> {
+) -> Option<usize> {
     for i in 0..lines.len() {
-        if !is_so(alloc, rig, geometry, lines[i])? {
-            return Ok(Some(i));
+        if !is_so(alloc, rig, geometry, lines[i]) {
+            return Some(i);
         }
     }
-    Ok(None)
+    None
 }
 
 /// The same on a rig of its own.
-fn first_wrong(alloc: Global, lines: &[Line]) -> Result<Option<usize>, Fail> {
+fn first_wrong(alloc: Global, lines: &[Line]) -> Option<usize> {
+    let Some(geometry) = geometry() else {
+        return Some(0);
+    };
     let mut rig = MemRig::new(alloc);
-    first_wrong_on(alloc, &mut rig, &geometry()?, lines)
+    first_wrong_on(alloc, &mut rig, &geometry, lines)
+}
+
+/// Goes through the lines on a rig of its own. All that they tell must be so.
+fn assert_all(rt: &(impl Abort + AllocGlobal), lines: &[Line]) {
+    assert_none(rt, first_wrong(rt.alloc(), lines));
 }
 
 const DAMAGED_LOG: Line = Line::Loads(Answer::Refused(OpenError::Damaged { block: 2, page: 0 }));
@@ -274,9 +291,8 @@ const REGIONS: [Line; 25] = [
 ];
 
 #[test]
-fn a_region_counts_with_its_seal(rt: HostRuntime) -> Result<(), Fail> {
-    assert_eq!(rt; first_wrong(rt.alloc(), &REGIONS)?, None);
-    Ok(())
+fn a_region_counts_with_its_seal(rt: HostRuntime) {
+    assert_all(&rt, &REGIONS);
 }
 
 const ERAS: [Line; 24] = [
@@ -310,9 +326,8 @@ const ERAS: [Line; 24] = [
 ];
 
 #[test]
-fn the_next_era_is_chosen(rt: HostRuntime) -> Result<(), Fail> {
-    assert_eq!(rt; first_wrong(rt.alloc(), &ERAS)?, None);
-    Ok(())
+fn the_next_era_is_chosen(rt: HostRuntime) {
+    assert_all(&rt, &ERAS);
 }
 
 const LATER: [Line; 24] = [
@@ -343,9 +358,8 @@ const LATER: [Line; 24] = [
 ];
 
 #[test]
-fn the_later_checkpoint_counts(rt: HostRuntime) -> Result<(), Fail> {
-    assert_eq!(rt; first_wrong(rt.alloc(), &LATER)?, None);
-    Ok(())
+fn the_later_checkpoint_counts(rt: HostRuntime) {
+    assert_all(&rt, &LATER);
 }
 
 // ---- checkpoints
@@ -408,15 +422,17 @@ const CHECKPOINTS: [Line; 45] = [
 ];
 
 #[test]
-fn damaged_checkpoints(rt: HostRuntime) -> Result<(), Fail> {
-    assert_eq!(rt; first_wrong(rt.alloc(), &CHECKPOINTS)?, None);
-    Ok(())
+fn damaged_checkpoints(rt: HostRuntime) {
+    assert_all(&rt, &CHECKPOINTS);
 }
 
 /// Goes through the lines for a cache with one more data block.
-fn first_wrong_of_three(alloc: Global, lines: &[Line]) -> Result<Option<usize>, Fail> {
+fn first_wrong_of_three(alloc: Global, lines: &[Line]) -> Option<usize> {
+    let Ok(geometry) = Geometry::new(4, 3, 2, 1, 64) else {
+        return Some(0);
+    };
     let mut rig = MemRig::new(alloc);
-    first_wrong_on(alloc, &mut rig, &Geometry::new(4, 3, 2, 1, 64)?, lines)
+    first_wrong_on(alloc, &mut rig, &geometry, lines)
 }
 
 const OTHER_NUMBERS: OpenError = OpenError::OtherGeometry {
@@ -438,9 +454,8 @@ const OTHERS: [Line; 4] = [
 ];
 
 #[test]
-fn seals_of_other_numbers_and_no_seals(rt: HostRuntime) -> Result<(), Fail> {
-    assert_eq!(rt; first_wrong_of_three(rt.alloc(), &OTHERS)?, None);
-    Ok(())
+fn seals_of_other_numbers_and_no_seals(rt: HostRuntime) {
+    assert_none(&rt, first_wrong_of_three(rt.alloc(), &OTHERS));
 }
 
 // ---- the log behind an empty checkpoint
@@ -460,9 +475,8 @@ const ONE_LOG_PAGE: [Line; 9] = [
 ];
 
 #[test]
-fn a_log_page_over_an_empty_checkpoint(rt: HostRuntime) -> Result<(), Fail> {
-    assert_eq!(rt; first_wrong(rt.alloc(), &ONE_LOG_PAGE)?, None);
-    Ok(())
+fn a_log_page_over_an_empty_checkpoint(rt: HostRuntime) {
+    assert_all(&rt, &ONE_LOG_PAGE);
 }
 
 const POOL_END: [Line; 4] = [
@@ -473,9 +487,8 @@ const POOL_END: [Line; 4] = [
 ];
 
 #[test]
-fn a_place_before_the_pool_s_end_only(rt: HostRuntime) -> Result<(), Fail> {
-    assert_eq!(rt; first_wrong(rt.alloc(), &POOL_END)?, None);
-    Ok(())
+fn a_place_before_the_pool_s_end_only(rt: HostRuntime) {
+    assert_all(&rt, &POOL_END);
 }
 
 const LOG_ENDS: [Line; 40] = [
@@ -530,9 +543,8 @@ const LOG_ENDS: [Line; 40] = [
 ];
 
 #[test]
-fn a_log_ends_before_the_first_page_that_is_none(rt: HostRuntime) -> Result<(), Fail> {
-    assert_eq!(rt; first_wrong(rt.alloc(), &LOG_ENDS)?, None);
-    Ok(())
+fn a_log_ends_before_the_first_page_that_is_none(rt: HostRuntime) {
+    assert_all(&rt, &LOG_ENDS);
 }
 
 const UNFIT: [Line; 33] = [
@@ -589,9 +601,8 @@ const UNFIT: [Line; 33] = [
 ];
 
 #[test]
-fn records_that_do_not_fit(rt: HostRuntime) -> Result<(), Fail> {
-    assert_eq!(rt; first_wrong(rt.alloc(), &UNFIT)?, None);
-    Ok(())
+fn records_that_do_not_fit(rt: HostRuntime) {
+    assert_all(&rt, &UNFIT);
 }
 
 const TOO_MANY: [Line; 12] = [
@@ -616,9 +627,8 @@ const TOO_MANY: [Line; 12] = [
 ];
 
 #[test]
-fn one_record_too_many(rt: HostRuntime) -> Result<(), Fail> {
-    assert_eq!(rt; first_wrong(rt.alloc(), &TOO_MANY)?, None);
-    Ok(())
+fn one_record_too_many(rt: HostRuntime) {
+    assert_all(&rt, &TOO_MANY);
 }
 
 const NOT_WHOLE: [Line; 30] = [
@@ -655,9 +665,8 @@ const NOT_WHOLE: [Line; 30] = [
 ];
 
 #[test]
-fn the_first_address_without_a_whole_page_is_told(rt: HostRuntime) -> Result<(), Fail> {
-    assert_eq!(rt; first_wrong(rt.alloc(), &NOT_WHOLE)?, None);
-    Ok(())
+fn the_first_address_without_a_whole_page_is_told(rt: HostRuntime) {
+    assert_all(&rt, &NOT_WHOLE);
 }
 
 // ---- how often a page is read
@@ -694,34 +703,38 @@ const NO_POWER: [Line; 8] = [
 ];
 
 /// Goes through the lines on flash of which the call with this number fails.
-fn first_wrong_failing(alloc: Global, number: u64, lines: &[Line]) -> Result<Option<usize>, Fail> {
-    let failing = [number].to_vec(alloc)?;
+fn first_wrong_failing(
+    alloc: Global,
+    geometry: &Geometry,
+    number: u64,
+    lines: &[Line],
+) -> Option<usize> {
+    let Ok(failing) = [number].to_vec(alloc) else {
+        return Some(0);
+    };
     let mut rig = MemRig::failing(alloc, failing, Vec::new(alloc));
-    first_wrong_on(alloc, &mut rig, &geometry()?, lines)
+    first_wrong_on(alloc, &mut rig, geometry, lines)
 }
 
 /// The first call below a number, from another on, that doesn't do what the lines say where it fails.
-fn first_other_call(
-    alloc: Global,
-    from: u64,
-    end: u64,
-    lines: &[Line],
-) -> Result<Option<u64>, Fail> {
+fn first_other_call(alloc: Global, from: u64, end: u64, lines: &[Line]) -> Option<usize> {
+    let Some(geometry) = geometry() else {
+        return Some(0);
+    };
     for number in from..end {
-        if first_wrong_failing(alloc, number, lines)?.is_some() {
-            return Ok(Some(number));
+        if first_wrong_failing(alloc, &geometry, number, lines).is_some() {
+            return Some(number as usize);
         }
     }
-    Ok(None)
+    None
 }
 
 // Five pages are programmed. Then `newest` reads the map page and the seal of region 0 and the first
 // page of region 1; the map page is read once more for its records, the log page and the blank one
 // behind it once each, and each of the two places once.
 #[test]
-fn each_page_is_read_twice_at_most(rt: HostRuntime) -> Result<(), Fail> {
-    assert_eq!(rt; first_other_call(rt.alloc(), 6, 14, &FAULT)?, None);
-    assert_eq!(rt; first_other_call(rt.alloc(), 14, 16, &NO_FAULT)?, None);
-    assert_eq!(rt; first_wrong(rt.alloc(), &NO_POWER)?, None);
-    Ok(())
+fn each_page_is_read_twice_at_most(rt: HostRuntime) {
+    assert_none(&rt, first_other_call(rt.alloc(), 6, 14, &FAULT));
+    assert_none(&rt, first_other_call(rt.alloc(), 14, 16, &NO_FAULT));
+    assert_all(&rt, &NO_POWER);
 }

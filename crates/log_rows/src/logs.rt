@@ -1,22 +1,19 @@
 //! The log: the pages that it writes, and how far a walk over them goes.
 
-ghost use Rattle.std.specs.Prelude.{◌≡◌, ◌<◌, IsTrue, Some};
+ghost use Rattle.std.specs.Prelude.{◌≡◌, ◌<◌, Some};
 ghost use Rattle.std.specs.Bool.{OnTrue};
 ghost use Rattle.mem_rig.specs.Rig.{state_of};
-ghost use Rattle.cache_model.specs.declared.format.PageKind.TheVariants.{Log as log_page};
-ghost use Rattle.cache_model.specs.Spelling.{may_stand_in};
 
-use crate::flash::{At, arm, fit, fits_on, read};
+use crate::flash::{At, arm, assert_none, fit, fits_on, read};
 use crate::pages::{Change, Put, make, may_stand_in, record_of};
-use ft_base::{Block, Geometry, Outcome, Place, Record};
+use ft_base::{Block, Geometry, Outcome, Place, Spare, zero_block};
 use ft_media::MediaError;
 use mapping::Map;
 use mem_rig::MemRig;
 use op_log::{OpLog, OpenError, roll};
 use record_codec::PageKind;
 use std::alloc::Global;
-use std::marker::Model;
-use std::test::Fail;
+use std::process::Abort;
 
 const LOG_LINE: [u8; 32] = *b"FTSCPAGE\x01\x03\x01\0\0\0\0\0\0\0\0\x02\0\0\0\0\0\0\0\0\0\0\0\0";
 
@@ -88,18 +85,6 @@ fn is_ready(rig: &MemRig, at: Place) -> bool
     }
 }
 
-/// Buffers a change. False where there is no room for it.
-fn buffer(log: &mut OpLog, change: Record) -> bool
-    requires { IsTrue (may_stand_in log_page change) }
-    ensures { log.new.geometry ≡ log.old.geometry }
-{
-    if log.buffered() >= 127 {
-        return false;
-    }
-    log.push(change);
-    true
-}
-
 /// Flushes the log, where there is room and its next page is ready.
 fn flush(rig: &mut MemRig, log: &mut OpLog, geometry: &Geometry) -> Flushed
     requires { log.old.geometry ≡ geometry.now }
@@ -116,19 +101,50 @@ fn flush(rig: &mut MemRig, log: &mut OpLog, geometry: &Geometry) -> Flushed
     Some(log.flush(rig))
 }
 
-/// Walks over the log of region 0 and of this era, into an empty map.
-fn walk(
-    rig: &mut MemRig,
-    alloc: Global,
-    geometry: &Geometry,
-    era: u8,
-) -> Result<(Result<u32, OpenError>, Map), Fail> {
+/// What a walk over the log found.
+#[derive(Clone, Copy)]
+struct Walked {
+    /// How many pages it applied.
+    pages: Result<u32, OpenError>,
+    /// How many addresses the map has then.
+    held: u64,
+    /// Where the address lies that was asked for, and whether it is dirty.
+    place: Option<(Place, bool)>,
+}
+
+/// Walks over the log of region 0 and of this era, into an empty map, and looks up an address.
+fn walk(rig: &mut MemRig, alloc: Global, geometry: &Geometry, era: u8, lba: u64) -> Option<Walked> {
     if !fits_on(rig, geometry) {
-        return Err(Fail::from("the media don't fit"));
+        return None;
     }
-    let mut map = Map::new(alloc, geometry)?;
+    let Ok(mut map) = Map::new(alloc, geometry) else {
+        return None;
+    };
     let pages = roll(rig, geometry, 0, era, &mut map);
-    Ok((pages, map))
+    Some(Walked {
+        pages,
+        held: map.held(),
+        place: map.place(lba),
+    })
+}
+
+fn walks(walked: Option<Walked>, pages: Result<u32, OpenError>, held: u64) -> bool {
+    match walked {
+        Some(found) => found.pages == pages && found.held == held,
+        None => false,
+    }
+}
+
+/// Whether the address lies, dirty, at this page of block 9, or isn't held.
+fn lies(walked: Option<Walked>, wanted: Option<u32>) -> bool {
+    match walked {
+        Some(found) => match (found.place, wanted) {
+            (Some((at, dirty)), Some(page)) => dirty && at.block == 9 && at.page == page,
+            (None, None) => true,
+            _ => false,
+        },
+        None => false,
+    }
 }
 
 /// Whether a page has a header, two records, and zeros behind them.
@@ -139,139 +155,137 @@ fn is_as_written_down(page: &Block) -> bool {
         && page.0[96..].iter().all(|byte| *byte == 0)
 }
 
-/// A cache's log, and the rig that it is on.
-#[derive(Drop)]
-struct Bench {
-    geometry: Geometry,
-    rig: MemRig,
-    log: OpLog,
+/// Whether the first log page is as written down, with its spare bytes.
+fn has_first_page(rig: &mut MemRig) -> bool {
+    let mut page = zero_block();
+    let mut spare = Spare([0; 32]);
+    read(rig, (2, 0), &mut page, &mut spare) && is_as_written_down(&page) && spare.0 == LOG_SPARE
 }
 
-impl Model for Bench {
-    ghost use Rattle.std.specs.Prelude.{◌≡◌};
-    ghost use Rattle.ft_base.specs.declared.geometry.Geometry.{Geometry};
-
-    ghost Value = { Geometry };
-
-    ghost view = { λ b. b.geometry };
-
-    ghost invariant = { λ b. b.log.geometry ≡ b.geometry };
+fn is_whole(rig: &mut MemRig, at: At) -> bool {
+    read(rig, at, &mut zero_block(), &mut Spare([0; 32]))
 }
 
-impl Bench {
-    /// A log in region 0, of era 1, on blank flash. Its regions are the erase blocks 2 and 3, and 4 and 5.
-    fn new(alloc: Global) -> Result<Bench, Fail> {
-        let geometry = Geometry::new(4, 2, 2, 2, 64)?;
-        let mut rig = MemRig::new(alloc);
-        fit(&mut rig, alloc, &geometry)?;
-        let log = OpLog::new(alloc, &geometry, 0, 1)?;
-        Ok(Bench { geometry, rig, log })
-    }
-
-    fn fit(&mut self, alloc: Global) -> Result<bool, Fail> {
-        fit(&mut self.rig, alloc, &self.geometry)?;
-        Ok(true)
-    }
-
-    fn buffer(&mut self, change: Change) -> bool {
-        let change = record_of(change);
-        may_stand_in(PageKind::Log, &change) && buffer(&mut self.log, change)
-    }
-
-    fn flush(&mut self) -> Flushed {
-        flush(&mut self.rig, &mut self.log, &self.geometry)
-    }
-
-    /// Flushes the log, where a stop tears the page that is programmed.
-    fn flush_torn(&mut self) -> Flushed {
-        if !arm(&mut self.rig, Outcome::Torn) {
-            return None;
-        }
-        let flushed = self.flush();
-        self.rig.turn_on();
-        flushed
-    }
-
-    fn restart(&mut self, region: u32, era: u8) -> bool {
-        if region > 1 || era > 2 {
-            return false;
-        }
-        self.log.restart(region, era);
-        true
-    }
-
-    /// Whether the first log page is as written down, with its spare bytes.
-    fn has_first_page(&mut self) -> bool {
-        match read(&mut self.rig, (2, 0)) {
-            Some((page, spare)) => is_as_written_down(&page) && spare.0 == LOG_SPARE,
-            None => false,
-        }
-    }
-
-    fn walks(&mut self, alloc: Global, era: u8, pages: u32, held: u64) -> Result<bool, Fail> {
-        let (found, map) = walk(&mut self.rig, alloc, &self.geometry, era)?;
-        Ok(found == Ok(pages) && map.held() == held)
-    }
-
-    fn lies(
-        &mut self,
-        alloc: Global,
-        era: u8,
-        lba: u64,
-        wanted: Option<u32>,
-    ) -> Result<bool, Fail> {
-        let (_, map) = walk(&mut self.rig, alloc, &self.geometry, era)?;
-        match (map.place(lba), wanted) {
-            (Some((at, dirty)), Some(page)) => Ok(dirty && at.block == 9 && at.page == page),
-            (None, None) => Ok(true),
-            _ => Ok(false),
-        }
-    }
-
-    fn is_damaged(&mut self, alloc: Global, era: u8) -> Result<bool, Fail> {
-        let (found, _) = walk(&mut self.rig, alloc, &self.geometry, era)?;
-        Ok(found == Err(OpenError::Damaged { block: 2, page: 0 }))
-    }
-
-    fn holds(&mut self, alloc: Global, fact: Fact) -> Result<bool, Fail> {
-        match fact {
-            Fact::Log { buffered, room } => {
-                Ok(self.log.buffered() == buffered && self.log.room() == room)
-            }
-            Fact::Place(region, era) => Ok(self.log.region() == region && self.log.era() == era),
-            Fact::Programs(count) => Ok(self.rig.done().programs == count),
-            Fact::FirstPage => Ok(self.has_first_page()),
-            Fact::NotWhole(at) => Ok(read(&mut self.rig, at).is_none()),
-            Fact::Walk(era, pages, held) => self.walks(alloc, era, pages, held),
-            Fact::Lies(era, lba, page) => self.lies(alloc, era, lba, page),
-            Fact::Damaged(era) => self.is_damaged(alloc, era),
-        }
-    }
-
-    /// Does what the line says. Whether what it tells is so.
-    fn is_so(&mut self, alloc: Global, line: Line) -> Result<bool, Fail> {
-        match line {
-            Line::Anew => self.fit(alloc),
-            Line::Buffer(change) => Ok(self.buffer(change)),
-            Line::Flush(wanted) => Ok(self.flush() == wanted),
-            Line::FlushTorn(wanted) => Ok(self.flush_torn() == wanted),
-            Line::Note(change) => Ok(self.buffer(change) && self.flush() == Some(Ok(()))),
-            Line::Restart(region, era) => Ok(self.restart(region, era)),
-            Line::Put(what) => Ok(make(&mut self.rig, 2, what)),
-            Line::See(fact) => self.holds(alloc, fact),
-        }
+fn is_damaged(walked: Option<Walked>) -> bool {
+    match walked {
+        Some(found) => found.pages == Err(OpenError::Damaged { block: 2, page: 0 }),
+        None => false,
     }
 }
 
-/// Goes through the lines, from a new log on. Says which is the first that tells what isn't so.
-fn first_wrong(alloc: Global, lines: &[Line]) -> Result<Option<usize>, Fail> {
-    let mut bench = Bench::new(alloc)?;
+fn holds(alloc: Global, rig: &mut MemRig, log: &OpLog, geometry: &Geometry, fact: Fact) -> bool {
+    match fact {
+        Fact::Log { buffered, room } => log.buffered() == buffered && log.room() == room,
+        Fact::Place(region, era) => log.region() == region && log.era() == era,
+        Fact::Programs(count) => rig.done().programs == count,
+        Fact::FirstPage => has_first_page(rig),
+        Fact::NotWhole(at) => !is_whole(rig, at),
+        Fact::Walk(era, pages, held) => walks(walk(rig, alloc, geometry, era, 0), Ok(pages), held),
+        Fact::Lies(era, lba, page) => lies(walk(rig, alloc, geometry, era, lba), page),
+        Fact::Damaged(era) => is_damaged(walk(rig, alloc, geometry, era, 0)),
+    }
+}
+
+// ---- the lines
+
+/// Buffers a change. False where the log can't have it.
+fn buffer(log: &mut OpLog, change: Change) -> bool
+    ensures { log.new.geometry ≡ log.old.geometry }
+{
+    let change = record_of(change);
+    if log.buffered() >= 127 || !may_stand_in(PageKind::Log, &change) {
+        return false;
+    }
+    log.push(change);
+    true
+}
+
+/// Flushes the log, where a stop tears the page that is programmed.
+fn flush_torn(rig: &mut MemRig, log: &mut OpLog, geometry: &Geometry) -> Flushed
+    requires { log.old.geometry ≡ geometry.now }
+    ensures { log.new.geometry ≡ log.old.geometry }
+{
+    if !arm(rig, Outcome::Torn) {
+        return None;
+    }
+    let flushed = flush(rig, log, geometry);
+    rig.turn_on();
+    flushed
+}
+
+fn restart(log: &mut OpLog, region: u32, era: u8) -> bool
+    ensures { log.new.geometry ≡ log.old.geometry }
+{
+    if region > 1 || era > 2 {
+        return false;
+    }
+    log.restart(region, era);
+    true
+}
+
+/// Does what the line says. Whether that can be done, and what it tells is so.
+fn is_so(alloc: Global, rig: &mut MemRig, log: &mut OpLog, geometry: &Geometry, line: Line) -> bool
+    requires { log.old.geometry ≡ geometry.now }
+    ensures { log.new.geometry ≡ log.old.geometry }
+{
+    match line {
+        Line::Anew => fit(rig, alloc, geometry).is_ok(),
+        Line::Buffer(change) => buffer(log, change),
+        Line::Flush(wanted) => flush(rig, log, geometry) == wanted,
+        Line::FlushTorn(wanted) => flush_torn(rig, log, geometry) == wanted,
+        Line::Note(change) => buffer(log, change) && flush(rig, log, geometry) == Some(Ok(())),
+        Line::Restart(region, era) => restart(log, region, era),
+        Line::Put(what) => make(rig, 2, what),
+        Line::See(fact) => holds(alloc, rig, log, geometry, fact),
+    }
+}
+
+fn first_wrong_of(
+    alloc: Global,
+    rig: &mut MemRig,
+    log: &mut OpLog,
+    geometry: &Geometry,
+    lines: &[Line],
+) -> Option<usize>
+    requires { log.old.geometry ≡ geometry.now }
+{
     for i in 0..lines.len() {
-        if !bench.is_so(alloc, lines[i])? {
-            return Ok(Some(i));
+        if !is_so(alloc, rig, log, geometry, lines[i]) {
+            return Some(i);
         }
     }
-    Ok(None)
+    None
+}
+
+/// Goes through the lines on a rig, from a log in region 0, of era 1, on. Says which is the first that tells what
+/// isn't so.
+fn first_wrong_on(
+    alloc: Global,
+    rig: &mut MemRig,
+    geometry: &Geometry,
+    lines: &[Line],
+) -> Option<usize> {
+    let Ok(mut log) = OpLog::new(alloc, geometry, 0, 1) else {
+        return Some(0);
+    };
+    first_wrong_of(alloc, rig, &mut log, geometry, lines)
+}
+
+/// The same on blank flash. The regions of the log are the erase blocks 2 and 3, and 4 and 5.
+fn first_wrong(alloc: Global, lines: &[Line]) -> Option<usize> {
+    let Ok(geometry) = Geometry::new(4, 2, 2, 2, 64) else {
+        return Some(0);
+    };
+    let mut rig = MemRig::new(alloc);
+    if fit(&mut rig, alloc, &geometry).is_err() {
+        return Some(0);
+    }
+    first_wrong_on(alloc, &mut rig, &geometry, lines)
+}
+
+/// Goes through the lines. All that they tell must be so.
+fn assert_all(rt: &(impl Abort + AllocGlobal), lines: &[Line]) {
+    assert_none(rt, first_wrong(rt.alloc(), lines));
 }
 
 const TWO_CHANGES: [Line; 6] = [
@@ -287,9 +301,8 @@ const TWO_CHANGES: [Line; 6] = [
 ];
 
 #[test]
-fn a_flush_is_one_page_as_written_down(rt: HostRuntime) -> Result<(), Fail> {
-    assert_eq!(rt; first_wrong(rt.alloc(), &TWO_CHANGES)?, None);
-    Ok(())
+fn a_flush_is_one_page_as_written_down(rt: HostRuntime) {
+    assert_all(&rt, &TWO_CHANGES);
 }
 
 const NOTHING: [Line; 3] = [
@@ -302,9 +315,8 @@ const NOTHING: [Line; 3] = [
 ];
 
 #[test]
-fn a_flush_of_nothing_programs_nothing(rt: HostRuntime) -> Result<(), Fail> {
-    assert_eq!(rt; first_wrong(rt.alloc(), &NOTHING)?, None);
-    Ok(())
+fn a_flush_of_nothing_programs_nothing(rt: HostRuntime) {
+    assert_all(&rt, &NOTHING);
 }
 
 const RESTARTED: [Line; 4] = [
@@ -318,9 +330,8 @@ const RESTARTED: [Line; 4] = [
 ];
 
 #[test]
-fn a_log_begins_again_in_the_other_region(rt: HostRuntime) -> Result<(), Fail> {
-    assert_eq!(rt; first_wrong(rt.alloc(), &RESTARTED)?, None);
-    Ok(())
+fn a_log_begins_again_in_the_other_region(rt: HostRuntime) {
+    assert_all(&rt, &RESTARTED);
 }
 
 const FIVE_PAGES: [Line; 11] = [
@@ -340,9 +351,8 @@ const FIVE_PAGES: [Line; 11] = [
 ];
 
 #[test]
-fn a_log_is_walked_to_its_end(rt: HostRuntime) -> Result<(), Fail> {
-    assert_eq!(rt; first_wrong(rt.alloc(), &FIVE_PAGES)?, None);
-    Ok(())
+fn a_log_is_walked_to_its_end(rt: HostRuntime) {
+    assert_all(&rt, &FIVE_PAGES);
 }
 
 const PAGES: [Line; 11] = [
@@ -363,9 +373,8 @@ const PAGES: [Line; 11] = [
 ];
 
 #[test]
-fn a_page_is_walked_or_damaged_or_the_end(rt: HostRuntime) -> Result<(), Fail> {
-    assert_eq!(rt; first_wrong(rt.alloc(), &PAGES)?, None);
-    Ok(())
+fn a_page_is_walked_or_damaged_or_the_end(rt: HostRuntime) {
+    assert_all(&rt, &PAGES);
 }
 
 const TORN: [Line; 8] = [
@@ -383,7 +392,6 @@ const TORN: [Line; 8] = [
 ];
 
 #[test]
-fn a_flush_that_is_cut_ends_the_log(rt: HostRuntime) -> Result<(), Fail> {
-    assert_eq!(rt; first_wrong(rt.alloc(), &TORN)?, None);
-    Ok(())
+fn a_flush_that_is_cut_ends_the_log(rt: HostRuntime) {
+    assert_all(&rt, &TORN);
 }
