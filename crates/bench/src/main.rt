@@ -10,11 +10,6 @@
 //! | another, or 1 | a run ended with it, as one does whose options are none of `gen`; a line says so |
 #![tactic(auto)]
 
-mod figures;
-mod map;
-#[cfg(test)]
-mod tests;
-mod whole;
 mod words;
 
 use std::io;
@@ -36,8 +31,8 @@ fn run(rt: &(impl Env + AllocGlobal + Clock + Files + Print + Eprint)) -> io::Re
     let words = words_of(rt)?;
     match task_of(words.as_slice()) {
         Some(Task::Hint) => println!(rt; "bench: give the word map or run")?,
-        Some(Task::Map) => map::measure(rt)?,
-        Some(Task::Run) => return whole::measure(rt, after_first(words.as_slice())),
+        Some(Task::Map) => map_bench::measure(rt)?,
+        Some(Task::Run) => return run_bench::measure(rt, after_first(words.as_slice())),
         None => {
             eprintln!(rt; "use: bench [map | run [options of gen]]")?;
             return Ok(1);

@@ -1,0 +1,11 @@
+//! Worked examples of what measures: each map and its row, a run of the whole program and its row, and the floor.
+//!
+//! No layer stands on this crate; it has tests alone.
+#![tactic(auto)]
+
+#[cfg(test)]
+mod clock;
+#[cfg(test)]
+mod maps;
+#[cfg(test)]
+mod runs;

@@ -1,0 +1,100 @@
+//! Each map once, through the trait: a thousand keys, and how large the map is with them; and a row of each table.
+use crate::clock::Slowing;
+use map_bench::churn::churn;
+use map_bench::keys::Keys;
+use map_bench::measured::{Measured, Size};
+use map_bench::round::{Times, peak, rounds};
+use map_bench::row::{Row, churn_line};
+use sparse_map::SparseMap;
+use std::collections::HashMap;
+use std::mem::size_of;
+use std::rt::Clock;
+use std::test::Fail;
+use std::time::Duration;
+
+/// How large a map of a thousand keys is, after two rounds.
+fn size_of_a_thousand<M: Measured>(rt: &(impl AllocGlobal + Clock)) -> Result<Size, Fail> {
+    let keys = Keys::new(rt.alloc(), 1_000)?;
+    let (size, _) = rounds::<M>(rt, &keys, 2)?;
+    Ok(size)
+}
+
+#[test]
+fn each_map_finds_and_loses_a_thousand_keys(rt: HostRuntime) -> Result<(), Fail> {
+    let sparse = Size {
+        entries: 1_000,
+        buckets: 2_048,
+        bytes: 20_672,
+    };
+    assert_eq!(rt; size_of_a_thousand::<SparseMap<u64>>(&rt)?, sparse);
+    let dense = Size {
+        entries: 1_000,
+        buckets: 1_536,
+        bytes: 35_840,
+    };
+    assert_eq!(rt; size_of_a_thousand::<HashMap<u64, u64>>(&rt)?, dense);
+    Ok(())
+}
+
+#[test]
+fn an_item_takes_16_bytes_and_a_list_has_a_header_of_24(rt: HostRuntime) {
+    assert_eq!(rt; size_of::<(u64, u64)>(), 16);
+    assert_eq!(rt; size_of::<Vec<(u64, u64)>>(), 24);
+}
+
+#[test]
+fn a_row_has_means_for_each_entry_and_operation(rt: HostRuntime) -> Result<(), Fail> {
+    let row = Row {
+        name: "sparse",
+        size: Size {
+            entries: 1_000,
+            buckets: 2_048,
+            bytes: 20_544,
+        },
+        peak: 30_720,
+        times: Times {
+            lookups: Duration::from_millis(1),
+            insertions: Duration::from_millis(20),
+            removals: Duration::from_micros(4_260),
+        },
+        rounds: 100,
+    };
+    let line = row.line(rt.alloc())?;
+    let wanted =
+        "sparse     1000     2048        20.5       30.7       10.0        200.0       42.6";
+    assert_eq!(rt; line.as_str(), wanted);
+    Ok(())
+}
+
+#[test]
+fn each_round_adds_the_time_of_each_operation(rt: HostRuntime) -> Result<(), Fail> {
+    let clock = Slowing::after(0);
+    let keys = Keys::new(rt.alloc(), 10)?;
+    let (_, times) = rounds::<SparseMap<u64>>(&(clock, rt.alloc()), &keys, 2)?;
+    // The second of two readings comes 1, 3 and 5 milliseconds after the first, and in the next round 7, 9 and 11.
+    let wanted = Times {
+        insertions: Duration::from_millis(8),
+        lookups: Duration::from_millis(12),
+        removals: Duration::from_millis(16),
+    };
+    assert_eq!(rt; times, wanted);
+    Ok(())
+}
+
+#[test]
+fn a_map_is_largest_as_it_moves(rt: HostRuntime) -> Result<(), Fail> {
+    let keys = Keys::new(rt.alloc(), 1_000)?;
+    let peak = peak::<SparseMap<u64>>(rt.alloc(), keys.inserted.as_slice())?;
+    assert!(rt; peak > 28_000 && peak <= 32_000, "{peak}");
+    Ok(())
+}
+
+#[test]
+fn a_map_keeps_its_size_while_entries_come_and_go(rt: HostRuntime) -> Result<(), Fail> {
+    let mut churned = churn::<SparseMap<u64>>(&rt, 100, 250)?;
+    assert_eq!(rt; [churned.size.entries, churned.size.buckets], [100, 256]);
+    churned.time = Duration::from_micros(25);
+    let row = churn_line(rt.alloc(), "sparse", &churned)?;
+    assert!(rt; row.as_str().ends_with("      100.0"));
+    Ok(())
+}

@@ -1,0 +1,102 @@
+//! The whole program once, over a small volume, and its floor; and a row of the table.
+use crate::clock::Slowing;
+use ft_media::Counts;
+use run_bench::floor::floor;
+use run_bench::memory::{peak_in, peak_memory};
+use run_bench::replayed::{End, Replayed, replay};
+use run_bench::ring::Ring;
+use run_bench::row::Row;
+use std::alloc::{AllocError, Global};
+use std::test::Fail;
+use std::time::Duration;
+
+/// The words of a small made trace.
+fn small_trace(alloc: Global) -> Result<Vec<String>, AllocError> {
+    let mut words = Vec::new(alloc);
+    for word in "--pages 4 --data 2 --log 2 --journal 1 --size 64 --count 300".split(' ') {
+        words.push(String::from_str(alloc, word)?)?;
+    }
+    Ok(words)
+}
+
+#[test]
+fn a_run_is_measured_by_its_end_line_and_its_devices(rt: HostRuntime) -> Result<(), Fail> {
+    let words = small_trace(rt.alloc())?;
+    let Ok(run) = replay(&rt, words.as_slice())? else {
+        return Err(Fail::new("the run ended early"));
+    };
+    // Another program drew the trace and computed these numbers.
+    assert_eq!(rt;
+        (run.end.writes, run.end.reads, run.end.touched),
+        (145, 125, 34)
+    );
+    // A checkpoint region has one erase block: 2 + 2 + 2 + 2 + 1 blocks of 4 pages.
+    assert_eq!(rt; run.pages, 36);
+    assert!(rt; run.counts.programs > 600 && run.counts.erases > 100);
+    assert!(rt; run.counts.disk_writes > 34 && run.counts.disk_flushes > 10);
+    assert!(rt; run.counts.disk_reads >= 1);
+    Ok(())
+}
+
+#[test]
+fn words_that_are_none_of_gen_end_with_1(rt: HostRuntime) -> Result<(), Fail> {
+    let words = vec![in rt.alloc(); String::from_str(rt.alloc(), "--cound")?]?;
+    assert_eq!(rt; replay(&rt, words.as_slice())?, Err(1));
+    Ok(())
+}
+
+#[test]
+fn each_column_shows_what_was_measured(rt: HostRuntime) -> Result<(), Fail> {
+    let run = Replayed {
+        end: End {
+            writes: 700,
+            reads: 300,
+            touched: 20,
+        },
+        counts: Counts {
+            programs: 31,
+            erases: 42,
+            disk_reads: 53,
+            disk_writes: 64,
+            disk_flushes: 75,
+        },
+        pages: 86,
+        time: Duration::from_micros(2_345),
+    };
+    let row = Row {
+        run,
+        floor: Duration::from_micros(1_000),
+        peak: Some(4_567),
+    };
+    let line = row.line(rt.alloc())?;
+    let wanted =
+        "    1000       20       31      42       53       64       75       2.34      1.00   2.34       2345     4567";
+    assert_eq!(rt; line.as_str(), wanted);
+    Ok(())
+}
+
+#[test]
+fn the_floor_is_timed_from_its_first_copy_on(rt: HostRuntime) -> Result<(), Fail> {
+    let clock = Slowing::after(4);
+    let time = floor(&(clock, rt.alloc()), 3, 7, 5)?;
+    // Its first reading is the fifth.
+    assert_eq!(rt; time, Duration::from_millis(5));
+    Ok(())
+}
+
+#[test]
+fn the_mark_goes_round_the_ring(rt: HostRuntime) -> Result<(), Fail> {
+    let mut ring = Ring::new(rt.alloc(), 3)?;
+    ring.copy(7);
+    assert_eq!(rt; ring.at, 1);
+    assert!(rt; ring.is_marked());
+    Ok(())
+}
+
+#[test]
+fn peak_memory_is_read_off_its_line(rt: HostRuntime) {
+    let text = "Name:\tbench\nVmPeak:\t   2816 kB\nVmHWM:\t    1360 kB\nVmRSS:\t    1300 kB\n";
+    assert_eq!(rt; peak_in(text), Some(1_360));
+    assert_eq!(rt; peak_in("Name:\tbench\n"), None);
+    assert!(rt; peak_memory(&rt).is_some_and(|peak| peak > 100));
+}

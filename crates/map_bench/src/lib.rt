@@ -1,0 +1,70 @@
+//! The sparse map beside std's hash map: bytes an entry, the time of a look-up, an insertion and a removal, and the
+//! time of a step where an old address goes and a new one comes.
+//!
+//! A round makes a map of so many entries, looks each of them up and takes each of them out; the time of
+//! one operation is the mean over all rounds. So insertions and removals are met at every size from none to
+//! all of the entries, and insertions pay for the growth of the map. Bytes are counted with all entries in the map,
+//! and at the peak of its filling, where it moves into longer lists.
+#![tactic(auto)]
+
+pub mod churn;
+pub mod keys;
+pub mod measured;
+pub mod round;
+pub mod row;
+
+use churn::churn;
+use keys::Keys;
+use measured::Measured;
+use round::{peak, rounds};
+use row::{Row, print_churn, print_churn_head, print_head};
+use sparse_map::SparseMap;
+use std::collections::HashMap;
+use std::io;
+use std::rt::Clock;
+
+/// The numbers of entries, each with the number of rounds that makes it a million operations of each kind.
+const SIZES: [(u32, u32); 3] = [(1_000, 1_000), (100_000, 10), (1_000_000, 1)];
+
+/// The addresses of a map whose entries come and go, and how many come.
+const ADDRESSES: u32 = 4_000;
+
+const STEPS: u32 = 1_000_000;
+
+/// Prints a row for each map at each number of entries, and one for each that is turned over.
+pub fn measure(rt: &(impl AllocGlobal + Clock + Print)) -> io::Result<()> {
+    print_head(rt)?;
+    for (entries, count) in SIZES {
+        let keys = Keys::new(rt.alloc(), entries)?;
+        measure_one::<SparseMap<u64>>(rt, &keys, count)?;
+        measure_one::<HashMap<u64, u64>>(rt, &keys, count)?;
+    }
+    print_churn_head(rt)?;
+    churn_one::<SparseMap<u64>>(rt)?;
+    churn_one::<HashMap<u64, u64>>(rt)
+}
+
+/// Prints the row of one map whose entries come and go.
+fn churn_one<M: Measured>(rt: &(impl AllocGlobal + Clock + Print)) -> io::Result<()> {
+    let churned = churn::<M>(rt, ADDRESSES, STEPS)?;
+    print_churn(rt, M::NAME, &churned)
+}
+
+/// Prints the row of one map.
+fn measure_one<M: Measured>(
+    rt: &(impl AllocGlobal + Clock + Print),
+    keys: &Keys,
+    count: u32,
+) -> io::Result<()> {
+    let peak = peak::<M>(rt.alloc(), keys.inserted.as_slice())?;
+    let (size, times) = rounds::<M>(rt, keys, count)?;
+    let row = Row {
+        name: M::NAME,
+        size,
+        peak,
+        times,
+        rounds: count,
+    };
+    let row = row.line(rt.alloc())?;
+    println!(rt; "{row}")
+}

@@ -1,0 +1,151 @@
+ghost use Rattle.std.specs.Prelude.{◌≡◌, ◌↔◌, ℕ, ◌+◌, ◌-◌, ◌*◌, ◌^◌, ◌≤◌, ◌==◌, min, Option, Some, None, OnOk, IsTrue, if◌then◌else◌, nat_eq};
+ghost use Rattle.std.specs.FinMap as map;
+ghost use Rattle.std.specs.HashMap as hash_map;
+ghost use Rattle.sparse_map.specs.Packed.{map_of, len_of, buckets_of, memory_of};
+
+use sparse_map::SparseMap;
+use std::alloc::{AllocError, Global};
+use std::collections::HashMap;
+
+/// Bytes of an item: a key and a value.
+const ITEM: u64 = 16;
+
+/// Bytes of a group of 32 buckets of the sparse map: 4 that say which are occupied and 24 of its list's header,
+/// aligned to 8.
+const GROUP: u64 = 32;
+
+/// How large a map is.
+#[derive(Clone, Copy, Debug, PartialEq, Eq)]
+pub struct Size {
+    /// Keys with a value.
+    pub entries: u64,
+    /// Places that a key can be looked for in.
+    pub buckets: u64,
+    /// The bytes of the map's own lists, without what the allocator adds to each.
+    pub bytes: u64,
+}
+
+/// A map from 64-bit numbers to 64-bit numbers, as it is measured.
+pub trait Measured: Drop {
+    /// Its name in the table.
+    const NAME: &'static str;
+
+    // What it has at a key.
+    ghost content: { Self → ℕ → Option ℕ };
+
+    /// A map without entries.
+    fn empty(alloc: Global) -> Self
+        ensures { (k : ℕ) → content result k ≡ None };
+
+    /// Sets the value of a key, and makes room before where that is a call of its own. Refused for want of
+    /// memory.
+    fn set(&mut self, key: u64, value: u64) -> Result<(), AllocError>
+        ensures { OnOk result ((k : ℕ) → content self.new k ≡ (if key == k then Some value else content self.old k)) };
+
+    /// The value of a key.
+    fn value(&self, key: u64) -> Option<u64>
+        ensures { result ≡ content self.now key };
+
+    /// Takes a key out, and gives its value.
+    fn take(&mut self, key: u64) -> Option<u64>
+        ensures value { result ≡ content self.old key }
+        ensures content { (k : ℕ) → content self.new k ≡ (if key == k then None else content self.old k) };
+
+    /// Whether one key more makes it move into new lists, while the old ones are still there.
+    fn moves_next(&self) -> bool;
+
+    /// How large it is.
+    fn size(&self) -> Size;
+}
+
+impl Measured for SparseMap<u64> {
+    const NAME: &'static str = "sparse";
+
+    ghost content = { λ m k. map.get (map_of m) k };
+
+    fn empty(alloc: Global) -> Self {
+        SparseMap::new(alloc)
+    }
+
+    /// A map of 2^30 keys takes no more.
+    fn set(&mut self, key: u64, value: u64) -> Result<(), AllocError> {
+        if self.len() >= 1 << 30 {
+            return Err(AllocError);
+        }
+        self.reserve(1)?;
+        let _ = self.insert_ready(key, value);
+        Ok(())
+    }
+
+    fn value(&self, key: u64) -> Option<u64> {
+        self.get(key).copied()
+    }
+
+    fn take(&mut self, key: u64) -> Option<u64> {
+        self.remove(key)
+    }
+
+    /// A quarter of the buckets stays free: 24 of each group's 32 may be taken.
+    fn moves_next(&self) -> bool
+        ensures { IsTrue result ↔ (3 * buckets_of self.now ≤ 4 * len_of self.now) }
+    {
+        24 * self.groups() <= self.len()
+    }
+
+    /// The map counts the places of its lists, the free ones and those of blank lists with them. No bucket has a place
+    /// of its own.
+    fn size(&self) -> Size
+        ensures entries { result.entries ≡ len_of self.now }
+        ensures buckets { result.buckets ≡ buckets_of self.now }
+        ensures bytes { result.bytes ≡ min (16 * memory_of self.now + buckets_of self.now) (2 ^ 64 - 1) }
+    {
+        let groups = GROUP * self.groups();
+        Size {
+            entries: self.len(),
+            buckets: self.buckets(),
+            bytes: self.places().saturating_mul(ITEM).saturating_add(groups),
+        }
+    }
+}
+
+impl Measured for HashMap<u64, u64> {
+    const NAME: &'static str = "std";
+
+    ghost content = { λ m k. hash_map.get nat_eq m k };
+
+    fn empty(alloc: Global) -> Self {
+        HashMap::new(alloc)
+    }
+
+    fn set(&mut self, key: u64, value: u64) -> Result<(), AllocError> {
+        let _ = self.insert(key, value)?;
+        Ok(())
+    }
+
+    fn value(&self, key: u64) -> Option<u64> {
+        self.get(&key).copied()
+    }
+
+    fn take(&mut self, key: u64) -> Option<u64> {
+        self.remove(&key)
+    }
+
+    /// Its lists grow where they are.
+    fn moves_next(&self) -> bool {
+        false
+    }
+
+    /// Each place for an entry takes an item and 8 bytes with its hash and where it is indexed. The index has
+    /// groups of 12 buckets in 64 bytes, and gives out 9 places for each.
+    fn size(&self) -> Size {
+        let places = self.capacity() as u64;
+        let groups = places.div_ceil(9);
+        Size {
+            entries: self.len() as u64,
+            buckets: groups.saturating_mul(12),
+            bytes: places
+                .saturating_mul(ITEM + 8)
+                .saturating_add(groups.saturating_mul(64)),
+        }
+    }
+}

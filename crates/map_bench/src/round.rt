@@ -1,0 +1,137 @@
+ghost use Rattle.std.specs.Prelude.{◌≡◌, ℕ, ◌<◌, ◌≤◌, length, count_by, slice_index_or, Some, None, OnOk, nat_eq, min, ◌+◌};
+ghost use Rattle.std.specs.Option.{option_eq};
+
+use crate::keys::Keys;
+use crate::measured::{Measured, Size};
+use std::alloc::{AllocError, Global};
+use std::io;
+use std::rt::Clock;
+use std::time::{Duration, Instant};
+
+/// How long the operations of some rounds took, all together.
+#[derive(Clone, Copy, Debug, PartialEq, Eq)]
+pub struct Times {
+    pub lookups: Duration,
+    pub insertions: Duration,
+    pub removals: Duration,
+}
+
+impl Times {
+    const NONE: Times = Times {
+        lookups: Duration::ZERO,
+        insertions: Duration::ZERO,
+        removals: Duration::ZERO,
+    };
+
+    /// These and some more.
+    fn and(self, more: Times) -> Times {
+        Times {
+            lookups: self.lookups.saturating_add(more.lookups),
+            insertions: self.insertions.saturating_add(more.insertions),
+            removals: self.removals.saturating_add(more.removals),
+        }
+    }
+}
+
+/// Runs some rounds. Gives how large the map was with all keys, and the time that they took.
+pub fn rounds<M: Measured>(
+    rt: &(impl AllocGlobal + Clock),
+    keys: &Keys,
+    count: u32,
+) -> io::Result<(Size, Times)> {
+    let mut size = M::empty(rt.alloc()).size();
+    let mut times = Times::NONE;
+    for _ in 0..count {
+        let (full, took) = round::<M>(rt, keys)?;
+        size = full;
+        times = times.and(took);
+    }
+    Ok((size, times))
+}
+
+/// The most bytes that a map takes while the keys are set, one after another: where a key makes it move into new lists,
+/// those and the old ones are there at once.
+pub fn peak<M: Measured>(alloc: Global, keys: &[u64]) -> Result<u64, AllocError> {
+    let mut map = M::empty(alloc);
+    let mut most = 0;
+    for key in keys {
+        most = most.max(bytes_while_set(&mut map, *key)?);
+    }
+    Ok(most.max(map.size().bytes))
+}
+
+/// Sets a key, and gives the bytes of the lists before and after where it makes the map move, else 0.
+fn bytes_while_set<M: Measured>(map: &mut M, key: u64) -> Result<u64, AllocError> {
+    if !map.moves_next() {
+        map.set(key, key)?;
+        return Ok(0);
+    }
+    let before = map.size().bytes;
+    map.set(key, key)?;
+    Ok(before.saturating_add(map.size().bytes))
+}
+
+/// Makes a map of the keys, looks each up and takes each out.
+fn round<M: Measured>(rt: &(impl AllocGlobal + Clock), keys: &Keys) -> io::Result<(Size, Times)> {
+    let mut map = M::empty(rt.alloc());
+
+    let start = Instant::now(rt)?;
+    fill(&mut map, keys.inserted.as_slice())?;
+    let insertions = start.elapsed(rt)?;
+    let size = map.size();
+
+    let start = Instant::now(rt)?;
+    let found = count_found(&map, keys.asked.as_slice());
+    let lookups = start.elapsed(rt)?;
+
+    let start = Instant::now(rt)?;
+    let taken = take_all(&mut map, keys.asked.as_slice());
+    let removals = start.elapsed(rt)?;
+
+    // What was found is looked at, so that no compiler leaves the work out.
+    if found != keys.asked.len() || taken != keys.asked.len() {
+        return Err(io::Error::other("a map lost a key"));
+    }
+    Ok((
+        size,
+        Times {
+            lookups,
+            insertions,
+            removals,
+        },
+    ))
+}
+
+/// Sets each key, with itself as its value.
+fn fill<M: Measured>(map: &mut M, keys: &[u64]) -> Result<(), AllocError>
+    ensures { OnOk result ((i : ℕ) → i < length keys.now
+        → M.content map.new (slice_index_or keys.now i 0) ≡ Some (slice_index_or keys.now i 0)) }
+{
+    for key in keys {
+        map.set(*key, *key)?;
+    }
+    Ok(())
+}
+
+/// How many of the keys have themselves as their value.
+fn count_found<M: Measured>(map: &M, keys: &[u64]) -> usize
+    ensures { result ≡ count_by (λ key. option_eq nat_eq (M.content map.now key) (Some key)) keys.now }
+{
+    keys.iter()
+        .filter(|key| map.value(**key) == Some(**key))
+        .count()
+}
+
+/// Takes each key out, and gives how many had themselves as their value.
+fn take_all<M: Measured>(map: &mut M, keys: &[u64]) -> usize
+    ensures taken { (i : ℕ) → i < length keys.now → M.content map.new (slice_index_or keys.now i 0) ≡ None }
+    ensures count { result ≤ length keys.now }
+{
+    let mut taken = 0;
+    for key in keys {
+        if map.take(*key) == Some(*key) {
+            taken += 1;
+        }
+    }
+    taken
+}

@@ -1,0 +1,39 @@
+//! The whole program: a made trace, run over flash and disk in memory, and beside it the floor, which is what
+//! the same pages and blocks cost a plain loop. Both are measured in one process, one after the other.
+#![tactic(auto)]
+
+pub mod floor;
+pub mod memory;
+pub mod replayed;
+pub mod ring;
+pub mod row;
+pub mod slot;
+
+use floor::floor;
+use memory::peak_memory;
+use replayed::replay;
+use row::{Row, print_head};
+use std::io;
+use std::rt::{Clock, Files};
+
+/// Runs the made trace that these options of `gen` say, and prints a row. Answers the status of the run.
+pub fn measure(
+    rt: &(impl AllocGlobal + Clock + Files + Print + Eprint),
+    options: &[String],
+) -> io::Result<u8> {
+    let run = match replay(rt, options)? {
+        Ok(run) => run,
+        Err(status) => {
+            eprintln!(rt; "bench: the run ended with status {status}")?;
+            return Ok(status);
+        }
+    };
+    // The memory of the floor is not the program's, so this comes first.
+    let peak = peak_memory(rt);
+    let floor = floor(rt, run.pages, run.counts.programs, run.end.touched)?;
+    let row = Row { run, floor, peak };
+    print_head(rt)?;
+    let line = row.line(rt.alloc())?;
+    println!(rt; "{line}")?;
+    Ok(0)
+}

@@ -1,0 +1,102 @@
+//! One run of a made trace, as the program runs it: flash and disk in memory, and a sink for its end line.
+ghost use Rattle.std.specs.Prelude.{◌≡◌, ◌∷◌, ℕ, List, IfOk, IfSome, codes, map};
+ghost use Rattle.std.specs.String.{string_bytes};
+ghost use Rattle.trace_model.specs.Text.{text_of};
+ghost use Rattle.trace_model.specs.declared.answer.Answer.TheVariants as answer;
+
+use flashtier_cli::run;
+use ft_base::{MemSink, MemSource};
+use ft_media::{Counts, Rig};
+use mem_rig::MemRig;
+use std::alloc::{AllocError, Global};
+use std::io;
+use std::rt::Clock;
+use std::time::{Duration, Instant};
+use trace_text::{Answer, next_line, read_answer};
+
+/// Room for an end line: a word, three numbers, a digest and what stands between them.
+const ROOM: usize = 256;
+
+/// The numbers of an end line.
+#[derive(Clone, Copy, Debug, PartialEq, Eq)]
+pub struct End {
+    /// Lines that wrote.
+    pub writes: u64,
+    /// Lines that read.
+    pub reads: u64,
+    /// Addresses that they named.
+    pub touched: u64,
+}
+
+/// What was measured of a run.
+#[derive(Clone, Copy, Debug, PartialEq, Eq)]
+pub struct Replayed {
+    pub end: End,
+    /// What the devices did.
+    pub counts: Counts,
+    /// Pages of the flash.
+    pub pages: u64,
+    pub time: Duration,
+}
+
+/// Runs the made trace that these options say; a status other than 0 is the `Err` within.
+pub fn replay(
+    rt: &(impl AllocGlobal + Clock),
+    options: &[String],
+) -> io::Result<Result<Replayed, u8>> {
+    let alloc = rt.alloc();
+    let words = words_of(alloc, options)?;
+    let mut source = MemSource::new(Vec::new(alloc), 1, Vec::new(alloc));
+    let mut sink = MemSink::new(alloc, ROOM, ROOM, Vec::new(alloc))?;
+    let mut rig = MemRig::new(alloc);
+    let start = Instant::now(rt)?;
+    let status = run(alloc, words.as_slice(), &mut source, &mut sink, &mut rig);
+    let time = start.elapsed(rt)?;
+    if status != 0 {
+        return Ok(Err(status));
+    }
+    let Some(end) = end_of(sink.bytes()) else {
+        return Err(io::Error::other("a run has no end line"));
+    };
+    Ok(Ok(Replayed {
+        end,
+        counts: rig.counts(),
+        pages: u64::from(rig.flash_blocks()).saturating_mul(u64::from(rig.flash_pages())),
+        time,
+    }))
+}
+
+/// The words of the program with these options.
+fn words_of(alloc: Global, options: &[String]) -> Result<Vec<String>, AllocError>
+    ensures { IfOk result (λ words. map string_bytes words.items ≡ codes "gen" ∷ map string_bytes options.now) }
+{
+    let mut words = Vec::new(alloc);
+    words.push(String::from_str(alloc, "gen")?)?;
+    for option in options {
+        words.push(String::from_str(alloc, option.as_str())?)?;
+    }
+    Ok(words)
+}
+
+/// The numbers of this text, which is an end line and nothing else.
+pub fn end_of(text: &[u8]) -> Option<End>
+    ensures { IfSome result (λ end. (digest : List ℕ) × (text.now ≡ text_of (answer.End end.writes end.reads end.touched digest))) }
+{
+    let (line, rest) = next_line(text, false)?;
+    if !rest.is_empty() {
+        return None;
+    }
+    match read_answer(line)? {
+        Answer::End {
+            writes,
+            reads,
+            touched,
+            ..
+        } => Some(End {
+            writes,
+            reads,
+            touched,
+        }),
+        _ => None,
+    }
+}
