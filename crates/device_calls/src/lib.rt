@@ -10,6 +10,3 @@ mod ending;
 
 pub use calls::Calls;
 pub use ending::{Current, Ending};
-
-#[cfg(test)]
-mod tests;

@@ -14,6 +14,3 @@ mod store;
 
 pub use definition::block_of_cut;
 pub use disk::MemDisk;
-
-#[cfg(test)]
-mod tests;

@@ -12,6 +12,3 @@ pub mod plain;
 
 pub use laws::{laws_of_a_block_put_at_the_end, laws_of_a_block_taken_out, laws_of_places};
 pub use logs::LogBlocks;
-
-#[cfg(test)]
-mod tests;

@@ -26,6 +26,3 @@ mod sets;
 mod steps;
 
 pub use map::Map;
-
-#[cfg(test)]
-mod tests;

@@ -14,6 +14,3 @@ mod stored;
 
 pub use definition::{page_of_cut_erase, page_of_cut_program};
 pub use nand::MemNand;
-
-#[cfg(test)]
-mod tests;

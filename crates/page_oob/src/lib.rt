@@ -8,6 +8,3 @@ mod spare;
 
 pub use cache_model::SpareKind;
 pub use spare::{read_spare, write_spare};
-
-#[cfg(test)]
-mod tests;

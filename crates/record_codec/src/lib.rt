@@ -16,6 +16,3 @@ pub use cache_model::{Header, PageKind, Seal};
 pub use header::{read_header, read_page_header};
 pub use page::{read_records, write_page};
 pub use seal::{read_seal, write_seal};
-
-#[cfg(test)]
-mod tests;

@@ -11,6 +11,3 @@ pub mod plain;
 mod victims;
 
 pub use victims::Victims;
-
-#[cfg(test)]
-mod tests;

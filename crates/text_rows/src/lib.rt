@@ -5,7 +5,11 @@
 #![tactic(auto)]
 
 #[cfg(test)]
+mod answers;
+#[cfg(test)]
 mod lines;
+#[cfg(test)]
+mod made;
 #[cfg(test)]
 mod scripts;
 #[cfg(test)]

@@ -1,6 +1,6 @@
-use crate::TraceGen;
 use ft_base::Geometry;
 use std::test::Fail;
+use trace_gen::TraceGen;
 use trace_model::Line;
 
 // The lines were drawn by another program, whose generator gives the words that PCG's authors publish.

@@ -1,7 +1,7 @@
-use crate::{MemNand, page_of_cut_erase, page_of_cut_program};
 use device_calls::{Current, Ending};
 use ft_base::{Block, Outcome, Page, Place, Spare, zero_block};
 use ft_media::{MediaError, PageRead};
+use nand_model::{MemNand, page_of_cut_erase, page_of_cut_program};
 use std::test::Fail;
 
 /// What a page is, without its bytes.

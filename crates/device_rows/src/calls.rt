@@ -1,4 +1,4 @@
-use crate::{Calls, Current, Ending};
+use device_calls::{Calls, Current, Ending};
 use ft_base::Outcome;
 use std::test::Fail;
 

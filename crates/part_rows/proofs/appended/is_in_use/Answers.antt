@@ -2,7 +2,7 @@ use Rattle.std.proofs.Common.{nat_eq, sym, ap, ◌∙◌}
 use Rattle.std.proofs.lemmas.Bool.{ne_eqb, or_from}
 use Rattle.std.proofs.lemmas.List.Folds.{list_any_more}
 use Rattle.std.proofs.lemmas.Option.{get_or_from_slice_get, slice_get_within}
-use Rattle.log_blocks.proofs.tests.is_in_use.Goals as goal
+use Rattle.part_rows.proofs.appended.is_in_use.Goals as goal
 
 pub loop-i-preserved : goal.loop-i-preserved
 loop-i-preserved c =

@@ -1,4 +1,4 @@
-use crate::{SpareKind, read_spare, write_spare};
+use page_oob::{SpareKind, read_spare, write_spare};
 
 const DATA_PAGE: [u8; 32] = *b"FTSP\x01\0\0\0\0\0\0\0\0\0\0\x05\0\0\0\0\0\0\0\0\0\0\0\0\0\0\0\0";
 

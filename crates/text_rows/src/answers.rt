@@ -1,8 +1,8 @@
 ghost use Rattle.std.specs.Prelude.{◌≡◌};
 
-use crate::{Answer, Line, Plan, Ran, plain_backs, plain_end, plain_fits, plain_told};
 use ft_base::{Ack, Geometry, Mode, Outcome};
 use std::test::Fail;
+use trace_model::{Answer, Line, Plan, Ran, plain_backs, plain_end, plain_fits, plain_told};
 
 fn ran(line: Line, cuts: u64, kept: u64) -> Ran
     ensures { result ≡ record { line = line; cuts = cuts; kept = kept; lost = 0 } }

@@ -1,5 +1,5 @@
-use crate::{MemDisk, block_of_cut};
 use device_calls::{Current, Ending};
+use disk_model::{MemDisk, block_of_cut};
 use ft_base::{Block, Outcome};
 use ft_media::MediaError;
 use std::test::Fail;

@@ -1,9 +1,8 @@
-use crate::line::line_at;
-use crate::{
+use ft_base::{Place, Record, zero_block};
+use record_codec::{
     Header, PageKind, Seal, read_header, read_page_header, read_records, read_seal, write_page,
     write_seal,
 };
-use ft_base::{Place, Record, zero_block};
 
 const LOG_LINE: [u8; 32] = *b"FTSCPAGE\x01\x03\x01\0\0\0\0\0\0\0\0\x01\0\0\0\0\0\0\0\0\0\0\0\0";
 
@@ -29,8 +28,8 @@ fn pages_have_the_bytes_written_down(rt: HostRuntime) {
         dirty: true,
     };
     write_page(&mut page, &log, [set_page].as_slice());
-    assert!(rt; line_at(&page, 0) == LOG_LINE);
-    assert!(rt; line_at(&page, 1) == SET_PAGE_LINE);
+    assert!(rt; page.0[..32] == LOG_LINE[..]);
+    assert!(rt; page.0[32..64] == SET_PAGE_LINE[..]);
     assert_eq!(rt; read_page_header(&page), Some(log));
     assert_eq!(rt; read_header(&page), Some(log));
     assert!(rt; read_records(&page, &log, &mut out));
@@ -67,7 +66,7 @@ fn groups_and_seals_are_read_as_written(rt: HostRuntime) {
         dirty: 0b1000,
     };
     write_page(&mut page, &map, [set_group].as_slice());
-    assert!(rt; line_at(&page, 1) == SET_GROUP_LINE);
+    assert!(rt; page.0[32..64] == SET_GROUP_LINE[..]);
     assert!(rt; read_records(&page, &map, &mut out));
     assert_eq!(rt; out[0], set_group);
     let header = Header {

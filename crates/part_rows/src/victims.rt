@@ -1,6 +1,6 @@
-use crate::{Victims, plain};
 use ft_base::{Geometry, Place, Record};
 use mapping::Map;
+use silent_evict::{Victims, plain};
 use std::alloc::Global;
 use std::marker::Model;
 use std::test::Fail;

@@ -3,9 +3,9 @@ ghost use Rattle.std.specs.Bool.{OnTrue};
 ghost use Rattle.mem_rig.specs.Rig.{state_of};
 ghost use Rattle.log_blocks.specs.Logs.{IsInUse, is_in, next_place};
 
-use crate::{LogBlocks, plain};
 use ft_base::{Geometry, Place, Spare, zero_block};
 use ft_media::{MediaError, PageRead};
+use log_blocks::{LogBlocks, plain};
 use mem_rig::MemRig;
 use std::alloc::{AllocError, Global};
 use std::test::Fail;

@@ -1,10 +1,10 @@
 ghost use Rattle.std.specs.Prelude.{◌≡◌, ◌<◌};
 
-use crate::MemRig;
-use crate::plain::{Kept, Plain};
+use crate::plain_rig::{Kept, Plain};
 use device_calls::Ending;
 use ft_base::{Block, Outcome, Place, Spare, Stop, is_same, pattern, tag, zero_block};
 use ft_media::{Counts, MediaError, PageRead, Rig};
+use mem_rig::MemRig;
 use std::alloc::{AllocError, Global};
 use std::test::Fail;
 
