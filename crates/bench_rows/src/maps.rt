@@ -24,7 +24,7 @@ fn each_map_finds_and_loses_a_thousand_keys(rt: HostRuntime) -> Result<(), Fail>
     let sparse = Size {
         entries: 1_000,
         buckets: 2_048,
-        bytes: 20_672,
+        bytes: 20_544,
     };
     assert_eq!(rt; size_of_a_thousand::<SparseMap<u64>>(&rt)?, sparse);
     let dense = Size {
