@@ -79,7 +79,8 @@ impl MemDisk {
         ensures disk { disk_of self.new ≡ disk_of self.old }
         ensures size { size_of self.new ≡ size_of self.old }
         ensures calls { CountsRead (is_listed (calls_of self.old)) (calls_of self.old) (calls_of self.new) }
-        ensures reads { reads_done self.new ≡ (if is_listed (calls_of self.old) then reads_done self.old else bumped (reads_done self.old)) }
+        ensures reads { reads_done self.new ≡
+            (if is_listed (calls_of self.old) then reads_done self.old else bumped (reads_done self.old)) }
         ensures writes { writes_done self.new ≡ writes_done self.old }
         ensures flushes { flushes_done self.new ≡ flushes_done self.old }
     {

@@ -14,8 +14,10 @@ pub fn laws_of_a_block_put_at_the_end()
 /// block that was the last is; of distinct blocks there is one fewer, and of the oldest taken out all
 /// that came after it are left.
 pub fn laws_of_a_block_taken_out()
-    ensures is_in { (other block : ℕ) (list : List ℕ) → is_in other (without_block block list) ≡ (not (block == other) && is_in other list) }
-    ensures last { (block last : ℕ) (list : List ℕ) → block ≢ last → last_of list ≡ Some last → last_of (without_block block list) ≡ Some last }
+    ensures is_in { (other block : ℕ) (list : List ℕ) → is_in other (without_block block list)
+        ≡ (not (block == other) && is_in other list) }
+    ensures last { (block last : ℕ) (list : List ℕ) → block ≢ last → last_of list ≡ Some last
+        → last_of (without_block block list) ≡ Some last }
     ensures length { (block : ℕ) (list : List ℕ) → IsDistinct nat_eq list → is_in block list ≡ true
         → length (without_block block list) + 1 ≡ length list }
     ensures oldest { (block : ℕ) (list : List ℕ) → IsDistinct nat_eq (block ∷ list) → without_block block (block ∷ list) ≡ list }

@@ -92,7 +92,8 @@ map_push (x ∷ xs) b = ap (λ l. address_of x ∷ l) (map_push xs b)
 waits_none : (g : Geometry) (s : CacheList) → MayWait g [] s
 waits_none g s = record { apart = tt; clean = tt; few = omega arith }
 
-waits_push : (g g' : Geometry) (q : List Buffered) (own : Buffered) (s s' : CacheList) → ((h : Held) → get s (address_of own) ≡ Some h → h.dirty ≡ false → ⊥) → ((a : ℕ) → (a ≡ address_of own → ⊥) → get s' a ≡ get s a) → IsCleanIn s' own → length q + 1 < 127 → MayWait g q s → MayWait g' (q ++ own ∷ []) s'
+waits_push : (g g' : Geometry) (q : List Buffered) (own : Buffered) (s s' : CacheList) → ((h : Held) → get s (address_of own) ≡ Some h → h.dirty ≡ false → ⊥) → ((a : ℕ) → (a ≡ address_of own → ⊥) → get s' a ≡ get s a) → IsCleanIn s' own → length q + 1 < 127 →
+    MayWait g q s → MayWait g' (q ++ own ∷ []) s'
 waits_push g g' q own s s' never same clean few waits =
     let absent = not_waiting q s (address_of own) never waits.clean in
     record {

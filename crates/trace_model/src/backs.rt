@@ -55,7 +55,8 @@ fn walk_lines(alloc: Global, plan: &Plan, run: &[Ran]) -> Result<Walk, AllocErro
 
 fn walk_line(alloc: Global, plan: &Plan, line: &Line, before: Walk) -> Result<Walk, AllocError>
     requires { IsAddressed line.now }
-    ensures table { IfOk result (λ w. plain_table w.table.items ≡ backs.table_line (told_of plan.now) line.now (plain_table before.table.items)) }
+    ensures table { IfOk result (λ w. plain_table w.table.items ≡
+        backs.table_line (told_of plan.now) line.now (plain_table before.table.items)) }
     ensures backs { IfOk result (λ w. w.backs ≡ min (before.backs + backs.backs_line (told_of plan.now) line.now
         (plain_table before.table.items)) (2 ^ 64 - 1)) }
 {

@@ -21,9 +21,11 @@ returns-clause-lists g c = on_ok_from c.commit_if_full.result (λ v is. λ list 
 pub returns-clause-leaves : goal.returns-clause-leaves
 returns-clause-leaves g c =
     record {
-      stands = λ list durable lists. step_then c.args.parts.now c.write_page.new.parts (g.M.Media.state c.write_page.new.media).contents.flash.page (g.M.Media.state c.commit_if_full.new.media).contents.flash.page c.args.lba (written_block c.args.lba c.args.block.now false) c.write_page.ensures.geometry list durable
+      stands = λ list durable lists. step_then c.args.parts.now c.write_page.new.parts (g.M.Media.state c.write_page.new.media).contents.flash.page (g.M.Media.state c.commit_if_full.new.media).contents.flash.page c.args.lba
+          (written_block c.args.lba c.args.block.now false) c.write_page.ensures.geometry list durable
           c.commit_if_full.ensures.stands (c.in_ok-write_page.ensures.lists list durable lists);
-      kept = λ room list durable lists. kept_then c.args.parts.now c.write_page.new.parts (g.M.Media.state c.write_page.new.media).contents.flash.page (g.M.Media.state c.commit_if_full.new.media).contents.flash.page c.args.lba (written_block c.args.lba c.args.block.now false) c.write_page.ensures.geometry list durable
+      kept = λ room list durable lists. kept_then c.args.parts.now c.write_page.new.parts (g.M.Media.state c.write_page.new.media).contents.flash.page (g.M.Media.state c.commit_if_full.new.media).contents.flash.page c.args.lba
+          (written_block c.args.lba c.args.block.now false) c.write_page.ensures.geometry list durable
           c.commit_if_full.ensures.stands room (c.in_ok-write_page.ensures.lists list durable lists);
     }
 
@@ -35,7 +37,8 @@ returns-clause-one_program g c = on_ok_from c.commit_if_full.result (λ v is. λ
 pub returns-clause-programs : goal.returns-clause-programs
 returns-clause-programs g c = on_ok_from c.commit_if_full.result (λ v is. record {
   count = search rules;
-  spends = spends_on (g.M.Media.state c.args.media.now) (g.M.Media.state c.write_page.new.media) (g.M.Media.state c.commit_if_full.new.media) 1 c.in_ok-write_page.ensures.drives.flash.passes c.in_ok-write_page.ensures.programs.spends (passes_ok _ _ c.commit_if_full.result v is c.commit_if_full.ensures.drives.flash.passes);
+  spends = spends_on (g.M.Media.state c.args.media.now) (g.M.Media.state c.write_page.new.media) (g.M.Media.state c.commit_if_full.new.media) 1 c.in_ok-write_page.ensures.drives.flash.passes c.in_ok-write_page.ensures.programs.spends
+      (passes_ok _ _ c.commit_if_full.result v is c.commit_if_full.ensures.drives.flash.passes);
 })
 
 pub returns-clause-drives : goal.returns-clause-drives

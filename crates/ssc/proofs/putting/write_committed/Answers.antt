@@ -21,9 +21,11 @@ returns-clause-lists g c = on_ok_from c.commit.result (λ v is. λ list durable 
 pub returns-clause-leaves : goal.returns-clause-leaves
 returns-clause-leaves g c =
     record {
-      stands = λ list durable lists. step_then c.args.parts.now c.write_page.new.parts (g.M.Media.state c.write_page.new.media).contents.flash.page (g.M.Media.state c.commit.new.media).contents.flash.page c.args.lba (written_block c.args.lba c.args.block.now c.args.dirty) c.write_page.ensures.geometry list durable
+      stands = λ list durable lists. step_then c.args.parts.now c.write_page.new.parts (g.M.Media.state c.write_page.new.media).contents.flash.page (g.M.Media.state c.commit.new.media).contents.flash.page c.args.lba
+          (written_block c.args.lba c.args.block.now c.args.dirty) c.write_page.ensures.geometry list durable
           c.commit.ensures.kept.stands (c.in_ok-write_page.ensures.lists list durable lists);
-      kept = λ room list durable lists. kept_then c.args.parts.now c.write_page.new.parts (g.M.Media.state c.write_page.new.media).contents.flash.page (g.M.Media.state c.commit.new.media).contents.flash.page c.args.lba (written_block c.args.lba c.args.block.now c.args.dirty) c.write_page.ensures.geometry list durable
+      kept = λ room list durable lists. kept_then c.args.parts.now c.write_page.new.parts (g.M.Media.state c.write_page.new.media).contents.flash.page (g.M.Media.state c.commit.new.media).contents.flash.page c.args.lba
+          (written_block c.args.lba c.args.block.now c.args.dirty) c.write_page.ensures.geometry list durable
           c.commit.ensures.kept.stands room (c.in_ok-write_page.ensures.lists list durable lists);
     }
 
@@ -34,7 +36,8 @@ returns-clause-two_programs g c = on_ok_from c.commit.result (λ v is. λ room l
 pub returns-clause-programs : goal.returns-clause-programs
 returns-clause-programs g c = on_ok_from c.commit.result (λ v is. record {
   count = search rules;
-  spends = spends_both (g.M.Media.state c.args.media.now) (g.M.Media.state c.write_page.new.media) (g.M.Media.state c.commit.new.media) 1 1 c.in_ok-write_page.ensures.drives.flash.passes c.in_ok-write_page.ensures.programs.spends (ok_at c.commit.result v is c.commit.ensures.spends c.in_ok-write_page.ensures.waits);
+  spends = spends_both (g.M.Media.state c.args.media.now) (g.M.Media.state c.write_page.new.media) (g.M.Media.state c.commit.new.media) 1 1 c.in_ok-write_page.ensures.drives.flash.passes c.in_ok-write_page.ensures.programs.spends
+      (ok_at c.commit.result v is c.commit.ensures.spends c.in_ok-write_page.ensures.waits);
 })
 
 pub returns-clause-drives : goal.returns-clause-drives
