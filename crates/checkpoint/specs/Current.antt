@@ -67,4 +67,5 @@ log_checkpointed log = restarted (1 - log.region) ((log.era + 1) % 3) log
 
 -- the log after a commit: one page longer, or after a checkpoint where it had no page left
 abbrev pub log_committed : LogValue → LogValue
-log_committed log = if_buffered log.buffered (if nat_lt log.next (log_pages log.geometry) then log_flushed log else log_checkpointed log) log
+log_committed log = if_buffered log.buffered
+    (if nat_lt log.next (log_pages log.geometry) then log_flushed log else log_checkpointed log) log

@@ -60,7 +60,8 @@ pub record CommitsList {T : Type 0} (old new : Parts) (before now : Contents) (r
   pub agree : OnOk result (Agree new now)
   pub nothing_waits : OnOk result (new.log.buffered ≡ [])
   pub lists : OnOk result ((list durable : CacheList) → Lists old before.flash.page list durable → Lists new now.flash.page list list)
-  pub stands : (list durable : CacheList) → Lists old before.flash.page list durable → FlashStandsForEither old.geometry now.flash.page durable list
+  pub stands : (list durable : CacheList) → Lists old before.flash.page list durable
+      → FlashStandsForEither old.geometry now.flash.page durable list
 
 -- the same of a merge of the group, before which a clean group may have given way
 pub record MergesList {T : Type 0} (old new : Parts) (group : ℕ) (before now : Contents) (result : Result T MediaError) : Type 0 where
@@ -68,20 +69,25 @@ pub record MergesList {T : Type 0} (old new : Parts) (group : ℕ) (before now :
   pub nothing_waits : OnOk result (new.log.buffered ≡ [])
   pub lists : OnOk result ((list durable : CacheList) → Lists old before.flash.page list durable
       → (v : CacheList) × GaveWay old.geometry old.map.entries group list v × Lists new now.flash.page v v)
-  pub stands : (list durable : CacheList) → Lists old before.flash.page list durable → FlashStandsForGiven old.geometry now.flash.page durable list
+  pub stands : (list durable : CacheList) → Lists old before.flash.page list durable
+      → FlashStandsForGiven old.geometry now.flash.page durable list
 
 -- Ok, one more record may be buffered, and the list stays or gave room; whatever is answered, the flash stands for it, or for the one that it stood for
 pub record KeepsOrGives {T : Type 0} (old new : Parts) (before now : Contents) (result : Result T MediaError) : Type 0 where
   pub agree : OnOk result (Agree new now)
   pub room : OnOk result (length new.log.buffered < page_records new.log.geometry)
-  pub lists : OnOk result ((list durable : CacheList) → Lists old before.flash.page list durable → GoesOn old.log new now.flash.page list durable)
-  pub stands : (list durable : CacheList) → Lists old before.flash.page list durable → FlashStandsForGiven old.geometry now.flash.page durable list
+  pub lists : OnOk result ((list durable : CacheList) → Lists old before.flash.page list durable
+      → GoesOn old.log new now.flash.page list durable)
+  pub stands : (list durable : CacheList) → Lists old before.flash.page list durable
+      → FlashStandsForGiven old.geometry now.flash.page durable list
 
 -- nothing gives way: the map stays, and so does the list
 pub record NothingGivesWay {T : Type 0} (old new : Parts) (before now : Contents) (result : Result T MediaError) : Type 0 where
   pub map_stays : new.map ≡ old.map
-  pub list_stands : (list durable : CacheList) → Lists old before.flash.page list durable → FlashStandsForEither old.geometry now.flash.page durable list
-  pub list_stays : OnOk result ((list durable : CacheList) → Lists old before.flash.page list durable → KeepsList old.log new now.flash.page list durable)
+  pub list_stands : (list durable : CacheList) → Lists old before.flash.page list durable
+      → FlashStandsForEither old.geometry now.flash.page durable list
+  pub list_stays : OnOk result ((list durable : CacheList) → Lists old before.flash.page list durable
+      → KeepsList old.log new now.flash.page list durable)
 
 -- ---- what a merge leaves, and what it costs
 

@@ -41,7 +41,8 @@ pub(crate) fn replay(
     ensures geometry { map.new.geometry ≡ map.old.geometry }
     ensures replayed { IfOk result (λ damaged. MatchOption damaged
         (loading.replayed geometry.now (page_listed geometry.now pages.now) (region, complete_of sealed.now) ≡ Ok map.new.entries)
-        (λ at. loading.replayed geometry.now (page_listed geometry.now pages.now) (region, complete_of sealed.now) ≡ Err (loading.Damaged at))) }
+        (λ at. loading.replayed geometry.now (page_listed geometry.now pages.now) (region, complete_of sealed.now)
+        ≡ Err (loading.Damaged at))) }
 {
     let maps = Part {
         kind: PageKind::Map,

@@ -18,7 +18,8 @@ pub(crate) fn first_not_whole(
 ) -> Result<Option<Place>, AllocError>
     ensures { IfOk result (λ damaged. MatchOption damaged
         (loading.all_whole (page_listed geometry.now pages.now) (entries map.now.entries) map.now.entries ≡ Ok map.now.entries)
-        (λ at. loading.all_whole (page_listed geometry.now pages.now) (entries map.now.entries) map.now.entries ≡ Err (loading.Damaged at))) }
+        (λ at. loading.all_whole (page_listed geometry.now pages.now) (entries map.now.entries) map.now.entries
+        ≡ Err (loading.Damaged at))) }
 {
     let mut addresses = addresses_in(alloc, map)?;
     addresses.sort()?;
