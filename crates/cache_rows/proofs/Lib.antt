@@ -1,2 +1,2 @@
 pub mod UpLemmas
-pub mod GroupsLemmas
+pub mod PartsLemmas

@@ -1,5 +1,5 @@
 -- A command leaves a cache that fits its flash.
-use Rattle.std.proofs.Common.{◌≡◌, ◌<◌, ℕ, Bool, true, false, Result, Ok, Err, OnOk, sym, refl, ap, subst, ◌∙◌}
+use Rattle.std.proofs.Common.{◌≡◌, ◌<◌, ℕ, Bool, true, false, not, Result, Ok, Err, OnOk, sym, refl, ap, subst, ◌∙◌}
 use Rattle.std.specs.Prelude.{IsErrOf}
 use Rattle.std.proofs.lemmas.Bool.{false≢true}
 use Rattle.ft_base.specs.Contents.{Contents}
@@ -39,33 +39,39 @@ on_ok : {P Q : Type 0} (r : Result (Unit {0}) SscError) → (P → Q) → OnOk r
 on_ok (Ok done) f p = f p
 on_ok (Err e) f p = tt
 
--- before a command: the cache was not stopped
-pub up_of : (c : Ssc) (contents : Contents) → FitTogether c contents → c.stopped ≡ false → IsUp c contents
-up_of c contents fit going = fit.up going
-
-pub in_size : (c : Ssc) (contents : Contents) (lba : ℕ) → FitTogether c contents → lba < 64 → lba < (geometry_of c).size
-in_size c contents lba fit below = subst (λ (n : ℕ). lba < n) (sym fit.size) below
+-- before a command: commands may be given
+pub in_size : (going : Bool) (c : Ssc) (contents : Contents) (lba : ℕ) → FitTogether going c contents → lba < 64 → lba < (geometry_of c).size
+in_size going c contents lba fit below = subst (λ (n : ℕ). lba < n) (sym fit.size) below
 
 same_size : (c d : Ssc) → geometry_of d ≡ geometry_of c → (geometry_of c).size ≡ 64 → (geometry_of d).size ≡ 64
 same_size c d same is = ap (λ (g : Geometry). g.size) same ∙ is
 
+-- after it they may, unless it stopped the cache
+going_on : (stopped : Bool) (d : Ssc) → stopped ≡ d.stopped → not stopped ≡ true → d.stopped ≡ false
+going_on false d is going = sym is
+going_on true d is going = absurd (false≢true going)
+
 -- a write, from which clean groups may have given way
-pub fit_written : (r : Result (Unit {0}) SscError) (c d : Ssc) (a b : State) (lba : ℕ) (f : CacheList → CacheList) → FitTogether c a.contents → c.stopped ≡ false → geometry_of d ≡ geometry_of c → d.stopped ≡ stops r
-    → OnOk r ((s : CacheList) → Holds c a.contents s → HoldsWritten d b.contents s lba f) → ((n l : ℕ) → IsErrOf r (Full n l) → (d ≡ c) × (b ≡ a)) → (IsErrOf r OutOfMemory → StillHolds c d a b)
-    → FitTogether d b.contents
-fit_written r c d a b lba f fit going same stopped holds full memory =
-    let up = fit.up going in
+pub fit_written : (r : Result (Unit {0}) SscError) (going stopped : Bool) (c d : Ssc) (a b : State) (lba : ℕ) (f : CacheList → CacheList) → FitTogether going c a.contents → going ≡ true → stopped ≡ d.stopped → geometry_of d ≡ geometry_of c
+    → d.stopped ≡ stops r → OnOk r ((s : CacheList) → Holds c a.contents s → HoldsWritten d b.contents s lba f) → ((n l : ℕ) → IsErrOf r (Full n l) → (d ≡ c) × (b ≡ a)) → (IsErrOf r OutOfMemory → StillHolds c d a b)
+    → FitTogether (not stopped) d b.contents
+fit_written r going stopped c d a b lba f fit is_going is_stopped same stops_so holds full memory =
+    let up = fit.up is_going in
     record {
       size = same_size c d same fit.size;
-      up = up_some r c d a b up stopped (on_ok r (λ (k : (s : CacheList) → Holds c a.contents s → HoldsWritten d b.contents s lba f). let w = k up.list up.holds in (f w.left, w.holds)) holds) full memory;
+      up = λ goes_on.
+          up_some r c d a b up stops_so (on_ok r (λ (k : (s : CacheList) → Holds c a.contents s → HoldsWritten d b.contents s lba f). let w = k up.list up.holds in (f w.left, w.holds)) holds) full memory
+          (going_on stopped d is_stopped goes_on);
     }
 
 -- any other command
-pub fit_after : (r : Result (Unit {0}) SscError) (c d : Ssc) (a b : State) (f : CacheList → CacheList) → FitTogether c a.contents → c.stopped ≡ false → geometry_of d ≡ geometry_of c → d.stopped ≡ stops r
-    → OnOk r ((s : CacheList) → Holds c a.contents s → Holds d b.contents (f s)) → ((n l : ℕ) → IsErrOf r (Full n l) → ⊥) → (IsErrOf r OutOfMemory → ⊥) → FitTogether d b.contents
-fit_after r c d a b f fit going same stopped holds full memory =
-    let up = fit.up going in
+pub fit_after : (r : Result (Unit {0}) SscError) (going stopped : Bool) (c d : Ssc) (a b : State) (f : CacheList → CacheList) → FitTogether going c a.contents → going ≡ true → stopped ≡ d.stopped → geometry_of d ≡ geometry_of c → d.stopped ≡ stops r
+    → OnOk r ((s : CacheList) → Holds c a.contents s → Holds d b.contents (f s)) → ((n l : ℕ) → IsErrOf r (Full n l) → ⊥) → (IsErrOf r OutOfMemory → ⊥) → FitTogether (not stopped) d b.contents
+fit_after r going stopped c d a b f fit is_going is_stopped same stops_so holds full memory =
+    let up = fit.up is_going in
     record {
       size = same_size c d same fit.size;
-      up = up_some r c d a b up stopped (on_ok r (λ (k : (s : CacheList) → Holds c a.contents s → Holds d b.contents (f s)). (f up.list, k up.list up.holds)) holds) (λ n l is. absurd (full n l is)) (λ is. absurd (memory is));
+      up = λ goes_on.
+          up_some r c d a b up stops_so (on_ok r (λ (k : (s : CacheList) → Holds c a.contents s → Holds d b.contents (f s)). (f up.list, k up.list up.holds)) holds) (λ n l is. absurd (full n l is)) (λ is. absurd (memory is))
+          (going_on stopped d is_stopped goes_on);
     }

@@ -1,28 +1,40 @@
 //! A cache on a rig in memory: the commands that the tests give it, and what they see of it.
 
-ghost use Rattle.std.specs.Prelude.{◌≡◌, ◌<◌, false, IfOk};
+ghost use Rattle.std.specs.Prelude.{◌≡◌, ◌<◌, ◌≤◌, true, IfOk, IfSome};
 ghost use Rattle.std.specs.Bool.{OnTrue};
 ghost use Rattle.mem_rig.specs.Rig.{state_of};
 ghost use Rattle.op_log.specs.Log.{FitsOn};
+ghost use Rattle.ssc.specs.CacheState.{IsUp, geometry_of};
 
-use crate::lists::{Held, Plain, Step};
+use crate::lists::{Held, Lists, NOTHING, Plain, Step, give, groups_held, is_less, may_be_left};
 use ft_base::{Block, Geometry, Outcome, pattern, tag_of, zero_block};
-use ft_media::{Counts, Media};
+use ft_media::Media;
 use mem_rig::MemRig;
 use op_log::OpenError;
-use ssc::{Ssc, SscError};
+use ssc::{Scrub, Ssc, SscError};
 use std::alloc::Global;
 use std::marker::Model;
-use std::test::Fail;
 
 /// The addresses of the disk.
 pub(crate) const SIZE: u64 = 64;
 
-/// Erase blocks of 4 pages, with at most two dirty groups.
-pub(crate) fn geometry() -> Result<Geometry, Fail>
-    ensures { IfOk result (λ g. g.size ≡ 64) }
+/// Erase blocks of 4 pages, with at most two dirty groups. The flash has 9 erase blocks.
+pub(crate) fn geometry() -> Geometry
+    ensures { result.size ≡ 64 }
 {
-    Ok(Geometry::new(4, 2, 2, 1, SIZE)?)
+    Geometry {
+        p: 4,
+        c: 2,
+        l: 2,
+        j: 1,
+        size: SIZE,
+    }
+}
+
+/// Gives the rig as many erase blocks, pages and disk blocks as a cache has.
+pub(crate) fn fit(alloc: Global, rig: &mut MemRig, geometry: &Geometry) -> bool {
+    rig.fit_anew(alloc, geometry.blocks(), geometry.p(), geometry.size())
+        .is_ok()
 }
 
 /// Whether the rig has the pages of the geometry, and enough of the rest.
@@ -35,53 +47,82 @@ pub(crate) fn fits_on(rig: &MemRig, geometry: &Geometry) -> bool
     rig.disk_blocks() >= geometry.size()
 }
 
-/// A rig just large enough for a cache, where power is on.
-pub(crate) fn fitted(alloc: Global, geometry: &Geometry) -> Result<MemRig, Fail> {
-    fit(alloc, MemRig::new(alloc), geometry)
-}
-
-fn fit(alloc: Global, rig: MemRig, geometry: &Geometry) -> Result<MemRig, Fail> {
-    let mut rig = rig;
-    rig.fit_anew(alloc, geometry.blocks(), geometry.p(), geometry.size())?;
-    Ok(rig)
-}
-
 /// Makes the flash that of an empty cache.
-pub(crate) fn format(rig: &mut MemRig, geometry: &Geometry) -> Result<(), Fail> {
+pub(crate) fn format(rig: &mut MemRig, geometry: &Geometry) -> bool {
+    fits_on(rig, geometry) && Ssc::format(rig, geometry).is_ok()
+}
+
+/// Opens the flash. Where it doesn't fit that is told as a fault of the disk, which no opening meets.
+fn opened(alloc: Global, rig: &mut MemRig, geometry: &Geometry) -> Result<Ssc, OpenError>
+    ensures up { IfOk result (λ cache. IsUp cache (state_of rig.new).contents) }
+    ensures geometry { IfOk result (λ cache. geometry_of cache ≡ geometry.now) }
+{
     if !fits_on(rig, geometry) {
-        return Err(Fail::from("the rig doesn't fit"));
+        return Err(OpenError::DiskFault);
     }
-    Ssc::format(rig, geometry)?;
-    Ok(())
+    Ssc::open(alloc, rig, geometry)
 }
 
 /// Why the flash can't be opened.
-pub(crate) fn refusal(
-    alloc: Global,
-    rig: &mut MemRig,
-    geometry: &Geometry,
-) -> Result<Option<OpenError>, Fail> {
-    if !fits_on(rig, geometry) {
-        return Err(Fail::from("the rig doesn't fit"));
+pub(crate) fn refusal(alloc: Global, rig: &mut MemRig, geometry: &Geometry) -> Option<OpenError> {
+    opened(alloc, rig, geometry).err()
+}
+
+/// An empty cache, for which the rig is fitted and its flash is made.
+fn emptied(alloc: Global, rig: &mut MemRig) -> Result<Ssc, OpenError>
+    ensures up { IfOk result (λ cache. IsUp cache (state_of rig.new).contents) }
+    ensures size { IfOk result (λ cache. (geometry_of cache).size ≡ 64) }
+{
+    let geometry = geometry();
+    if !fit(alloc, rig, &geometry) || !format(rig, &geometry) {
+        return Err(OpenError::DiskFault);
     }
-    Ok(Ssc::open(alloc, rig, geometry).err())
+    opened(alloc, rig, &geometry)
 }
 
 /// Puts a stop at the device write of a number, counted from now.
-pub(crate) fn arm(rig: &mut MemRig, number: u64, outcome: Outcome) -> Result<(), Fail>
+fn arm(rig: &mut MemRig, number: u64, outcome: Outcome) -> bool
     ensures { (state_of rig.new).contents ≡ (state_of rig.old).contents }
 {
     if number < 1 || rig.stops() >= 16 {
-        return Err(Fail::from("no stop can be armed"));
+        return false;
     }
     rig.arm_stop(number, outcome);
-    Ok(())
+    true
+}
+
+/// Writes a block to the disk, and flushes it. The flash stays as it is.
+fn write_disk(rig: &mut MemRig, lba: u64, block: &Block) -> bool
+    requires { lba < (state_of rig.old).contents.shape.size }
+    ensures shape { (state_of rig.new).contents.shape ≡ (state_of rig.old).contents.shape }
+    ensures flash { OnTrue result ((state_of rig.new).contents.flash ≡ (state_of rig.old).contents.flash) }
+{
+    rig.write_block(lba, block).is_ok() && rig.flush_disk().is_ok()
 }
 
 fn block_of(lba: u64, tag: u64) -> Block {
     let mut block = zero_block();
     pattern(lba, tag, &mut block);
     block
+}
+
+fn held_of(tag: Option<u64>, is_dirty: bool) -> Option<Held> {
+    match tag {
+        Some(tag) if is_dirty => Some(Held::Dirty(tag)),
+        Some(tag) => Some(Held::Clean(tag)),
+        None => None,
+    }
+}
+
+/// Which of the first addresses are listed.
+fn marks_of(listed: &[u64]) -> [bool; 16] {
+    let mut marks = [false; 16];
+    for lba in listed {
+        if *lba < 16 {
+            marks[*lba as usize] = true;
+        }
+    }
+    marks
 }
 
 /// What can be seen of a cache.
@@ -101,11 +142,46 @@ pub(crate) enum Fact {
     Buckets(u64),
 }
 
-/// A cache and the rig that it is on, which fit together until a command stops the cache.
+/// A line of an example.
+#[derive(Clone, Copy)]
+pub(crate) enum Line {
+    /// A command that is carried out.
+    Do(Step),
+    /// Clean writes of these addresses with a tag, which are carried out.
+    WriteAll(&'static [u64], u64),
+    /// A command that is carried out; the pages left in the open block and in the log before it; its programs
+    /// and erases.
+    Makes(Step, u32, u32, u64, u64),
+    /// A command that is refused, and changes no count of the rig, since so many groups would be dirty, where
+    /// so many may be.
+    Full(Step, u32, u32),
+    /// A block goes to the disk.
+    WriteDisk(u64, u64),
+    /// Power is cut, and the flash is opened.
+    Cut,
+    /// The memory of the next write is taken.
+    Reserve,
+    /// What the plain list has is held, and nothing else.
+    HoldsAll,
+    /// Nothing else is held, and some of it isn't, but something of two groups at least, and this address.
+    HoldsLess(u64),
+    /// This is seen.
+    See(Fact),
+    /// The dirty addresses of so many from one on are put behind 60, which gives these.
+    Lists(u64, u64, &'static [u64]),
+    /// A scrub reads so many pages, of which none is strange.
+    Scrubs(u64),
+}
+
+/// A cache, the rig that it is on, and what it must hold.
 #[derive(Drop)]
 pub(crate) struct Bench {
+    alloc: Global,
     cache: Ssc,
     rig: MemRig,
+    lists: Lists,
+    // Whether commands may be given: the cache was opened on the flash, and no command stopped it.
+    going: bool,
 }
 
 impl Model for Bench {
@@ -113,220 +189,315 @@ impl Model for Bench {
     ghost use Rattle.mem_rig.specs.Rig.{state_of};
     ghost use Rattle.cache_rows.specs.Fits.{FitTogether};
 
-    // whether a command stopped the cache
+    // whether commands may be given
     ghost Value = { Bool };
 
-    ghost view = { λ b. b.cache.stopped };
+    ghost view = { λ b. b.going };
 
-    ghost invariant = { λ b. FitTogether b.cache (state_of b.rig).contents };
+    ghost invariant = { λ b. FitTogether b.going b.cache (state_of b.rig).contents };
 }
 
 impl Bench {
     /// An empty cache.
-    pub(crate) fn new(alloc: Global) -> Result<Bench, Fail> {
+    pub(crate) fn new(alloc: Global) -> Option<Bench> {
         Bench::on(alloc, MemRig::new(alloc))
     }
 
     /// An empty cache, on flash of which the call of a number will fail.
-    pub(crate) fn failing(alloc: Global, number: u64) -> Result<Bench, Fail> {
-        let flash = [number].to_vec(alloc)?;
-        Bench::on(alloc, MemRig::failing(alloc, flash, Vec::new(alloc)))
+    pub(crate) fn failing(alloc: Global, number: u64) -> Option<Bench> {
+        match [number].to_vec(alloc) {
+            Ok(flash) => Bench::on(alloc, MemRig::failing(alloc, flash, Vec::new(alloc))),
+            Err(_) => None,
+        }
     }
 
-    fn on(alloc: Global, rig: MemRig) -> Result<Bench, Fail> {
-        let geometry = geometry()?;
-        let mut rig = fit(alloc, rig, &geometry)?;
-        format(&mut rig, &geometry)?;
-        Bench::open(alloc, rig)
+    fn on(alloc: Global, rig: MemRig) -> Option<Bench> {
+        let mut rig = rig;
+        match emptied(alloc, &mut rig) {
+            Ok(cache) => Some(Bench {
+                alloc,
+                cache,
+                rig,
+                lists: NOTHING,
+                going: true,
+            }),
+            Err(_) => None,
+        }
     }
 
     /// Turns power on, and opens the flash.
-    pub(crate) fn open(alloc: Global, rig: MemRig) -> Result<Bench, Fail> {
-        let mut rig = rig;
-        let geometry = geometry()?;
-        rig.turn_on();
-        if !fits_on(&rig, &geometry) {
-            return Err(Fail::from("the rig doesn't fit"));
+    pub(crate) fn open(&mut self) -> bool {
+        self.going = false;
+        self.rig.turn_on();
+        match opened(self.alloc, &mut self.rig, &geometry()) {
+            Ok(cache) => {
+                self.cache = cache;
+                self.going = true;
+                true
+            }
+            Err(_) => false,
         }
-        let cache = Ssc::open(alloc, &mut rig, &geometry)?;
-        Ok(Bench { cache, rig })
+    }
+
+    /// Turns power on, and opens the flash, of which the second device write is cut.
+    pub(crate) fn cut_opening(&mut self, outcome: Outcome) -> bool {
+        self.going = false;
+        self.rig.turn_on();
+        if !arm(&mut self.rig, 2, outcome) {
+            return false;
+        }
+        refusal(self.alloc, &mut self.rig, &geometry()) == Some(OpenError::PowerLost)
     }
 
     /// Cuts power, and opens the flash.
-    pub(crate) fn cut(alloc: Global, rig: MemRig) -> Result<Bench, Fail> {
-        let mut rig = rig;
-        rig.cut_power(Outcome::Blank);
-        Bench::open(alloc, rig)
+    fn cut(&mut self) -> bool {
+        self.going = false;
+        self.rig.cut_power(Outcome::Blank);
+        self.lists.now = self.lists.durable;
+        self.open()
     }
 
     /// Puts a stop at the device write of a number, counted from now.
-    pub(crate) fn arm(self, number: u64, outcome: Outcome) -> Result<Bench, Fail> {
-        let Bench { cache, mut rig } = self;
-        arm(&mut rig, number, outcome)?;
-        Ok(Bench { cache, rig })
+    pub(crate) fn arm(&mut self, number: u64, outcome: Outcome) -> bool {
+        arm(&mut self.rig, number, outcome)
     }
 
     // ---- the commands
 
     fn write_dirty(&mut self, lba: u64, tag: u64) -> Result<(), SscError>
-        requires going { self.old ≡ false }
+        requires going { self.old ≡ true }
         requires lba { lba < 64 }
     {
-        self.cache
-            .write_dirty(&mut self.rig, lba, &block_of(lba, tag))
+        let block = block_of(lba, tag);
+        let answer = self.cache.write_dirty(&mut self.rig, lba, &block);
+        self.going = !self.cache.is_stopped();
+        answer
     }
 
     fn write_clean(&mut self, lba: u64, tag: u64) -> Result<(), SscError>
-        requires going { self.old ≡ false }
+        requires going { self.old ≡ true }
         requires lba { lba < 64 }
     {
-        self.cache
-            .write_clean(&mut self.rig, lba, &block_of(lba, tag))
+        let block = block_of(lba, tag);
+        let answer = self.cache.write_clean(&mut self.rig, lba, &block);
+        self.going = !self.cache.is_stopped();
+        answer
     }
 
     fn evict(&mut self, lba: u64) -> Result<(), SscError>
-        requires going { self.old ≡ false }
+        requires going { self.old ≡ true }
         requires lba { lba < 64 }
     {
-        self.cache.evict(&mut self.rig, lba)
+        let answer = self.cache.evict(&mut self.rig, lba);
+        self.going = !self.cache.is_stopped();
+        answer
     }
 
     fn clean(&mut self, lba: u64) -> Result<(), SscError>
-        requires going { self.old ≡ false }
+        requires going { self.old ≡ true }
         requires lba { lba < 64 }
     {
-        self.cache.clean(&mut self.rig, lba)
+        let answer = self.cache.clean(&mut self.rig, lba);
+        self.going = !self.cache.is_stopped();
+        answer
     }
 
     fn commit(&mut self) -> Result<(), SscError>
-        requires going { self.old ≡ false }
+        requires going { self.old ≡ true }
     {
-        self.cache.commit(&mut self.rig)
+        let answer = self.cache.commit(&mut self.rig);
+        self.going = !self.cache.is_stopped();
+        answer
     }
 
     fn checkpoint(&mut self) -> Result<(), SscError>
-        requires going { self.old ≡ false }
+        requires going { self.old ≡ true }
     {
-        self.cache.checkpoint(&mut self.rig)
+        let answer = self.cache.checkpoint(&mut self.rig);
+        self.going = !self.cache.is_stopped();
+        answer
     }
 
-    /// Gives the cache a command.
-    pub(crate) fn give(&mut self, step: &Step) -> Result<Result<(), SscError>, Fail> {
-        if self.cache.is_stopped() {
-            return Err(Fail::from("a command stopped the cache"));
+    /// Gives the cache a command. None where it takes none, or there is no such address.
+    fn give(&mut self, step: &Step) -> Option<Result<(), SscError>> {
+        if !self.going {
+            return None;
         }
         match *step {
-            Step::WriteDirty(lba, tag) if lba < SIZE => Ok(self.write_dirty(lba, tag)),
-            Step::WriteClean(lba, tag) if lba < SIZE => Ok(self.write_clean(lba, tag)),
-            Step::Evict(lba) if lba < SIZE => Ok(self.evict(lba)),
-            Step::Clean(lba) if lba < SIZE => Ok(self.clean(lba)),
-            Step::Commit => Ok(self.commit()),
-            Step::Checkpoint => Ok(self.checkpoint()),
-            _ => Err(Fail::from("there is no such address")),
+            Step::WriteDirty(lba, tag) if lba < SIZE => Some(self.write_dirty(lba, tag)),
+            Step::WriteClean(lba, tag) if lba < SIZE => Some(self.write_clean(lba, tag)),
+            Step::Evict(lba) if lba < SIZE => Some(self.evict(lba)),
+            Step::Clean(lba) if lba < SIZE => Some(self.clean(lba)),
+            Step::Commit => Some(self.commit()),
+            Step::Checkpoint => Some(self.checkpoint()),
+            _ => None,
         }
     }
 
-    /// Gives the cache these commands, which it carries out.
-    pub(crate) fn run(self, steps: &[Step]) -> Result<Bench, Fail> {
-        let mut bench = self;
+    /// Gives the cache a command. Whether it carries it out.
+    fn does(&mut self, step: &Step) -> bool {
+        match self.give(step) {
+            Some(Ok(())) => {
+                give(&mut self.lists, step);
+                true
+            }
+            _ => false,
+        }
+    }
+
+    /// Gives the cache these commands. Whether it carries all of them out.
+    pub(crate) fn run(&mut self, steps: &[Step]) -> bool {
         for step in steps {
-            bench = bench.done(step)?;
+            if !self.does(step) {
+                return false;
+            }
         }
-        Ok(bench)
+        true
     }
 
-    /// Gives the cache a command, which it carries out.
-    fn done(self, step: &Step) -> Result<Bench, Fail> {
-        let mut bench = self;
-        bench.give(step)??;
-        Ok(bench)
-    }
-
-    /// Gives the cache these commands until one of them stops it. Says how many did not, and leaves the rig.
-    pub(crate) fn run_until_stopped(self, steps: &[Step]) -> Result<(usize, MemRig), Fail> {
-        let mut bench = self;
-        let given = bench.count_until_stopped(steps)?;
-        Ok((given, bench.rig))
+    /// The same of clean writes of these addresses with a tag.
+    fn write_all(&mut self, addresses: &[u64], tag: u64) -> bool {
+        for lba in addresses {
+            if !self.does(&Step::WriteClean(*lba, tag)) {
+                return false;
+            }
+        }
+        true
     }
 
     /// Gives the cache these commands until one of them stops it. Says how many did not.
-    pub(crate) fn count_until_stopped(&mut self, steps: &[Step]) -> Result<usize, Fail> {
+    pub(crate) fn given_until_stopped(&mut self, steps: &[Step]) -> usize {
         for i in 0..steps.len() {
-            let _ = self.give(&steps[i])?;
-            if self.cache.is_stopped() {
-                return Ok(i);
+            let _ = self.give(&steps[i]);
+            if !self.going {
+                return i;
             }
         }
-        Ok(steps.len())
+        steps.len()
+    }
+
+    /// Whether a command finds so much room, and makes so many device writes.
+    fn makes(&mut self, step: &Step, rooms: [u32; 2], writes: [u64; 2]) -> bool {
+        let found = [self.cache.open_room(), self.cache.log_room()];
+        let old = self.rig.done();
+        if !self.does(step) {
+            return false;
+        }
+        let new = self.rig.done();
+        let programs = new.programs.wrapping_sub(old.programs);
+        let erases = new.erases.wrapping_sub(old.erases);
+        found == rooms && [programs, erases] == writes
+    }
+
+    /// Whether a command is refused as full, and changes no count of the rig.
+    fn is_full(&mut self, step: &Step, dirty_groups: u32, limit: u32) -> bool {
+        let counts = self.rig.done();
+        let refused = SscError::Full {
+            dirty_groups,
+            limit,
+        };
+        self.give(step) == Some(Err(refused)) && self.rig.done() == counts
+    }
+
+    /// Writes a block to the disk, and flushes it.
+    fn write_disk(&mut self, lba: u64, tag: u64) -> bool {
+        if !self.going || lba >= self.rig.disk_blocks() {
+            return false;
+        }
+        let block = block_of(lba, tag);
+        self.going = write_disk(&mut self.rig, lba, &block);
+        self.going
     }
 
     // ---- what is seen
 
-    /// The tag of the block of an address, where it is held.
-    fn read(&mut self, lba: u64) -> Result<Option<u64>, Fail> {
-        if self.cache.is_stopped() {
-            return Err(Fail::from("a command stopped the cache"));
-        }
-        if lba >= SIZE {
-            return Err(Fail::from("there is no such address"));
+    /// What an address holds. None where that can't be read, or is the block of another address.
+    fn read(&mut self, lba: u64, is_dirty: bool) -> Option<Held>
+        requires lba { lba < 64 }
+    {
+        if !self.going {
+            return None;
         }
         let mut block = zero_block();
-        if !self.cache.read(&mut self.rig, lba, &mut block)? {
-            return Ok(None);
-        }
-        match tag_of(lba, &block) {
-            Some(tag) => Ok(Some(tag)),
-            None => Err(Fail::from("a block is of another address")),
+        match self.cache.read(&mut self.rig, lba, &mut block) {
+            Ok(true) => held_of(tag_of(lba, &block), is_dirty),
+            Ok(false) => Some(Held::Nothing),
+            Err(_) => None,
         }
     }
 
-    /// The dirty addresses.
-    fn dirty(&self, alloc: Global) -> Result<Vec<u64>, Fail> {
-        let mut out = Vec::new(alloc);
-        self.cache.exists(0, SIZE, &mut out)?;
-        Ok(out)
-    }
-
-    /// Whether these are the dirty addresses.
-    pub(crate) fn lists_dirty(&self, alloc: Global, wanted: &[u64]) -> Result<bool, Fail> {
-        let listed = self.dirty(alloc)?;
-        Ok(listed.as_slice() == wanted)
+    /// Which of the first addresses are dirty.
+    fn dirty(&self) -> Option<[bool; 16]> {
+        let mut listed = Vec::new(self.alloc);
+        match self.cache.exists(0, SIZE, &mut listed) {
+            Ok(()) => Some(marks_of(listed.as_slice())),
+            Err(_) => None,
+        }
     }
 
     /// What the cache holds at the addresses of the tests.
-    pub(crate) fn seen(&mut self, alloc: Global) -> Result<Plain, Fail> {
-        let listed = self.dirty(alloc)?;
-        let mut plain = Plain([None; 16]);
+    fn seen(&mut self) -> Option<Plain> {
+        let dirty = self.dirty()?;
+        let mut plain = Plain([Held::Nothing; 16]);
         for at in 0..16 {
-            let lba = at as u64;
-            if let Some(tag) = self.read(lba)? {
-                plain.0[at] = Some(Held {
-                    tag,
-                    dirty: listed.contains(&lba),
-                });
-            }
+            plain.0[at] = self.read(at as u64, dirty[at])?;
         }
-        Ok(plain)
+        Some(plain)
     }
 
-    /// The same, and the rig alone.
-    pub(crate) fn shown(self, alloc: Global) -> Result<(Plain, MemRig), Fail> {
-        let mut bench = self;
-        let plain = bench.seen(alloc)?;
-        Ok((plain, bench.rig))
-    }
-
-    /// The first of the facts that doesn't hold.
-    pub(crate) fn first_wrong(&self, facts: &[Fact]) -> Option<usize> {
-        for i in 0..facts.len() {
-            if !self.holds(&facts[i]) {
-                return Some(i);
-            }
+    /// Whether what must be held is held, and nothing else.
+    fn holds_all(&mut self) -> bool {
+        match self.seen() {
+            Some(found) => found.0 == self.lists.now.0,
+            None => false,
         }
-        None
     }
 
-    fn holds(&self, fact: &Fact) -> bool {
+    /// Whether some of it isn't, but something of two groups at least, and this address is.
+    fn holds_less(&mut self, lba: u64) -> bool {
+        match self.seen() {
+            Some(found) => {
+                is_less(&self.lists.now, &found)
+                    && groups_held(&found) >= 2
+                    && found.0[lba as usize % 16] != Held::Nothing
+            }
+            None => false,
+        }
+    }
+
+    /// Whether what is held may be left where the command after so many of these was cut.
+    pub(crate) fn is_left(&mut self, steps: &[Step], given: usize, gives_way: bool) -> bool {
+        match self.seen() {
+            Some(found) => may_be_left(&self.lists, steps, given, &found, gives_way),
+            None => false,
+        }
+    }
+
+    /// Whether these are the dirty addresses of so many from one on, put behind 60.
+    fn lists_dirty(&self, from: u64, count: u64, wanted: &[u64]) -> bool {
+        let mut listed = Vec::new(self.alloc);
+        if from > SIZE || count > SIZE - from || listed.push(60).is_err() {
+            return false;
+        }
+        self.cache.exists(from, count, &mut listed).is_ok() && listed.as_slice() == wanted
+    }
+
+    /// Whether a scrub reads so many pages, of which none is strange.
+    fn scrubs(&mut self, pages: u64) -> bool {
+        if !self.going {
+            return false;
+        }
+        let found = self.cache.scrub(&mut self.rig);
+        let strange = None;
+        found == Ok(Scrub { pages, strange })
+    }
+
+    /// Takes the memory of the next write.
+    fn reserve(&mut self) -> bool {
+        self.cache.reserve().is_ok()
+    }
+
+    fn has(&self, fact: &Fact) -> bool {
         match *fact {
             Fact::DirtyGroups(count) => self.cache.dirty_groups() == count,
             Fact::DirtyBits(group, bits) => self.cache.dirty_bits(group) == bits,
@@ -337,30 +508,48 @@ impl Bench {
         }
     }
 
-    /// Takes the memory of the next write.
-    pub(crate) fn reserve(&mut self) -> Result<(), Fail> {
-        self.cache.reserve()?;
-        Ok(())
-    }
-
-    /// The pages left in the open block and in the log.
-    pub(crate) fn rooms(&self) -> (u32, u32) {
-        (self.cache.open_room(), self.cache.log_room())
-    }
-
-    /// What the rig counted.
-    pub(crate) fn counts(&self) -> Counts {
-        self.rig.done()
-    }
-
-    /// Writes a block to the disk, and flushes it.
-    pub(crate) fn write_disk(self, lba: u64, tag: u64) -> Result<Bench, Fail> {
-        let Bench { cache, mut rig } = self;
-        if lba >= rig.disk_blocks() {
-            return Err(Fail::from("there is no such address"));
+    /// Whether a line is so.
+    fn is_so(&mut self, line: &Line) -> bool {
+        match line {
+            Line::Do(step) => self.does(step),
+            Line::WriteAll(addresses, tag) => self.write_all(addresses, *tag),
+            Line::Makes(step, open, log, programs, erases) => {
+                self.makes(step, [*open, *log], [*programs, *erases])
+            }
+            Line::Full(step, dirty_groups, limit) => self.is_full(step, *dirty_groups, *limit),
+            Line::WriteDisk(lba, tag) => self.write_disk(*lba, *tag),
+            Line::Cut => self.cut(),
+            Line::Reserve => self.reserve(),
+            Line::HoldsAll => self.holds_all(),
+            Line::HoldsLess(lba) => self.holds_less(*lba),
+            Line::See(fact) => self.has(fact),
+            Line::Lists(from, count, wanted) => self.lists_dirty(*from, *count, wanted),
+            Line::Scrubs(pages) => self.scrubs(*pages),
         }
-        rig.write_block(lba, &block_of(lba, tag))?;
-        rig.flush_disk()?;
-        Ok(Bench { cache, rig })
+    }
+
+    /// The first line that isn't so, once these commands were carried out.
+    fn first_wrong(&mut self, begun: &[Step], lines: &[Line]) -> Option<usize> {
+        if !self.run(begun) {
+            return Some(lines.len());
+        }
+        for i in 0..lines.len() {
+            if !self.is_so(&lines[i]) {
+                return Some(i);
+            }
+        }
+        None
+    }
+}
+
+/// The first line that isn't so, over an empty cache that carried these commands out; where it couldn't, the
+/// number of lines.
+pub(crate) fn first_wrong(alloc: Global, begun: &[Step], lines: &[Line]) -> Option<usize> {
+    match Bench::new(alloc) {
+        Some(bench) => {
+            let mut bench = bench;
+            bench.first_wrong(begun, lines)
+        }
+        None => Some(lines.len()),
     }
 }

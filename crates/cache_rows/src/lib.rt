@@ -16,6 +16,8 @@ mod lists;
 #[cfg(test)]
 mod merges;
 #[cfg(test)]
-mod scrubbed;
+mod parts;
+#[cfg(test)]
+mod refusals;
 #[cfg(test)]
 mod stops;

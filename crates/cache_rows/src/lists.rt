@@ -12,16 +12,17 @@ pub(crate) enum Step {
     Checkpoint,
 }
 
-/// A block that is held: its tag, and whether it is dirty.
+/// What an address holds: nothing, or a block with a tag.
 #[derive(Clone, Copy, PartialEq, Eq)]
-pub(crate) struct Held {
-    pub(crate) tag: u64,
-    pub(crate) dirty: bool,
+pub(crate) enum Held {
+    Nothing,
+    Clean(u64),
+    Dirty(u64),
 }
 
 /// What each address holds, from 0 on.
-#[derive(Clone, Copy, PartialEq, Eq)]
-pub(crate) struct Plain(pub(crate) [Option<Held>; 16]);
+#[derive(Clone, Copy)]
+pub(crate) struct Plain(pub(crate) [Held; 16]);
 
 /// A list, and what of it a crash leaves.
 #[derive(Clone, Copy)]
@@ -31,94 +32,87 @@ pub(crate) struct Lists {
 }
 
 pub(crate) const NOTHING: Lists = Lists {
-    now: Plain([None; 16]),
-    durable: Plain([None; 16]),
+    now: Plain([Held::Nothing; 16]),
+    durable: Plain([Held::Nothing; 16]),
 };
 
 /// The address of a command.
 fn lba_of(step: &Step) -> u64 {
     match *step {
-        Step::WriteDirty(lba, _) | Step::WriteClean(lba, _) | Step::Evict(lba) | Step::Clean(lba) =>
-            lba,
+        Step::WriteDirty(lba, _) => lba,
+        Step::WriteClean(lba, _) => lba,
+        Step::Evict(lba) => lba,
+        Step::Clean(lba) => lba,
         Step::Commit | Step::Checkpoint => 0,
     }
 }
 
 /// What an address holds after a command.
-fn held_after(old: Option<Held>, step: &Step) -> Option<Held> {
+fn held_after(old: Held, step: &Step) -> Held {
     match *step {
-        Step::WriteDirty(_, tag) => Some(Held { tag, dirty: true }),
-        Step::WriteClean(_, tag) => Some(Held { tag, dirty: false }),
-        Step::Evict(_) => None,
-        Step::Clean(_) => old.map(|held| Held {
-            tag: held.tag,
-            dirty: false,
-        }),
+        Step::WriteDirty(_, tag) => Held::Dirty(tag),
+        Step::WriteClean(_, tag) => Held::Clean(tag),
+        Step::Evict(_) => Held::Nothing,
+        Step::Clean(_) => cleaned(old),
         Step::Commit | Step::Checkpoint => old,
     }
 }
 
+fn cleaned(old: Held) -> Held {
+    match old {
+        Held::Dirty(tag) => Held::Clean(tag),
+        _ => old,
+    }
+}
+
 /// Whether a command leaves nothing that a crash may undo.
-fn commits(old: Option<Held>, step: &Step) -> bool {
+fn commits(old: Held, step: &Step) -> bool {
     match *step {
         Step::WriteDirty(_, _) | Step::Commit | Step::Checkpoint => true,
-        Step::WriteClean(_, _) | Step::Evict(_) => old.is_some(),
+        Step::WriteClean(_, _) | Step::Evict(_) => old != Held::Nothing,
         Step::Clean(_) => false,
     }
 }
 
-/// The lists after a command that answers Ok.
-pub(crate) fn after(lists: &Lists, step: &Step) -> Lists {
+/// Gives the lists a command that answers Ok.
+pub(crate) fn give(lists: &mut Lists, step: &Step) {
     let at = lba_of(step) as usize % 16;
     let old = lists.now.0[at];
-    let mut now = lists.now;
-    now.0[at] = held_after(old, step);
-    Lists {
-        now,
-        durable: if commits(old, step) {
-            now
-        } else {
-            lists.durable
-        },
+    lists.now.0[at] = held_after(old, step);
+    if commits(old, step) {
+        lists.durable = lists.now;
     }
 }
 
-/// The lists after commands that answer Ok.
-pub(crate) fn after_all(lists: &Lists, steps: &[Step]) -> Lists {
-    let mut new = *lists;
-    for step in steps {
-        new = after(&new, step);
-    }
-    new
-}
-
-/// What may be left where the command after so many was cut: the list before it without what was buffered,
-/// that list, or the list after it.
-fn left_of(lists: &Lists, steps: &[Step], given: usize) -> Option<[Plain; 3]> {
+/// Whether this may be left where the command after so many was cut: the list before it without what was
+/// buffered, that list, or the list after it.
+pub(crate) fn may_be_left(
+    lists: &Lists,
+    steps: &[Step],
+    given: usize,
+    found: &Plain,
+    gives_way: bool,
+) -> bool {
     if given >= steps.len() {
-        return None;
+        return false;
     }
-    let before = after_all(lists, &steps[..given]);
-    let done = after(&before, &steps[given]);
-    Some([before.durable, before.now, done.now])
+    let mut lists = *lists;
+    for step in &steps[..given] {
+        give(&mut lists, step);
+    }
+    if is_left(&lists.durable, found, gives_way) || is_left(&lists.now, found, gives_way) {
+        return true;
+    }
+    give(&mut lists, &steps[given]);
+    is_left(&lists.now, found, gives_way)
 }
 
-/// Whether this may be left where the command after so many was cut, and no group gave way.
-pub(crate) fn may_be_left(lists: &Lists, steps: &[Step], given: usize, found: &Plain) -> bool {
-    match left_of(lists, steps, given) {
-        Some(left) => *found == left[0] || *found == left[1] || *found == left[2],
-        None => false,
+/// Whether all of a list is found, or all but clean groups that gave way.
+fn is_left(list: &Plain, found: &Plain, gives_way: bool) -> bool {
+    if gives_way {
+        return gave_way(list, found);
     }
-}
-
-/// The same, where clean groups may have given way.
-pub(crate) fn may_give_way(lists: &Lists, steps: &[Step], given: usize, found: &Plain) -> bool {
-    match left_of(lists, steps, given) {
-        Some(left) => gave_way(&left[0], found)
-            || gave_way(&left[1], found)
-            || gave_way(&left[2], found),
-        None => false,
-    }
+    list.0 == found.0
 }
 
 /// Whether each group is as in the list, or is gone and had nothing dirty.
@@ -146,16 +140,37 @@ fn is_group_gone(list: &Plain, found: &Plain, group: usize) -> bool
     requires { group < 4 }
 {
     for i in 0..4 {
-        if found.0[group * 4 + i].is_some() || is_dirty(list.0[group * 4 + i]) {
+        if found.0[group * 4 + i] != Held::Nothing || is_dirty(list.0[group * 4 + i]) {
             return false;
         }
     }
     true
 }
 
-fn is_dirty(held: Option<Held>) -> bool {
+fn is_dirty(held: Held) -> bool {
     match held {
-        Some(held) => held.dirty,
-        None => false,
+        Held::Dirty(_) => true,
+        _ => false,
     }
+}
+
+/// Whether nothing is held but what is in the list, and not all of that.
+pub(crate) fn is_less(list: &Plain, found: &Plain) -> bool {
+    for at in 0..16 {
+        if found.0[at] != Held::Nothing && found.0[at] != list.0[at] {
+            return false;
+        }
+    }
+    list.0 != found.0
+}
+
+/// Of how many groups something is held.
+pub(crate) fn groups_held(found: &Plain) -> u32 {
+    let mut count: u32 = 0;
+    for group in 0..4 {
+        if !is_group_gone(found, found, group) {
+            count = count.wrapping_add(1);
+        }
+    }
+    count
 }

@@ -1,12 +1,9 @@
-//! Power is cut at each device write of some commands, and nothing is lost.
+//! Power is cut at each device write of some commands, or a call of the flash fails, and nothing is lost.
 
-use crate::bench::{Bench, arm, geometry, refusal};
-use crate::lists::{NOTHING, Plain, Step, after_all, may_be_left, may_give_way};
+use crate::bench::Bench;
+use crate::lists::Step;
 use ft_base::Outcome;
-use mem_rig::MemRig;
-use op_log::OpenError;
 use std::alloc::Global;
-use std::test::Fail;
 
 const OUTCOMES: [Outcome; 4] = [
     Outcome::Blank,
@@ -15,73 +12,121 @@ const OUTCOMES: [Outcome; 4] = [
     Outcome::Mixed,
 ];
 
-/// Commands of which a device write is cut.
+/// Commands that are not all carried out.
 #[derive(Clone, Copy)]
-struct Story<'a> {
-    /// Those before a stop is armed.
-    begun: &'a [Step],
-    /// Those after that.
-    stopped: &'a [Step],
+struct Story {
+    /// Those that are.
+    begun: &'static [Step],
+    /// Those of which a device write is cut, or a call fails.
+    stopped: &'static [Step],
     /// Whether the second device write of a first opening is cut as well.
     is_opening_cut: bool,
     /// Whether clean groups may give way.
     gives_way: bool,
 }
 
-/// Opens flash so that the second device write is cut.
-fn cut_opening(alloc: Global, rig: &mut MemRig, outcome: Outcome) -> Result<(), Fail> {
-    rig.turn_on();
-    arm(rig, 2, outcome)?;
-    match refusal(alloc, rig, &geometry()?)? {
-        Some(OpenError::PowerLost) => Ok(()),
-        _ => Err(Fail::from("the opening is not cut")),
+/// What stops it.
+#[derive(Clone, Copy)]
+enum Stop {
+    /// The device write of a number is cut, counted from the first command that isn't carried out for sure.
+    Cut(u64, Outcome),
+    /// The call of the flash of a number fails, counted from the first one of all.
+    Fault(u64),
+}
+
+/// What becomes of it.
+#[derive(Clone, Copy, PartialEq, Eq)]
+enum Became {
+    /// The stop is none of the commands that are looked at.
+    Untouched,
+    /// Nothing is lost.
+    Kept,
+    /// Something is.
+    Lost,
+}
+
+/// An empty cache with such a stop before it.
+fn bench_for(alloc: Global, stop: Stop) -> Option<Bench> {
+    match stop {
+        Stop::Cut(_, _) => Bench::new(alloc),
+        Stop::Fault(number) => Bench::failing(alloc, number),
     }
 }
 
-/// What the flash holds after the cut.
-fn shown_after(alloc: Global, rig: MemRig, outcome: Outcome, twice: bool) -> Result<Plain, Fail> {
-    let mut rig = rig;
-    if twice {
-        cut_opening(alloc, &mut rig, outcome)?;
+/// Opens the flash after a stop. The opening may be cut as the commands were.
+fn opens_after(bench: &mut Bench, story: &Story, stop: Stop) -> bool {
+    match stop {
+        Stop::Cut(_, outcome) if story.is_opening_cut => bench.cut_opening(outcome) && bench.open(),
+        _ => bench.open(),
     }
-    Bench::open(alloc, rig)?.seen(alloc)
 }
 
-/// Whether nothing is lost where the device write of a number is cut.
-fn keeps_all(alloc: Global, story: &Story, number: u64, outcome: Outcome) -> Result<bool, Fail> {
-    let bench = Bench::new(alloc)?.run(story.begun)?.arm(number, outcome)?;
-    let (given, rig) = bench.run_until_stopped(story.stopped)?;
-    let found = shown_after(alloc, rig, outcome, story.is_opening_cut)?;
-    Ok(is_left(story, given, &found))
+/// Puts the stop before the commands that are looked at, where it isn't there yet.
+fn armed(bench: &mut Bench, stop: Stop) -> bool {
+    match stop {
+        Stop::Cut(number, outcome) => bench.arm(number, outcome),
+        Stop::Fault(_) => true,
+    }
 }
 
-/// Whether this may be left of a story, of which a command was cut after so many.
-fn is_left(story: &Story, given: usize, found: &Plain) -> bool {
-    let lists = after_all(&NOTHING, story.begun);
-    if story.gives_way {
-        return may_give_way(&lists, story.stopped, given, found);
+/// What becomes of the commands that are looked at.
+fn tried(bench: &mut Bench, story: &Story, stop: Stop) -> Became {
+    if !bench.run(story.begun) || !armed(bench, stop) {
+        return Became::Untouched;
     }
-    may_be_left(&lists, story.stopped, given, found)
+    let given = bench.given_until_stopped(story.stopped);
+    if given == story.stopped.len() {
+        return Became::Untouched;
+    }
+    if opens_after(bench, story, stop) && bench.is_left(story.stopped, given, story.gives_way) {
+        return Became::Kept;
+    }
+    Became::Lost
+}
+
+/// What becomes of a story with such a stop.
+fn told(alloc: Global, story: &Story, stop: Stop) -> Became {
+    match bench_for(alloc, stop) {
+        Some(bench) => {
+            let mut bench = bench;
+            tried(&mut bench, story, stop)
+        }
+        None => Became::Lost,
+    }
 }
 
 /// The first outcome of a stop at the device write of a number that loses something.
-fn losing(alloc: Global, story: &Story, number: u64) -> Result<Option<Outcome>, Fail> {
+fn losing(alloc: Global, story: &Story, number: u64) -> Option<Outcome> {
     for i in 0..4 {
-        if !keeps_all(alloc, story, number, OUTCOMES[i])? {
-            return Ok(Some(OUTCOMES[i]));
+        if told(alloc, story, Stop::Cut(number, OUTCOMES[i])) != Became::Kept {
+            return Some(OUTCOMES[i]);
         }
     }
-    Ok(None)
+    None
 }
 
 /// The first stop, at a device write below a number, that loses something.
-fn first_losing(alloc: Global, story: &Story, end: u64) -> Result<Option<(u64, Outcome)>, Fail> {
+fn first_losing(alloc: Global, story: &Story, end: u64) -> Option<(u64, Outcome)> {
     for number in 1..end {
-        if let Some(outcome) = losing(alloc, story, number)? {
-            return Ok(Some((number, outcome)));
+        if let Some(outcome) = losing(alloc, story, number) {
+            return Some((number, outcome));
         }
     }
-    Ok(None)
+    None
+}
+
+/// How many calls fail within the commands that are looked at, each in turn, unless one loses something.
+/// The first calls are those that make the cache.
+fn count_kept(alloc: Global, story: &Story) -> Option<u32> {
+    let mut kept: u32 = 0;
+    for number in 15..90 {
+        match told(alloc, story, Stop::Fault(number)) {
+            Became::Untouched => {}
+            Became::Kept => kept = kept.wrapping_add(1),
+            Became::Lost => return None,
+        }
+    }
+    Some(kept)
 }
 
 // ---- commands of two groups
@@ -99,17 +144,16 @@ const TWELVE_WRITES: [Step; 5] = [
     Step::Evict(0),
 ];
 
+const TWELVE: Story = Story {
+    begun: &TWO_GROUPS,
+    stopped: &TWELVE_WRITES,
+    is_opening_cut: true,
+    gives_way: false,
+};
+
 #[test]
-fn a_stop_at_each_device_write_loses_nothing(rt: HostRuntime) -> Result<(), Fail> {
-    let story = Story {
-        begun: &TWO_GROUPS,
-        stopped: &TWELVE_WRITES,
-        is_opening_cut: true,
-        gives_way: false,
-    };
-    let losing = first_losing(rt.alloc(), &story, 13)?;
-    assert_eq!(rt; losing, None);
-    Ok(())
+fn a_stop_at_each_device_write_loses_nothing(rt: HostRuntime) {
+    assert_eq!(rt; first_losing(rt.alloc(), &TWELVE, 13), None);
 }
 
 // ---- a merge
@@ -129,17 +173,22 @@ const FULL_LOG_BLOCKS: [Step; 8] = [
 /// The first merges both groups, since the oldest log block has pages of both.
 const MERGES: [Step; 2] = [Step::WriteDirty(4, 2), Step::WriteDirty(0, 2)];
 
+const MERGE: Story = Story {
+    begun: &FULL_LOG_BLOCKS,
+    stopped: &MERGES,
+    is_opening_cut: false,
+    gives_way: false,
+};
+
 #[test]
-fn a_stop_at_each_device_write_of_a_merge_loses_nothing(rt: HostRuntime) -> Result<(), Fail> {
-    let story = Story {
-        begun: &FULL_LOG_BLOCKS,
-        stopped: &MERGES,
-        is_opening_cut: false,
-        gives_way: false,
-    };
-    let losing = first_losing(rt.alloc(), &story, 21)?;
-    assert_eq!(rt; losing, None);
-    Ok(())
+fn a_stop_at_each_device_write_of_a_merge_loses_nothing(rt: HostRuntime) {
+    assert_eq!(rt; first_losing(rt.alloc(), &MERGE, 21), None);
+}
+
+/// The calls are the device writes that are cut above, and the reads of the pages that are copied.
+#[test]
+fn a_failed_call_of_a_merge_loses_nothing(rt: HostRuntime) {
+    assert_eq!(rt; count_kept(rt.alloc(), &MERGE), Some(28));
 }
 
 // ---- an eviction
@@ -172,80 +221,11 @@ const EVICTION: Story = Story {
 };
 
 #[test]
-fn a_stop_at_each_device_write_of_an_eviction_loses_nothing(rt: HostRuntime) -> Result<(), Fail> {
-    assert_eq!(rt; first_losing(rt.alloc(), &EVICTION, 11)?, None);
-    Ok(())
-}
-
-// ---- calls that fail
-
-/// What becomes of a story in which a call of the flash fails.
-#[derive(Clone, Copy, PartialEq, Eq)]
-enum Became {
-    /// The call is none of the commands that are looked at.
-    Untouched,
-    /// Nothing is lost.
-    Kept,
-    /// Something is.
-    Lost,
-}
-
-/// What becomes of it where the call of a number fails.
-fn made_of(alloc: Global, story: &Story, number: u64) -> Result<Became, Fail> {
-    let mut bench = Bench::failing(alloc, number)?;
-    if bench.count_until_stopped(story.begun)? < story.begun.len() {
-        return Ok(Became::Untouched);
-    }
-    looked_at(alloc, story, bench)
-}
-
-/// What becomes of it in the commands that are looked at.
-fn looked_at(alloc: Global, story: &Story, bench: Bench) -> Result<Became, Fail> {
-    let (given, rig) = bench.run_until_stopped(story.stopped)?;
-    if given == story.stopped.len() {
-        return Ok(Became::Untouched);
-    }
-    opened_after(alloc, story, given, rig)
-}
-
-/// What an opening finds of it, where so many of the commands were given.
-fn opened_after(alloc: Global, story: &Story, given: usize, rig: MemRig) -> Result<Became, Fail> {
-    let found = Bench::open(alloc, rig)?.seen(alloc)?;
-    if is_left(story, given, &found) {
-        return Ok(Became::Kept);
-    }
-    Ok(Became::Lost)
-}
-
-/// How many calls fail within the commands that are looked at, each in turn, unless one loses something.
-/// The first calls are those that make the cache.
-fn count_kept(alloc: Global, story: &Story) -> Result<Option<u32>, Fail> {
-    let mut kept: u32 = 0;
-    for number in 15..90 {
-        match made_of(alloc, story, number)? {
-            Became::Untouched => {}
-            Became::Kept => kept = kept.wrapping_add(1),
-            Became::Lost => return Ok(None),
-        }
-    }
-    Ok(Some(kept))
-}
-
-/// The calls are the device writes that are cut above, and the reads of the pages that are copied.
-#[test]
-fn a_failed_call_of_a_merge_loses_nothing(rt: HostRuntime) -> Result<(), Fail> {
-    let story = Story {
-        begun: &FULL_LOG_BLOCKS,
-        stopped: &MERGES,
-        is_opening_cut: false,
-        gives_way: false,
-    };
-    assert_eq!(rt; count_kept(rt.alloc(), &story)?, Some(28));
-    Ok(())
+fn a_stop_at_each_device_write_of_an_eviction_loses_nothing(rt: HostRuntime) {
+    assert_eq!(rt; first_losing(rt.alloc(), &EVICTION, 11), None);
 }
 
 #[test]
-fn a_failed_call_of_an_eviction_loses_nothing(rt: HostRuntime) -> Result<(), Fail> {
-    assert_eq!(rt; count_kept(rt.alloc(), &EVICTION)?, Some(14));
-    Ok(())
+fn a_failed_call_of_an_eviction_loses_nothing(rt: HostRuntime) {
+    assert_eq!(rt; count_kept(rt.alloc(), &EVICTION), Some(14));
 }

@@ -1,17 +1,17 @@
 use Rattle.std.proofs.Common.{◌∙◌}
 use Rattle.cache_model.specs.Cache.{made_clean}
 use Rattle.mem_rig.specs.Rig.{state_of}
-use Rattle.cache_rows.proofs.UpLemmas.{fit_after, in_size, up_of}
+use Rattle.cache_rows.proofs.UpLemmas.{fit_after, in_size}
 use Rattle.cache_rows.proofs.bench.Bench.clean.Goals as goal
 
-pub clean-requires : goal.clean-requires
-clean-requires c = record {
-  up = up_of c.self.inside.cache (state_of c.self.inside.rig).contents c.self.invariant (c.self.view_is ∙ c.requires.going);
-  lba = in_size c.self.inside.cache (state_of c.self.inside.rig).contents c.args.lba c.self.invariant c.requires.lba;
+pub clean-answer-requires : goal.clean-answer-requires
+clean-answer-requires c = record {
+  up = c.self.invariant.up (c.self.view_is ∙ c.requires.going);
+  lba = in_size c.self.inside.going c.self.inside.cache (state_of c.self.inside.rig).contents c.args.lba c.self.invariant c.requires.lba;
 }
 
 pub invariant_of-self : goal.invariant_of-self
 invariant_of-self c =
-    let e = c.clean.ensures in
-    fit_after c.clean.result c.self.inside.cache c.clean.new.self (state_of c.self.inside.rig) (state_of c.clean.new.media) (made_clean c.args.lba) c.self.invariant (c.self.view_is ∙ c.requires.going)
+    let e = c.clean-answer.ensures in
+    fit_after c.clean-answer.result c.self.inside.going c.is_stopped.result c.self.inside.cache c.clean-answer.new.self (state_of c.self.inside.rig) (state_of c.clean-answer.new.media) (made_clean c.args.lba) c.self.invariant (c.self.view_is ∙ c.requires.going) c.is_stopped.ensures
     e.runs.geometry e.runs.stopped e.done e.runs.full e.runs.memory

@@ -1,4 +1,4 @@
-use Rattle.std.proofs.Common.{◌≡◌, sym, ap, ◌∙◌}
+use Rattle.std.proofs.Common.{◌≡◌, Bool, ap, ◌∙◌}
 use Rattle.ft_base.specs.Contents.{Contents}
 use Rattle.ft_base.specs.declared.geometry.Geometry.{Geometry}
 use Rattle.cache_model.specs.CacheList.{CacheList}
@@ -8,16 +8,13 @@ use Rattle.ssc.specs.CacheState.{Holds, geometry_of}
 use Rattle.cache_rows.specs.Fits.{FitTogether}
 use Rattle.cache_rows.proofs.bench.Bench.reserve.Goals as goal
 
-fit_reserved : (c d : Ssc) (contents : Contents) → FitTogether c contents → geometry_of d ≡ geometry_of c → d.stopped ≡ c.stopped → ((k : Contents) (s : CacheList) → Holds c k s → Holds d k s) → FitTogether d contents
-fit_reserved c d contents fit same stopped holds = record {
+fit_reserved : (going : Bool) (c d : Ssc) (contents : Contents) → FitTogether going c contents → geometry_of d ≡ geometry_of c → d.stopped ≡ c.stopped → ((k : Contents) (s : CacheList) → Holds c k s → Holds d k s) → FitTogether going d contents
+fit_reserved going c d contents fit same stopped holds = record {
   size = ap (λ (g : Geometry). g.size) same ∙ fit.size;
-  up = λ going.
-      let up = fit.up (sym stopped ∙ going) in
-      record { list = up.list; holds = holds contents up.list up.holds; up = going };
+  up = λ is_going.
+      let up = fit.up is_going in
+      record { list = up.list; holds = holds contents up.list up.holds; up = stopped ∙ up.up };
 }
 
 pub invariant_of-self : goal.invariant_of-self
-invariant_of-self c = fit_reserved c.self.inside.cache c.reserve.new.self (state_of c.self.inside.rig).contents c.self.invariant c.reserve.ensures.same c.reserve.ensures.stopped c.reserve.ensures.holds
-
-pub invariant_of-self-2 : goal.invariant_of-self-2
-invariant_of-self-2 c = fit_reserved c.self.inside.cache c.reserve.new.self (state_of c.self.inside.rig).contents c.self.invariant c.reserve.ensures.same c.reserve.ensures.stopped c.reserve.ensures.holds
+invariant_of-self c = fit_reserved c.self.inside.going c.self.inside.cache c.reserve.new.self (state_of c.self.inside.rig).contents c.self.invariant c.reserve.ensures.same c.reserve.ensures.stopped c.reserve.ensures.holds

@@ -1,10 +1,10 @@
-use Rattle.std.proofs.Common.{◌≡◌, false, sym, ap₂, refl, subst}
+use Rattle.std.proofs.Common.{◌≡◌, rules, sym, ap₂, subst}
+use Rattle.std.proofs.lemmas.Bool.{OnTrue_at}
 use Rattle.ft_base.specs.Contents.{Contents, Flash, Shape}
 use Rattle.cache_model.specs.CacheList.{CacheList}
 use Rattle.mem_rig.specs.Rig.{state_of}
 use Rattle.ssc.specs.declared.cache.Ssc.{Ssc}
 use Rattle.ssc.specs.CacheState.{Holds, IsUp}
-use Rattle.cache_rows.specs.Fits.{FitTogether}
 use Rattle.cache_rows.proofs.bench.Bench.write_disk.Goals as goal
 
 holds_beside : (c : Ssc) (a b : Contents) (s : CacheList) → Holds c a s → Holds c (record b { shape = a.shape; flash = a.flash }) s
@@ -31,13 +31,11 @@ up_beside c a b shape flash up =
       up = up.up;
     })
 
-fit_beside : (c : Ssc) (a b : Contents) → b.shape ≡ a.shape → b.flash ≡ a.flash → FitTogether c a → FitTogether c b
-fit_beside c a b shape flash fit = record { size = fit.size; up = λ going. up_beside c a b shape flash (fit.up going) }
-
-pub invariant_of-result : goal.invariant_of-result
-invariant_of-result c =
+pub invariant_of-self : goal.invariant_of-self
+invariant_of-self c =
     let old = (state_of c.self.inside.rig).contents in
-    let mid = (state_of c.write_block.new.self).contents in
-    let new = (state_of c.flush_disk.new.self).contents in
-    fit_beside c.self.inside.cache mid new c.flush_disk.ensures.device.shape (c.in_ok-flush_disk.ensures.flash.stays refl)
-    (fit_beside c.self.inside.cache old mid c.write_block.ensures.device.shape (c.in_ok-write_block.ensures.flash.stays refl) c.self.invariant)
+    let new = (state_of c.write_disk-self-inside.new.rig).contents in
+    record {
+      size = c.self.invariant.size;
+      up = λ is. up_beside c.self.inside.cache old new c.write_disk-self-inside.ensures.shape (OnTrue_at is c.write_disk-self-inside.ensures.flash) (c.self.invariant.up (search rules));
+    }

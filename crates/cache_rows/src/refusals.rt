@@ -1,0 +1,144 @@
+//! Flash that can't be opened.
+
+use crate::bench::{SIZE, fit, format, geometry, refusal};
+use cache_model::{Seal, SpareKind};
+use ft_base::{Block, Geometry, Place, Record, zero_block};
+use mem_rig::MemRig;
+use op_log::OpenError;
+use page_oob::write_spare;
+use record_codec::{Header, PageKind, write_page};
+use std::alloc::Global;
+
+/// The same with one data block more.
+fn wider() -> Geometry {
+    Geometry {
+        p: 4,
+        c: 3,
+        l: 2,
+        j: 1,
+        size: SIZE,
+    }
+}
+
+/// A line of an example. The caches have two data blocks, or three.
+#[derive(Clone, Copy)]
+enum Line {
+    /// The flash is made that of an empty cache of two.
+    Format,
+    /// It is opened for two.
+    Opens,
+    /// The same is refused.
+    Refused(OpenError),
+    /// It is refused for three.
+    WiderRefused(OpenError),
+    /// A page of a log is programmed, as the first one of a block.
+    Program(u32),
+}
+
+/// A log page that says that an address stands above the pool of a cache of two data blocks.
+fn page_above_the_pool() -> Block {
+    let mut page = zero_block();
+    let header = Header {
+        kind: PageKind::Log,
+        era: 1,
+        sequence: 0,
+        count: 1,
+    };
+    let change = Record::SetPage {
+        lba: 5,
+        place: Place { block: 9, page: 0 },
+        dirty: true,
+    };
+    write_page(&mut page, &header, [change].as_slice());
+    page
+}
+
+/// Programs the first page of a block. False where it isn't ready.
+fn program_first(rig: &mut MemRig, block: u32) -> bool {
+    if block >= rig.flash_blocks() || rig.flash_pages() == 0 || rig.next_page(block) != Some(0) {
+        return false;
+    }
+    let spare = write_spare(SpareKind::Log, 1, 0);
+    rig.program_page(Place { block, page: 0 }, &page_above_the_pool(), &spare);
+    true
+}
+
+/// Whether a line is so.
+fn is_so(alloc: Global, rig: &mut MemRig, line: &Line) -> bool {
+    match line {
+        Line::Format => format(rig, &geometry()),
+        Line::Opens => refusal(alloc, rig, &geometry()).is_none(),
+        Line::Refused(error) => refusal(alloc, rig, &geometry()) == Some(*error),
+        Line::WiderRefused(error) => refusal(alloc, rig, &wider()) == Some(*error),
+        Line::Program(block) => program_first(rig, *block),
+    }
+}
+
+/// The first line that isn't so, on a rig that is as large as this says; where it can't be, the number of lines.
+fn first_wrong_on(
+    alloc: Global,
+    rig: &mut MemRig,
+    size: &Geometry,
+    lines: &[Line],
+) -> Option<usize> {
+    if !fit(alloc, rig, size) {
+        return Some(lines.len());
+    }
+    for i in 0..lines.len() {
+        if !is_so(alloc, rig, &lines[i]) {
+            return Some(i);
+        }
+    }
+    None
+}
+
+fn first_wrong(alloc: Global, size: &Geometry, lines: &[Line]) -> Option<usize> {
+    let mut rig = MemRig::new(alloc);
+    first_wrong_on(alloc, &mut rig, size, lines)
+}
+
+const NOT_FORMATTED: [Line; 1] = [Line::Refused(OpenError::NotFormatted)];
+
+#[test]
+fn flash_that_was_not_formatted_is_refused(rt: HostRuntime) {
+    assert_eq!(rt; first_wrong(rt.alloc(), &geometry(), &NOT_FORMATTED), None);
+}
+
+const OF_ANOTHER: [Line; 3] = [
+    Line::Format,
+    Line::WiderRefused(OpenError::OtherGeometry {
+        found: Seal {
+            p: 4,
+            c: 2,
+            l: 2,
+            j: 1,
+            size: SIZE,
+        },
+        wanted: Seal {
+            p: 4,
+            c: 3,
+            l: 2,
+            j: 1,
+            size: SIZE,
+        },
+    }),
+    Line::Opens,
+];
+
+#[test]
+fn flash_of_another_cache_is_refused(rt: HostRuntime) {
+    assert_eq!(rt; first_wrong(rt.alloc(), &wider(), &OF_ANOTHER), None);
+}
+
+const DAMAGED: [Line; 4] = [
+    Line::Format,
+    Line::Opens,
+    // The log that was opened is that of era 1 at block 3.
+    Line::Program(3),
+    Line::Refused(OpenError::Damaged { block: 3, page: 0 }),
+];
+
+#[test]
+fn a_damaged_log_is_refused(rt: HostRuntime) {
+    assert_eq!(rt; first_wrong(rt.alloc(), &geometry(), &DAMAGED), None);
+}
