@@ -231,8 +231,8 @@ impl<V: Drop> SparseMap<V> {
         ensures stays { buckets_of self.new ≡ buckets_of self.old → self.new.slots ≡ self.old.slots }
         ensures memory { OnOk result (self.new.places ≤ len_of self.new + buckets_of self.new / 8 + self.new.loose) }
         ensures exact { OnOk result (buckets_of self.new ≢ buckets_of self.old
-            → self.new.places ≤ len_of self.new + buckets_of self.new / 32) }
-        ensures blanks { OnOk result (self.new.blanks ≤ self.new.spare) }
+            → (self.new.places ≤ len_of self.new + buckets_of self.new / 32) × (self.new.spare ≤ 1 → self.new.blanks ≡ 0)) }
+        ensures blanks { OnOk result (self.new.blanks ≤ min self.new.spare (buckets_of self.new / 32)) }
         ensures loose { self.new.loose ≤ self.old.loose }
         ensures err { OnErr result ((self.new.slots ≡ self.old.slots) × (self.new.spare ≡ self.old.spare)) }
         ensures refused { OnErr result ((self.new.places ≤ self.old.places)
@@ -255,7 +255,7 @@ impl<V: Drop> SparseMap<V> {
         ensures slots { self.new.slots ≡ self.old.slots }
         ensures spare { OnOk result (self.new.spare ≡ max self.old.spare n) }
         ensures memory { OnOk result (self.new.places ≤ len_of self.new + buckets_of self.new / 8 + self.new.loose) }
-        ensures blanks { OnOk result (self.new.blanks ≤ self.new.spare) }
+        ensures blanks { OnOk result (self.new.blanks ≤ min self.new.spare (buckets_of self.new / 32)) }
         ensures loose { self.new.loose ≤ self.old.loose }
         ensures err { OnErr result (self.new.spare ≡ self.old.spare) }
         ensures refused { OnErr result ((self.new.places ≤ self.old.places)
@@ -265,7 +265,7 @@ impl<V: Drop> SparseMap<V> {
         let wanted = blanks_for(self.touched, spare, self.groups());
         add_blanks(self.alloc, &mut self.stock, wanted)?;
         fit_touched(self.alloc, self.groups.as_mut_slice(), &mut self.touched)?;
-        self.stock.truncate(spare as usize);
+        self.stock.truncate(wanted as usize);
         self.spare = spare;
         Ok(())
     }
@@ -281,7 +281,8 @@ impl<V: Drop> SparseMap<V> {
         ensures buckets { OnOk result (buckets_of self.new ≡ 2 ^ bits) }
         ensures spare { OnOk result (self.new.spare ≡ max self.old.spare n) }
         ensures memory { OnOk result (self.new.places ≤ len_of self.new + buckets_of self.new / 32) }
-        ensures blanks { OnOk result (self.new.blanks ≤ self.new.spare) }
+        ensures blanks { OnOk result (self.new.blanks ≤ min self.new.spare (buckets_of self.new / 32)) }
+        ensures one { OnOk result (self.new.spare ≤ 1 → self.new.blanks ≡ 0) }
         ensures loose { OnOk result (self.new.loose ≡ 0) }
         ensures err { OnErr result (self.new ≡ self.old) }
         ensures sound { OnOk result (IsSound self.new) }

@@ -451,7 +451,8 @@ pub fn fit_touched<V: Drop>(
 
 /// How many blank lists are kept for so many new keys: none for a single one, unless any list may be full.
 pub fn blanks_for(touched: Touched, spare: u64, groups: u64) -> u64
-    ensures few { result ≤ spare }
+    ensures few { result ≤ min spare groups }
+    ensures one { spare ≤ 1 → touched ≢ Anywhere → result ≡ 0 }
     ensures enough { (min spare groups ≤ result) ⊎ ((spare ≤ 1) × (touched ≢ Anywhere)) }
 {
     match touched {

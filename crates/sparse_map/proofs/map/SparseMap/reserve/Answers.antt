@@ -6,7 +6,7 @@ use Rattle.sparse_map.specs.Groups.{slots_of}
 use Rattle.sparse_map.specs.Packed.{len_of, buckets_of}
 use Rattle.sparse_map.proofs.MapLemmas.{kept_buckets}
 use Rattle.sparse_map.proofs.ViewLemmas.{seen_len, seen_slots, seen_sound}
-use Rattle.sparse_map.proofs.ReserveLemmas.{on_ok, on_ok_then, on_ok_always, on_err_both, doubled_grows, other_buckets, map_of-slots, sound_stocked, sound_either, loose_either, stays_either, as_before, no_more}
+use Rattle.sparse_map.proofs.ReserveLemmas.{on_ok, on_ok_then, on_ok_always, on_ok_both, on_err_both, doubled_grows, other_buckets, map_of-slots, sound_stocked, sound_either, loose_either, stays_either, as_before, no_more}
 use Rattle.sparse_map.proofs.map.SparseMap.reserve.Goals as goal
 
 pub bits_for-bits-requires-clause-room : goal.bits_for-bits-requires-clause-room
@@ -92,7 +92,7 @@ returns-then-bits-self-clause-exact g c =
     let t = c.args.self.now in
     let u = c.stock_up.new.self in
     let level : buckets_of u ≡ buckets_of t = ap length c.stock_up.ensures.slots in
-    on_ok c.stock_up.result (buckets_of u ≢ buckets_of t → u.places ≤ len_of u + buckets_of u / 32) (λ other. absurd (other level))
+    on_ok c.stock_up.result (buckets_of u ≢ buckets_of t → (u.places ≤ len_of u + buckets_of u / 32) × (u.spare ≤ 1 → u.blanks ≡ 0)) (λ other. absurd (other level))
 
 pub returns-then-bits-self-clause-err : goal.returns-then-bits-self-clause-err
 returns-then-bits-self-clause-err g c =
@@ -120,7 +120,8 @@ returns-else-bits-self-clause-memory g c =
 pub returns-else-bits-self-clause-exact : goal.returns-else-bits-self-clause-exact
 returns-else-bits-self-clause-exact g c =
     let u = c.widen.new.self in
-    on_ok_always c.widen.result (buckets_of u ≢ buckets_of c.args.self.now) (u.places ≤ len_of u + buckets_of u / 32) c.widen.ensures.memory
+    on_ok_always c.widen.result (buckets_of u ≢ buckets_of c.args.self.now) ((u.places ≤ len_of u + buckets_of u / 32) × (u.spare ≤ 1 → u.blanks ≡ 0))
+    (on_ok_both c.widen.result (u.places ≤ len_of u + buckets_of u / 32) (u.spare ≤ 1 → u.blanks ≡ 0) c.widen.ensures.memory c.widen.ensures.one)
 
 pub returns-else-bits-self-clause-loose : goal.returns-else-bits-self-clause-loose
 returns-else-bits-self-clause-loose g c = loose_either c.widen.result c.args.self.now c.widen.new.self c.widen.ensures.err c.widen.ensures.loose

@@ -88,6 +88,14 @@ returns-clause-buckets g c =
     let long : length ws ≡ vec_len new = c.place_groups.auto.groups ∙ c.as_mut_slice.ensures.len in
     ap (λ us. length (slots_of us)) (written new ws long) ∙ length-slots_of ws ∙ omega (arith, long, c.in_ok-groups.ensures.count)
 
+pub returns-clause-blanks : goal.returns-clause-blanks
+returns-clause-blanks g c =
+    let new = c.in_ok-groups.groups in
+    let ws = c.place_groups.new.groups in
+    let long : length ws ≡ vec_len new = c.place_groups.auto.groups ∙ c.as_mut_slice.ensures.len in
+    let size = ap (λ us. length (slots_of us)) (written new ws long) ∙ length-slots_of ws in
+    omega (arith, size, long, c.in_ok-groups.ensures.count, c.len.ensures, c.in_ok-add_blanks.ensures.ok, c.blanks_for-wanted.ensures.few)
+
 pub returns-clause-memory : goal.returns-clause-memory
 returns-clause-memory g c =
     let m = c.self.inside in
