@@ -1,10 +1,8 @@
 -- The keys of the cache as the groups in order of use.
-use Rattle.std.proofs.Common.{◌≡◌, ◌≢◌, ℕ, suc, ◌+◌, ◌-◌, ◌<◌, ◌⊎◌, true, false, ◌||◌, List, [], ◌∷◌, length, take, Option, Some, None, is_some, refl, sym, ap, ◌∙◌, cond, nat_eq, arith, inl, inr}
+use Rattle.std.proofs.Common.{◌≡◌, ℕ, suc, ◌+◌, ◌-◌, ◌<◌, ◌⊎◌, true, false, ◌||◌, List, [], ◌∷◌, length, take, Option, Some, None, is_some, refl, sym, ap, ◌∙◌, cond, nat_eq, arith, inl, inr}
 use Rattle.std.proofs.lemmas.List.{take_all, length-map}
 use Rattle.std.proofs.lemmas.Bool.{eqb-true}
-use Rattle.std.proofs.lemmas.Map.Keys.{IsDistinct-head, IsDistinct-tail}
 use Rattle.std.specs.Map.{keys_of, lookup, lookup_entry, remove_entry}
-use Rattle.std.specs.List.{IsDistinct, AllByRecursion}
 use Rattle.std.specs.Option.{option_map_or}
 use Rattle.lru.specs.LruCache.{LruCache, put_entries}
 use Rattle.dirty_table.specs.Groups.{has, without_first, touched}
@@ -67,35 +65,7 @@ keys_put {V} c k v room = go (lookup_entry (nat_eq k) c.entries) refl
     go (Some f) e =
         rw (← key_of_entry k c.entries f e) (ap (λ l. k ∷ l) (keys_remove k c.entries))
 
--- ---- for callers: what is in the list after a step
-
-pub has-without_other : (q g : ℕ) (xs : List ℕ) → q ≢ g → has q (without_first g xs) ≡ has q xs
-has-without_other q g [] apart = refl
-has-without_other q g (x ∷ xs) apart = (elim (nat_eq g x) as (λ b. nat_eq g x ≡ b → has q (cond b xs (x ∷ without_first g xs)) ≡ has q (x ∷ xs)) [
-  | true ↦ λ t.
-      let at : g ≡ x = eqb-true g x t in
-      let other : nat_eq q x ≡ false = grind (arith, at, apart) in
-      sym (rw other refl)
-  | false ↦ λ _. ap (λ b. nat_eq q x || b) (has-without_other q g xs apart)
-]) refl
-
-has-apart : (g : ℕ) (xs : List ℕ) → AllByRecursion (λ y. nat_eq g y ≡ false) xs → has g xs ≡ false
-has-apart g [] none = refl
-has-apart g (x ∷ xs) none = rw none.0 (has-apart g xs none.1)
-
--- in a list of distinct groups one that is taken out is gone
-pub has-without_same : (g : ℕ) (xs : List ℕ) → IsDistinct nat_eq xs → has g (without_first g xs) ≡ false
-has-without_same g [] distinct = refl
-has-without_same g (x ∷ xs) distinct = (elim (nat_eq g x) as (λ b. nat_eq g x ≡ b → has g (cond b xs (x ∷ without_first g xs)) ≡ false) [
-  | true ↦ λ t. rw (eqb-true g x t) (has-apart x xs (IsDistinct-head nat_eq x xs distinct))
-  | false ↦ λ f. rw f (has-without_same g xs (IsDistinct-tail nat_eq x xs distinct))
-]) refl
-
-pub has-touched : (q g : ℕ) (xs : List ℕ) → has q (touched g xs) ≡ (nat_eq q g || has q xs)
-has-touched q g xs = (elim (nat_eq q g) as (λ b. nat_eq q g ≡ b → (b || has q (without_first g xs)) ≡ (b || has q xs)) [
-  | true ↦ λ _. refl
-  | false ↦ λ f. has-without_other q g xs (λ same. let bad : true ≡ false = sym (grind (arith, same)) ∙ f in cc)
-]) refl
+-- ---- for callers: how long the list is after a step
 
 pub length-without : (g : ℕ) (xs : List ℕ) → length (without_first g xs) + cond (has g xs) 1 0 ≡ length xs
 length-without g [] = refl
