@@ -130,10 +130,6 @@ pub no-untouched : (f : ℕ × ℕ → ℕ) → sum_untouched f Nowhere [] ≡ 0
 unfolding sum_untouched
 no-untouched f = refl
 
-pub all-touched : (f : ℕ × ℕ → ℕ) (s : List (ℕ × ℕ)) → sum_untouched f Anywhere s ≡ 0
-unfolding sum_untouched
-all-touched f s = refl
-
 -- ---- how many lists have no place for n items more
 pub lacking-at_most : (n : ℕ) (s : List (ℕ × ℕ)) → lacking n Nowhere s ≤ length s
 unfolding sum_untouched

@@ -20,14 +20,6 @@ pub on_ok : {T E : Type 0} (r : Result T E) (P : Type 0) → P → OnOk r P
 on_ok (Ok x) P p = p
 on_ok (Err e) P p = tt
 
-pub on_ok_then : {T E : Type 0} (r : Result T E) (P Q : Type 0) → (P → Q) → OnOk r P → OnOk r Q
-on_ok_then (Ok x) P Q f p = f p
-on_ok_then (Err e) P Q f p = tt
-
-pub on_err_then : {T E : Type 0} (r : Result T E) (P Q : Type 0) → (P → Q) → OnErr r P → OnErr r Q
-on_err_then (Ok x) P Q f p = tt
-on_err_then (Err e) P Q f p = f p
-
 pub on_err_both : {T E : Type 0} (r : Result T E) (P Q : Type 0) → P → OnErr r Q → OnErr r (P × Q)
 on_err_both (Ok x) P Q p q = tt
 on_err_both (Err e) P Q p q = (p, q)

@@ -77,14 +77,6 @@ steps_over n a b c la lb lc le =
       ]
     ]
 
--- one more step: what lies before the next bucket lies before this one or is this one
-pub steps_one_more : (n a b q : ℕ) → a < n → b < n → q < n → steps n a q < steps n a b + 1 → (steps n a q < steps n a b) ⊎ (q ≡ b)
-steps_one_more n a b q la lb lq lt =
-    elim (cases_lt (steps n a q) (steps n a b)) [
-      | inl less ↦ inl less
-      | inr more ↦ let e : steps n a q ≡ steps n a b = omega arith in inr (steps_same n a q b la lq lb e)
-    ]
-
 -- ---- the buckets from b on that are reached without going round
 -- what lies on the way from b and fewer than d steps on is one of the d buckets from b on
 pub steps_near : (n a b d q : ℕ) → a < n → b + d ≤ n → q < n → steps n a b ≤ steps n a q → steps n a q < steps n a b + d → (b ≤ q) × (q < b + d)

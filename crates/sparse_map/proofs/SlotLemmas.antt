@@ -1,5 +1,5 @@
 -- The items of a table of buckets, what is found among them, and how one change shows there.
-use Rattle.std.proofs.Common.{◌≡◌, ◌≢◌, ℕ, zero, suc, ◌+◌, ◌<◌, ◌≤◌, true, List, [], ◌∷◌, Option, Some, None, length, set, cond, eqb, refl, sym, ap, ◌∙◌, inl, inr, arith, add-one, zero-add, ◌⊎◌}
+use Rattle.std.proofs.Common.{◌≡◌, ◌≢◌, ℕ, zero, suc, ◌+◌, ◌<◌, ◌≤◌, true, List, [], ◌∷◌, Option, Some, None, length, set, cond, eqb, refl, sym, ap, ◌∙◌, inl, inr, arith, add-one, zero-add}
 use Rattle.std.specs.Prelude.{is_some, IsSome, option_map}
 use Rattle.std.specs.Ordering.{nat_cmp, eq_by_cmp}
 use Rattle.std.specs.Cmp.{unsigned_tied}
@@ -115,10 +115,6 @@ module _ {V : Type 0} where
 
 -- ---- one bucket changed, and two exchanged
 module _ {V : Type 0} where
-  some_or_none : (o : Option (ℕ × V)) → (o ≡ None) ⊎ ((e : ℕ × V) × (o ≡ Some e))
-  some_or_none None = inl refl
-  some_or_none (Some e) = inr (e, refl)
-
   length-items_of-cons : (o : Option (ℕ × V)) (s : List (Option (ℕ × V))) → length (items_of (o ∷ s)) ≡ cond (is_some o) 1 0 + length (items_of s)
   length-items_of-cons None s = ap length (items_of-none s) ∙ sym (zero-add (length (items_of s)))
   length-items_of-cons (Some e) s = ap length (items_of-some e s) ∙ omega arith

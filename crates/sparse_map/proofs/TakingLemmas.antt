@@ -31,13 +31,6 @@ module _ {V : Type 0} where
     pub rooms : rooms_of now ≡ rooms_of start
     pub plan : with_items n (plan_of now) rest ≡ with_items n (plan_of start) all
 
-  pub taking_start : (n : ℕ) (us : List (Group V)) (es : List (ℕ × V)) → CanTake n us es → Taking n us es us es
-  taking_start n us es ready = record { ready = ready; found = λ q. refl; count = refl; rooms = refl; plan = refl }
-
-  pub taking_done : (n : ℕ) (us : List (Group V)) (es : List (ℕ × V)) (now : List (Group V)) → Taking n us es now [] → HasTaken n us now es
-  taking_done n us es now t =
-      record { found = t.found; packed = t.ready.packed; count = omega (arith, t.count); rooms = t.rooms; plan = t.plan }
-
   pub taking_first : (n : ℕ) (us : List (Group V)) (xs ys : List (ℕ × V)) → CanTake n us (xs ++ ys) → CanTake n us xs
   taking_first n us xs ys ready =
       let all = ap (λ (p : Plan). p.counts) (with_items-append n (plan_of us) xs ys) in

@@ -13,7 +13,8 @@ pub record IsPacked {V : Type 0} (slots : List (Option (ℕ × V))) : Type 0 whe
       → steps (length slots) (home (length slots) key) q ≤ steps (length slots) (home (length slots) key) b
       → IsSome (key_at slots q)
 
--- the buckets in order, each empty or with a key and its value, and how many new keys there is room for; of the memory the places of the groups' lists, the blank lists of 32 places that are kept ready, and the free places beyond four a list that removals may have left
+-- the buckets in order, each empty or with a key and its value, and how many new keys there is room for; of the memory the places of
+-- the groups' lists, the blank lists of 32 places that are kept ready, and the free places beyond four a list that removals may have left
 pub record PackedTable (V : Type 0) : Type 0 where
   pub slots : List (Option (ℕ × V))
   pub spare : ℕ
@@ -45,7 +46,8 @@ module _ {V : Type 0} where
   abbrev pub memory_of : PackedTable V → ℕ
   memory_of t = t.places + 32 * t.blanks
 
-  -- what holds of every map: the packed law, at most three quarters of the buckets taken and spoken for, and a power of two of buckets, at least 32, or none
+  -- what holds of every map: the packed law, at most three quarters of the buckets taken and spoken for, and a power of two of
+  -- buckets, at least 32, or none
   pub record IsSound (t : PackedTable V) : Type 0 where
     pub packed : IsPacked t.slots
     pub room : 4 * (len_of t + t.spare) ≤ 3 * buckets_of t

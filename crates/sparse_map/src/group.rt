@@ -306,6 +306,7 @@ impl<V: Drop> Group<V> {
         let mut full = mem::replace(&mut self.items, Vec::new(alloc));
         match list.append(&mut full) {
             Ok(()) => {}
+            // The new list has room for all the items.
             Err(_) => unreachable!(),
         }
         // What `append` has room for it doesn't lengthen, but it doesn't promise that: a longer list passes for none.

@@ -33,14 +33,18 @@ pub enum Place {
 /// group. Who goes on with the bucket counts nothing again.
 #[derive(Clone, Copy)]
 pub struct Spot {
+    /// Where it ends.
     pub at: Place,
+    /// How many items of that group stand before the bucket.
     pub rank: u32,
 }
 
 /// A bucket, and its rank.
 #[derive(Clone, Copy)]
 pub struct Seat {
+    /// Its number in the whole table.
     pub bucket: u64,
+    /// How many items of its group stand before it.
     pub rank: u32,
 }
 
@@ -250,6 +254,7 @@ pub fn first_free<V: Drop>(groups: &[Group<V>], from: u64) -> Seat
         passed += 32 - bucket % 32;
         bucket = next_bucket(buckets, start + 31);
     }
+    // There are fewer items than buckets, so a free one comes within one round.
     unreachable!()
 }
 
@@ -283,6 +288,7 @@ pub fn probe<V: Drop>(groups: &[Group<V>], bits: u32, key: u64) -> Spot
         passed += 32 - bucket % 32;
         bucket = next_bucket(buckets, start + 31);
     }
+    // Some bucket is free, so a run ends within one round.
     unreachable!()
 }
 

@@ -4,7 +4,7 @@ use Rattle.sparse_map.specs.Trimmed.{IsTrimmed, IsReady}
 use Rattle.sparse_map.specs.Places.{sizes_of, extra, lacks}
 use Rattle.sparse_map.proofs.TableLemmas.{slots_of_trimmed}
 use Rattle.sparse_map.proofs.PlacesLemmas.{extra-few, extra-none, extra-full, lacks-room, lacks-none, lacks-full, places_in-set, untouched_in-set, untouched_in-fitted, untouched-past, length-sizes}
-use Rattle.sparse_map.proofs.ReserveLemmas.{on_ok_then, on_err_then}
+use Rattle.std.proofs.lemmas.Result.{on_ok_weaker, on_err_weaker}
 use Rattle.sparse_map.proofs.table.fit_one.Goals as goal
 
 pub returns-then-i-groups-clause-not_loose : goal.returns-then-i-groups-clause-not_loose
@@ -47,7 +47,7 @@ returns-clause-not_loose g c =
     let read = c.index-groups-i.result in
     let u = get_or us (c.args.bucket / 32) read in
     let w = c.fit.new.self in
-    on_ok_then c.fit.result (IsTrimmed w) _
+    on_ok_weaker {P = IsTrimmed w} c.fit.result
     (λ trimmed. untouched_in-fitted us (c.args.bucket / 32) u read w c.if-i-groups.false refl extra c.args.bucket refl (extra-none w trimmed))
     c.fit.ensures.trimmed
 
@@ -57,7 +57,7 @@ returns-clause-not_lacking g c =
     let read = c.index-groups-i.result in
     let u = get_or us (c.args.bucket / 32) read in
     let w = c.fit.new.self in
-    on_ok_then c.fit.result (IsReady w) _
+    on_ok_weaker {P = IsReady w} c.fit.result
     (λ ready. untouched_in-fitted us (c.args.bucket / 32) u read w c.if-i-groups.false refl (lacks 1) c.args.bucket refl (lacks-none w ready))
     c.fit.ensures.ready
 
@@ -68,4 +68,4 @@ returns-clause-err g c =
     let u = get_or us (c.args.bucket / 32) read in
     let w = c.fit.new.self in
     let changed = places_in-set us (c.args.bucket / 32) u read w c.if-i-groups.false refl in
-    on_err_then c.fit.result (vec_capacity w.items ≤ vec_capacity u.items) _ (λ less. omega (arith, changed, less)) c.fit.ensures.err
+    on_err_weaker {P = vec_capacity w.items ≤ vec_capacity u.items} c.fit.result (λ less. omega (arith, changed, less)) c.fit.ensures.err

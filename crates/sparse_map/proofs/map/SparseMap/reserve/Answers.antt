@@ -6,7 +6,8 @@ use Rattle.sparse_map.specs.Groups.{slots_of}
 use Rattle.sparse_map.specs.Packed.{len_of, buckets_of}
 use Rattle.sparse_map.proofs.MapLemmas.{kept_buckets}
 use Rattle.sparse_map.proofs.ViewLemmas.{seen_len, seen_slots, seen_sound}
-use Rattle.sparse_map.proofs.ReserveLemmas.{on_ok, on_ok_then, on_ok_always, on_ok_both, on_err_both, doubled_grows, other_buckets, map_of-slots, sound_stocked, sound_either, loose_either, stays_either, as_before, no_more}
+use Rattle.std.proofs.lemmas.Result.{on_ok_weaker}
+use Rattle.sparse_map.proofs.ReserveLemmas.{on_ok, on_ok_always, on_ok_both, on_err_both, doubled_grows, other_buckets, map_of-slots, sound_stocked, sound_either, loose_either, stays_either, as_before, no_more}
 use Rattle.sparse_map.proofs.map.SparseMap.reserve.Goals as goal
 
 pub bits_for-bits-requires-clause-room : goal.bits_for-bits-requires-clause-room
@@ -76,7 +77,7 @@ returns-else-bits-self-clause-buckets g c =
     let t = c.args.self.now in
     let need : m.len + c.from-n.result ≡ len_of t + c.args.n = λ i. seen_len m t c.self.invariant c.self.view_is i + c.from-n.ensures i in
     let narrow : cond (eqb m.bits 0) 0 (2 ^ m.bits) ≡ buckets_of t = sym c.self.invariant.buckets ∙ ap length (seen_slots m t c.self.invariant c.self.view_is) in
-    on_ok_then c.widen.result (buckets_of c.widen.new.self ≡ 2 ^ c.bits_for-bits.result) (IsDoubledFor (len_of t + c.args.n) (buckets_of t) (buckets_of c.widen.new.self))
+    on_ok_weaker {P = buckets_of c.widen.new.self ≡ 2 ^ c.bits_for-bits.result} {Q = IsDoubledFor (len_of t + c.args.n) (buckets_of t) (buckets_of c.widen.new.self)} c.widen.result
     (λ wide.
     subst (λ x. IsDoubledFor x (buckets_of t) (buckets_of c.widen.new.self)) need
     (subst (λ x. IsDoubledFor (m.len + c.from-n.result) x (buckets_of c.widen.new.self)) narrow
@@ -115,7 +116,7 @@ returns-else-bits-self-clause-stays g c =
 pub returns-else-bits-self-clause-memory : goal.returns-else-bits-self-clause-memory
 returns-else-bits-self-clause-memory g c =
     let u = c.widen.new.self in
-    on_ok_then c.widen.result (u.places ≤ len_of u + buckets_of u / 32) (u.places ≤ len_of u + buckets_of u / 8 + u.loose) (λ few. omega (arith, few)) c.widen.ensures.memory
+    on_ok_weaker {P = u.places ≤ len_of u + buckets_of u / 32} {Q = u.places ≤ len_of u + buckets_of u / 8 + u.loose} c.widen.result (λ few. omega (arith, few)) c.widen.ensures.memory
 
 pub returns-else-bits-self-clause-exact : goal.returns-else-bits-self-clause-exact
 returns-else-bits-self-clause-exact g c =
