@@ -15,9 +15,6 @@ pub record EachBefore (g : Geometry) (m : Entries) (P : ℕ → Entry → Type 0
   pub each : (a : ℕ) (e : Entry) → number_of g e.place < i → get m a ≡ Some e → P a e
 
 module _ (g : Geometry) (m : Entries) where
-  pub each_none : (P : ℕ → Entry → Type 0) → EachBefore g m P 0
-  each_none P = record { each = λ a e low is. absurd (omega arith) }
-
   -- the entry of the next number
   pub each_more : IsMap g m → (P Q : ℕ → Entry → Type 0) (i lba : ℕ) (at : Place) → EachBefore g m P i → ((a : ℕ) (e : Entry) → P a e → Q a e) → HasNumber g m i (lba, at) → ((e : Entry) → get m lba ≡ Some e → Q lba e) → EachBefore g m Q (i + 1)
   each_more is_map P Q i lba at before more has here = record {

@@ -11,7 +11,7 @@ use Rattle.mapping.specs.declared.bits.Choice.TheVariants.{Mapped}
 use Rattle.mapping.specs.Numbers.{HasNumber, HasNone, AreNumbered}
 use Rattle.silent_evict.specs.Candidates.{HoldsCleanAlone, IsCandidate, IsVictim, IsDirtyAt, pages_held}
 use Rattle.silent_evict.proofs.GroupLemmas.{chosen_some, pages_held-none}
-use Rattle.silent_evict.proofs.EntryLemmas.{EachBefore, each_none, each_more, each_passed, each_entry}
+use Rattle.silent_evict.proofs.EntryLemmas.{EachBefore, each_more, each_passed, each_entry}
 
 -- ---- a wholly clean group
 
@@ -20,9 +20,6 @@ pub record CleanSoFar (g : Geometry) (m : Entries) (group i : ℕ) (held : Bool)
   pub clean : EachBefore g m (λ a e. a / g.p ≡ group → e.dirty ≡ false) i
   pub some : held ≡ true → (a : ℕ) × (e : Entry) × (get m a ≡ Some e) × (a / g.p ≡ group)
   pub none : held ≡ false → EachBefore g m (λ a e. a / g.p ≡ group → ⊥) i
-
-pub clean_none : (g : Geometry) (m : Entries) (group : ℕ) → CleanSoFar g m group 0 false
-clean_none g m group = record { clean = each_none g m _; some = λ t. absurd (both_ways false refl t); none = λ f. each_none g m _ }
 
 pub clean_passed : (g : Geometry) (m : Entries) (group i : ℕ) (held : Bool) → CleanSoFar g m group i held → HasNone g m i → CleanSoFar g m group (i + 1) held
 clean_passed g m group i held so_far none = record { clean = each_passed g m _ i so_far.clean none; some = so_far.some; none = λ f. each_passed g m _ i (so_far.none f) none }
@@ -45,9 +42,6 @@ module _ (g : Geometry) (m : Entries) (is_map : IsMap g m) (group i lba : ℕ) (
     some = so_far.some;
     none = λ f. each_more g m is_map _ _ i lba at (so_far.none f) (λ a e was. was) has (λ e there here. other here);
   }
-
-pub never_clean : (g : Geometry) (m : Entries) (group lba : ℕ) → lba / g.p ≡ group → IsDirtyAt m lba → HoldsCleanAlone g m group → ⊥
-never_clean g m group lba here dirty clean = both_ways dirty.0.dirty (clean.clean lba dirty.0 dirty.1 here) dirty.2
 
 module _ (g : Geometry) (m : Entries) (group i numbers : ℕ) (held : Bool) (all : AreNumbered g m numbers) (past : numbers ≤ i) (so_far : CleanSoFar g m group i held) where
   pub clean_all : held ≡ true → HoldsCleanAlone g m group
@@ -72,9 +66,6 @@ clean_candidate g m group candidate = record { held = let found = candidate.some
 -- of the groups of the entries with the first i numbers, no candidate has fewer pages
 pub record LeastSoFar (g : Geometry) (m : Entries) (group i : ℕ) : Type 0 where
   pub least : EachBefore g m (λ a _. pages_held g m (a / g.p) < pages_held g m group → IsCandidate g m (a / g.p) → ⊥) i
-
-pub least_none : (g : Geometry) (m : Entries) (group : ℕ) → LeastSoFar g m group 0
-least_none g m group = record { least = each_none g m _ }
 
 pub least_passed : (g : Geometry) (m : Entries) (group i : ℕ) → LeastSoFar g m group i → HasNone g m i → LeastSoFar g m group (i + 1)
 least_passed g m group i so_far none = record { least = each_passed g m _ i so_far.least none }
