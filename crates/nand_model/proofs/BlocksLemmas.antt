@@ -85,3 +85,6 @@ changed_page blocks at e new value within is changed q =
     by_tests false false v same = refl
     by_tests true false v same = cc
     by_tests false true v same = cc
+
+-- for what reads or changes one block
+pub ruleset one_changed = (get_put, block_there, paged_there, ready_there)

@@ -29,7 +29,7 @@ pub(crate) fn fresh(alloc: Global, blocks: u32, pages: u32) -> Result<Vec<EraseB
 }
 
 /// Says what a page is, and fills the buffers where it is whole.
-#[tactic(auto, using(crate::proofs::BlocksLemmas::get_put, crate::proofs::BlocksLemmas::block_there, crate::proofs::BlocksLemmas::paged_there, crate::proofs::BlocksLemmas::ready_there))]
+#[tactic(auto, using(crate::proofs::BlocksLemmas::one_changed))]
 pub(crate) fn read(
     blocks: &Vec<EraseBlock>,
     at: Place,
@@ -44,7 +44,7 @@ pub(crate) fn read(
 }
 
 /// Programs the next page of a block that is ready.
-#[tactic(auto, using(crate::proofs::BlocksLemmas::get_put, crate::proofs::BlocksLemmas::block_there, crate::proofs::BlocksLemmas::paged_there, crate::proofs::BlocksLemmas::ready_there))]
+#[tactic(auto, using(crate::proofs::BlocksLemmas::one_changed))]
 pub(crate) fn program(blocks: &mut Vec<EraseBlock>, at: Place, block: &Block, spare: &Spare)
     requires ready { next_at blocks.old.items at.block ≡ Some at.page }
     requires page { at.page < pages_at blocks.old.items at.block }
@@ -58,7 +58,7 @@ pub(crate) fn program(blocks: &mut Vec<EraseBlock>, at: Place, block: &Block, sp
 }
 
 /// A program of that page failed: it is torn, and its block not ready.
-#[tactic(auto, using(crate::proofs::BlocksLemmas::get_put, crate::proofs::BlocksLemmas::block_there, crate::proofs::BlocksLemmas::paged_there, crate::proofs::BlocksLemmas::ready_there))]
+#[tactic(auto, using(crate::proofs::BlocksLemmas::one_changed))]
 pub(crate) fn tear(blocks: &mut Vec<EraseBlock>, at: Place)
     requires { at.page < pages_at blocks.old.items at.block }
     ensures page { (q : Place) → page_at blocks.new.items q ≡ set_page (page_at blocks.old.items) at content.Torn q }
@@ -70,7 +70,7 @@ pub(crate) fn tear(blocks: &mut Vec<EraseBlock>, at: Place)
 }
 
 /// Power went off in a program of the next page. No block is ready.
-#[tactic(auto, using(crate::proofs::BlocksLemmas::get_put, crate::proofs::BlocksLemmas::block_there, crate::proofs::BlocksLemmas::paged_there, crate::proofs::BlocksLemmas::ready_there))]
+#[tactic(auto, using(crate::proofs::BlocksLemmas::one_changed))]
 pub(crate) fn cut_program(
     blocks: &mut Vec<EraseBlock>,
     at: Place,
@@ -91,7 +91,7 @@ pub(crate) fn cut_program(
 }
 
 /// Makes each page of a block blank, and the block ready or not.
-#[tactic(auto, using(crate::proofs::BlocksLemmas::get_put, crate::proofs::BlocksLemmas::block_there, crate::proofs::BlocksLemmas::paged_there, crate::proofs::BlocksLemmas::ready_there))]
+#[tactic(auto, using(crate::proofs::BlocksLemmas::one_changed))]
 pub(crate) fn blank(blocks: &mut Vec<EraseBlock>, at: u32, ready: bool)
     requires { at < length blocks.old.items }
     ensures page { (q : Place) → page_at blocks.new.items q
@@ -104,7 +104,7 @@ pub(crate) fn blank(blocks: &mut Vec<EraseBlock>, at: u32, ready: bool)
 }
 
 /// Power went off in an erase of a block. No block is ready.
-#[tactic(auto, using(crate::proofs::BlocksLemmas::get_put, crate::proofs::BlocksLemmas::block_there, crate::proofs::BlocksLemmas::paged_there, crate::proofs::BlocksLemmas::ready_there))]
+#[tactic(auto, using(crate::proofs::BlocksLemmas::one_changed))]
 pub(crate) fn cut_erase(blocks: &mut Vec<EraseBlock>, at: u32, outcome: Outcome)
     requires { at < length blocks.old.items }
     ensures page { (q : Place) → page_at blocks.new.items q
@@ -118,7 +118,7 @@ pub(crate) fn cut_erase(blocks: &mut Vec<EraseBlock>, at: u32, outcome: Outcome)
 }
 
 /// Makes each block not ready.
-#[tactic(auto, using(crate::proofs::BlocksLemmas::get_put, crate::proofs::BlocksLemmas::block_there, crate::proofs::BlocksLemmas::paged_there, crate::proofs::BlocksLemmas::ready_there))]
+#[tactic(auto, using(crate::proofs::BlocksLemmas::one_changed))]
 pub(crate) fn stop_all(blocks: &mut Vec<EraseBlock>)
     ensures page { (q : Place) → page_at blocks.new.items q ≡ page_at blocks.old.items q }
     ensures next { (b : ℕ) → next_at blocks.new.items b ≡ None }
