@@ -3,6 +3,7 @@ use Rattle.std.proofs.Common.{◌≡◌, ◌==◌, ℕ, List, [], ◌∷◌, ◌
 use Rattle.std.specs.Prelude.{Box}
 use Rattle.std.proofs.lemmas.List.{append-nil}
 use Rattle.std.proofs.lemmas.Bool.{cases_eq}
+use Rattle.std.proofs.lemmas.Option.{none-some}
 use Rattle.std.proofs.lemmas.Bool.Decides.{nat_tests}
 use Rattle.std.specs.Ordering.{nat_cmp}
 use Rattle.std.specs.BTreeMap.{BTreeMap, Updates, get}
@@ -15,7 +16,8 @@ use Rattle.ft_base.proofs.Images.{set_here, set_other}
 use Rattle.ft_media.specs.Media.{after_write}
 use Rattle.ft_media.specs.Rig.{cut_value, flushed_value}
 use Rattle.disk_model.specs.declared.replaced.Replaced.{Replaced}
-use Rattle.disk_model.specs.Store.{block_in, replaced_at, values_in}
+use Rattle.ft_base.specs.Plain.{block_in}
+use Rattle.disk_model.specs.Store.{replaced_at, values_in}
 
 abbrev Blocks : Type 0
 Blocks = BTreeMap ℕ (Box Block Global)
@@ -61,14 +63,11 @@ module _ (before after : Blocks) (replaced later : List Replaced) (lba : ℕ) (b
   write_present present a absent = elim (cases_eq lba a) [
     | inl same ↦
         let held : get nat_cmp after a ≡ Some fresh = subst (λ k. get nat_cmp after k ≡ Some fresh) same updates.1 in
-        absurd (none_some fresh (sym absent ∙ held))
+        absurd (none-some fresh (sym absent ∙ held))
     | inr apart ↦
         let test : lba == a ≡ false = grind (arith, nat_tests) in
         earlier a ∙ ap (λ b. cond b (block_in old ∷ []) [] ++ replaced_at replaced a) test ∙ present a (sym (updates.2 a (grind (arith, nat_tests))) ∙ absent)
   ]
-    where
-      none_some : (x : Box Block Global) → None ≡ Some x → ⊥
-      none_some x same = cc
 
 -- a cut leaves the newest value, and so the last one replaced is forgotten
 keep_newest : (outcome : Outcome) (newest : Blocks) (rest : List Replaced) (last : Replaced) → ((v : Values) → cut_value outcome last.lba v ≡ v.newest) → (a : ℕ) → cut_value outcome a (values_in newest rest a) ≡ cut_value outcome a (values_in newest (rest ++ last ∷ []) a)

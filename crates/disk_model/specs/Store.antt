@@ -1,16 +1,12 @@
 -- What a disk in memory contains.
-use Rattle.std.specs.Prelude.{ℕ, List, [], ◌∷◌, ◌++◌, ◌==◌, if◌then◌else◌, Option, Some, None, Box}
+use Rattle.std.specs.Prelude.{ℕ, List, [], ◌∷◌, ◌++◌, ◌==◌, if◌then◌else◌, Box}
 use Rattle.std.specs.Ordering.{nat_cmp}
 use Rattle.std.specs.BTreeMap.{BTreeMap, get}
 use Rattle.std.specs.declared.alloc.Global.{Global}
 use Rattle.ft_base.specs.declared.block.Block.{Block}
-use Rattle.ft_base.specs.Contents.{Values, zero_block}
+use Rattle.ft_base.specs.Contents.{Values}
+use Rattle.ft_base.specs.Plain.{block_in}
 use Rattle.disk_model.specs.declared.replaced.Replaced.{Replaced}
-
--- a block that may be there: the zero block where it isn't
-abbrev pub block_in : Option (Box Block Global) → Block
-block_in None = zero_block
-block_in (Some box) = box.value
 
 -- what the writes since the last flush replaced at an address, newest first
 abbrev pub replaced_at : List Replaced → ℕ → List Block

@@ -2,7 +2,8 @@ ghost use Rattle.std.specs.Prelude.{◌≡◌, ◌==◌, ℕ, None, [], IsSome, 
 ghost use Rattle.std.specs.Ordering.{nat_cmp};
 ghost use Rattle.std.specs.BTreeMap.{get};
 ghost use Rattle.ft_base.specs.Contents.{Values};
-ghost use Rattle.disk_model.specs.Store.{block_in, replaced_at};
+ghost use Rattle.ft_base.specs.Plain.{block_in};
+ghost use Rattle.disk_model.specs.Store.{replaced_at};
 ghost use Rattle.ft_media.specs.Rig.{cut_value, flushed_value};
 
 use crate::replaced::Replaced;
@@ -112,6 +113,6 @@ fn put_back(newest: &mut BTreeMap<u64, Box<Block>>, last: Replaced)
             Some(block) => *place = block,
             None => **place = zero_block(),
         },
-        None => {}
+        None => unreachable!(),
     }
 }
