@@ -1,5 +1,5 @@
 -- Reading a header by spelling it again.
-use Rattle.std.proofs.Common.{◌≡◌, ◌↔◌, ℕ, ◌*◌, Bool, true, ◌&&◌, List, take, drop, Some, None, Option, MatchOption, IsTrue, refl, sym, ◌∙◌, subst}
+use Rattle.std.proofs.Common.{◌≡◌, ◌↔◌, ℕ, ◌*◌, Bool, true, List, take, drop, Some, None, Option, IsTrue, refl, sym, ◌∙◌, subst}
 use Rattle.std.specs.Str.{bytes_eq}
 use Rattle.std.proofs.lemmas.Slice.Eq.{bytes_eq-Decides}
 use Rattle.cache_model.specs.declared.format.Header.{Header}
@@ -7,7 +7,7 @@ use Rattle.std.proofs.lemmas.Bool.{and_from, and_parts}
 use Rattle.cache_model.specs.Spelling.{spelled_header, header_in_range, is_log_or_map, IsHeaderOf, IsPageHeaderOf}
 use Rattle.cache_model.specs.Reading.{header_in, read_header, read_page_header}
 use Rattle.cache_model.proofs.ReadingLemmas.{header_is}
-use Rattle.cache_model.proofs.SpellingLemmas.{any_header_read, any_header_spelled, any_header_there, header_read, header_spelled}
+use Rattle.cache_model.proofs.SpellingLemmas.{any_header_spelled, any_header_there, header_spelled}
 
 -- the tests together are the grammar of a header
 pub has_header_is : (bytes spelling line : List ℕ) (h : Header) (same good : Bool) → spelling ≡ spelled_header h → line ≡ take 32 (drop (32 * 0) bytes) → same ≡ bytes_eq spelling line → same ≡ true → good ≡ header_in_range h → IsTrue good ↔ IsHeaderOf bytes h
@@ -24,20 +24,12 @@ no_header bytes h there not = by_answer (read_page_header bytes) refl
     by_answer None is = refl
     by_answer (Some w) is = absurd (not (subst (λ (k : Header). IsPageHeaderOf bytes k) (sym (header_is bytes w is).there ∙ sym there) (header_spelled bytes w is)))
 
-pub header_match : (bytes : List ℕ) (o : Option Header) → o ≡ read_page_header bytes → MatchOption o ((h : Header) → IsPageHeaderOf bytes h → ⊥) (λ h. IsPageHeaderOf bytes h)
-header_match bytes None is = λ h head. let both : None ≡ Some h = is ∙ header_read bytes h head in absurd (cc)
-header_match bytes (Some h) is = header_spelled bytes h (sym is)
-
 pub no_any_header : (bytes : List ℕ) (h : Header) → h ≡ header_in (take 32 bytes) → (IsHeaderOf bytes h → ⊥) → None ≡ read_header bytes
 no_any_header bytes h there not = by_answer (read_header bytes) refl
   where
     by_answer : (o : Option Header) → read_header bytes ≡ o → None ≡ o
     by_answer None is = refl
     by_answer (Some w) is = absurd (not (subst (λ (k : Header). IsHeaderOf bytes k) (sym (any_header_there bytes w is) ∙ sym there) (any_header_spelled bytes w is)))
-
-pub any_header_match : (bytes : List ℕ) (o : Option Header) → o ≡ read_header bytes → MatchOption o ((h : Header) → IsHeaderOf bytes h → ⊥) (λ h. IsHeaderOf bytes h)
-any_header_match bytes None is = λ h head. let both : None ≡ Some h = is ∙ any_header_read bytes h head in absurd (cc)
-any_header_match bytes (Some h) is = any_header_spelled bytes h (sym is)
 
 -- a header is one of a page of records where its kind is
 pub page_header_of : (bytes : List ℕ) (h : Header) (kind there : Bool) → kind ≡ true → kind ≡ is_log_or_map h.kind → IsTrue there ↔ IsHeaderOf bytes h → IsTrue there ↔ IsPageHeaderOf bytes h

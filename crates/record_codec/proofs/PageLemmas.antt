@@ -1,6 +1,6 @@
 -- Pages by their lines.
 use Rattle.std.proofs.Common.{◌≡◌, ℕ, zero, suc, ◌+◌, ◌-◌, ◌*◌, ◌<◌, ◌≤◌, Bool, true, false, cond, ◌&&◌, List, [], ◌∷◌, ◌++◌, length, get_or, set}
-use Rattle.std.proofs.Common.{take, drop, flat_map, Some, None, Option, IsTrue, ◌↔◌, refl, sym, ◌∙◌, ap, ap₂, subst, arith, append_assoc, ltb-true, leb-true, le-leb, lt-ltb, ◌^◌, length-append}
+use Rattle.std.proofs.Common.{take, drop, flat_map, Some, None, Option, IsTrue, ◌↔◌, refl, sym, ◌∙◌, ap, ap₂, subst, arith, append_assoc, leb-true, le-leb, lt-ltb, ◌^◌, length-append}
 use Rattle.std.specs.Bool.{OnTrue, OnFalse}
 use Rattle.std.specs.List.{list_all}
 use Rattle.std.proofs.lemmas.Bool.{and_parts, and_from, both_ways}
@@ -15,7 +15,7 @@ use Rattle.cache_model.specs.Spelling.{zeros, spelled_header, spelled_record, re
 use Rattle.cache_model.specs.Reading.{record_in, read_page_header, read_records}
 use Rattle.cache_model.proofs.ReadingLemmas.{read_is, read_again}
 use Rattle.cache_model.proofs.SpellingLemmas.{record-again, take-record, drop-record, page_read, page_spelled}
-use Rattle.record_codec.specs.Lines.{HasShortPage, BeginsWith, read_record}
+use Rattle.record_codec.specs.Lines.{BeginsWith, read_record}
 
 -- ---- lines
 
@@ -33,20 +33,10 @@ line_read line r is widths sound =
 
 -- ---- writing
 
-short_of : (kind : PageKind) (r : Record) → may_stand_in kind r ≡ true → HasShortPage r
-short_of kind (SetPage lba place dirty) t = let low : place.page < 64 = ltb-true _ _ (and_parts (is_sound (SetPage lba place dirty)) (goes_on kind (SetPage lba place dirty)) t).0 in omega arith
-short_of kind (Remove lba) t = tt
-short_of kind (Clean lba) t = tt
-short_of kind (SetGroup group block present dirty) t = tt
-short_of kind (RemoveGroup group) t = tt
-
 at_index : {X : Type 0} (p : X → Bool) (xs : List X) (i : ℕ) (d : X) → i < length xs → list_all p xs ≡ true → p (get_or xs i d) ≡ true
 at_index p [] i d within t = absurd (omega arith)
 at_index p (x ∷ xs) zero d within t = (and_parts (p x) (list_all p xs) t).0
 at_index p (x ∷ xs) (suc i) d within t = at_index p xs i d (omega arith) (and_parts (p x) (list_all p xs) t).1
-
-pub short_page : (kind : PageKind) (rs : List Record) (i : ℕ) (d : Record) → i < length rs → list_all (may_stand_in kind) rs ≡ true → HasShortPage (get_or rs i d)
-short_page kind rs i d within t = short_of kind (get_or rs i d) (at_index (may_stand_in kind) rs i d within t)
 
 -- these records stand from line 1 on
 pub record RecordsSoFar (old now : List ℕ) (rs : List Record) (i : ℕ) : Type 0 where
@@ -184,9 +174,6 @@ kind_refused kind page line i n r good within at reads test f rs long begins =
 pub record LinesSoFar (kind : PageKind) (page : List ℕ) (out : List Record) (i : ℕ) : Type 0 where
   pub long : length out ≡ 127
   pub begins : BeginsWith kind (take i out) (drop 32 page)
-
-pub begins_none : (kind : PageKind) (out : List Record) (bytes : List ℕ) → BeginsWith kind (take 0 out) bytes
-begins_none kind out bytes = record { spelled = refl; ranges = refl }
 
 -- one record more
 pub begins_more : (kind : PageKind) (page line : List ℕ) (out : List Record) (i : ℕ) (r : Record) (good : Bool) → i < length out → line ≡ take 32 (drop (32 * (1 + i)) page) → Some r ≡ read_record line

@@ -1,8 +1,9 @@
 -- Seals by their lines.
-use Rattle.std.proofs.Common.{◌≡◌, ◌↔◌, ℕ, ◌+◌, ◌^◌, ◌<◌, ◌≤◌, nat_le, nat_lt, Bool, true, ◌&&◌, List, ◌++◌, take, drop, Some, None, Option, MatchOption, IsTrue, refl, sym, ◌∙◌, ap, ap₂, subst, arith, append_assoc, le-leb, leb-true, lt-ltb}
+use Rattle.std.proofs.Common.{◌≡◌, ◌↔◌, ℕ, ◌+◌, ◌^◌, ◌<◌, ◌≤◌, nat_le, Bool, true, ◌&&◌, List, ◌++◌, take, drop, Some, None, Option, MatchOption, IsTrue, refl, sym, ◌∙◌, ap, ap₂, subst, arith, append_assoc, le-leb, leb-true, lt-ltb}
 use Rattle.std.specs.Int.{Width, w32, w64, byte_len, from_be_bytes, to_be_bytes}
 use Rattle.std.specs.Str.{bytes_eq}
 use Rattle.std.proofs.lemmas.Bool.{and_parts, and_from}
+use Rattle.std.proofs.lemmas.Option.{none-some}
 use Rattle.std.proofs.lemmas.Slice.Eq.{bytes_eq-Decides}
 use Rattle.std.proofs.lemmas.List.{take-take, drop-drop, drop-take, take-append-drop, drop_at, take_at, replicate-append-replicate}
 use Rattle.cache_model.specs.declared.format.PageKind.{PageKind}
@@ -56,12 +57,6 @@ seal_count SealPage count t low = lt-ltb _ _ low
 pub seal_header : (h : Header) → is_seal h.kind ≡ true → h.era ≤ 2 → h.sequence < 2 ^ 32 → h.count < 2 ^ 32 → (header_in_range h && is_seal h.kind) ≡ true
 seal_header h kind era sequence count = and_from _ _ (and_from _ _ (and_from _ _ (le-leb _ _ era) (lt-ltb _ _ sequence)) (seal_count h.kind h.count kind count)) kind
 
-pub seal_heads : (bytes : List ℕ) (h : Header) (seal : Seal) → IsSealOf bytes h seal → (is_seal h.kind && nat_le h.era 2) ≡ true
-seal_heads bytes h seal is =
-    let p = and_parts (header_in_range h) (is_seal h.kind) is.header in
-    let q = and_parts (nat_le h.era 2 && nat_lt h.sequence (2 ^ 32)) (count_in_range h.kind h.count) p.0 in
-    and_from (is_seal h.kind) (nat_le h.era 2) p.1 (and_parts (nat_le h.era 2) (nat_lt h.sequence (2 ^ 32)) q.0).0
-
 -- what the tests say together
 pub has_seal_is : (bytes front numbers line line' : List ℕ) (h : Header) (seal : Seal) (same same' heads zero : Bool) → front ≡ spelled_header h → numbers ≡ numbers_line seal → line ≡ take 32 bytes
     → line' ≡ take 32 (drop 32 bytes) → same ≡ bytes_eq front line → same ≡ true → same' ≡ bytes_eq numbers line' → same' ≡ true → heads ≡ (is_seal h.kind && nat_le h.era 2) → heads ≡ true
@@ -109,8 +104,5 @@ no_seal bytes h seal there there' not = by_answer (read_seal bytes) refl
         absurd (not (subst (λ (k : Header). IsSealOf bytes k seal) (sym p.there ∙ sym there) (subst (λ (k : Seal). IsSealOf bytes w.0 k) (sym p.there_too ∙ sym there') s)))
 
 pub seal_match : (bytes : List ℕ) (o : Option (Header × Seal)) → o ≡ read_seal bytes → MatchOption o ((h : Header) (s : Seal) → IsSealOf bytes h s → ⊥) (λ r. IsSealOf bytes r.0 r.1)
-seal_match bytes None is = λ h s seal. none_is_some (h, s) (is ∙ seal_read bytes h s seal)
-  where
-    none_is_some : (r : Header × Seal) → None ≡ Some r → ⊥
-    none_is_some r both = absurd (cc)
+seal_match bytes None is = λ h s seal. none-some {A = Header × Seal} (h, s) (is ∙ seal_read bytes h s seal)
 seal_match bytes (Some r) is = seal_spelled bytes r.0 r.1 (sym is)

@@ -72,6 +72,7 @@ pub fn header_in(line: &[u8; 32]) -> Header
 fn is_in_range(header: &Header) -> bool
     ensures { result ≡ header_in_range header.now }
 {
+    // Read so that the proof knows that it fits its four bytes; nothing else limits it.
     let _sequence = header.sequence;
     let count = header.count;
     match header.kind {

@@ -14,7 +14,6 @@ use cache_model::{Header, PageKind};
 use ft_base::{Block, Record};
 
 /// Writes the page of a header and its records.
-
 pub fn write_page(out: &mut Block, header: &Header, changes: &[Record])
     requires kind { IsTrue (is_log_or_map header.now.kind) }
     requires era { header.now.era ≤ 2 }
