@@ -1,6 +1,7 @@
 -- What the calls of a rig in memory leave is what the media promise.
 use Rattle.std.proofs.Common.{◌≡◌, ◌≢◌, ◌==◌, ◌⊎◌, ℕ, zero, suc, ◌%◌, Option, Some, None, List, [], ◌∷◌, Ok, Err, inl, inr, refl, sym, ◌∙◌, ap, subst, arith, cond, Bool, true, false, eq-eqb}
-use Rattle.std.proofs.lemmas.Bool.{cases_eq}
+use Rattle.std.proofs.lemmas.Bool.{both_ways, cases_eq, false≢true}
+use Rattle.std.proofs.lemmas.Option.{none-some}
 use Rattle.std.proofs.lemmas.Bool.Decides.{nat_tests}
 use Rattle.ft_base.specs.declared.block.Block.{Block}
 use Rattle.ft_base.specs.declared.block.Spare.{Spare}
@@ -24,7 +25,6 @@ use Rattle.ft_media.specs.Rig.{after_cut, cut_value, flushed_value, oldest}
 use Rattle.disk_model.specs.Steps.{write_left, flush_left}
 use Rattle.mem_rig.specs.Power.{FellDue, PowerLeft, WasCounted}
 use Rattle.mem_rig.specs.Steps.{cut_contents, cut_bumped}
-use Rattle.mem_rig.proofs.OffLemmas.{on_off}
 
 -- a cut leaves one of the values
 oldest_is_one : (newest : Block) (earlier : List Block) → (oldest newest earlier ≡ newest) ⊎ IsOneOf earlier (oldest newest earlier)
@@ -65,13 +65,10 @@ settled_by old new left disk fell cut = record {
 
 -- no stop cut one that was not lost, nor one that found power off
 pub settled_kept : (old new : State) (disk : ℕ → Values) → SettledByStop old new false disk
-settled_kept old new disk = record { settled = λ on lost. absurd (true_false lost) }
-  where
-    true_false : false ≡ true → ⊥
-    true_false same = cc
+settled_kept old new disk = record { settled = λ on lost. absurd (false≢true lost) }
 
 pub settled_off : (old new : State) (was_lost : Bool) (disk : ℕ → Values) → old.power.on ≡ false → SettledByStop old new was_lost disk
-settled_off old new was_lost disk off = record { settled = λ on lost. absurd (on_off old.power.on on off) }
+settled_off old new was_lost disk off = record { settled = λ on lost. absurd (both_ways old.power.on off on) }
 
 -- a device write that was done
 pub device_done : (old new : State) → new.contents.shape ≡ old.contents.shape → WasCounted old.power new.power → KeepsReady old new → DeviceWrite old new (Ok (tt {0}))
@@ -79,13 +76,10 @@ device_done old new shape counted ready = record {
   shape = shape;
   spends = λ armed. omega (arith, counted.rest armed);
   unarmed = λ on none. refl;
-  off = λ off. absurd (on_off old.power.on counted.was_on off);
+  off = λ off. absurd (both_ways old.power.on off counted.was_on);
   ready = λ done kept. ready;
-  unchanged = λ off. absurd (on_off old.power.on counted.was_on off);
+  unchanged = λ off. absurd (both_ways old.power.on off counted.was_on);
 }
-
-none_some : (n : ℕ) → Some n ≡ None → ⊥
-none_some n same = cc
 
 -- a block becomes ready, or goes on to its next page, and each other block is as before
 pub ready_set : (old new : State) (block next : ℕ) → new.contents.flash.next ≡ set old.contents.flash.next block (Some next) → KeepsReady old new
@@ -95,7 +89,7 @@ ready_set old new block next is b ready none = by_block (cases_eq block b)
     there = ap (λ (f : ℕ → Option ℕ). f b) (sym is) ∙ none
 
     by_block : ((block ≡ b) ⊎ (block ≢ b)) → ⊥
-    by_block (inl same) = none_some next (sym (set_here old.contents.flash.next block (Some next)) ∙ subst (λ k. set old.contents.flash.next block (Some next) k ≡ None) (sym same) there)
+    by_block (inl same) = none-some next (sym (sym (set_here old.contents.flash.next block (Some next)) ∙ subst (λ k. set old.contents.flash.next block (Some next) k ≡ None) (sym same) there))
     by_block (inr apart) = ready (sym (set_other old.contents.flash.next block b (Some next) apart) ∙ there)
 
 pub ready_same : (old new : State) → new.contents.flash ≡ old.contents.flash → KeepsReady old new
@@ -213,9 +207,9 @@ device_refused old new on same = subst (λ s. DeviceWrite {T = Unit {0}} old s (
   shape = refl;
   spends = tt;
   unarmed = λ was_on none. refl;
-  off = λ off. absurd (on_off old.power.on on off);
+  off = λ off. absurd (both_ways old.power.on off on);
   ready = λ done kept b ready. ready;
-  unchanged = λ off. absurd (on_off old.power.on on off);
+  unchanged = λ off. absurd (both_ways old.power.on off on);
 })
 
 pub values_refused : (old new : State) (lba : ℕ) (block : Block) → new ≡ old → (at : ℕ) (b : Block) → HasValue (new.contents.disk at) b → HasValue (old.contents.disk at) b ⊎ ((at ≡ lba) × (b ≡ block))

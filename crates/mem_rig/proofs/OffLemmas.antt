@@ -1,5 +1,6 @@
 -- With power off after a device write nothing is ready, and each disk block has one value.
-use Rattle.std.proofs.Common.{◌≡◌, ℕ, ◌⊎◌, inl, inr, refl, sym, ◌∙◌, ap, subst, Bool, true, false}
+use Rattle.std.proofs.Common.{◌≡◌, ℕ, ◌⊎◌, inl, inr, refl, sym, ◌∙◌, ap, subst, Bool, false}
+use Rattle.std.proofs.lemmas.Bool.{both_ways}
 use Rattle.ft_base.specs.declared.power.Outcome.{Outcome}
 use Rattle.ft_base.specs.Contents.{Flash, Values}
 use Rattle.ft_media.specs.State.{Power}
@@ -15,12 +16,9 @@ use Rattle.mem_rig.proofs.PowerLemmas.{power_left}
 abbrev WasLost : Ending → Power → Type 0
 WasLost how old = ((outcome : Outcome) × (how ≡ ending.Cut outcome)) ⊎ ((how ≡ ending.Off) × (old.on ≡ false))
 
-pub on_off : (on : Bool) → on ≡ true → on ≡ false → ⊥
-on_off on is_on is_off = cc
-
 was_lost : (how : Ending) (old new : Power) → PowerLeft how old new → new.on ≡ false → WasLost how old
-was_lost ending.Done old new left off = absurd (on_off new.on left.on off)
-was_lost ending.Failed old new left off = absurd (on_off new.on left.on off)
+was_lost ending.Done old new left off = absurd (both_ways new.on off left.on)
+was_lost ending.Failed old new left off = absurd (both_ways new.on off left.on)
 was_lost (ending.Cut outcome) old new left off = inl (outcome, refl)
 was_lost ending.Off old new left off = inr (refl, left.0)
 
