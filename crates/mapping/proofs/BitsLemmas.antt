@@ -1,5 +1,5 @@
 -- Sets of pages, built up page by page.
-use Rattle.std.proofs.Common.{◌≡◌, ℕ, zero, suc, ◌+◌, ◌-◌, ◌*◌, ◌/◌, ◌^◌, ◌<◌, ◌≤◌, ◌==◌, ◌&&◌, nat_lt, Option, Some, None, inl, inr, ne_eqb, lt-ltb, le-ltb, Bool, true, false, cond, add-one, pow-suc, refl, sym, ◌∙◌, ap, subst, arith}
+use Rattle.std.proofs.Common.{◌≡◌, ℕ, zero, suc, ◌+◌, ◌-◌, ◌*◌, ◌/◌, ◌^◌, ◌<◌, ◌≤◌, ◌==◌, ◌&&◌, nat_lt, Option, Some, None, inl, inr, ne_eqb, lt-ltb, le-ltb, Bool, true, false, cond, pow-suc, refl, sym, ◌∙◌, ap, arith}
 use Rattle.std.specs.Int.{bit_at}
 use Rattle.std.proofs.lemmas.Nat.{div-mul-add}
 use Rattle.std.proofs.lemmas.Nat.Bits.{bit_at-zero, bit_at_above, bit_at_cat_low, bit_at_cat_high}
@@ -31,21 +31,6 @@ set_below test (suc n) =
 pub record SetSoFar (test : ℕ → Bool) (page set : ℕ) : Type 0 where
   pub is : set ≡ set_of test page
   pub below : set < 2 ^ page
-
-pub set_none : (test : ℕ → Bool) → SetSoFar test 0 0
-set_none test = record { is = refl; below = omega arith }
-
-next_set : (test : ℕ → Bool) (page set set' : ℕ) → set' ≡ set_of test (suc page) → SetSoFar test (page + 1) set'
-next_set test page set set' is = subst (λ n. SetSoFar test n set') (sym (add-one page)) (record { is = is; below = subst (λ n. n < 2 ^ suc page) (sym is) (set_below test (suc page)) })
-
-pub set_with : (test : ℕ → Bool) (page set : ℕ) (b : Bool) → b ≡ test page → b ≡ true → SetSoFar test page set → SetSoFar test (page + 1) (set + 2 ^ page)
-set_with test page set b is t so_far = next_set test page set (set + 2 ^ page) (ap (λ n. n + 2 ^ page) so_far.is ∙ ap (λ b. set_of test page + cond b (2 ^ page) 0) (sym t ∙ is))
-
-pub set_same : (test : ℕ → Bool) (page set : ℕ) (b : Bool) → b ≡ test page → b ≡ false → SetSoFar test page set → SetSoFar test (page + 1) set
-set_same test page set b is f so_far = next_set test page set set (so_far.is ∙ no_more (set_of test page) ∙ ap (λ b. set_of test page + cond b (2 ^ page) 0) (sym f ∙ is))
-  where
-    no_more : (n : ℕ) → n ≡ n + 0
-    no_more n = omega arith
 
 -- ---- the bits of a set
 

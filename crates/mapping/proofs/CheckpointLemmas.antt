@@ -1,7 +1,7 @@
 -- The records of a checkpoint, offered one after another.
-use Rattle.std.proofs.Common.{◌≡◌, ℕ, ◌+◌, ◌-◌, ◌*◌, ◌<◌, ◌≤◌, List, [], ◌∷◌, ◌++◌, length, get_or, set, take, drop, map, Option, refl, sym, ◌∙◌, ap, ap₂, subst, arith, inl, inr, ◌⊎◌, length-append, append-nil, append_assoc}
-use Rattle.std.proofs.lemmas.Bool.{cases_eq, cases_lt}
-use Rattle.std.proofs.lemmas.List.{get_or-set_same, get_or-set_other, get_or_at, get_or_append_left, take_more, take_all, take-append-drop, length-set, length-map, length-drop, length-take-le, get_or-take, get_or-drop, same_lists, map-append}
+use Rattle.std.proofs.Common.{◌≡◌, ℕ, ◌+◌, ◌-◌, ◌*◌, ◌<◌, ◌≤◌, List, [], ◌∷◌, ◌++◌, length, get_or, take, drop, map, Option, refl, sym, ◌∙◌, ap, ap₂, subst, arith, inl, inr, ◌⊎◌, length-append, append-nil, append_assoc}
+use Rattle.std.proofs.lemmas.Bool.{cases_lt}
+use Rattle.std.proofs.lemmas.List.{get_or_append_left, take_more, take_all, take-append-drop, length-map, length-drop, length-take-le, get_or-take, get_or-drop, same_lists, map-append}
 use Rattle.std.proofs.Math.Seq.{take-append-add}
 use Rattle.ft_base.specs.declared.record.Record.{Record}
 use Rattle.sparse_map.specs.Slots.{items_of, group}
@@ -12,43 +12,6 @@ use Rattle.mapping.specs.Checkpoint.{HasWindow}
 
 pub window_none : (from : ℕ) (out : List Record) → HasWindow [] from out
 window_none from out = record { at = λ j d low high. absurd (omega arith) }
-
-old_at : (records out : List Record) (from j : ℕ) (d change : Record) → HasWindow records from out → from ≤ j → j < length records → j < from + length out → get_or out (j - from) d ≡ get_or (records ++ change ∷ []) j d
-old_at records out from j d change has low within high = has.at j d low within high ∙ sym (get_or_append_left records (change ∷ []) d j within)
-
-pub offered : (records out : List Record) (from at : ℕ) (change : Record) → length records ≡ at → from ≤ at → at - from < length out → HasWindow records from out → HasWindow (records ++ change ∷ []) from (set out (at - from) change)
-offered records out from at change long low within has = record {
-  at = λ j d low' high room.
-      let same_length : length (set out (at - from) change) ≡ length out = length-set out (at - from) change in
-      let longer : length (records ++ change ∷ []) ≡ length records + 1 = length-append records (change ∷ []) in
-      elim (cases_eq j at) [
-        | inl same ↦
-            ap (λ n. get_or (set out (at - from) change) (n - from) d) same ∙ get_or-set_same out (at - from) change d within
-            ∙ sym (ap (λ n. get_or (records ++ change ∷ []) n d) same ∙ get_or_at records change [] d at long)
-        | inr other ↦
-            get_or-set_other out (at - from) (j - from) change d (λ e. other (apart j at from e low' low))
-            ∙ old_at records out from j d change has low' (omega (arith, longer, long)) (omega (arith, same_length))
-      ];
-}
-  where
-    apart : (j at from : ℕ) → j - from ≡ at - from → from ≤ j → from ≤ at → j ≡ at
-    apart j at from e low low' = omega arith
-
-pub passed_by : (records out : List Record) (from at : ℕ) (change : Record) → length records ≡ at → (from ≤ at → at - from < length out → ⊥) → HasWindow records from out → HasWindow (records ++ change ∷ []) from out
-passed_by records out from at change long outside has = record {
-  at = λ j d low high room.
-      let longer : length (records ++ change ∷ []) ≡ length records + 1 = length-append records (change ∷ []) in
-      elim (cases_eq j at) [
-        | inl same ↦ absurd (outside (reach same low) (below same low room))
-        | inr other ↦ old_at records out from j d change has low (omega (arith, longer, long)) room
-      ];
-}
-  where
-    reach : {j : ℕ} → j ≡ at → from ≤ j → from ≤ at
-    reach same low = omega arith
-
-    below : {j : ℕ} → j ≡ at → from ≤ j → j < from + length out → at - from < length out
-    below same low room = omega arith
 
 -- records that the window hasn't
 pub skipped : (records more out : List Record) (from : ℕ) → (length records + length more ≤ from) ⊎ (from + length out ≤ length records) → HasWindow records from out → HasWindow (records ++ more) from out

@@ -6,6 +6,7 @@ use Rattle.std.proofs.lemmas.Nat.Bits.{bit_at-zero}
 use Rattle.std.proofs.lemmas.Bool.{cases_Bool, cases_lt, cases_eq, both_ways, and_from}
 use Rattle.std.specs.FinMap.{get}
 use Rattle.std.specs.List.{AllByRecursion}
+use Rattle.std.proofs.lemmas.Option.{same_Some, none-some}
 use Rattle.ft_base.specs.declared.geometry.Geometry.{Geometry}
 use Rattle.ft_base.specs.declared.record.Record.TheVariants.{SetGroup}
 use Rattle.cache_model.specs.declared.entry.Entry.{Entry}
@@ -74,21 +75,15 @@ pub block_is : (m : Entries) (first n i : ℕ) (e : Entry) → i < n → get m (
 block_is m first zero i e low at mapped same = absurd (omega arith)
 block_is m first (suc n) i e low at mapped same = by_last (get m (first + n)) refl (λ below. block_is m first n i e below at mapped (λ j f low'. same j f (omega arith)))
   where
-    some_none : (x : Entry) → Some x ≡ None → ⊥
-    some_none x s = absurd (cc)
-
-    some_same : (x y : Entry) → Some x ≡ Some y → x ≡ y
-    some_same x y s = cc
-
     by_last : (o : Option Entry) → get m (first + n) ≡ o → (i < n → block_below m first n ≡ e.place.block) → block_or o (block_below m first n) ≡ e.place.block
     by_last None is rest = rest (elim (cases_eq i n) [
-      | inl s ↦ absurd (some_none e (sym at ∙ ap (λ k. get m (first + k)) s ∙ is))
+      | inl s ↦ absurd (none-some e (sym (sym at ∙ ap (λ k. get m (first + k)) s ∙ is)))
       | inr other ↦ omega arith
     ])
     by_last (Some f) is rest = elim (cases_Bool f.block_mapped) [
       | inl t ↦ ap (λ b. cond b f.place.block (block_below m first n)) t ∙ same n f (omega arith) is t
       | inr f' ↦ ap (λ b. cond b f.place.block (block_below m first n)) f' ∙ rest (elim (cases_eq i n) [
-        | inl s ↦ absurd (both_ways e.block_mapped (ap (λ (x : Entry). x.block_mapped) (some_same e f (sym at ∙ ap (λ k. get m (first + k)) s ∙ is)) ∙ f') mapped)
+        | inl s ↦ absurd (both_ways e.block_mapped (ap (λ (x : Entry). x.block_mapped) (same_Some e f (sym at ∙ ap (λ k. get m (first + k)) s ∙ is)) ∙ f') mapped)
         | inr other ↦ omega arith
       ])
     ]

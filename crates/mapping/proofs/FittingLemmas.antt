@@ -4,6 +4,7 @@ use Rattle.std.specs.Bool.{then_some}
 use Rattle.std.specs.FinMap.{get}
 use Rattle.std.proofs.lemmas.Bool.{both_ways, cases_eq}
 use Rattle.std.proofs.lemmas.Nat.{div-mul-add, mod-mul-add, div-add-mod', mod_below}
+use Rattle.std.proofs.lemmas.Option.{same_Some}
 use Rattle.ft_base.specs.declared.geometry.Geometry.{Geometry}
 use Rattle.ft_base.specs.declared.block.Place.{Place}
 use Rattle.ft_base.specs.declared.record.Record.TheVariants.{SetPage, SetGroup}
@@ -33,12 +34,9 @@ module _ (g : Geometry) (m : Entries) (is_map : IsMap g m) (lba : ℕ) (at : Pla
   page_cases a e is = elim (cases_eq a lba) [
     | inl same ↦
         let value : Some (in_log_block at dirty) ≡ Some e = sym (ap (λ b. cond b (Some (in_log_block at dirty)) (get m a)) (eq-eqb a lba same)) ∙ sym (get-after g (SetPage lba at dirty) m a) ∙ is in
-        inl (same, some_same (in_log_block at dirty) e value)
+        inl (same, sym (same_Some (in_log_block at dirty) e value))
     | inr other ↦ inr (other, sym (ap (λ b. cond b (Some (in_log_block at dirty)) (get m a)) (ne_eqb a lba other)) ∙ sym (get-after g (SetPage lba at dirty) m a) ∙ is)
   ]
-    where
-      some_same : (x y : Entry) → Some x ≡ Some y → y ≡ x
-      some_same x y s = cc
 
   pub page_here : get new_map lba ≡ Some (in_log_block at dirty)
   page_here = get-after g (SetPage lba at dirty) m lba ∙ ap (λ b. cond b (Some (in_log_block at dirty)) (get m lba)) (same_number lba)

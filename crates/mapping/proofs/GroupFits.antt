@@ -1,9 +1,9 @@
 -- What the tests of a data block say of whether it fits.
 use Rattle.std.proofs.Common.{◌≡◌, ◌↔◌, ℕ, ◌+◌, ◌-◌, ◌*◌, ◌/◌, ◌%◌, ◌^◌, ◌<◌, ◌≤◌, ◌==◌, nat_le, min, Bool, true, false, not, bit_and, IsTrue, refl, sym, ◌∙◌, ap, subst, arith, inl, inr, eqb-true, eq-eqb, ne_eqb, nat_lt, ltb-true, lt-ltb, leb-true, le-leb}
 use Rattle.std.specs.Int.{bit_at}
-use Rattle.std.proofs.lemmas.Bool.{cases_Bool, both_ways, not-true}
+use Rattle.std.proofs.lemmas.Bool.{both_ways, not-true}
 use Rattle.std.proofs.lemmas.Nat.{div-mul-add, mod_below, pow_pos}
-use Rattle.std.proofs.lemmas.Nat.Bits.{shr_and_one, bit_at_and, bit_at-lt}
+use Rattle.std.proofs.lemmas.Nat.Bits.{bit_at_and, bit_at-lt}
 use Rattle.ft_base.specs.declared.geometry.Geometry.{Geometry}
 use Rattle.ft_base.specs.declared.record.Record.TheVariants.{SetGroup, Remove, Clean, RemoveGroup}
 use Rattle.ft_base.specs.Layout.{first_pool, blocks}
@@ -21,12 +21,6 @@ use Rattle.mapping.proofs.FittingLemmas.{page_entry, group_cases, group_here, gr
 
 -- ---- bits
 
-pub bit_there : (set i : ℕ) → bit_and (set / 2 ^ i) 1 ≡ 1 → has_bit set i ≡ true
-bit_there set i is = eq-eqb _ _ (sym (shr_and_one set i) ∙ is)
-
-pub bit_absent : (set i : ℕ) → (bit_and (set / 2 ^ i) 1 ≡ 1 → ⊥) → has_bit set i ≡ false
-bit_absent set i not = ne_eqb _ _ (λ e. not (shr_and_one set i ∙ e))
-
 pub both_bits : (a b i : ℕ) → has_bit (bit_and a b) i ≡ true → (has_bit a i ≡ true) × (has_bit b i ≡ true)
 both_bits a b i t =
     let is : min (bit_at a i) (bit_at b i) ≡ 1 = sym (bit_at_and a b i) ∙ eqb-true _ _ t in
@@ -42,31 +36,9 @@ from_both a b i t u =
     let one' : bit_at b i ≡ 1 = eqb-true _ _ u in
     eq-eqb _ _ (bit_at_and a b i ∙ ap (λ n. min n (bit_at b i)) one ∙ ap (min 1) one')
 
-pub no_page : (set pages : ℕ) → ((i : ℕ) → i < pages → has_bit set i ≡ false) → HasPageBelow set pages → ⊥
-no_page set pages none has = both_ways (has_bit set has.0) (none has.0 has.1) has.2
-
-pub absent : (set pages : ℕ) (b : Bool) → ((b ≡ true → HasPageBelow set pages) × (HasPageBelow set pages → b ≡ true)) → b ≡ false → (i : ℕ) → i < pages → has_bit set i ≡ false
-absent set pages b is f i low = elim (cases_Bool (has_bit set i)) [
-  | inl t ↦ absurd (both_ways b f (is.1 (i, low, t)))
-  | inr f' ↦ f'
-]
-
 -- ---- the block
 
 module _ (g : Geometry) (m : Entries) (group block present : ℕ) where
-  pub free_block : ((i : ℕ) → i < g.p → has_bit present i ≡ false) → BlockMayCome g group block present m
-  free_block none = record {
-    sizes = λ i low there. absurd (both_ways (has_bit present i) (none i low) there);
-    pool = λ i low there. absurd (both_ways (has_bit present i) (none i low) there);
-    foreign = λ i low there. absurd (both_ways (has_bit present i) (none i low) there);
-  }
-
-  pub too_low : HasPageBelow present g.p → block < first_pool g → BlockMayCome g group block present m → ⊥
-  too_low has low may = let p = (may.pool has.0 has.1 has.2).0 in absurd (omega arith)
-
-  pub too_high : HasPageBelow present g.p → blocks g ≤ block → BlockMayCome g group block present m → ⊥
-  too_high has high may = let p = (may.pool has.0 has.1 has.2).1 in absurd (omega arith)
-
   foreign_is : (a : ℕ) → not (a / g.p == group) ≡ true → a / g.p ≡ group → ⊥
   foreign_is a t same = both_ways (a / g.p == group) (not-true (a / g.p == group) t) (eq-eqb _ _ same)
 
@@ -114,9 +86,6 @@ module _ (g : Geometry) (old : Entries) (is_map : IsMap g old) (group block pres
       | inr p ↦ absurd (p.0 in_group)
     ];
   }
-
-  pub no_reach : (IsInReach g (SetGroup group block present dirty) → ⊥) → Fits g (SetGroup group block present dirty) old → ⊥
-  no_reach not fits = not fits.in_reach
 
   pub no_block : (BlockMayCome g group block present old → ⊥) → Fits g (SetGroup group block present dirty) old → ⊥
   no_block not fits = let may = fits_group g old is_map group block present dirty fits in not (record { sizes = may.sizes; pool = may.pool; foreign = may.foreign })

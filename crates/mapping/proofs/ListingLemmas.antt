@@ -7,10 +7,11 @@ use Rattle.std.specs.FinMap.{get, entries, find}
 use Rattle.std.proofs.lemmas.Bool.{cases_Bool, cases_eq, both_ways, or_left, or_right}
 use Rattle.std.proofs.lemmas.List.{length-map}
 use Rattle.std.proofs.lemmas.Nat.{div-mul-add, mod-mul-add}
+use Rattle.std.proofs.lemmas.Option.{same_Some}
 use Rattle.ft_base.specs.declared.geometry.Geometry.{Geometry}
 use Rattle.ft_base.specs.declared.record.Record.{Record}
 use Rattle.cache_model.specs.declared.entry.Entry.{Entry}
-use Rattle.cache_model.specs.Records.{Entries, has_bit, in_log_block}
+use Rattle.cache_model.specs.Records.{has_bit, in_log_block}
 use Rattle.cache_model.specs.Entries.{each_once, groups_with, page_mapped}
 use Rattle.cache_model.proofs.MapLemmas.{eq_key}
 use Rattle.cache_model.proofs.CountLemmas.{member, numbers, same_number, each_once-same}
@@ -31,8 +32,8 @@ use Rattle.cache_model.specs.Buckets.{AreBucketsFor}
 use Rattle.mapping.proofs.MarksLemmas.{same_bools, member_from, member_to}
 use Rattle.mapping.proofs.PackedLemmas.{get_held, data_block_is}
 use Rattle.mapping.proofs.ChosenLemmas.{blocks_as}
-use Rattle.mapping.proofs.TallyLemmas.{tally_is}
-use Rattle.mapping.proofs.SeekingLemmas.{none_some, some_is}
+use Rattle.mapping.proofs.TallyLemmas.{tally_is, once_few}
+use Rattle.mapping.proofs.SeekingLemmas.{none_some}
 
 -- ---- a list in which no key comes twice
 
@@ -121,9 +122,6 @@ some_page set p some below = elim (search_page set p) [
 -- ---- the listing
 
 module _ (g : Geometry) (pages : PackedTable LogPage) (blocks : PackedTable BlockPages) (packed : IsPackedMap g pages blocks) where
-  abbrev m : Entries
-  m = entries_of g (map_of pages) (map_of blocks)
-
   at : (a : ℕ) → get (entries_of g (map_of pages) (map_of blocks)) a ≡ entry_in (get (map_of pages) a) (page_in (get (map_of blocks) (a / g.p)) (a % g.p))
   at a = get_held g (map_of pages) (map_of blocks) a
 
@@ -151,7 +149,7 @@ module _ (g : Geometry) (pages : PackedTable LogPage) (blocks : PackedTable Bloc
 
       by_log : (o : Option LogPage) → entry_in o (page_in (get (map_of blocks) (a / g.p)) (a % g.p)) ≡ Some e → (b : BlockPages) × (get (map_of blocks) (a / g.p) ≡ Some b)
       by_log None s = by_block (get (map_of blocks) (a / g.p)) refl s
-      by_log (Some x) s = absurd (both_ways e.block_mapped (ap (λ (f : Entry). f.block_mapped) (sym (some_is (in_log_block x.place x.dirty) e s))) mapped)
+      by_log (Some x) s = absurd (both_ways e.block_mapped (ap (λ (f : Entry). f.block_mapped) (sym (same_Some (in_log_block x.place x.dirty) e s))) mapped)
 
   -- an entry of a log block has its log page
   log_page : (a : ℕ) (e : Entry) → get (entries_of g (map_of pages) (map_of blocks)) a ≡ Some e → page_mapped e ≡ true → (x : LogPage) × (get (map_of pages) a ≡ Some x)
@@ -162,7 +160,7 @@ module _ (g : Geometry) (pages : PackedTable LogPage) (blocks : PackedTable Bloc
       of_page (Some b) s = shown (has_bit b.present (a % g.p)) s
         where
           shown : (c : Bool) → then_some c (record { place = record { block = b.block; page = a % g.p }; dirty = has_bit b.dirty (a % g.p); block_mapped = true }) ≡ Some e → e.block_mapped ≡ true
-          shown true s = ap (λ (f : Entry). f.block_mapped) (sym (some_is _ e s))
+          shown true s = ap (λ (f : Entry). f.block_mapped) (sym (same_Some _ e s))
           shown false s = none_some e s
 
       by_log : (o : Option LogPage) → get (map_of pages) a ≡ o → entry_in o (page_in (get (map_of blocks) (a / g.p)) (a % g.p)) ≡ Some e → (x : LogPage) × (get (map_of pages) a ≡ Some x)
@@ -201,9 +199,6 @@ module _ (g : Geometry) (pages : PackedTable LogPage) (blocks : PackedTable Bloc
       let y = log_page x.0.0 x.0.1 x.1 x.2 in
       ap (λ k. member k (map (λ (x : ℕ × LogPage). x.0) (items_of pages.slots))) (sym x.3) ∙ key_there pages packed.pages_sound x.0.0 y.0 y.1))
       ∙ tally_is page_mapped (entries_of g (map_of pages) (map_of blocks))
-
-  log_item : ℕ × LogPage → ℕ × Entry
-  log_item x = (x.0, in_log_block x.1.place x.1.dirty)
 
   items_entries : (xs : List (ℕ × LogPage)) → AllByRecursion (λ (x : ℕ × LogPage). get (map_of pages) x.0 ≡ Some x.1) xs
       → AllByRecursion (λ (x : ℕ × Entry). (get (entries_of g (map_of pages) (map_of blocks)) x.0 ≡ Some x.1) × (page_mapped x.1 ≡ true))
@@ -246,10 +241,6 @@ module _ (g : Geometry) (pages : PackedTable LogPage) (blocks : PackedTable Bloc
   filter_few : (t : ℕ × Entry → Bool) (es : List (ℕ × Entry)) → length (filter t es) ≤ length es
   filter_few t [] = omega arith
   filter_few t (x ∷ es) = let few = filter_few t es in elim (t x) as (λ b. length (cond b (x ∷ filter t es) (filter t es)) ≤ suc (length es)) [ true ↦ omega (arith, few) | false ↦ omega (arith, few) ]
-
-  once_few : (ns : List ℕ) → length (each_once ns) ≤ length ns
-  once_few [] = omega arith
-  once_few (k ∷ ns) = let few = once_few ns in elim (member k ns) as (λ b. length (cond b (each_once ns) (k ∷ each_once ns)) ≤ suc (length ns)) [ true ↦ omega (arith, few) | false ↦ omega (arith, few) ]
 
   pub few_log_pages : len_of pages ≤ length (entries (entries_of g (map_of pages) (map_of blocks)))
   few_log_pages =

@@ -8,7 +8,7 @@ use Rattle.cache_model.specs.declared.entry.Entry.{Entry}
 use Rattle.cache_model.specs.Records.{Entries}
 use Rattle.cache_model.specs.Entries.{each_once, groups_with}
 use Rattle.cache_model.proofs.MapLemmas.{all_entries, by_get}
-use Rattle.cache_model.proofs.CountLemmas.{member, numbers, all_members, member_of, counts_beside, others, member_others, member_self, one_and_others}
+use Rattle.cache_model.proofs.CountLemmas.{member, numbers, all_members, member_of, counts_beside, others, member_others, member_self, one_and_others, same_number}
 use Rattle.mapping.specs.declared.marks.Mark.{Mark}
 use Rattle.mapping.specs.Counts.{has_mark}
 use Rattle.mapping.proofs.Words.{count_range}
@@ -134,10 +134,7 @@ count_alike p q from (suc n) same = ap (λ b. cond b 1 0 + count_range p (from +
 
 pub range_counts : (n from : ℕ) (xs : List ℕ) → ((k : ℕ) → member k xs ≡ true → (from ≤ k) × (k < from + n)) → length (each_once xs) ≡ count_range (λ k. member k xs) from n
 range_counts zero from [] within = refl
-range_counts zero from (x ∷ xs) within = absurd (let p = within x (or_left (x == x) (member x xs) (same x)) in omega (arith, p.0, p.1))
-  where
-    same : (x : ℕ) → (x == x) ≡ true
-    same x = grind (arith, nat_tests)
+range_counts zero from (x ∷ xs) within = absurd (let p = within x (or_left (x == x) (member x xs) (same_number x)) in omega (arith, p.0, p.1))
 range_counts (suc n) from xs within =
     one_and_others from xs
     ∙ ap (λ k. cond (member from xs) 1 0 + k) (range_counts n (from + 1) (others from xs) (λ k mem. let q = inside k mem in (q.0, q.1)) ∙ count_alike (λ k. member k (others from xs)) (λ k. member k xs) (from + 1) n (λ k le. member_others from k xs (apart k le)))

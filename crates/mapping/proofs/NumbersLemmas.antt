@@ -1,7 +1,6 @@
 -- Numbers of the pages of the pool.
 use Rattle.std.proofs.Common.{◌≡◌, ℕ, ◌+◌, ◌-◌, ◌*◌, ◌/◌, ◌%◌, ◌<◌, ◌≤◌, sym, ◌∙◌, ap, subst, arith}
-use Rattle.std.proofs.lemmas.Nat.{div-mul-add, mod-mul-add, mul-add-lt, div-add-mod', mod_below}
-use Rattle.std.proofs.Math.Nat.{div-mul-le_self}
+use Rattle.std.proofs.lemmas.Nat.{div-mul-add, mod-mul-add, mul-add-lt}
 use Rattle.ft_base.specs.declared.geometry.Geometry.{Geometry}
 use Rattle.ft_base.specs.declared.block.Place.{Place}
 use Rattle.ft_base.specs.Layout.{first_pool, blocks}
@@ -11,9 +10,6 @@ use Rattle.mapping.specs.Counts.{Owns}
 use Rattle.mapping.specs.Numbers.{pool_pages, number_of, HasNone, AreNumbered}
 
 module _ (g : Geometry) where
-  some_pages : 0 < g.p
-  some_pages = omega (arith, g.in_range.p_low)
-
   pool_end : blocks g ≡ first_pool g + (g.c + g.l + 1)
   pool_end = omega arith
 
@@ -51,35 +47,8 @@ module _ (g : Geometry) where
       let block_same : at.block ≡ at'.block = omega arith in
       λ t. record { block = block_same t; page = pages_same t }
 
-  below_end : (i : ℕ) → i < pool_pages g → i / g.p < g.c + g.l + 1
-  below_end i low =
-      let le = div-mul-le_self i g.p in
-      not_over (i / g.p) (g.c + g.l + 1) (λ over. let more = mul_le (g.c + g.l + 1) (i / g.p) g.p over in omega arith)
-    where
-      mul_le : (a b c : ℕ) → a ≤ b → a * c ≤ b * c
-      mul_le a b c le = grind arith
-
-      not_over : (a b : ℕ) → (b ≤ a → ⊥) → a < b
-      not_over a b apart = omega arith
-
-  -- the page of a number is in the pool, and has the number
-  pub place_in_pool : (i : ℕ) → i < pool_pages g → InPool g (record { block = first_pool g + i / g.p; page = i % g.p })
-  place_in_pool i low =
-      let offset = below_end i low in
-      record { above = omega arith; below = omega (arith, pool_end); page = mod_below i g.p some_pages }
-
-  pub number_of_place : (i : ℕ) → number_of g (record { block = first_pool g + i / g.p; page = i % g.p }) ≡ i
-  number_of_place i = ap (λ n. n * g.p + i % g.p) (taken (first_pool g) (i / g.p)) ∙ div-add-mod' i g.p
-    where
-      taken : (a b : ℕ) → (a + b) - a ≡ b
-      taken a b = omega arith
-
   pub are_numbered : (m : Entries) → IsMap g m → AreNumbered g m (pool_pages g)
   are_numbered m is_map a e is = number_below e.place (is_map.in_pool a e is)
-
-  -- past the last number there is no entry
-  pub none_past : (m : Entries) (i : ℕ) → IsMap g m → pool_pages g ≤ i → HasNone g m i
-  none_past m i is_map past a e is same = let low = number_below e.place (is_map.in_pool a e is) in absurd (omega arith)
 
   -- no entry has the number of a page that no entry has
   pub none_there : (m : Entries) (at : Place) (i : ℕ) → IsMap g m → InPool g at → number_of g at ≡ i → ((a : ℕ) → Owns m at a → ⊥) → HasNone g m i

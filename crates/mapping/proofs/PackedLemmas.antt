@@ -10,6 +10,7 @@ use Rattle.std.proofs.lemmas.Bool.Decides.{nat_tests}
 use Rattle.std.proofs.lemmas.List.{length-map}
 use Rattle.std.proofs.lemmas.Nat.Bits.{same_from_bits, bit_at-lt}
 use Rattle.std.specs.Int.{bit_at}
+use Rattle.std.proofs.lemmas.Option.{same_Some}
 use Rattle.ft_base.specs.declared.geometry.Geometry.{Geometry}
 use Rattle.ft_base.specs.declared.record.Record.TheVariants.{SetPage, Remove, Clean, SetGroup, RemoveGroup}
 use Rattle.cache_model.specs.declared.entry.Entry.{Entry}
@@ -27,17 +28,14 @@ use Rattle.sparse_map.proofs.MapLemmas.{len_of-items}
 use Rattle.mapping.specs.Packed.{records_of, Pages, Blocks, page_record, block_record, with_data_blocks, with_logs, entries_of, page_in, AreBlocks, AreDisjoint, IsLeftOut}
 use Rattle.mapping.proofs.Words.{entry_in}
 use Rattle.mapping.proofs.BitsLemmas.{bit_of_set, set_of_none}
-use Rattle.mapping.proofs.SeekingLemmas.{some_is}
+use Rattle.mapping.proofs.SeekingLemmas.{none_some}
 
 -- ---- options and tests
-
-pub no_some : {A B : Type 0} (x : A) → None ≡ Some x → B
-no_some x s = absurd (cc)
 
 -- neither a log page nor a page of a data block
 none_in : (o : Option LogPage) (r : Option Entry) → entry_in o r ≡ None → (o ≡ None) × (r ≡ None)
 none_in None r is = (refl, is)
-none_in (Some x) r is = no_some (in_log_block x.place x.dirty) (sym is)
+none_in (Some x) r is = none_some (in_log_block x.place x.dirty) (sym is)
 
 -- a new key takes one of the room
 pub spare_less : {A : Type 0} (o : Option A) (old new : ℕ) → o ≡ None → new ≡ cond (is_some o) old (old - 1) → 1 ≤ old → new + 1 ≡ old
@@ -171,7 +169,7 @@ module _ (g : Geometry) where
 
     pub block_put_apart : ((i : ℕ) → i < g.p → get (entries_of g pages blocks) (k * g.p + i) ≡ None) → AreDisjoint g pages blocks → AreDisjoint g pages blocks'
     block_put_apart free apart a x at = elim (cases_eq (a / g.p) k) [
-      | inl same ↦ no_some x (sym (free_group pages blocks k free a same) ∙ at)
+      | inl same ↦ none_some x (sym (free_group pages blocks k free a same) ∙ at)
       | inr other ↦ ap (λ o. page_in o (a % g.p)) (block_there (a / g.p) ∙ ap (λ c. cond c (Some b) (get blocks (a / g.p))) (ne_eqb (a / g.p) k other)) ∙ apart a x at
     ]
 
@@ -188,7 +186,7 @@ module _ (g : Geometry) where
     }
       where
         here : (j : ℕ) (c : BlockPages) → j ≡ k → get blocks' j ≡ Some c → b ≡ c
-        here j c same at = some_is b c (sym (block_there j ∙ ap (λ t. cond t (Some b) (get blocks j)) (eq-eqb j k same)) ∙ at)
+        here j c same at = same_Some b c (sym (block_there j ∙ ap (λ t. cond t (Some b) (get blocks j)) (eq-eqb j k same)) ∙ at)
 
         there : (j : ℕ) (c : BlockPages) → (j ≡ k → ⊥) → get blocks' j ≡ Some c → get blocks j ≡ Some c
         there j c other at = sym (block_there j ∙ ap (λ t. cond t (Some b) (get blocks j)) (ne_eqb j k other)) ∙ at
@@ -291,7 +289,7 @@ module _ (g : Geometry) where
   }
     where
       taken : (b : Bool) (o : Option BlockPages) (c : BlockPages) → cond b None o ≡ Some c → o ≡ Some c
-      taken true o c s = no_some c s
+      taken true o c s = none_some c s
       taken false o c s = s
 
       before : (j : ℕ) (c : BlockPages) → get blocks' j ≡ Some c → get blocks j ≡ Some c
@@ -315,25 +313,6 @@ module _ (g : Geometry) where
       nothing : (c : Bool) (e : Entry) → cond c None (then_some c e) ≡ None
       nothing true e = refl
       nothing false e = refl
-
-  -- no data block, and so none of its pages
-  pub left_absent : (blocks : Blocks) (k page : ℕ) → get blocks k ≡ None → IsLeftOut g blocks blocks k page
-  left_absent blocks k page none = record {
-    others = λ j i. elim (cases_Bool (j == k)) [
-      | inl t ↦
-          let no : page_in (get blocks j) i ≡ None = ap (λ o. page_in o i) (ap (get blocks) (eqb-true _ _ t) ∙ none) in
-          no ∙ sym (ap (λ o. cond ((j == k) && (i == page)) None o) no ∙ nothing ((j == k) && (i == page)))
-      | inr f ↦ sym (ap (λ c. cond (c && (i == page)) None (page_in (get blocks j) i)) f)
-    ];
-    blocks = λ all. all;
-  }
-    where
-      none_entry : Option Entry
-      none_entry = None
-
-      nothing : (c : Bool) → cond c None none_entry ≡ None
-      nothing true = refl
-      nothing false = refl
 
   -- ---- an address less
 
@@ -485,12 +464,12 @@ module _ (g : Geometry) where
     }
       where
         of_page : (a : ℕ) (e : Entry) (c : Bool) → then_some c (record { place = record { block = b.block; page = a % g.p }; dirty = has_bit b.dirty (a % g.p); block_mapped = true }) ≡ Some e → e.place.block ≡ b.block
-        of_page a e true s = ap (λ (x : Entry). x.place.block) (sym (some_is _ e s))
-        of_page a e false s = no_some e s
+        of_page a e true s = ap (λ (x : Entry). x.place.block) (sym (same_Some _ e s))
+        of_page a e false s = none_some e s
 
         by_log : (a : ℕ) (e : Entry) → a / g.p ≡ k → e.block_mapped ≡ true → (o : Option LogPage) → entry_in o (page_in (get blocks (a / g.p)) (a % g.p)) ≡ Some e → e.place.block ≡ b.block
         by_log a e in_group mapped None s = of_page a e (has_bit b.present (a % g.p)) (sym (ap (λ o. page_in o (a % g.p)) (ap (get blocks) in_group ∙ at)) ∙ s)
-        by_log a e in_group mapped (Some x) s = absurd (both_ways e.block_mapped (ap (λ (y : Entry). y.block_mapped) (sym (some_is (in_log_block x.place x.dirty) e s))) mapped)
+        by_log a e in_group mapped (Some x) s = absurd (both_ways e.block_mapped (ap (λ (y : Entry). y.block_mapped) (sym (same_Some (in_log_block x.place x.dirty) e s))) mapped)
 
     pub no_data_block : (k : ℕ) → get blocks k ≡ None → chosen_of Mapped g (entries_of g pages blocks) k ≡ 0
     no_data_block k none = set_of_none (λ i. is_chosen Mapped (get (entries_of g pages blocks) (k * g.p + i))) g.p (λ i low. mapped_is k i low ∙ ap (λ o. is_chosen Mapped (page_in o i)) none)

@@ -4,6 +4,7 @@ use Rattle.std.specs.Cmp.{nat_cmp_total}
 use Rattle.std.specs.FinMap.{get, remove, same_map, nat_cmp-IsAntisymmetric}
 use Rattle.std.proofs.lemmas.Bool.{and_parts, and_from, both_ways, false≢true, not-true, cases_Bool, cases_eq}
 use Rattle.std.proofs.lemmas.List.{get_or_default}
+use Rattle.std.proofs.lemmas.Option.{same_Some}
 use Rattle.ft_base.specs.declared.geometry.Geometry.{Geometry}
 use Rattle.ft_base.specs.declared.block.Place.{Place}
 use Rattle.ft_base.specs.declared.record.Record.TheVariants.{SetPage}
@@ -20,7 +21,7 @@ use Rattle.mapping.specs.Seeking.{IsFoundIn, IsNotIn, IsTaken, MayHave, log_bloc
 use Rattle.mapping.proofs.MarksLemmas.{ChangesGroup, may_have_fits}
 use Rattle.mapping.proofs.TallyLemmas.{not_there, others_there, tally_without, used_without, used_same, absent_same}
 use Rattle.mapping.proofs.FittingLemmas.{page_cases, page_here, page_other, page_fits, fits_page}
-use Rattle.mapping.proofs.SeekingLemmas.{none_some, some_is}
+use Rattle.mapping.proofs.SeekingLemmas.{none_some}
 
 -- what is refused where the fact doesn't hold
 pub refused : {P : Type 0} → (P → ⊥) → IsTrue false ↔ P
@@ -37,7 +38,7 @@ module _ (g : Geometry) (m : Entries) (lba : ℕ) where
       by_entry None at s = none_some block (sym s)
       by_entry (Some e) at s = elim (cases_Bool e.block_mapped) [
         | inl t ↦ none_some block (sym (s ∙ ap (λ b. cond b None (Some e.place.block)) t))
-        | inr f ↦ (e, at, ap not f, sym (some_is block e.place.block (s ∙ ap (λ b. cond b None (Some e.place.block)) f)))
+        | inr f ↦ (e, at, ap not f, sym (same_Some block e.place.block (s ∙ ap (λ b. cond b None (Some e.place.block)) f)))
       ]
 
   pub beside_own : (block : ℕ) → Some block ≡ log_block (get m lba) → tally (is_log_page_in block) m - 1 ≡ tally (is_log_page_in block) (remove m lba)

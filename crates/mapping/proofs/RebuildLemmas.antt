@@ -3,26 +3,24 @@ use Rattle.std.proofs.Common.{◌≡◌, ℕ, ◌+◌, ◌-◌, ◌*◌, ◌/◌
 use Rattle.std.specs.Bool.{then_some}
 use Rattle.std.specs.List.{AllByRecursion}
 use Rattle.std.specs.Cmp.{nat_cmp_total}
-use Rattle.std.specs.FinMap.{get, entries, get-empty, same_map, nat_cmp-IsAntisymmetric}
+use Rattle.std.specs.FinMap.{get, get-empty, same_map, nat_cmp-IsAntisymmetric}
 use Rattle.std.proofs.lemmas.Bool.{cases_Bool, or_left, or_right, both_ways, not-true}
 use Rattle.std.proofs.lemmas.Bool.Decides.{nat_tests}
 use Rattle.mapping.proofs.AscendingLemmas.{Items}
 use Rattle.std.proofs.lemmas.Nat.{div-mul-add, div-add-mod', mod_below}
+use Rattle.std.proofs.lemmas.Option.{none-some, same_Some}
 use Rattle.ft_base.specs.declared.geometry.Geometry.{Geometry}
 use Rattle.ft_base.specs.declared.record.Record.{Record}
 use Rattle.cache_model.specs.declared.entry.Entry.{Entry}
 use Rattle.cache_model.specs.Records.{Entries, no_entries, after, in_log_block, page_of_group, has_bit}
-use Rattle.cache_model.specs.Entries.{groups_with, each_once, page_mapped, IsMap, fits}
+use Rattle.cache_model.specs.Entries.{page_mapped, IsMap, fits}
 use Rattle.cache_model.specs.Loading.{after_all}
 use Rattle.cache_model.proofs.StepLemmas.{get-after}
 use Rattle.cache_model.proofs.FitsLemmas.{fits-from}
-use Rattle.cache_model.proofs.CountLemmas.{member, numbers, same_number, less-map}
-use Rattle.cache_model.proofs.MapLemmas.{all_entries}
-use Rattle.mapping.proofs.MarksLemmas.{member_from, member_to}
+use Rattle.cache_model.proofs.CountLemmas.{member, same_number, less-map}
 use Rattle.mapping.specs.declared.bits.Choice.TheVariants.{Mapped, MappedDirty}
 use Rattle.mapping.specs.Bits.{chosen_of, is_chosen}
 use Rattle.mapping.specs.Checkpoint.{set_group_of, set_page_of, block_below, ListsGroups, ListsPages, IsCheckpointOf}
-use Rattle.mapping.proofs.Words.{checkpoint_records}
 use Rattle.mapping.proofs.BitsLemmas.{bit_of_set, set_below}
 use Rattle.mapping.proofs.CountsLemmas.{div_mono}
 use Rattle.mapping.proofs.ChosenLemmas.{block_is}
@@ -96,11 +94,8 @@ module _ (g : Geometry) (m : Entries) (is_map : IsMap g m) where
   mapped_is None e is = absurd (cc)
   mapped_is (Some f) e is = elim (cases_Bool f.block_mapped) [
     | inl t ↦ sym (ap (λ b. cond b (Some f) None) t) ∙ is
-    | inr n ↦ absurd (none_some e (sym (ap (λ b. cond b (Some f) None) n) ∙ is))
+    | inr n ↦ absurd (none-some e (sym (ap (λ b. cond b (Some f) None) n) ∙ is))
   ]
-    where
-      none_some : (x : Entry) → None ≡ Some x → ⊥
-      none_some x s = absurd (cc)
 
   either : (b : Bool) (x y : Option Entry) (e : Entry) → cond b x y ≡ Some e → (x ≡ Some e) ⊎ (y ≡ Some e)
   either true x y e is = inl is
@@ -223,17 +218,11 @@ module _ (g : Geometry) (m : Entries) (is_map : IsMap g m) where
   -- ---- the whole
 
   all_then : (rs qs : List Record) (n n1 : Entries) → after_all g rs n ≡ Some n1 → after_all g (rs ++ qs) n ≡ after_all g qs n1
-  all_then [] qs n n1 is = ap (after_all g qs) (same_some n n1 is)
-    where
-      same_some : (x y : Entries) → Some x ≡ Some y → x ≡ y
-      same_some x y s = cc
+  all_then [] qs n n1 is = ap (after_all g qs) (same_Some n n1 is)
   all_then (r ∷ rs) qs n n1 is = elim (cases_Bool (fits g r n)) [
     | inl t ↦ ap (λ b. cond b (after_all g (rs ++ qs) (after g r n)) None) t ∙ all_then rs qs (after g r n) n1 (sym (ap (λ b. cond b (after_all g rs (after g r n)) None) t) ∙ is)
-    | inr f ↦ absurd (none_some n1 (sym (ap (λ b. cond b (after_all g rs (after g r n)) None) f) ∙ is))
+    | inr f ↦ absurd (none-some n1 (sym (ap (λ b. cond b (after_all g rs (after g r n)) None) f) ∙ is))
   ]
-    where
-      none_some : (x : Entries) → None ≡ Some x → ⊥
-      none_some x s = absurd (cc)
 
   nothing : (a : ℕ) → get no_entries a ≡ None
   nothing a = get-empty nat_cmp a
@@ -272,51 +261,9 @@ module _ (g : Geometry) (m : Entries) (is_map : IsMap g m) where
 
   pub rebuilt : (records : List Record) → IsCheckpointOf g m records → after_all g records no_entries ≡ Some m
   rebuilt records listed =
-      let one = groups_built listed.groups no_entries (record { held = λ a e is. absurd (none_some e (sym (nothing a) ∙ is)) }) (are_groups listed.groups listed.of_groups) in
+      let one = groups_built listed.groups no_entries (record { held = λ a e is. absurd (none-some e (sym (nothing a) ∙ is)) }) (are_groups listed.groups listed.of_groups) in
       let two = pages_built listed.pages one.0 one.1.part (all_held listed.pages listed.of_pages.each) in
       ap (λ (l : List Record). after_all g l no_entries) listed.are
       ∙ all_then (map (set_group_of g m) listed.groups) (map set_page_of listed.pages) no_entries one.0 one.1.built
       ∙ ap (λ (l : Items). after_all g (map set_page_of l) one.0) (sym (all_pass listed.pages listed.of_pages.each)) ∙ two.1.built
       ∙ ap Some (same_map nat_cmp_total nat_cmp-IsAntisymmetric two.0 m (same_entries listed.groups listed.pages one.0 two.0 listed.of_groups listed.of_pages one.1 two.1))
-    where
-      none_some : (x : Entry) → None ≡ Some x → ⊥
-      none_some x s = absurd (cc)
-
--- ---- the listing in ascending order
-
-member_once : (k : ℕ) (ns : List ℕ) → member k (each_once ns) ≡ member k ns
-member_once k [] = refl
-member_once k (n ∷ ns) = elim (cases_Bool (member n ns)) [
-  | inl t ↦ ap (λ b. member k (cond b (each_once ns) (n ∷ each_once ns))) t ∙ member_once k ns ∙ again t
-  | inr f ↦ ap (λ b. member k (cond b (each_once ns) (n ∷ each_once ns))) f ∙ ap (λ b. (n == k) || b) (member_once k ns)
-]
-  where
-    again : member n ns ≡ true → member k ns ≡ ((n == k) || member k ns)
-    again t = elim (cases_Bool (n == k)) [
-      | inl s ↦ ap (λ j. member j ns) (sym (eqb-true _ _ s)) ∙ t ∙ sym (ap (λ b. b || member k ns) s)
-      | inr f ↦ sym (ap (λ b. b || member k ns) f)
-    ]
-
-all_kept : (P : ℕ × Entry → Type 0) (t : Entry → Bool) (es : Items) → AllByRecursion P es → AllByRecursion (λ x. P x × (t x.1 ≡ true)) (filter (λ x. t x.1) es)
-all_kept P t [] all = tt
-all_kept P t (x ∷ es) all = elim (cases_Bool (t x.1)) [
-  | inl y ↦ subst (λ b. AllByRecursion (λ x. P x × (t x.1 ≡ true)) (cond b (x ∷ filter (λ x. t x.1) es) (filter (λ x. t x.1) es))) (sym y) ((all.0, y), all_kept P t es all.1)
-  | inr f ↦ subst (λ b. AllByRecursion (λ x. P x × (t x.1 ≡ true)) (cond b (x ∷ filter (λ x. t x.1) es) (filter (λ x. t x.1) es))) (sym f) (all_kept P t es all.1)
-]
-
-pub ascending : (g : Geometry) (m : Entries) → IsCheckpointOf g m (checkpoint_records g m)
-ascending g m = record {
-  groups = groups_with g (λ e. e.block_mapped) m;
-  pages = filter (λ x. page_mapped x.1) (entries m);
-  are = refl;
-  of_groups = record {
-    each = λ k t. let x = member_to (λ x. x.0 / g.p) (λ e. e.block_mapped) m k (sym (member_once k (numbers (λ x. x.0 / g.p) (λ e. e.block_mapped) (entries m))) ∙ t) in (x.0.0, x.0.1, x.1, x.2, x.3);
-    all = λ a e is t. member_once (a / g.p) (numbers (λ x. x.0 / g.p) (λ e. e.block_mapped) (entries m)) ∙ member_from (λ x. x.0 / g.p) (λ e. e.block_mapped) m a e is t;
-    once = refl;
-  };
-  of_pages = record {
-    each = all_kept (λ x. get m x.0 ≡ Some x.1) page_mapped (entries m) (all_entries m (λ a e. get m a ≡ Some e) (λ a e is. is));
-    all = λ a e is t. member_from (λ x. x.0) page_mapped m a e is t;
-    once = refl;
-  };
-}

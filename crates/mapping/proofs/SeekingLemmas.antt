@@ -15,11 +15,9 @@ use Rattle.mapping.specs.Index.{OwnersAre}
 use Rattle.mapping.specs.declared.marks.Mark.{Mark}
 use Rattle.mapping.specs.Seeking.{seeks, IsFoundIn, IsNotIn, IsFoundAt, IsTaken, HasMarkAt, HasMarkIn}
 use Rattle.std.proofs.lemmas.Nat.{mod_below}
+use Rattle.std.proofs.lemmas.Option.{same_Some}
 use Rattle.mapping.proofs.ChosenLemmas.{own_address}
 use Rattle.mapping.proofs.NumbersLemmas.{number_tells}
-
-pub some_is : {A : Type 0} (x y : A) → Some x ≡ Some y → x ≡ y
-some_is x y s = cc
 
 pub none_some : {A B : Type 0} (x : A) → None ≡ Some x → B
 none_some x s = absurd (cc)
@@ -31,9 +29,6 @@ module _ (g : Geometry) (m : Entries) (is_map : IsMap g m) (owners : List (Optio
       let x = all.owned (number_of g at) a (sym is) in
       (x.0, x.1, number_tells g x.0.place at (is_map.in_pool a x.0 x.1) pool x.2)
 
-  pub owner_none : None ≡ get_or owners (number_of g at) None → (a : ℕ) → Owns m at a → ⊥
-  owner_none is a owns = none_some a (is ∙ ap (λ (p : Place). get_or owners (number_of g p) None) (sym owns.2) ∙ all.owner a owns.0 owns.1)
-
   pub owner_some : (o : Option ℕ) → o ≡ get_or owners (number_of g at) None → IfSome o (Owns m at)
   owner_some None is = tt
   owner_some (Some a) is = owner_there a is
@@ -44,7 +39,7 @@ module _ (g : Geometry) (m : Entries) (is_map : IsMap g m) (owners : List (Optio
   pub found_there : (sought : Sought) (a : ℕ) (e : Entry) → Some a ≡ get_or owners (number_of g at) None → get m a ≡ Some e → seeks g sought a e ≡ true → IsFoundAt g sought m at a
   found_there sought a e is held t =
       let x = owner_there a is in
-      (e, held, ap (λ (f : Entry). f.place) (some_is e x.0 (sym held ∙ x.1)) ∙ x.2, t)
+      (e, held, ap (λ (f : Entry). f.place) (same_Some e x.0 (sym held ∙ x.1)) ∙ x.2, t)
 
   pub taken_is : (lba a : ℕ) → Some a ≡ get_or owners (number_of g at) None → IsTrue (not (a == lba)) ↔ IsTaken m lba at
   taken_is lba a is =

@@ -1,19 +1,19 @@
 -- How counts of entries change with one address.
-use Rattle.std.proofs.Common.{◌≡◌, ℕ, zero, suc, length-append, ◌+◌, ◌-◌, ◌/◌, ◌<◌, ◌≤◌, ◌==◌, ◌&&◌, Bool, true, false, cond, not, T, List, [], ◌∷◌, length, get_or, set, replicate, map, filter, Option, Some, None, refl, sym, ◌∙◌, ap, ap₂, subst, arith, inl, inr, nat_cmp, eqb-true, eq-eqb, ne_eqb}
+use Rattle.std.proofs.Common.{◌≡◌, ℕ, zero, suc, length-append, ◌+◌, ◌-◌, ◌/◌, ◌<◌, ◌≤◌, ◌==◌, ◌&&◌, Bool, true, false, cond, not, List, [], ◌∷◌, length, get_or, set, replicate, map, filter, Option, Some, None, refl, sym, ◌∙◌, ap, ap₂, subst, arith, inl, inr, nat_cmp, eqb-true, eq-eqb, ne_eqb}
 use Rattle.std.specs.List.{AllByRecursion}
 use Rattle.std.specs.Ordering.{is_lt}
 use Rattle.std.specs.Cmp.{nat_cmp_total}
 use Rattle.std.specs.FinMap.{get, remove, entries, from_entries, entries_sorted, get-entries, get-from_entries, get-empty, same_map, nat_cmp-IsAntisymmetric, is_sorted}
 use Rattle.std.specs.FinMap.Entries.{below_all}
 use Rattle.std.proofs.lemmas.Bool.{cases_Bool, cases_eq, and_parts, and_from, both_ways, or_left, not-true}
-use Rattle.std.proofs.lemmas.Bool.Decides.{nat_tests}
 use Rattle.std.proofs.lemmas.List.{length-map, length-set, length-replicate, get_or-set_same, get_or-set_other, get_or_default}
+use Rattle.std.proofs.lemmas.Option.{same_Some}
 use Rattle.ft_base.specs.declared.geometry.Geometry.{Geometry}
 use Rattle.ft_base.specs.Layout.{first_pool, blocks}
 use Rattle.cache_model.specs.declared.entry.Entry.{Entry}
 use Rattle.cache_model.specs.Records.{Entries, no_entries}
 use Rattle.cache_model.specs.Entries.{each_once, groups_with, blocks_with, page_mapped, IsMap}
-use Rattle.cache_model.proofs.MapLemmas.{holds, get_remove}
+use Rattle.cache_model.proofs.MapLemmas.{holds, get_remove, less_key}
 use Rattle.cache_model.proofs.FitsLemmas.{no_entries-nil}
 use Rattle.cache_model.proofs.CountLemmas.{member, numbers, same_number, each_once-same, counts_beside, less-map, member_of}
 use Rattle.ft_base.specs.declared.record.Record.{Record}
@@ -25,7 +25,7 @@ use Rattle.mapping.specs.Index.{tally, is_any, is_log_page_in, OwnersAre, LogsAr
 use Rattle.mapping.proofs.MarksLemmas.{same_bools, member_from, member_to}
 use Rattle.mapping.proofs.NumbersLemmas.{number_below, number_tells, pages_few}
 use Rattle.mapping.proofs.PoolLemmas.{few_entries}
-use Rattle.mapping.proofs.SeekingLemmas.{none_some, some_is}
+use Rattle.mapping.proofs.SeekingLemmas.{none_some}
 
 -- ---- how many numbers there are
 
@@ -60,7 +60,7 @@ member_is t m a = by_entry (get m a) refl
         (λ mem. let x = member_to (λ x. x.0) t m a mem in none_some x.0.1 (sym is ∙ ap (get m) (sym x.3) ∙ x.1))
         (λ f. absurd (both_ways false refl f))
     by_entry (Some e) is = same_bools (member a (numbers (λ x. x.0) t (entries m))) (t e)
-        (λ mem. let x = member_to (λ x. x.0) t m a mem in ap t (some_is e x.0.1 (sym is ∙ ap (get m) (sym x.3) ∙ x.1)) ∙ x.2)
+        (λ mem. let x = member_to (λ x. x.0) t m a mem in ap t (same_Some e x.0.1 (sym is ∙ ap (get m) (sym x.3) ∙ x.1)) ∙ x.2)
         (λ y. member_from (λ x. x.0) t m a e is y)
 
 -- two maps that differ at one address
@@ -119,14 +119,11 @@ tally_few g t m is_map =
     omega (arith, few_held g m is_map)
 
 -- the addresses of a map's entries all differ
-above : (k : ℕ) (es : List (ℕ × Entry)) → below_all nat_cmp k es ≡ true → AllByRecursion (λ y. k < y.0) es
+pub above : (k : ℕ) (es : List (ℕ × Entry)) → below_all nat_cmp k es ≡ true → AllByRecursion (λ y. k < y.0) es
 above k [] below = tt
 above k (e ∷ es) below =
     let p = and_parts (is_lt (nat_cmp k e.0)) (below_all nat_cmp k es) below in
     (less_key k e.0 p.0, above k es p.1)
-  where
-    less_key : (x y : ℕ) → is_lt (nat_cmp x y) ≡ true → x < y
-    less_key x y e = grind (arith, nat_tests)
 
 all_counted : (t : Entry → Bool) (es : List (ℕ × Entry)) → is_sorted nat_cmp es ≡ true → length (each_once (numbers (λ x. x.0) t es)) ≡ length (filter (λ x. t x.1) es)
 all_counted t [] sorted = refl
@@ -212,7 +209,7 @@ used_without m a e is mapped =
     let beside = counts_beside x (numbers f page_mapped (entries m)) (numbers f page_mapped (entries (remove m a))) (λ n apart. same_bools (member n (numbers f page_mapped (entries m))) (member n (numbers f page_mapped (entries (remove m a))))
     (λ mem.
     let y = member_to f page_mapped m n mem in
-    ap (λ k. member k (numbers f page_mapped (entries (remove m a)))) (sym y.3) ∙ member_from f page_mapped (remove m a) y.0.0 y.0.1 (others_there m a y.0.0 (λ s. apart (sym y.3 ∙ ap (λ (z : Entry). z.place.block) (some_is y.0.1 e (sym y.1 ∙ ap (get m) s ∙ is)))) ∙ y.1) y.2)
+    ap (λ k. member k (numbers f page_mapped (entries (remove m a)))) (sym y.3) ∙ member_from f page_mapped (remove m a) y.0.0 y.0.1 (others_there m a y.0.0 (λ s. apart (sym y.3 ∙ ap (λ (z : Entry). z.place.block) (same_Some y.0.1 e (sym y.1 ∙ ap (get m) s ∙ is)))) ∙ y.1) y.2)
     (λ mem.
     let y = member_to f page_mapped (remove m a) n mem in
     ap (λ k. member k (numbers f page_mapped (entries m))) (sym y.3) ∙ member_from f page_mapped m y.0.0 y.0.1 (sym (others_there m a y.0.0 (λ s. none_some y.0.1 (sym (not_there m a) ∙ ap (get (remove m a)) (sym s) ∙ y.1))) ∙ y.1) y.2)) in
@@ -238,7 +235,7 @@ used_same m a e is mapped =
     let y = member_to f page_mapped m n mem in
     ap (λ k. member k (numbers f page_mapped (entries (remove m a)))) (sym y.3)
     ∙ member_from f page_mapped (remove m a) y.0.0 y.0.1 (others_there m a y.0.0
-    (λ s. both_ways y.0.1.block_mapped (not-true y.0.1.block_mapped y.2) (ap (λ (z : Entry). z.block_mapped) (some_is y.0.1 e (sym y.1 ∙ ap (get m) s ∙ is)) ∙ mapped)) ∙ y.1) y.2))
+    (λ s. both_ways y.0.1.block_mapped (not-true y.0.1.block_mapped y.2) (ap (λ (z : Entry). z.block_mapped) (same_Some y.0.1 e (sym y.1 ∙ ap (get m) s ∙ is)) ∙ mapped)) ∙ y.1) y.2))
 
 log_tally_same : (m : Entries) (a x : ℕ) (e : Entry) → get m a ≡ Some e → is_log_page_in x e ≡ false → tally (is_log_page_in x) (remove m a) ≡ tally (is_log_page_in x) m
 log_tally_same m a x e is f =
@@ -404,29 +401,23 @@ module _ (g : Geometry) (m : Entries) (is_map : IsMap g m) (a : ℕ) (e : Entry)
       | inr other ↦
           let before = sym (others_there m a q other) ∙ held in
           ap (λ (l : List (Option ℕ)). get_or l (number_of g f.place) None) items
-          ∙ get_or-set_other old (number_of g e.place) (number_of g f.place) None None (λ s. other (number_is q a (sym (all.owner q f before) ∙ ap (λ n. get_or old n None) s ∙ all.owner a e is)))
+          ∙ get_or-set_other old (number_of g e.place) (number_of g f.place) None None (λ s. other (same_Some q a (sym (all.owner q f before) ∙ ap (λ n. get_or old n None) s ∙ all.owner a e is)))
           ∙ all.owner q f before
     ];
     owned = λ i q there. elim (cases_eq i (number_of g e.place)) [
-      | inl same ↦ no_number q (sym (get_or-set_same old (number_of g e.place) None None (omega (arith, all.long, at_number))) ∙ ap (λ n. get_or (set old (number_of g e.place) None) n None) (sym same) ∙ ap (λ (l : List (Option ℕ)). get_or l i None) (sym items) ∙ there)
+      | inl same ↦ none_some q (sym (get_or-set_same old (number_of g e.place) None None (omega (arith, all.long, at_number))) ∙ ap (λ n. get_or (set old (number_of g e.place) None) n None) (sym same) ∙ ap (λ (l : List (Option ℕ)). get_or l i None) (sym items) ∙ there)
       | inr other ↦
           let f = all.owned i q (sym (ap (λ (l : List (Option ℕ)). get_or l i None) items ∙ get_or-set_other old (number_of g e.place) i None None other) ∙ there) in
-          (f.0, others_there m a q (λ s. other (sym f.2 ∙ ap (λ (x : Entry). number_of g x.place) (some_is f.0 e (sym f.1 ∙ ap (get m) s ∙ is)))) ∙ f.1, f.2)
+          (f.0, others_there m a q (λ s. other (sym f.2 ∙ ap (λ (x : Entry). number_of g x.place) (same_Some f.0 e (sym f.1 ∙ ap (get m) s ∙ is)))) ∙ f.1, f.2)
     ];
   }
-    where
-      number_is : (x y : ℕ) → Some x ≡ Some y → x ≡ y
-      number_is x y s = cc
-
-      no_number : {A : Type 0} (x : ℕ) → None ≡ Some x → A
-      no_number x s = absurd (cc)
 
   pub owners_with : (old new : List (Option ℕ)) → OwnersAre g (remove m a) old → new ≡ set old (number_of g e.place) (Some a) → OwnersAre g m new
   owners_with old new all items = record {
     long = ap length items ∙ length-set old (number_of g e.place) (Some a) ∙ all.long;
     owner = λ q f held. elim (cases_eq q a) [
       | inl same ↦
-          let is' : f ≡ e = some_is f e (sym held ∙ ap (get m) same ∙ is) in
+          let is' : f ≡ e = same_Some f e (sym held ∙ ap (get m) same ∙ is) in
           ap₂ (λ (l : List (Option ℕ)) n. get_or l n None) items (ap (λ (x : Entry). number_of g x.place) is')
           ∙ get_or-set_same old (number_of g e.place) (Some a) None (omega (arith, all.long, at_number)) ∙ ap Some (sym same)
       | inr other ↦
@@ -436,7 +427,7 @@ module _ (g : Geometry) (m : Entries) (is_map : IsMap g m) (a : ℕ) (e : Entry)
     ];
     owned = λ i q there. elim (cases_eq i (number_of g e.place)) [
       | inl same ↦
-          let is' : q ≡ a = number_is q a (sym there ∙ ap₂ (λ (l : List (Option ℕ)) n. get_or l n None) items same ∙ get_or-set_same old (number_of g e.place) (Some a) None (omega (arith, all.long, at_number))) in
+          let is' : q ≡ a = same_Some q a (sym there ∙ ap₂ (λ (l : List (Option ℕ)) n. get_or l n None) items same ∙ get_or-set_same old (number_of g e.place) (Some a) None (omega (arith, all.long, at_number))) in
           (e, ap (get m) is' ∙ is, sym same)
       | inr other ↦
           let f = all.owned i q (sym (ap (λ (l : List (Option ℕ)). get_or l i None) items ∙ get_or-set_other old (number_of g e.place) i (Some a) None other) ∙ there) in
@@ -446,9 +437,6 @@ module _ (g : Geometry) (m : Entries) (is_map : IsMap g m) (a : ℕ) (e : Entry)
           ]
     ];
   }
-    where
-      number_is : (x y : ℕ) → Some x ≡ Some y → x ≡ y
-      number_is x y s = cc
 
   -- ---- all of it
 

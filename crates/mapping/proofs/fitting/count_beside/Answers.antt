@@ -1,7 +1,7 @@
 use Rattle.std.proofs.Common.{◌-◌, Some, ap, sym, ◌∙◌, arith}
+use Rattle.std.proofs.lemmas.Option.{same_Some}
 use Rattle.mapping.proofs.PageFits.{own_counted, beside_own, beside_other, count_read}
 use Rattle.mapping.proofs.SeekingLemmas.{none_some}
-use Rattle.mapping.proofs.SeekingLemmas.{some_is}
 use Rattle.mapping.proofs.fitting.count_beside.Goals as goal
 
 pub overflow_sub-result : goal.overflow_sub-result
@@ -18,7 +18,7 @@ returns-in-Some c =
 pub returns-in_default : goal.returns-in_default
 returns-in_default c =
     count_read c.args.geometry.now c.args.held.now.entries c.args.lba c.args.index.now.logs c.args.block c.first_pool.result c.index-count.result.now c.requires.index.logs c.first_pool.ensures.place c.requires.above c.requires.below c.index-count.ensures
-    ∙ beside_other c.args.geometry.now c.args.held.now.entries c.args.lba c.args.block c.own_log_block.result c.own_log_block.ensures (λ s. c.if-own-block.false (some_is c.in-Some.own c.args.block (sym c.in-Some.is ∙ s)))
+    ∙ beside_other c.args.geometry.now c.args.held.now.entries c.args.lba c.args.block c.own_log_block.result c.own_log_block.ensures (λ s. c.if-own-block.false (same_Some c.in-Some.own c.args.block (sym c.in-Some.is ∙ s)))
 
 pub returns-in_default-2 : goal.returns-in_default-2
 returns-in_default-2 c =

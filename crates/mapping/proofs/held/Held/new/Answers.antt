@@ -1,7 +1,8 @@
 use Rattle.std.proofs.Common.{◌≡◌, ap, sym, ◌∙◌, ℕ, None, nat_cmp, ◌≤◌, ◌^◌, subst, arith}
 use Rattle.std.specs.FinMap.{get, get-empty}
 use Rattle.sparse_map.specs.Packed.{map_of}
-use Rattle.mapping.proofs.PackedLemmas.{nothing_held, no_some}
+use Rattle.mapping.proofs.PackedLemmas.{nothing_held}
+use Rattle.mapping.proofs.SeekingLemmas.{none_some}
 use Rattle.mapping.proofs.held.Held.new.Goals as goal
 
 no_pages : (c : goal.After-new-2) (q : ℕ) → get (map_of c.new.result) q ≡ None
@@ -14,8 +15,8 @@ pub invariant_of-result : goal.invariant_of-result
 invariant_of-result c = record {
   pages_sound = c.new.ensures.sound;
   blocks_sound = c.new-2.ensures.sound;
-  are_blocks = record { sound = λ k b at. no_some b (sym (no_blocks c k) ∙ at); below = λ k b at. no_some b (sym (no_blocks c k) ∙ at) };
-  apart = λ a x at. no_some x (sym (no_pages c a) ∙ at);
+  are_blocks = record { sound = λ k b at. none_some b (sym (no_blocks c k) ∙ at); below = λ k b at. none_some b (sym (no_blocks c k) ∙ at) };
+  apart = λ a x at. none_some x (sym (no_pages c a) ∙ at);
   few_pages = subst (λ n. n ≤ 2 ^ 32) (sym c.new.ensures.none) (omega arith);
   few_blocks = subst (λ n. n ≤ 2 ^ 32) (sym c.new-2.ensures.none) (omega arith);
 }
