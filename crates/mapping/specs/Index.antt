@@ -5,7 +5,7 @@ use Rattle.ft_base.specs.declared.geometry.Geometry.{Geometry}
 use Rattle.ft_base.specs.Layout.{first_pool}
 use Rattle.cache_model.specs.declared.entry.Entry.{Entry}
 use Rattle.cache_model.specs.Records.{Entries}
-use Rattle.cache_model.specs.Entries.{each_once, blocks_with, page_mapped}
+use Rattle.cache_model.specs.Entries.{each_once, blocks_with, page_mapped, IsMap}
 use Rattle.mapping.specs.declared.index.LogCounts.{LogCounts}
 use Rattle.mapping.specs.declared.index.Index.{Index}
 use Rattle.mapping.specs.Numbers.{pool_pages, number_of}
@@ -39,6 +39,11 @@ pub record IsIndex (g : Geometry) (m : Entries) (index : Index) : Type 0 where
   pub logs : LogsAre g m index.logs
   pub held : index.held ≡ tally is_any m
   pub dirty : index.dirty ≡ tally (λ e. e.dirty) m
+
+-- the entries are a map of the geometry, and what is kept beside them is theirs
+pub record IsIndexed (g : Geometry) (m : Entries) (kept : Index) : Type 0 where
+  pub map : IsMap g m
+  pub index : IsIndex g m kept
 
 -- the entries without those of so many addresses
 abbrev pub without_range : Entries → ℕ → ℕ → Entries

@@ -20,7 +20,8 @@ entry_code = code_by (Place × (Bool × Bool)) (coded× place_code (coded× code
 abbrev pub entries_code : Coded Entries
 entries_code = code coded_ℕ entry_code
 
--- a map of a geometry: its entries, for how many changes of a page and of a group it has room, the records of a checkpoint in its own order, and the buckets of its page-mapped part and of its groups with a data block
+-- a map of a geometry: its entries, for how many changes of a page and of a group it has room,
+-- the records of a checkpoint in its own order, and the buckets of its page-mapped part and of its groups with a data block
 pub record MapValue : Type 0 where
   pub geometry : Geometry
   pub entries : Entries

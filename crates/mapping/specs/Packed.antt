@@ -70,7 +70,8 @@ pub record IsLeftOut (g : Geometry) (old new : Blocks) (group page : ℕ) : Type
   pub others : (k i : ℕ) → page_in (get new k) i ≡ (if (k == group) && (i == page) then None else page_in (get old k) i)
   pub blocks : AreBlocks g old → AreBlocks g new
 
--- what the layers within see: the entries, the room for new pages and new blocks, the records of a checkpoint, and the buckets of the log pages and of the data blocks
+-- what the layers within see: the entries, the room for new pages and new blocks, the records of a checkpoint,
+-- and the buckets of the log pages and of the data blocks
 pub record HeldValue : Type 0 where
   pub geometry : Geometry
   pub entries : Entries

@@ -4,9 +4,9 @@ ghost use Rattle.std.specs.FinMap.{get, remove};
 ghost use Rattle.ft_base.specs.declared.record.Record.TheVariants.{SetPage};
 ghost use Rattle.ft_base.specs.Layout.{first_pool, blocks};
 ghost use Rattle.cache_model.specs.Records.{after};
-ghost use Rattle.cache_model.specs.Entries.{in_pool, page_mapped, blocks_with, IsMap, InPool, Fits};
+ghost use Rattle.cache_model.specs.Entries.{in_pool, page_mapped, blocks_with, InPool, Fits};
 ghost use Rattle.mapping.specs.Counts.{dirty_group_count};
-ghost use Rattle.mapping.specs.Index.{IsIndex, tally, is_log_page_in};
+ghost use Rattle.mapping.specs.Index.{IsIndexed, tally, is_log_page_in};
 ghost use Rattle.mapping.specs.Seeking.{log_block};
 
 use crate::held::Held;
@@ -36,8 +36,7 @@ fn own_log_block(held: &Held, lba: u64) -> Option<u32>
 fn count_beside(held: &Held, index: &Index, geometry: &Geometry, lba: u64, block: u32) -> u32
     requires above { first_pool geometry.now ≤ block }
     requires below { block < blocks geometry.now }
-    requires map { IsMap geometry.now held.now.entries }
-    requires index { IsIndex geometry.now held.now.entries index.now }
+    requires indexed { IsIndexed geometry.now held.now.entries index.now }
     ensures { result ≡ tally (is_log_page_in block) (remove held.now.entries lba) }
 {
     let count = index.logs.pages[(block - geometry.first_pool()) as usize];
@@ -49,8 +48,7 @@ fn count_beside(held: &Held, index: &Index, geometry: &Geometry, lba: u64, block
 
 /// How many blocks have log pages beside that of the address.
 fn count_used_beside(held: &Held, index: &Index, geometry: &Geometry, lba: u64) -> u32
-    requires map { IsMap geometry.now held.now.entries }
-    requires index { IsIndex geometry.now held.now.entries index.now }
+    requires indexed { IsIndexed geometry.now held.now.entries index.now }
     ensures { result ≡ length (blocks_with page_mapped (remove held.now.entries lba)) }
 {
     let Some(own) = own_log_block(held, lba) else {
@@ -65,8 +63,7 @@ fn count_used_beside(held: &Held, index: &Index, geometry: &Geometry, lba: u64) 
 /// How many log blocks there would be, with the block of the address at this place of the pool.
 fn count_log_blocks(held: &Held, index: &Index, geometry: &Geometry, lba: u64, at: Place) -> u32
     requires pool { InPool geometry.now at }
-    requires map { IsMap geometry.now held.now.entries }
-    requires index { IsIndex geometry.now held.now.entries index.now }
+    requires indexed { IsIndexed geometry.now held.now.entries index.now }
     ensures { (dirty : Bool) → result ≡ length (blocks_with page_mapped (after geometry.now (SetPage lba at dirty) held.now.entries)) }
 {
     let used = count_used_beside(held, index, geometry, lba);
@@ -87,8 +84,7 @@ pub fn fits_page(
     dirty: bool,
 ) -> bool
     requires geometry { held.now.geometry ≡ geometry.now }
-    requires map { IsMap geometry.now held.now.entries }
-    requires index { IsIndex geometry.now held.now.entries index.now }
+    requires indexed { IsIndexed geometry.now held.now.entries index.now }
     requires dirty_groups { dirty_groups ≡ dirty_group_count geometry.now held.now.entries }
     ensures { IsTrue result ↔ Fits geometry.now (SetPage lba at dirty) held.now.entries }
 {

@@ -1,10 +1,10 @@
 //! Whether a data block of a group fits.
 ghost use Rattle.std.specs.Prelude.{◌≡◌, ◌<◌, ◌≤◌, ◌-◌, ◌/◌, ◌^◌, ◌↔◌, IsTrue};
 ghost use Rattle.ft_base.specs.declared.record.Record.TheVariants.{SetGroup};
-ghost use Rattle.cache_model.specs.Entries.{IsMap, Fits};
+ghost use Rattle.cache_model.specs.Entries.{Fits};
 ghost use Rattle.mapping.specs.Counts.{dirty_group_count, data_block_count};
 ghost use Rattle.mapping.specs.Fitting.{HasPageBelow, EndsBelowSize, BlockMayCome};
-ghost use Rattle.mapping.specs.Index.{IsIndex};
+ghost use Rattle.mapping.specs.Index.{IsIndexed};
 
 use crate::fitting::fits_page;
 use crate::held::Held;
@@ -61,8 +61,7 @@ fn may_come(
     present: u64,
 ) -> bool
     requires group { group ≤ (geometry.now.size - 1) / geometry.now.p }
-    requires map { IsMap geometry.now held.now.entries }
-    requires index { IsIndex geometry.now held.now.entries index.now }
+    requires indexed { IsIndexed geometry.now held.now.entries index.now }
     ensures { IsTrue result ↔ BlockMayCome geometry.now group block present held.now.entries }
 {
     if !has_page(geometry, present) {
@@ -94,8 +93,7 @@ pub fn fits_group(
     dirty: u64,
 ) -> bool
     requires geometry { held.now.geometry ≡ geometry.now }
-    requires map { IsMap geometry.now held.now.entries }
-    requires index { IsIndex geometry.now held.now.entries index.now }
+    requires indexed { IsIndexed geometry.now held.now.entries index.now }
     requires dirty_groups { dirty_groups ≡ dirty_group_count geometry.now held.now.entries }
     requires data_blocks { data_blocks ≡ data_block_count geometry.now held.now.entries }
     ensures { IsTrue result ↔ Fits geometry.now (SetGroup group block present dirty) held.now.entries }
@@ -114,27 +112,13 @@ pub fn fits_group(
     }
     let near = group * geometry.p as u64;
     let mapped = has_page(geometry, present);
-    if !may_have(
-        held,
-        geometry,
-        data_blocks,
-        Mark::BlockMapped,
-        group,
-        near,
-        mapped,
-    ) {
+    let mark = Mark::BlockMapped;
+    if !may_have(held, geometry, data_blocks, mark, group, near, mapped) {
         return false;
     }
     let marked = has_page(geometry, present & dirty);
-    may_have(
-        held,
-        geometry,
-        dirty_groups,
-        Mark::Dirty,
-        group,
-        near,
-        marked,
-    )
+    let mark = Mark::Dirty;
+    may_have(held, geometry, dirty_groups, mark, group, near, marked)
 }
 
 /// Whether a change may come next.
@@ -147,8 +131,7 @@ pub fn fits(
     change: &Record,
 ) -> bool
     requires geometry { held.now.geometry ≡ geometry.now }
-    requires map { IsMap geometry.now held.now.entries }
-    requires index { IsIndex geometry.now held.now.entries index.now }
+    requires indexed { IsIndexed geometry.now held.now.entries index.now }
     requires dirty_groups { dirty_groups ≡ dirty_group_count geometry.now held.now.entries }
     requires data_blocks { data_blocks ≡ data_block_count geometry.now held.now.entries }
     ensures { IsTrue result ↔ Fits geometry.now change.now held.now.entries }

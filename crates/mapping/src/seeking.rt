@@ -1,8 +1,8 @@
 //! What is looked for in one erase block, in the time of its pages.
 ghost use Rattle.std.specs.Prelude.{◌≡◌, ◌<◌, ◌≤◌, IfSome, IfNone, IsTrue, ◌↔◌, ◌/◌, true};
 ghost use Rattle.ft_base.specs.Layout.{first_pool, blocks};
-ghost use Rattle.cache_model.specs.Entries.{IsMap, InPool};
-ghost use Rattle.mapping.specs.Index.{IsIndex};
+ghost use Rattle.cache_model.specs.Entries.{InPool};
+ghost use Rattle.mapping.specs.Index.{IsIndexed};
 ghost use Rattle.mapping.specs.Seeking.{seeks, IsFoundIn, IsNotIn, IsFoundAt, IsNotAt, IsTaken};
 
 use crate::held::Held;
@@ -50,8 +50,7 @@ fn found_at(
     at: Place,
 ) -> Option<u64>
     requires pool { InPool geometry.now at }
-    requires map { IsMap geometry.now held.now.entries }
-    requires index { IsIndex geometry.now held.now.entries index.now }
+    requires indexed { IsIndexed geometry.now held.now.entries index.now }
     ensures some { IfSome result (IsFoundAt geometry.now sought held.now.entries at) }
     ensures none { IfNone result (IsNotAt geometry.now sought held.now.entries at) }
 {
@@ -80,8 +79,7 @@ pub fn found_in(
 ) -> Option<u64>
     requires above { first_pool geometry.now ≤ block }
     requires below { block < blocks geometry.now }
-    requires map { IsMap geometry.now held.now.entries }
-    requires index { IsIndex geometry.now held.now.entries index.now }
+    requires indexed { IsIndexed geometry.now held.now.entries index.now }
     ensures some { IfSome result (IsFoundIn geometry.now sought held.now.entries block) }
     ensures none { IfNone result (IsNotIn geometry.now sought held.now.entries block) }
 {
@@ -94,14 +92,12 @@ pub fn found_in(
     None
 }
 
-/// Whether another address has a page of the pool.
+/// Whether another address has a page of the pool. The index tells it: only the clauses name the entries.
 pub fn is_taken(held: &Held, index: &Index, geometry: &Geometry, lba: u64, at: Place) -> bool
     requires pool { InPool geometry.now at }
-    requires map { IsMap geometry.now held.now.entries }
-    requires index { IsIndex geometry.now held.now.entries index.now }
+    requires indexed { IsIndexed geometry.now held.now.entries index.now }
     ensures { IsTrue result ↔ IsTaken held.now.entries lba at }
 {
-    let _entries = held;
     match index.owner(geometry, at) {
         Some(owner) => owner != lba,
         None => false,
