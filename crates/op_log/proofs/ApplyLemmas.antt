@@ -1,6 +1,6 @@
 -- Records applied one after the other, with room for all of them.
-use Rattle.std.proofs.Common.{◌≡◌, ℕ, ◌+◌, ◌<◌, ◌≤◌, ◌==◌, Bool, true, false, cond, List, length, get_or, drop, Some, None, refl, sym, ◌∙◌, ap, subst, arith}
-use Rattle.std.proofs.lemmas.List.{at_drop_more, at_drop_all}
+use Rattle.std.proofs.Common.{◌≡◌, ℕ, ◌+◌, ◌<◌, ◌≤◌, ◌==◌, Bool, true, false, cond, List, length, get_or, drop, None, refl, sym, ◌∙◌, ap, subst, arith}
+use Rattle.std.proofs.lemmas.List.{at_drop_more}
 use Rattle.std.proofs.lemmas.List.Sums.{sum_by-drop_more}
 use Rattle.ft_base.specs.declared.geometry.Geometry.{Geometry}
 use Rattle.ft_base.specs.declared.record.Record.{Record}
@@ -46,12 +46,6 @@ module _ (changes : List Record) (i : ℕ) (d : Record) (within : i < length cha
   groups_left : groups_needed (drop i changes) ≡ groups_taken (get_or changes i d) + groups_needed (drop (i + 1) changes)
   groups_left = sum_by-drop_more (λ r. cond (groups_taken r == 1) 1 0) changes i d within ∙ ap (λ n. n + groups_needed (drop (i + 1) changes)) (group_taken (get_or changes i d))
 
-  pub room_for_page : (first now : MapValue) → AppliedSoFar changes i first now → pages_taken (get_or changes i d) ≤ now.spare_pages
-  room_for_page first now so = let some = so.pages in omega (arith, pages_left)
-
-  pub room_for_group : (first now : MapValue) → AppliedSoFar changes i first now → groups_taken (get_or changes i d) ≤ now.spare_groups
-  room_for_group first now so = let some = so.groups in omega (arith, groups_left)
-
   -- what is left to apply, with the next record in front
   next_first : (first now : MapValue) → AppliedSoFar changes i first now → after_all first.geometry changes first.entries ≡ cond (fits first.geometry (get_or changes i d) now.entries) (after_all first.geometry (drop (i + 1) changes) (after first.geometry (get_or changes i d) now.entries)) None
   next_first first now so = so.entries ∙ at_drop_more (λ rs. after_all first.geometry rs now.entries) changes i d within
@@ -85,26 +79,7 @@ module _ (changes : List Record) (i : ℕ) (d : Record) (within : i < length cha
         groups_gone = omega (arith, groups_left);
       }
 
-pub applied_all : (changes : List Record) (i : ℕ) (first now : MapValue) → length changes ≤ i → AppliedSoFar changes i first now → after_all first.geometry changes first.entries ≡ Some now.entries
-applied_all changes i first now beyond so = so.entries ∙ at_drop_all (λ rs. after_all first.geometry rs now.entries) changes i beyond
-
--- all of them took their room
-pub all_pages_gone : (changes : List Record) (i : ℕ) (first now : MapValue) → length changes ≤ i → AppliedSoFar changes i first now → now.spare_pages + pages_needed changes ≡ first.spare_pages
-all_pages_gone changes i first now beyond so =
-    let none : pages_needed (drop i changes) ≡ 0 = at_drop_all pages_needed changes i beyond in
-    let gone = so.pages_gone in
-    omega arith
-
-pub all_groups_gone : (changes : List Record) (i : ℕ) (first now : MapValue) → length changes ≤ i → AppliedSoFar changes i first now → now.spare_groups + groups_needed changes ≡ first.spare_groups
-all_groups_gone changes i first now beyond so =
-    let none : groups_needed (drop i changes) ≡ 0 = at_drop_all groups_needed changes i beyond in
-    let gone = so.groups_gone in
-    omega arith
-
 -- ---- the room that is left
-
-pub no_more_room : (old : MapValue) → HasNoMoreRoom old old
-no_more_room old = record { pages = omega arith; groups = omega arith }
 
 pub room_taken : (changes : List Record) (first old new : MapValue) → HasNoMoreRoom first old → TakesRoom changes old new → HasNoMoreRoom first new
 room_taken changes first old new so took = let p = so.pages in let q = so.groups in let p' = took.pages in let q' = took.groups in record { pages = omega arith; groups = omega arith }

@@ -4,7 +4,6 @@ use Rattle.std.proofs.lemmas.Bool.Decides.{nat_tests}
 use Rattle.ft_base.specs.declared.block.Block.{Block}
 use Rattle.ft_base.specs.declared.block.Spare.{Spare}
 use Rattle.ft_base.specs.declared.block.Place.{Place}
-use Rattle.ft_base.specs.declared.block.Page.{Page}
 use Rattle.ft_base.specs.declared.block.Page.TheVariants.{Whole}
 use Rattle.ft_base.specs.declared.record.Record.{Record}
 use Rattle.ft_base.specs.Contents.{Flash, set_page}
@@ -14,6 +13,7 @@ use Rattle.cache_model.specs.Loading.{is_page, when}
 use Rattle.cache_model.specs.declared.format.SpareKind.TheVariants.{Log as LogSpare}
 use Rattle.cache_model.specs.Spelling.{IsPage, IsSpare, spare_fields}
 use Rattle.cache_model.proofs.SpellingLemmas.{page_read}
+use Rattle.cache_model.proofs.LogLemmas.{set_page-here}
 use Rattle.op_log.specs.Log.{LogValue, next_place, log_header, IsLogPage, Appended, AppendedReady, LeavesLog, log_spare, HasSpare}
 
 own_page : (era sequence : ℕ) (changes : List Record) → is_page Log era sequence (log_header era sequence changes) ≡ true
@@ -53,15 +53,12 @@ module _ (view log : LogValue) (same : view ≡ log) (old new : Flash) (at : Pla
 
 -- ---- its spare bytes
 
-page_here : (page : Place → Page) (at : Place) (v : Page) → set_page page at v at ≡ v
-page_here page at v = grind (arith, nat_tests)
-
 pub spare_there : (view log : LogValue) → view ≡ log → (old new : Flash) (at : Place) → at ≡ next_place view → (block : Block) (spare : Spare)
     → IsSpare spare.0 (spare_fields LogSpare view.era view.next) → new ≡ after_program old at block spare → HasSpare (log_spare log.era log.next) (new.page (next_place log))
 spare_there view log same old new at here block spare spelled done = subst (λ (l : LogValue). HasSpare (log_spare l.era l.next) (new.page (next_place l))) same (
   block,
   ap (λ (f : Flash). f.page (next_place view)) done
       ∙ ap (λ (p : Place). set_page old.page p (Whole block spare) (next_place view)) here
-      ∙ page_here old.page (next_place view) (Whole block spare)
+      ∙ set_page-here old.page (next_place view) (Whole block spare)
       ∙ ap (λ (bytes : List ℕ). Whole block (record { 0 = bytes })) spelled.spelled,
 )

@@ -1,58 +1,22 @@
 -- Pages of records, one after the other.
-use Rattle.std.proofs.Common.{◌≡◌, ℕ, suc, ◌+◌, ◌-◌, ◌<◌, Bool, true, false, List, [], ◌∷◌, Option, Some, None, ok_or, Result, Ok, Err, refl, sym, ◌∙◌, ap, ap₂, subst, arith}
+use Rattle.std.proofs.Common.{◌≡◌, ℕ, suc, ◌+◌, ◌-◌, ◌<◌, Bool, true, false, List, ◌∷◌, Option, Some, None, ok_or, Result, Ok, Err, refl, sym, ◌∙◌, ap, ap₂, subst, arith}
 use Rattle.std.specs.Result.{IfErr, IsErrAnd}
 use Rattle.std.specs.Option.{option_map, option_and_then, option_map_or}
 use Rattle.ft_base.specs.declared.geometry.Geometry.{Geometry}
-use Rattle.ft_base.specs.declared.block.Block.{Block}
 use Rattle.ft_base.specs.declared.block.Place.{Place}
 use Rattle.ft_base.specs.declared.block.Page.{Page}
-use Rattle.ft_base.specs.declared.block.Page.TheVariants.{Blank, Whole, Torn}
 use Rattle.ft_base.specs.Contents.{Contents}
 use Rattle.ft_base.specs.Layout.{log_at, log_pages}
-use Rattle.cache_model.specs.declared.format.PageKind.{PageKind}
 use Rattle.cache_model.specs.declared.format.PageKind.TheVariants.{Log}
 use Rattle.cache_model.specs.declared.format.Header.{Header}
 use Rattle.cache_model.specs.Records.{Entries}
-use Rattle.cache_model.specs.Reading.{read_page_header, read_records}
-use Rattle.cache_model.specs.Loading.{Refusal, ◌>>=◌, pages_from, log_region, said, when, is_page, header_at, after_all, after_pages}
+use Rattle.cache_model.specs.Reading.{read_records}
+use Rattle.cache_model.specs.Loading.{Refusal, ◌>>=◌, pages_from, log_region, said, header_at, after_all, after_pages}
 use Rattle.cache_model.specs.Loading.Refusal.{Damaged}
 use Rattle.op_log.specs.declared.error.OpenError.{OpenError}
 use Rattle.op_log.specs.declared.error.OpenError.TheVariants as refused
-use Rattle.op_log.specs.Refusals.{IsOfFlash, IsRefusal}
-use Rattle.op_log.specs.Walk.{page_step, pages_in_order, Stepped, IsReadAs, after_records}
-
--- ---- one page
-
-pub stepped_refused : (e : OpenError) (old new : Entries) (step : Option (Result Entries Refusal)) → IsOfFlash e → Stepped (Err e) old new step
-stepped_refused refused.NotFormatted old new step is = absurd is
-stepped_refused (refused.OtherGeometry found wanted) old new step is = absurd is
-stepped_refused (refused.Damaged block page) old new step is = absurd is
-stepped_refused refused.FlashFault old new step is = tt
-stepped_refused refused.DiskFault old new step is = absurd is
-stepped_refused refused.PowerLost old new step is = tt
-stepped_refused refused.OutOfMemory old new step is = absurd is
-
-pub stepped_memory : (e : OpenError) (old new : Entries) (step : Option (Result Entries Refusal)) → e ≡ refused.OutOfMemory → Stepped (Err e) old new step
-stepped_memory e old new step is = subst (λ (x : OpenError). Stepped (Err x) old new step) (sym is) tt
-
-module _ (g : Geometry) (kind : PageKind) (era sequence : ℕ) (at : Place) (m : Entries) where
-  abbrev step_of : Page → Header → Result Entries Refusal
-  step_of page h = ok_or (option_and_then (λ changes. after_all g changes m) (said (read_records h) page)) (Damaged at)
-
-  pub step_unread : (page : Page) (block : Block) → IsReadAs false page block → page_step g kind era sequence at page m ≡ None
-  step_unread Blank block is = refl
-  step_unread (Whole b s) block is = absurd (cc)
-  step_unread Torn block is = refl
-
-  pub step_absent : (page : Page) (block : Block) → IsReadAs true page block → when (is_page kind era sequence) (read_page_header block.0) ≡ None → page_step g kind era sequence at page m ≡ None
-  step_absent page block is none =
-      ap (λ p. page_step g kind era sequence at p m) is.1 ∙ ap (λ o. option_map (step_of (Whole block is.0)) o) none
-
-  pub step_there : (page : Page) (block : Block) (h : Header) (left : Option Entries) → IsReadAs true page block → when (is_page kind era sequence) (read_page_header block.0) ≡ Some h → after_records g h block.0 m ≡ left → page_step g kind era sequence at page m ≡ Some (ok_or left (Damaged at))
-  step_there page block h left is head all =
-      ap (λ p. page_step g kind era sequence at p m) is.1
-      ∙ ap (λ o. option_map (step_of (Whole block is.0)) o) head
-      ∙ ap (λ o. Some (ok_or o (Damaged at))) all
+use Rattle.op_log.specs.Refusals.{IsRefusal}
+use Rattle.op_log.specs.Walk.{page_step, pages_in_order, Stepped}
 
 -- an error that is handed on
 pub if_err : {T : Type 0} (r : Result T OpenError) (Gives P : OpenError → Type 0) → IsErrAnd r Gives → ((e : OpenError) → Gives e → P e) → IfErr r P
@@ -89,18 +53,6 @@ module _ (g : Geometry) (region era : ℕ) (page : Place → Page) (first : Entr
   abbrev step_at : ℕ → Entries → Option (Result Entries Refusal)
   step_at i m = page_step g Log era i (log_at g region i) (page (log_at g region i)) m
 
-  pub rolled_none : RolledSoFar g region era page first 0 first
-  rolled_none =
-      let all : log_pages g ≡ log_pages g - 0 = omega arith in
-      let same : log_region g page region ≡ left 0 = ap (λ n. pages_from page (log_at g region) 0 n) all in
-      record {
-        entries = ap (λ ps. after_pages g Log era (log_at g region) 0 ps first) same;
-        count = ap (λ ps. pages_in_order Log era 0 ps) same ∙ zero_plus (pages_in_order Log era 0 (left 0));
-      }
-    where
-      zero_plus : (n : ℕ) → n ≡ 0 + n
-      zero_plus n = omega arith
-
   left_more : (i : ℕ) → i < log_pages g → left i ≡ page (log_at g region i) ∷ left (i + 1)
   left_more i within = ap (λ n. pages_from page (log_at g region) i n) (let e : log_pages g - i ≡ suc (log_pages g - (i + 1)) = omega arith in e)
 
@@ -131,14 +83,6 @@ module _ (g : Geometry) (region era : ℕ) (page : Place → Page) (first : Entr
     entries_more i now within so ∙ ap (λ s. goes_on s now (after_pages g Log era (log_at g region) (i + 1) (left (i + 1)))) step,
     sym (count_more i now within so ∙ ap (λ s. i + counts_on s (pages_in_order Log era (i + 1) (left (i + 1)))) step ∙ plus_zero i),
   )
-    where
-      plus_zero : (a : ℕ) → a + 0 ≡ a
-      plus_zero a = omega arith
-
-  pub rolled_all : (i : ℕ) (now : Entries) → i ≡ log_pages g → RolledSoFar g region era page first i now → (after_pages g Log era (log_at g region) 0 (log_region g page region) first ≡ Ok now) × (i ≡ pages_in_order Log era 0 (log_region g page region))
-  rolled_all i now all so =
-      let none : left i ≡ [] = ap (λ n. pages_from page (log_at g region) i n) (let e : log_pages g - i ≡ 0 = omega arith in e) in
-      (so.entries ∙ ap (λ ps. after_pages g Log era (log_at g region) i ps now) none, sym (so.count ∙ ap (λ ps. i + pages_in_order Log era i ps) none ∙ plus_zero i))
     where
       plus_zero : (a : ℕ) → a + 0 ≡ a
       plus_zero a = omega arith

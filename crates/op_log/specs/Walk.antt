@@ -30,7 +30,8 @@ abbrev pub pages_in_order : PageKind → ℕ → ℕ → List Page → ℕ
 pages_in_order kind era i [] = 0
 pages_in_order kind era i (page ∷ pages) = option_map_or (λ h. suc (pages_in_order kind era (i + 1) pages)) (header_at kind era i page) 0
 
--- the call answers what the step says: true and the new entries, false where there is no step, or its refusal; a fault, a cut and want of memory come by themselves
+-- the call answers what the step says: true and the new entries, false where there is no step, or its refusal;
+-- a fault, a cut and want of memory come by themselves
 abbrev pub Stepped : Result Bool OpenError → Entries → Entries → Option (Result Entries Refusal) → Type 0
 Stepped (Ok true) old new step = step ≡ Some (Ok new)
 Stepped (Ok false) old new step = (step ≡ None) × (new ≡ old)

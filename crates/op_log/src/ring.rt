@@ -57,6 +57,7 @@ impl Ring {
     {
         match self.records.try_push_back(change) {
             Ok(()) => {}
+            // It was made with room for the records of a whole page, and fewer are in it.
             Err(_) => unreachable!(),
         }
     }
