@@ -1,21 +1,20 @@
 -- A checkpoint has no more records than its region has room for.
-use Rattle.std.proofs.Common.{◌≡◌, ℕ, zero, suc, ◌+◌, ◌-◌, ◌*◌, ◌/◌, ◌<◌, ◌≤◌, ◌==◌, ◌||◌, Bool, true, false, cond, T, List, [], ◌∷◌, ◌++◌, length, map, filter, Some, refl, sym, ◌∙◌, ap, ap₂, subst, arith, inl, inr, nat_cmp, eqb-true, length-append}
+use Rattle.std.proofs.Common.{◌≡◌, ℕ, zero, suc, ◌+◌, ◌-◌, ◌*◌, ◌/◌, ◌<◌, ◌≤◌, ◌==◌, ◌||◌, true, false, cond, List, [], ◌∷◌, ◌++◌, length, map, filter, Some, sym, ◌∙◌, ap, ap₂, subst, arith, inl, inr, nat_cmp, eqb-true, length-append}
 use Rattle.std.specs.List.{AllByRecursion, range_with_len}
 use Rattle.std.specs.FinMap.{get, entries, entries_sorted, is_sorted}
 use Rattle.std.specs.FinMap.Entries.{below_all}
-use Rattle.std.specs.Ordering.{is_lt}
 use Rattle.std.proofs.lemmas.Bool.{cases_Bool, and_parts, or_left, or_right}
 use Rattle.std.proofs.lemmas.Bool.Decides.{nat_tests}
 use Rattle.std.proofs.lemmas.List.{length-map}
 use Rattle.std.proofs.lemmas.List.FromFn.{length-range_with_len}
-use Rattle.std.proofs.lemmas.Nat.{div-mul-add}
+use Rattle.std.proofs.lemmas.Nat.{same_from_place}
 use Rattle.ft_base.specs.declared.geometry.Geometry.{Geometry}
 use Rattle.ft_base.specs.Layout.{up, most_records, page_records, pages_for, checkpoint_pages}
 use Rattle.cache_model.specs.declared.entry.Entry.{Entry}
 use Rattle.cache_model.specs.Records.{Entries}
 use Rattle.cache_model.specs.Entries.{each_once, groups_with, blocks_with, page_mapped, IsMap}
 use Rattle.cache_model.proofs.CountLemmas.{member, numbers, each_once-le, member_of}
-use Rattle.cache_model.proofs.MapLemmas.{all_entries}
+use Rattle.cache_model.proofs.MapLemmas.{all_entries, holds}
 use Rattle.ft_base.proofs.LayoutLemmas.{k_holds}
 use Rattle.ft_base.specs.declared.record.Record.{Record}
 use Rattle.mapping.specs.Checkpoint.{IsCheckpointOf, set_group_of, set_page_of}
@@ -23,7 +22,7 @@ use Rattle.mapping.proofs.AscendingLemmas.{Items}
 use Rattle.mapping.proofs.MarksLemmas.{member_from}
 use Rattle.checkpoint.specs.Regions.{map_pages}
 use Rattle.checkpoint.proofs.PlacesLemmas.{product}
-use Rattle.mapping.proofs.TallyLemmas.{once_few}
+use Rattle.mapping.proofs.TallyLemmas.{once_few, above}
 
 -- ---- membership
 
@@ -88,19 +87,6 @@ member_pages p (c ∷ bs) b q there low = elim (cases_Bool (c == b)) [
 abbrev place_number : ℕ → ℕ × Entry → ℕ
 place_number p x = x.1.place.block * p + x.1.place.page
 
-same_parts : (p b q b' q' : ℕ) → q < p → q' < p → b * p + q ≡ b' * p + q' → (b ≡ b') × (q ≡ q')
-same_parts p b q b' q' low low' same =
-    let blocks : b ≡ b' = sym (div-mul-add b p q low) ∙ ap (λ n. n / p) same ∙ div-mul-add b' p q' low' in
-    let products : b * p ≡ b' * p = ap (λ n. n * p) blocks in
-    (blocks, omega arith)
-
-above_all : (k : ℕ) (es : Items) → below_all nat_cmp k es ≡ true → AllByRecursion (λ x. k < x.0) es
-above_all k [] below = tt
-above_all k (e ∷ es) below = let p = and_parts (is_lt (nat_cmp k e.0)) (below_all nat_cmp k es) below in (less_key k e.0 p.0, above_all k es p.1)
-  where
-    less_key : (x y : ℕ) → is_lt (nat_cmp x y) ≡ true → x < y
-    less_key x y e = grind (arith, nat_tests)
-
 all_both : {A : Type 0} (P Q : A → Type 0) (xs : List A) → AllByRecursion P xs → AllByRecursion Q xs → AllByRecursion (λ x. P x × Q x) xs
 all_both P Q [] all all' = tt
 all_both P Q (x ∷ xs) all all' = ((all.0, all'.0), all_both P Q xs all.1 all'.1)
@@ -119,7 +105,7 @@ records_counted g m records listed =
 module _ (g : Geometry) (m : Entries) (is_map : IsMap g m) where
   same_place_numbers : (x y : ℕ × Entry) → get m x.0 ≡ Some x.1 → get m y.0 ≡ Some y.1 → place_number g.p x ≡ place_number g.p y → x.0 ≡ y.0
   same_place_numbers x y at at' same =
-      let parts = same_parts g.p x.1.place.block x.1.place.page y.1.place.block y.1.place.page (is_map.in_pool x.0 x.1 at).page (is_map.in_pool y.0 y.1 at').page same in
+      let parts = same_from_place x.1.place.block x.1.place.page y.1.place.block y.1.place.page g.p (is_map.in_pool x.0 x.1 at).page (is_map.in_pool y.0 y.1 at').page same in
       is_map.apart x.0 y.0 x.1 y.1 at at' (λ i. record { block = parts.0 i; page = parts.1 i })
 
   numbers_once : (es : Items) → is_sorted nat_cmp es ≡ true → AllByRecursion (λ x. get m x.0 ≡ Some x.1) es → length (numbers (place_number g.p) page_mapped es) ≤ length (each_once (numbers (place_number g.p) page_mapped es))
@@ -134,7 +120,7 @@ module _ (g : Geometry) (m : Entries) (is_map : IsMap g m) where
     where
       absent : below_all nat_cmp x.0 es ≡ true → member (place_number g.p x) (numbers (place_number g.p) page_mapped es) ≡ true → ⊥
       absent below there =
-          let y = member_of (place_number g.p) page_mapped (λ y. (get m y.0 ≡ Some y.1) × (x.0 < y.0)) es (place_number g.p x) (all_both (λ y. get m y.0 ≡ Some y.1) (λ y. x.0 < y.0) es all.1 (above_all x.0 es below)) there in
+          let y = member_of (place_number g.p) page_mapped (λ y. (get m y.0 ≡ Some y.1) × (x.0 < y.0)) es (place_number g.p x) (all_both (λ y. get m y.0 ≡ Some y.1) (λ y. x.0 < y.0) es all.1 (above x.0 es below)) there in
           let same : x.0 ≡ y.0.0 = same_place_numbers x y.0 all.0 y.1.0 (sym y.3) in
           let low = y.1.1 in
           omega arith
@@ -165,10 +151,6 @@ module _ (g : Geometry) (m : Entries) (is_map : IsMap g m) where
       let long = length-pages_of g.p (blocks_with page_mapped m) in
       let blocks = product (length (blocks_with page_mapped m)) g.l g.p is_map.log_blocks in
       omega arith
-    where
-      holds : (b : Bool) → T b → b ≡ true
-      holds true h = refl
-      holds false h = absurd h
 
   pub records_few : (records : List Record) → IsCheckpointOf g m records → length records ≤ most_records g
   records_few records listed =

@@ -8,6 +8,7 @@ use Rattle.ft_base.specs.declared.block.Page.TheVariants.{Blank, Torn}
 use Rattle.ft_base.specs.declared.record.Record.{Record}
 use Rattle.ft_base.specs.Contents.{Flash, set_page}
 use Rattle.ft_base.specs.Layout.{first_log, first_pool, checkpoint_at, log_at, checkpoint_pages, log_pages}
+use Rattle.ft_base.proofs.Images.{set_other}
 use Rattle.cache_model.specs.declared.format.Header.{Header}
 use Rattle.cache_model.specs.declared.format.PageKind.TheVariants.{Log}
 use Rattle.cache_model.specs.Records.{Entries}
@@ -23,7 +24,7 @@ use Rattle.op_log.specs.Log.{LogValue, next_place, if_buffered, log_flushed, App
 use Rattle.checkpoint.specs.Current.{IsCurrent, AreWhole, IsOpenLog, IsCommitted, LoadsOneOf}
 use Rattle.checkpoint.proofs.PlacesLemmas.{product, checkpoint_within, log_within, checkpoint_no_log, pool_no_log}
 use Rattle.checkpoint.proofs.ListsLemmas.{take-pages, are_pages, each_page}
-use Rattle.checkpoint.proofs.MapsLemmas.{set-other, ready_after}
+use Rattle.checkpoint.proofs.MapsLemmas.{ready_after}
 use Rattle.cache_model.proofs.LogLemmas.{set_page-here}
 use Rattle.checkpoint.proofs.SealedLemmas.{load_from, current_map, current_low}
 
@@ -162,7 +163,7 @@ module _ (log : LogValue) (m : Entries) (old new : Flash) (current : IsCurrent o
   flush_pool (inr (inr appended)) at pool = pool_page appended.page appended.pages at pool
 
   pub flush_ready : AppendedReady log old new → (b : ℕ) → first_pool log.geometry ≤ b → new.next b ≡ old.next b
-  flush_ready done b pool = ap (λ (f : ℕ → Option ℕ). f b) done.next ∙ set-other old.next (next_place log).block b _
+  flush_ready done b pool = ap (λ (f : ℕ → Option ℕ). f b) done.next ∙ set_other old.next (next_place log).block b _
       (λ e. pool_no_log log.geometry log.region b low pool (subst (λ n. first_log log.geometry + log.region * log.geometry.j ≤ n
       × (n < first_log log.geometry + log.region * log.geometry.j + log.geometry.j)) e (log_within log.geometry log.region log.next room)))
 
@@ -207,10 +208,6 @@ module _ (log : LogValue) (m : Entries) (old new : Flash) (current : IsCurrent o
   }
 
 -- ---- clauses on Ok
-
-pub on_ok : {T E : Type 0} (r : Result T E) (P Q : Type 0) → OnOk r P → (P → Q) → OnOk r Q
-on_ok (Ok x) P Q has f = f has
-on_ok (Err e) P Q has f = tt
 
 pub on_both : {T E : Type 0} (r : Result T E) (P Q R : Type 0) → OnOk r P → OnOk r Q → (P → Q → R) → OnOk r R
 on_both (Ok x) P Q R has has' f = f has has'

@@ -1,7 +1,8 @@
 -- An empty checkpoint, sealed where the regions are erased.
-use Rattle.std.proofs.Common.{◌≡◌, ℕ, ◌+◌, ◌-◌, ◌*◌, ◌/◌, ◌<◌, false, true, List, [], length, map, filter, None, Some, refl, sym, ◌∙◌, ap, subst, arith, nat_cmp}
+use Rattle.std.proofs.Common.{◌≡◌, ℕ, ◌+◌, ◌-◌, ◌*◌, ◌/◌, ◌<◌, false, true, List, [], length, map, filter, Some, refl, sym, ◌∙◌, ap, subst, arith, nat_cmp}
 use Rattle.std.specs.FinMap.{get, get-empty}
 use Rattle.std.proofs.lemmas.Nat.{mul-le, le-div}
+use Rattle.std.proofs.lemmas.Option.{none-some}
 use Rattle.ft_base.specs.declared.geometry.Geometry.{Geometry}
 use Rattle.ft_base.specs.declared.block.Place.{Place}
 use Rattle.ft_base.specs.declared.block.Page.{Page}
@@ -21,11 +22,8 @@ use Rattle.checkpoint.proofs.SealedLemmas.{formatted}
 
 -- ---- a map of nothing
 
-none_some : (e : Entry) → None ≡ Some e → ⊥
-none_some e s = absurd (cc)
-
 no_entry : (a : ℕ) (e : Entry) → get no_entries a ≡ Some e → ⊥
-no_entry a e at = none_some e (sym (get-empty nat_cmp a) ∙ at)
+no_entry a e at = none-some e (sym (get-empty nat_cmp a) ∙ at)
 
 pub empty_whole : (page : Place → Page) (m : Entries) → m ≡ no_entries → AreWhole page m
 empty_whole page m none = record { whole = λ a e at. absurd (no_entry a e (sym (ap (λ (n : Entries). get n a) none) ∙ at)) }
@@ -59,7 +57,7 @@ some_blocks g = at_least (up (g.c + g.l * g.p) 127) g.p (omega (arith, g.in_rang
     at_least : (n p : ℕ) → 0 < p → 0 < (n + 1 + p - 1) / p
     at_least n p some = le-div 1 (n + 1 + p - 1) p some (omega arith)
 
-some_pages : (g : Geometry) → 0 < checkpoint_pages g
+pub some_pages : (g : Geometry) → 0 < checkpoint_pages g
 some_pages g = let some = mul-le 1 4 (k g) g.p (some_blocks g) g.in_range.p_low in omega arith
 
 module _ (g : Geometry) (old : Flash) (blank : AreBlank 0 (2 * k g + g.j) old) where

@@ -1,8 +1,8 @@
 -- Lists of pages, and lists of records in parts.
 use Rattle.std.proofs.Common.{◌≡◌, ℕ, zero, suc, ◌+◌, ◌-◌, ◌*◌, ◌<◌, ◌≤◌, Bool, true, min, List, [], ◌∷◌, ◌++◌, length, take, drop, Some, refl, sym, ◌∙◌, ap, ap₂, arith, inl, inr, take-append-drop}
 use Rattle.std.specs.List.{list_all}
-use Rattle.std.proofs.lemmas.Bool.{and_parts, and_from, cases_eq, cases_lt}
-use Rattle.std.proofs.lemmas.List.{length-take, length-drop, take_all, drop_all}
+use Rattle.std.proofs.lemmas.Bool.{and_parts, and_from, cases_eq}
+use Rattle.std.proofs.lemmas.List.{length-take, length-drop, drop_all, take_min}
 use Rattle.ft_base.specs.declared.block.Place.{Place}
 use Rattle.ft_base.specs.declared.block.Page.{Page}
 use Rattle.ft_base.specs.declared.geometry.Geometry.{Geometry}
@@ -12,7 +12,6 @@ use Rattle.cache_model.specs.declared.format.Header.{Header}
 use Rattle.cache_model.specs.Loading.{pages_from, header_at}
 use Rattle.cache_model.specs.Laws.{ArePages}
 use Rattle.checkpoint.specs.Regions.{part}
-use Rattle.cache_model.proofs.LogLemmas.{length-pages}
 
 -- ---- pages
 
@@ -64,16 +63,9 @@ pub length-part : (g : Geometry) (rs : List Record) (i : ℕ) → length (part g
 unfolding part
 length-part g rs i = any_length 127 rs i
 
--- as many as there are, and no more
-take-least : (n : ℕ) (rs : List Record) → take (min n (length rs)) rs ≡ take n rs
-take-least n rs = elim (cases_lt n (length rs)) [
-  | inl low ↦ ap (λ k. take k rs) (let e : min n (length rs) ≡ n = omega arith in e)
-  | inr high ↦ ap (λ k. take k rs) (let e : min n (length rs) ≡ length rs = omega arith in e) ∙ take_all (length rs) rs (omega arith) ∙ sym (take_all n rs (omega arith))
-]
-
 least_is : (rs out : List Record) (most from count : ℕ) → count ≡ min most (length rs - from) → take count out ≡ take count (drop from rs) → take count out ≡ take most (drop from rs)
 least_is rs out most from count few same =
-    same ∙ ap (λ k. take k (drop from rs)) (few ∙ ap (min most) (sym (length-drop from rs))) ∙ take-least most (drop from rs)
+    same ∙ ap (λ k. take k (drop from rs)) (few ∙ ap (min most) (sym (length-drop from rs))) ∙ take_min most (drop from rs)
 
 pub part_is : (g : Geometry) (rs out : List Record) (count i : ℕ) → count ≡ min 127 (length rs - 127 * i) → take count out ≡ take count (drop (127 * i) rs) → take count out ≡ part g rs i
 unfolding part

@@ -1,7 +1,6 @@
 -- The map pages of a checkpoint, programmed one after another.
-use Rattle.std.proofs.Common.{◌≡◌, ◌⊎◌, ℕ, ◌+◌, ◌*◌, ◌/◌, ◌%◌, ◌<◌, ◌≤◌, Bool, true, false, cond, Option, List, Some, refl, sym, ◌∙◌, ap, subst, arith, inl, inr, eq-eqb, ne_eqb}
+use Rattle.std.proofs.Common.{◌≡◌, ◌⊎◌, ℕ, ◌+◌, ◌*◌, ◌/◌, ◌%◌, ◌<◌, ◌≤◌, Bool, true, false, cond, Option, List, Some, refl, sym, ◌∙◌, ap, subst, arith, inl, inr, eq-eqb}
 use Rattle.std.proofs.lemmas.Bool.{cases_eq, cases_lt}
-use Rattle.std.proofs.lemmas.Bool.Decides.{nat_tests}
 use Rattle.std.proofs.lemmas.Nat.{div-add-mod', mod_below}
 use Rattle.ft_base.specs.declared.geometry.Geometry.{Geometry}
 use Rattle.ft_base.specs.declared.block.Place.{Place}
@@ -10,6 +9,7 @@ use Rattle.ft_base.specs.declared.block.Page.TheVariants.{Torn}
 use Rattle.ft_base.specs.declared.record.Record.{Record}
 use Rattle.ft_base.specs.Contents.{Flash, set, set_page, same_place}
 use Rattle.ft_base.specs.Layout.{k, page_from, checkpoint_at, checkpoint_pages}
+use Rattle.ft_base.proofs.Images.{set_other}
 use Rattle.cache_model.specs.Laws.{IsMapOrLost}
 use Rattle.cache_model.proofs.LoadLemmas.{set_page-other}
 use Rattle.checkpoint.specs.Regions.{InCheckpoint, AreBlank, IsBare, IsMapPage, Programmed, LeavesOne, IsReadyAt, MapsWritten, LeavesMaps, part}
@@ -19,9 +19,6 @@ use Rattle.checkpoint.proofs.ProgramLemmas.{map_page_bare}
 use Rattle.cache_model.proofs.LogLemmas.{set_page-here}
 
 -- ---- the page after one
-
-pub set-other : (f : ℕ → Option ℕ) (i j : ℕ) (v : Option ℕ) → (i ≡ j → ⊥) → set f i v j ≡ f j
-set-other f i j v apart = ap (λ b. cond b v (f j)) (ne_eqb i j apart)
 
 pub set-here : (f : ℕ → Option ℕ) (i j : ℕ) (v : Option ℕ) → i ≡ j → set f i v j ≡ v
 set-here f i j v same = ap (λ b. cond b v (f j)) (eq-eqb i j same)
@@ -54,7 +51,7 @@ pub ready_after : (g : Geometry) (base i j : ℕ) (next : ℕ → Option ℕ) �
     → set next (page_from g base i).block (Some ((page_from g base i).page + 1)) (page_from g base j).block ≡ Some (page_from g base j).page
 ready_after g base i j next lt which was = elim (cases_eq (i / g.p) (j / g.p)) [
   | inl row ↦ set-here next _ _ _ (ap (λ n. base + n) row) ∙ ap Some (same_row g.p i j lt which row)
-  | inr apart ↦ set-other next _ _ _ (λ e. apart (by_number base e)) ∙ was (other_row g.p i j (omega (arith, g.in_range.p_low)) lt which apart)
+  | inr apart ↦ set_other next _ _ _ (λ e. apart (by_number base e)) ∙ was (other_row g.p i j (omega (arith, g.in_range.p_low)) lt which apart)
 ]
   where
     by_number : (n : ℕ) → n + i / g.p ≡ n + j / g.p → i / g.p ≡ j / g.p
@@ -123,7 +120,7 @@ module _ (g : Geometry) (region era : ℕ) (rs : List Record) where
       blank = λ i low within'. else_where i (λ e. absurd (omega arith)) ∙ so_far.blank i (omega arith) within';
       ready = λ i low within' which. ap (λ (f : ℕ → Option ℕ). f (checkpoint_at g region i).block) done.next ∙ ready_after g (region * k g) n i now.next (omega arith) which (λ first. so_far.ready i (omega arith) within' (inr first));
       beside = λ at out. ap (λ (f : Place → Page). f at) done.pages ∙ set_page-other now.page (checkpoint_at g region n) at done.page (outside g region n at within out) ∙ so_far.beside at out;
-      next = λ b out. ap (λ (f : ℕ → Option ℕ). f b) done.next ∙ set-other now.next (checkpoint_at g region n).block b _ (λ e. out (subst (λ m. InCheckpoint g region m) e (checkpoint_within g region n within))) ∙ so_far.next b out;
+      next = λ b out. ap (λ (f : ℕ → Option ℕ). f b) done.next ∙ set_other now.next (checkpoint_at g region n).block b _ (λ e. out (subst (λ m. InCheckpoint g region m) e (checkpoint_within g region n within))) ∙ so_far.next b out;
     }
       where
         else_where : (i : ℕ) → (i ≡ n → ⊥) → next.page (checkpoint_at g region i) ≡ now.page (checkpoint_at g region i)

@@ -70,9 +70,6 @@ pool_no_log g region b low pool within = by_number (k g) pool (log_between g reg
 pub other_low : (region : ℕ) → 1 - region < 2
 other_low region = omega arith
 
-pub other_twice : (region : ℕ) → region < 2 → 1 - (1 - region) ≡ region
-other_twice region low = omega arith
-
 -- two pages of a region differ
 pub checkpoint_apart : (g : Geometry) (region i j : ℕ) → checkpoint_at g region i ≡ checkpoint_at g region j → i ≡ j
 checkpoint_apart g region i j e =

@@ -1,5 +1,5 @@
 -- A page of a checkpoint, and what a program of it leaves.
-use Rattle.std.proofs.Common.{◌≡◌, ℕ, ◌≤◌, inl, inr, true, false, cond, List, Some, None, option_map, refl, sym, ◌∙◌, ap, subst, arith}
+use Rattle.std.proofs.Common.{◌≡◌, ℕ, inl, inr, true, cond, List, Some, None, option_map, refl, ◌∙◌, ap, subst, arith}
 use Rattle.std.proofs.lemmas.Bool.Decides.{nat_tests}
 use Rattle.ft_base.specs.declared.geometry.Geometry.{Geometry}
 use Rattle.ft_base.specs.declared.block.Block.{Block}
@@ -9,9 +9,6 @@ use Rattle.ft_base.specs.declared.block.Page.{Page}
 use Rattle.ft_base.specs.declared.block.Page.TheVariants.{Blank, Whole, Torn}
 use Rattle.ft_base.specs.declared.record.Record.{Record}
 use Rattle.ft_base.specs.Contents.{Flash}
-use Rattle.ft_base.specs.Count.{Rose}
-use Rattle.ft_media.specs.State.{State}
-use Rattle.ft_media.specs.Passes.{Passes, Spends}
 use Rattle.ft_media.specs.Media.{LeavesPage, after_program}
 use Rattle.cache_model.specs.declared.format.PageKind.TheVariants.{Map}
 use Rattle.cache_model.specs.declared.format.Header.{Header}
@@ -72,16 +69,3 @@ module _ (kind : Page → Type 0) (old new : Flash) (at here : Place) (same : he
   programmed done =
       let there = done ∙ ap (λ p. after_program old p block spare) same in
       record { page = Whole block spare; is_kind = is; pages = ap (λ (f : Flash). f.page) there; next = ap (λ (f : Flash). f.next) there }
-
--- ---- counts and power
-
--- a device write after others, none of which was cut
-pub spends_after : (a b c : State) → Passes a b false → Spends 1 b c → Spends 1 a c
-spends_after a b c passes spends on some =
-    let s = passes.stayed on refl in
-    let falls = s.falls some in
-    let rest = spends s.on (λ none. some (sym s.stops ∙ none)) in
-    omega arith
-
-pub rose_after : (a b c : ℕ) → a ≤ b → Rose b c → Rose a c
-rose_after a b c le rose = omega arith

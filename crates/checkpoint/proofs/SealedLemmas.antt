@@ -5,6 +5,7 @@ use Rattle.std.specs.FinMap.{get, entries}
 use Rattle.std.proofs.lemmas.Bool.{cases_Bool, cases_cond, and_from}
 use Rattle.std.proofs.lemmas.List.{drop_all}
 use Rattle.std.proofs.lemmas.Nat.{div-add-mod'}
+use Rattle.std.proofs.lemmas.Option.{none-some, same_Some}
 use Rattle.ft_base.specs.declared.geometry.Geometry.{Geometry}
 use Rattle.ft_base.specs.declared.block.Place.{Place}
 use Rattle.ft_base.specs.declared.block.Page.{Page}
@@ -44,11 +45,8 @@ after_all_split g (r ∷ rs) qs m n is = elim (cases_Bool (fits g r m)) [
   | inl t ↦
       let rest = after_all_split g rs qs (after g r m) n (sym (ap (λ b. cond b (after_all g (rs ++ qs) (after g r m)) None) t) ∙ is) in
       (rest.0, ap (λ b. cond b (after_all g rs (after g r m)) None) t ∙ rest.1, rest.2)
-  | inr f ↦ absurd (none_some n (sym (ap (λ b. cond b (after_all g (rs ++ qs) (after g r m)) None) f) ∙ is))
+  | inr f ↦ absurd (none-some n (sym (ap (λ b. cond b (after_all g (rs ++ qs) (after g r m)) None) f) ∙ is))
 ]
-  where
-    none_some : (x : Entries) → None ≡ Some x → ⊥
-    none_some x s = absurd (cc)
 
 module _ (g : Geometry) (era : ℕ) (rs : List Record) (page : Place → Page) (at : ℕ → Place) where
   maps_counted : (i n before : ℕ) → ((j : ℕ) → i ≤ j → j < i + n → IsMapPage era j (part g rs j) (page (at j))) → before ≡ min (length rs) (127 * i) → length rs ≤ 127 * (i + n) → AreMaps era i before (length rs) (pages_from page at i n)
@@ -63,10 +61,7 @@ module _ (g : Geometry) (era : ℕ) (rs : List Record) (page : Place → Page) (
   maps_applied i zero m m' each all is =
       let none : drop (127 * i) rs ≡ [] = drop_all (127 * i) rs (omega arith) in
       let same : Some m ≡ Some m' = sym (ap (λ qs. after_all g qs m) none) ∙ is in
-      ap Ok (same_some m m' same)
-    where
-      same_some : (x y : Entries) → Some x ≡ Some y → x ≡ y
-      same_some x y s = cc
+      ap Ok (same_Some m m' same)
   maps_applied i (suc n) m m' each all is =
       let here = each i (omega arith) (omega arith) in
       let split = after_all_split g (part g rs i) (drop (127 * (i + 1)) rs) m m' (ap (λ qs. after_all g qs m) (sym (part_and_rest g rs i)) ∙ is) in
@@ -93,7 +88,7 @@ newest_was g page c is = elim (chosen_was (checkpoint_in (checkpoint_region g pa
 pub own_numbers : (g : Geometry) → is_wanted g (seal_of g) ≡ true
 own_numbers g = and_from _ _ (and_from _ _ (and_from _ _ (and_from _ _ (same_number g.p) (same_number g.c)) (same_number g.l)) (same_number g.j)) (same_number g.size)
 
-all_whole-from : {A : Type 0} (page : Place → Page) (es : List (ℕ × Entry)) (x : A) → AllByRecursion (λ e. is_whole (page e.1.place) ≡ true) es → all_whole page es x ≡ Ok x
+pub all_whole-from : {A : Type 0} (page : Place → Page) (es : List (ℕ × Entry)) (x : A) → AllByRecursion (λ e. is_whole (page e.1.place) ≡ true) es → all_whole page es x ≡ Ok x
 all_whole-from page [] x all = refl
 all_whole-from page (e ∷ es) x all = ap (λ b. cond b (all_whole page es x) (Err (Damaged e.1.place))) all.0 ∙ all_whole-from page es x all.1
 

@@ -1,5 +1,5 @@
 -- The walk along a checkpoint region, as loading goes.
-use Rattle.std.proofs.Common.{◌≡◌, ℕ, suc, ◌+◌, ◌-◌, ◌*◌, ◌^◌, ◌<◌, ◌≤◌, true, false, cond, Option, List, [], ◌∷◌, Some, None, option_map, option_and_then, unwrap_or, refl, sym, ◌∙◌, ap, ap₂, subst, arith}
+use Rattle.std.proofs.Common.{◌≡◌, ℕ, suc, ◌+◌, ◌-◌, ◌*◌, ◌<◌, true, false, cond, Option, List, [], ◌∷◌, Some, None, option_map, option_and_then, unwrap_or, refl, sym, ◌∙◌, ap, ap₂, subst, arith}
 use Rattle.std.specs.Option.{option_or}
 use Rattle.ft_base.specs.declared.geometry.Geometry.{Geometry}
 use Rattle.ft_base.specs.declared.block.Place.{Place}
@@ -21,8 +21,6 @@ use Rattle.checkpoint.specs.declared.reading.Found.{Found}
 use Rattle.checkpoint.specs.Walk.{sealed_by, IsFoundAs}
 use Rattle.checkpoint.specs.Found.{in_region}
 use Rattle.ft_base.specs.Contents.{Contents}
-use Rattle.ft_base.proofs.LayoutLemmas.{k_barely}
-use Rattle.checkpoint.proofs.PlacesLemmas.{product}
 
 -- a page of records is no seal
 pub unsealed : (page : Page) (h : Header) → said read_page_header page ≡ Some h → said read_seal page ≡ None
@@ -63,12 +61,6 @@ module _ (i count : ℕ) (rest : List Page) where
   era_is : (page : Page) → era_in page ≡ era_of (said read_page_header page) (said read_seal page)
   unfolding era_of
   era_is page = refl
-
-  -- no page of either kind ends it
-  pub walk_other : (o : Option ℕ) (page : Page) → said read_page_header page ≡ None → said read_seal page ≡ None → sealed_by o i count (page ∷ rest) ≡ None
-  unfolding step_of era_of
-  walk_other None page head seal = ap (option_and_then (λ e. sealed_from e i count (page ∷ rest))) (era_is page ∙ ap₂ era_of head seal)
-  walk_other (Some e) page head seal = step_is e page ∙ ap₂ (step_of e) head seal
 
   module _ (o : Option ℕ) (page : Page) (h : Header) where
     -- a page of records
@@ -114,10 +106,6 @@ unfolding checkpoint_in
 walk_begins [] = refl
 walk_begins (page ∷ pages) = refl
 
-pub walk_ends : (o : Option ℕ) (i count : ℕ) → sealed_by o i count [] ≡ None
-walk_ends None i count = refl
-walk_ends (Some e) i count = refl
-
 -- the walk stands at page i of a region
 pub record WalkedTo (g : Geometry) (region : ℕ) (page : Place → Page) (o : Option ℕ) (i count : ℕ) : Type 0 where
   pub ahead : checkpoint_in (checkpoint_region g page region) ≡ sealed_by o i count (pages_from page (checkpoint_at g region) i (checkpoint_pages g - i))
@@ -133,24 +121,11 @@ module _ (g : Geometry) (region : ℕ) (page : Place → Page) where
     pub walked_more : (o' : Option ℕ) (count' : ℕ) → i < checkpoint_pages g → ((rest : List Page) → sealed_by o i count (page (checkpoint_at g region i) ∷ rest) ≡ sealed_by o' (i + 1) count' rest) → WalkedTo g region page o' (i + 1) count'
     walked_more o' count' within step = record { ahead = walked_here within ∙ step _ }
 
-    pub walked_all : checkpoint_pages g ≤ i → checkpoint_in (checkpoint_region g page region) ≡ None
-    walked_all past = walked.ahead ∙ ap (λ n. sealed_by o i count (pages_from page (checkpoint_at g region) i n)) (let e : checkpoint_pages g - i ≡ 0 = omega arith in e) ∙ walk_ends o i count
-
     pub walked_complete : (c : Complete) → i < checkpoint_pages g → ((rest : List Page) → sealed_by o i count (page (checkpoint_at g region i) ∷ rest) ≡ Some c) → Some (in_region region c) ≡ option_map (in_region region) (checkpoint_in (checkpoint_region g page region))
     walked_complete c within step = sym (ap (option_map (in_region region)) (walked_here within ∙ step _))
 
     pub walked_broken : i < checkpoint_pages g → ((rest : List Page) → sealed_by o i count (page (checkpoint_at g region i) ∷ rest) ≡ None) → None ≡ option_map (in_region region) (checkpoint_in (checkpoint_region g page region))
     walked_broken within step = sym (ap (option_map (in_region region)) (walked_here within ∙ step _))
-
-    pub walked_over : checkpoint_pages g ≤ i → None ≡ option_map (in_region region) (checkpoint_in (checkpoint_region g page region))
-    walked_over past = sym (ap (option_map (in_region region)) (walked_all past))
-
--- few pages are walked
-pub pages_few : (g : Geometry) → checkpoint_pages g ≤ 2 ^ 16
-pages_few g =
-    let least = k_barely g in
-    let pages = product g.l 64 g.p g.in_range.l_high in
-    omega (arith, g.in_range.c_high, g.in_range.p_high)
 
 pub on_flash : (g : Geometry) (region i : ℕ) → region < 2 → i < checkpoint_pages g → (checkpoint_at g region i).block < blocks g
 on_flash g region i low within = by_number (2 * k g + 2 * g.j) (checkpoint_below g region i low within)

@@ -7,11 +7,12 @@ use Rattle.ft_base.specs.declared.block.Page.TheVariants.{Blank, Torn}
 use Rattle.ft_base.specs.Contents.{Flash, set_page}
 use Rattle.ft_base.specs.Layout.{checkpoint_at, checkpoint_pages}
 use Rattle.ft_base.specs.declared.record.Record.{Record}
+use Rattle.ft_base.proofs.Images.{set_other}
 use Rattle.cache_model.proofs.LoadLemmas.{set_page-other}
 use Rattle.checkpoint.specs.Regions.{InCheckpoint, InLog, IsPrepared, IsBare, IsUnsealed, IsMapPage, IsSealPage, Programmed, LeavesOne, MapsWritten, LeavesMaps, IsSealed, IsWritten, HasSpares, part, map_pages, seal_spare}
 use Rattle.op_log.specs.Log.{HasSpare}
 use Rattle.checkpoint.proofs.PlacesLemmas.{checkpoint_within, checkpoint_apart, checkpoint_no_log}
-use Rattle.checkpoint.proofs.MapsLemmas.{set-other, maps_bare, bare_put, outside}
+use Rattle.checkpoint.proofs.MapsLemmas.{maps_bare, bare_put, outside}
 use Rattle.cache_model.proofs.LogLemmas.{set_page-here}
 
 -- while map pages are programmed, nothing is sealed
@@ -60,7 +61,7 @@ module _ (g : Geometry) (region era : ℕ) (records : List Record) (low : region
   }
     where
       next_of : (b : ℕ) → (InCheckpoint g region b → ⊥) → new.next b ≡ mid.next b
-      next_of b out = ap (λ (f : ℕ → Option ℕ). f b) done.next ∙ set-other now.next (checkpoint_at g region n).block b _ (λ e. out (subst (λ j. InCheckpoint g region j) e (checkpoint_within g region n within))) ∙ maps.next b out
+      next_of b out = ap (λ (f : ℕ → Option ℕ). f b) done.next ∙ set_other now.next (checkpoint_at g region n).block b _ (λ e. out (subst (λ j. InCheckpoint g region j) e (checkpoint_within g region n within))) ∙ maps.next b out
 
 -- ---- spare bytes
 

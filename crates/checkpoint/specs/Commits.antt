@@ -27,7 +27,8 @@ pub record LogGoesOn {T : Type 0} (next old new : LogValue) (result : Result T M
   pub log : OnOk result (new ≡ next)
   pub refused : OnErr result (new ≡ old)
 
--- whatever is answered, the flash stands for the map, or for what it stood for, and no page of the pool changed; Ok, nor did what is ready in it
+-- whatever is answered, the flash stands for the map, or for what it stood for, and no page of the pool changed;
+-- Ok, nor did what is ready in it
 pub record LeavesPool {T : Type 0} (g : Geometry) (m : Entries) (old new : Flash) (result : Result T MediaError) : Type 0 where
   pub stands : LoadsOneOf g old.page new.page m
   pub pool : PoolStays g old.page new.page

@@ -26,7 +26,8 @@ pub record IsCurrent (page : Place → Page) (log : LogValue) (m : Entries) : Ty
 pub record AreWhole (page : Place → Page) (m : Entries) : Type 0 where
   pub whole : (a : ℕ) (e : Entry) → get m a ≡ Some e → is_whole (page e.place) ≡ true
 
--- the pages before the log's next one are those that loading applies; and of those left the next one, and the first of each erase block, is the one to program in an erase block that is ready
+-- the pages before the log's next one are those that loading applies; and of those left the next one,
+-- and the first of each erase block, is the one to program in an erase block that is ready
 pub record IsOpenLog (flash : Flash) (log : LogValue) : Type 0 where
   pub before : ArePages Log log.era 0 (take log.next (log_region log.geometry flash.page log.region))
   pub ready : (i : ℕ) → log.next ≤ i → i < log_pages log.geometry → (i ≡ log.next) ⊎ ((log_at log.geometry log.region i).page ≡ 0)

@@ -47,6 +47,7 @@ pub(crate) fn erase_regions<M: Media>(
     ensures drives { DrivesFlash (M.state media.old) (M.state media.new) (failed result) (lost result) }
 {
     let k = geometry.k();
+    // The region first: else it could be complete with its log gone.
     erase_blocks(media, region * k, k)?;
     erase_blocks(media, 2 * k + region * geometry.j, geometry.j)?;
     Ok(())

@@ -25,6 +25,8 @@ pub(crate) struct Target {
     pub(crate) region: u32,
     /// The era, 0 to 2.
     pub(crate) era: u8,
+    ghost one_of_two: { region < 2 },
+    ghost one_of_three: { era ≤ 2 },
 }
 
 /// Programs a map page of a checkpoint.
@@ -37,8 +39,6 @@ fn program_map<M: Media>(
     sequence: u32,
 ) -> Result<(), MediaError>
     requires can { CanProgram geometry.now map.now (M.state media.old).contents }
-    requires region { target.now.region < 2 }
-    requires era { target.now.era ≤ 2 }
     requires some { page_records geometry.now * sequence < length map.now.records }
     requires room { sequence < checkpoint_pages geometry.now }
     requires ready { IsReadyAt (checkpoint_at geometry.now target.now.region sequence) (M.state media.old).contents.flash }
@@ -67,8 +67,6 @@ fn program_maps<M: Media>(
     pages: u32,
 ) -> Result<(), MediaError>
     requires can { CanProgram geometry.now map.now (M.state media.old).contents }
-    requires region { target.now.region < 2 }
-    requires era { target.now.era ≤ 2 }
     requires all { pages ≡ map_pages geometry.now map.now.records }
     requires room { pages < checkpoint_pages geometry.now }
     requires blank { AreBlank (target.now.region * k geometry.now) (k geometry.now) (M.state media.old).contents.flash }
@@ -95,8 +93,6 @@ pub(crate) fn program_seal<M: Media>(
     records: u32,
 ) -> Result<(), MediaError>
     requires shape { FitsOn geometry.now (M.state media.old).contents.shape }
-    requires region { target.now.region < 2 }
-    requires era { target.now.era ≤ 2 }
     requires room { pages < checkpoint_pages geometry.now }
     requires ready { IsReadyAt (checkpoint_at geometry.now target.now.region pages) (M.state media.old).contents.flash }
     ensures done { OnOk result (Programmed (IsSealPage geometry.now target.now.era pages records)
@@ -126,8 +122,6 @@ pub(crate) fn write_checkpoint<M: Media>(
     requires shape { FitsOn geometry.now (M.state media.old).contents.shape }
     requires map { map.now.geometry ≡ geometry.now }
     requires is_map { IsMap geometry.now map.now.entries }
-    requires region { target.now.region < 2 }
-    requires era { target.now.era ≤ 2 }
     ensures listing { IsCheckpointOf geometry.now map.now.entries map.now.records }
     ensures done { OnOk result (IsWritten geometry.now target.now.region target.now.era map.now.records (M.state media.old).contents.flash
         (M.state media.new).contents.flash) }
@@ -145,6 +139,7 @@ pub(crate) fn write_checkpoint<M: Media>(
     let pages = (records + MOST - 1) / MOST;
     erase_regions(media, geometry, target.region)?;
     program_maps(media, page, geometry, map, target, pages)?;
+    // The seal last: until it is whole the old checkpoint counts.
     program_seal(media, page, geometry, target, pages, records)?;
     Ok(())
 }

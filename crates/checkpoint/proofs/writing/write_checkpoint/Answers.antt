@@ -46,7 +46,7 @@ program_seal-requires-clause-ready g c =
 pub returns-in_err-program_seal-clause-pages : goal.returns-in_err-program_seal-clause-pages
 returns-in_err-program_seal-clause-pages g c =
     let same = c.checkpoint_len-records.ensures.count in
-    seal_left c.args.geometry.now c.args.target.now.region c.args.target.now.era c.args.map.now.records c.requires.region _ c.checkpoint_len-records.result (ap (λ n. (n + 127 - 1) / 127) same) same
+    seal_left c.args.geometry.now c.args.target.now.region c.args.target.now.era c.args.map.now.records c.args.target.now.one_of_two _ c.checkpoint_len-records.result (ap (λ n. (n + 127 - 1) / 127) same) same
     (pages_fit c.args.map.now.geometry c.args.geometry.now c.args.map.now.entries c.args.map.now.records c.checkpoint_len-records.result c.requires.map c.requires.is_map c.checkpoint_len-records.ensures.listing c.checkpoint_len-records.ensures.count)
     (g.M.Media.state c.args.media.now).contents.flash (g.M.Media.state c.erase_regions.new.media).contents.flash (g.M.Media.state c.program_maps.new.media).contents.flash
     (g.M.Media.state c.program_seal.new.media).contents.flash c.in_ok-erase_regions.ensures.done c.in_ok-program_maps.ensures.done c.program_seal.ensures.pages
@@ -59,7 +59,7 @@ returns-in_err-program_seal-clause-drives g c = only_failed _ _ _ _ _
 pub returns-clause-done : goal.returns-clause-done
 returns-clause-done g c =
     let same = c.checkpoint_len-records.ensures.count in
-    seal_done c.args.geometry.now c.args.target.now.region c.args.target.now.era c.args.map.now.records c.requires.region _ c.checkpoint_len-records.result (ap (λ n. (n + 127 - 1) / 127) same) same
+    seal_done c.args.geometry.now c.args.target.now.region c.args.target.now.era c.args.map.now.records c.args.target.now.one_of_two _ c.checkpoint_len-records.result (ap (λ n. (n + 127 - 1) / 127) same) same
     (pages_fit c.args.map.now.geometry c.args.geometry.now c.args.map.now.entries c.args.map.now.records c.checkpoint_len-records.result c.requires.map c.requires.is_map c.checkpoint_len-records.ensures.listing c.checkpoint_len-records.ensures.count)
     (g.M.Media.state c.args.media.now).contents.flash (g.M.Media.state c.erase_regions.new.media).contents.flash (g.M.Media.state c.program_maps.new.media).contents.flash
     (g.M.Media.state c.program_seal.new.media).contents.flash c.in_ok-erase_regions.ensures.done c.in_ok-program_maps.ensures.done c.in_ok-program_seal.ensures.done
@@ -67,7 +67,7 @@ returns-clause-done g c =
 pub returns-clause-pages : goal.returns-clause-pages
 returns-clause-pages g c =
     let same = c.checkpoint_len-records.ensures.count in
-    seal_left c.args.geometry.now c.args.target.now.region c.args.target.now.era c.args.map.now.records c.requires.region _ c.checkpoint_len-records.result (ap (λ n. (n + 127 - 1) / 127) same) same
+    seal_left c.args.geometry.now c.args.target.now.region c.args.target.now.era c.args.map.now.records c.args.target.now.one_of_two _ c.checkpoint_len-records.result (ap (λ n. (n + 127 - 1) / 127) same) same
     (pages_fit c.args.map.now.geometry c.args.geometry.now c.args.map.now.entries c.args.map.now.records c.checkpoint_len-records.result c.requires.map c.requires.is_map c.checkpoint_len-records.ensures.listing c.checkpoint_len-records.ensures.count)
     (g.M.Media.state c.args.media.now).contents.flash (g.M.Media.state c.erase_regions.new.media).contents.flash (g.M.Media.state c.program_maps.new.media).contents.flash
     (g.M.Media.state c.program_seal.new.media).contents.flash c.in_ok-erase_regions.ensures.done c.in_ok-program_maps.ensures.done c.program_seal.ensures.pages

@@ -1,7 +1,8 @@
 use Rattle.std.proofs.Common.{◌≢◌, [], length, sym, ◌∙◌, ap, subst, arith}
+use Rattle.std.proofs.lemmas.Result.{on_ok_weaker}
 use Rattle.op_log.specs.Log.{LogValue}
 use Rattle.checkpoint.specs.Current.{IsCommitted, PoolReadyStays}
-use Rattle.checkpoint.proofs.FlushLemmas.{flush_loads, flush_pool, flush_ready, flush_committed, flushed_some, on_ok, on_both}
+use Rattle.checkpoint.proofs.FlushLemmas.{flush_loads, flush_pool, flush_ready, flush_committed, flushed_some, on_both}
 use Rattle.checkpoint.proofs.checkpoints.Checkpoints.commit.Goals as goal
 
 pub returns-then-room-gt0-clause-done : goal.returns-then-room-gt0-clause-done
@@ -20,7 +21,8 @@ returns-then-room-gt0-clause-flash g c = record {
   pool = flush_pool c.args.log.now c.args.map.now.entries (g.M.Media.state c.args.media.now).contents.flash
       (g.M.Media.state c.flush.new.media).contents.flash c.requires.can.current c.requires.open (g.met.M.Media.blank_ahead c.args.media.now) (omega (arith, c.room.ensures.room, c.if-room-gt0.true))
       c.flush.ensures.pages;
-  pool_ready = on_ok c.flush.result _ (PoolReadyStays c.args.log.now.geometry (g.M.Media.state c.args.media.now).contents.flash (g.M.Media.state c.flush.new.media).contents.flash) c.flush.ensures.done
+  pool_ready = on_ok_weaker {Q = PoolReadyStays c.args.log.now.geometry (g.M.Media.state c.args.media.now).contents.flash (g.M.Media.state c.flush.new.media).contents.flash} c.flush.result
       (λ done. flush_ready c.args.log.now c.args.map.now.entries (g.M.Media.state c.args.media.now).contents.flash (g.M.Media.state c.flush.new.media).contents.flash c.requires.can.current c.requires.open
-      (g.met.M.Media.blank_ahead c.args.media.now) (omega (arith, c.room.ensures.room, c.if-room-gt0.true)) (done (λ e. c.if-buffered-eq0.false (c.buffered.ensures.buffered ∙ ap length e))));
+      (g.met.M.Media.blank_ahead c.args.media.now) (omega (arith, c.room.ensures.room, c.if-room-gt0.true)) (done (λ e. c.if-buffered-eq0.false (c.buffered.ensures.buffered ∙ ap length e))))
+      c.flush.ensures.done;
 }
