@@ -11,14 +11,12 @@ use Rattle.ft_media.specs.Reads.{ReadsFlash}
 use Rattle.ft_media.proofs.DrivesLemmas.{reads_then}
 use Rattle.cache_model.specs.declared.format.PageKind.TheVariants.{Log, Map}
 use Rattle.cache_model.specs.Records.{Entries, no_entries}
-use Rattle.cache_model.specs.Entries.{IsMap}
 use Rattle.cache_model.specs.Loading.{Refusal, ◌>>=◌, Complete, pages_from, after_pages, log_region, checkpoint_of, replayed, entries_of, all_whole, load}
-use Rattle.cache_model.proofs.FitsLemmas.{replayed-map}
 use Rattle.op_log.specs.declared.error.OpenError.{OpenError}
 use Rattle.op_log.specs.declared.error.OpenError.TheVariants.{NotFormatted, OtherGeometry, Damaged, FlashFault, DiskFault, PowerLost, OutOfMemory}
 use Rattle.op_log.specs.Refusals.{IsRefusal, open_failed, open_lost}
+use Rattle.checkpoint.proofs.ListsLemmas.{take-pages}
 use Rattle.recovery.proofs.RefusalLemmas.{bind_refused, then_refused}
-use Rattle.recovery.proofs.WalkLemmas.{take_pages}
 
 -- the map pages of a checkpoint, from no entries on
 abbrev pub maps_applied : Geometry → (Place → Page) → ℕ × Complete → Entries → Result Entries Refusal
@@ -31,7 +29,7 @@ log_applied g page c m = after_pages g Log c.1.era (log_at g c.0) 0 (log_region 
 module _ (g : Geometry) (page : Place → Page) (c : ℕ × Complete) (within : c.1.pages ≤ checkpoint_pages g) (none : Entries) (empty : none ≡ no_entries) where
   pub both_parts : replayed g page c ≡ (maps_applied g page c none >>= log_applied g page c)
   unfolding replayed
-  both_parts = ap₂ (λ ps m. after_pages g Map c.1.era (checkpoint_at g c.0) 0 ps m >>= log_applied g page c) (take_pages page (checkpoint_at g c.0) 0 c.1.pages (checkpoint_pages g) within) (sym empty)
+  both_parts = ap₂ (λ ps m. after_pages g Map c.1.era (checkpoint_at g c.0) 0 ps m >>= log_applied g page c) (take-pages page (checkpoint_at g c.0) 0 c.1.pages (checkpoint_pages g) within) (sym empty)
 
   pub maps_refused : (e : OpenError) → IsRefusal g e (maps_applied g page c none) → IsRefusal g e (replayed g page c)
   maps_refused e is = subst (λ r. IsRefusal g e r) (sym both_parts) (bind_refused g e (maps_applied g page c none) (log_applied g page c) is)
@@ -59,9 +57,6 @@ module _ (g : Geometry) (page : Place → Page) (c : ℕ × Complete) (there : c
   module _ (m : Entries) (replay : replayed g page' c ≡ Ok m) where
     entries_are : entries_of g page ≡ Ok m
     entries_are = ap (λ r. r >>= replayed g page) there ∙ ap (λ (p : Place → Page). replayed g p c) (sym pages) ∙ replay
-
-    pub replayed_map : IsMap g m
-    replayed_map = replayed-map g page' c m replay
 
     module _ (page'' : Place → Page) (pages' : page'' ≡ page) where
       pub places_refused : (e : OpenError) → IsRefusal g e (all_whole page'' (entries m) m) → IsRefusal g e (load g page)

@@ -1,5 +1,5 @@
 -- The places of entries, looked at in ascending order of address.
-use Rattle.std.proofs.Common.{◌≡◌, ℕ, ◌+◌, ◌-◌, ◌/◌, ◌%◌, ◌<◌, ◌≤◌, ◌==◌, Bool, true, false, cond, T, List, [], ◌∷◌, ◌++◌, length, get_or, Option, Some, None, Result, Ok, Err, refl, sym, ◌∙◌, ap, ap₂, subst, arith, inl, inr, nat_cmp}
+use Rattle.std.proofs.Common.{◌≡◌, ℕ, ◌+◌, ◌<◌, ◌≤◌, ◌==◌, Bool, true, false, cond, List, [], ◌∷◌, ◌++◌, length, get_or, Option, Some, None, Result, Ok, Err, refl, sym, ◌∙◌, ap, subst, arith, inl, inr, nat_cmp}
 use Rattle.std.specs.Option.{option_map, IfSome, IfNone}
 use Rattle.std.specs.List.{AllByRecursion, AllWithin, Contains}
 use Rattle.std.specs.List.Sorted.{IsNonDecreasing, IsPermutation, IsSorted}
@@ -9,40 +9,28 @@ use Rattle.std.specs.FinMap.Entries.{below_all}
 use Rattle.std.proofs.lemmas.Bool.{cases_Bool, cases_lt, and_parts}
 use Rattle.std.proofs.lemmas.Bool.Decides.{nat_tests}
 use Rattle.std.proofs.lemmas.List.{get_or_default}
-use Rattle.std.proofs.lemmas.List.Elements.{AllWithin-more, AllWithin-none, AllWithin-upto, All-from_all_within, All-contains, Contains-push, Contains-append_left}
+use Rattle.std.proofs.lemmas.List.Elements.{AllWithin-more, AllWithin-upto, All-from_all_within, All-contains, Contains-push, Contains-append_left}
 use Rattle.std.proofs.lemmas.List.Sorted.{Contains-permutation, IsNonDecreasingBy-from_sort}
-use Rattle.std.proofs.lemmas.Nat.{div-mul-add, mod-mul-add}
+use Rattle.std.proofs.lemmas.Option.{same_Some}
 use Rattle.ft_base.specs.declared.geometry.Geometry.{Geometry}
 use Rattle.ft_base.specs.declared.block.Place.{Place}
 use Rattle.ft_base.specs.declared.block.Page.{Page}
-use Rattle.ft_base.specs.Layout.{first_pool}
 use Rattle.cache_model.specs.declared.entry.Entry.{Entry}
 use Rattle.cache_model.specs.Records.{Entries}
 use Rattle.cache_model.specs.Entries.{IsMap, InPool}
 use Rattle.cache_model.specs.Loading.{Refusal, is_whole, all_whole}
 use Rattle.cache_model.specs.Loading.Refusal.{Damaged as damaged}
-use Rattle.cache_model.proofs.MapLemmas.{holds, eq_key, all_entries}
+use Rattle.cache_model.proofs.MapLemmas.{holds, eq_key, less_key, all_entries}
 use Rattle.mapping.specs.Counts.{place_and_mark}
 use Rattle.mapping.specs.Numbers.{number_of, HasNumber, HasNone, AreNumbered}
+use Rattle.mapping.proofs.NumbersLemmas.{number_tells}
 use Rattle.op_log.specs.declared.error.OpenError.{OpenError}
 use Rattle.op_log.specs.Refusals.{IsRefusal}
+use Rattle.checkpoint.proofs.SealedLemmas.{all_whole-from}
 use Rattle.recovery.specs.Addresses.{HasAddresses}
 use Rattle.recovery.proofs.RefusalLemmas.{test_refused}
 
 -- ---- the addresses, in the order of the pages
-
-abbrev place_at : ℕ → ℕ → Place
-place_at block page = record { block = block; page = page }
-
--- two places of the pool with one number are one
-same_place : (g : Geometry) (p q : Place) → InPool g p → InPool g q → number_of g p ≡ number_of g q → p ≡ q
-same_place g p q in_p in_q same =
-    let b = p.block - first_pool g in
-    let d = q.block - first_pool g in
-    let blocks : b ≡ d = sym (div-mul-add b g.p p.page in_p.page) ∙ ap (λ n. n / g.p) same ∙ div-mul-add d g.p q.page in_q.page in
-    let page : p.page ≡ q.page = sym (mod-mul-add b g.p p.page in_p.page) ∙ ap (λ n. n % g.p) same ∙ mod-mul-add d g.p q.page in_q.page in
-    let block : p.block ≡ q.block = omega (arith, in_p.above, in_q.above, blocks) in
-    ap₂ place_at block page
 
 -- the addresses whose pages have numbers below i are in the list
 pub record Gathered (g : Geometry) (m : Entries) (addresses : List ℕ) (i : ℕ) : Type 0 where
@@ -61,7 +49,7 @@ gathered_more g m addresses new i lba at o is_map so here is pushed = record {
         let place : f.place ≡ at = has.owns.2 in
         let number : number_of g e.place ≡ i = omega (arith, low, past) in
         let number' : number_of g f.place ≡ i = ap (number_of g) place ∙ has.number in
-        let places = same_place g e.place f.place (is_map.in_pool a e held) (is_map.in_pool lba f has.owns.1) (number ∙ sym number') in
+        let places = number_tells g e.place f.place (is_map.in_pool a e held) (is_map.in_pool lba f has.owns.1) (number ∙ sym number') in
         let same : a ≡ lba = is_map.apart a lba e f held has.owns.1 places in
         subst (λ n. Contains (addresses ++ lba ∷ []) n) (sym same) (Contains-push addresses lba)
   ]);
@@ -112,12 +100,6 @@ IsWholeAt page m a = (e : Entry) → get m a ≡ Some e → is_whole (page e.pla
 pub record Looked (page : Place → Page) (m : Entries) (addresses : List ℕ) (i : ℕ) : Type 0 where
   pub whole : AllWithin (IsWholeAt page m) addresses 0 i
 
-pub looked_none : (page : Place → Page) (m : Entries) (addresses : List ℕ) → Looked page m addresses 0
-looked_none page m addresses = record { whole = AllWithin-none (IsWholeAt page m) addresses 0 }
-
-same_value : (x y : Entry) → Some x ≡ Some y → x ≡ y
-same_value x y is = cc
-
 module _ (page : Place → Page) (m : Entries) (addresses : List ℕ) (i d : ℕ) (looked : Looked page m addresses i) (within : i < length addresses) where
   -- an address by any default
   by_default : IsWholeAt page m (get_or addresses i d) → (e : ℕ) → IsWholeAt page m (get_or addresses i e)
@@ -129,7 +111,7 @@ module _ (page : Place → Page) (m : Entries) (addresses : List ℕ) (i d : ℕ
       let here : is_whole (page at) ≡ true = ap (λ (p : Place → Page). is_whole (p at)) (sym pages) ∙ whole in
       record {
         whole = AllWithin-more (IsWholeAt page m) addresses 0 i looked.whole (by_default (λ e is'.
-            let same = same_value e held.0 (sym is' ∙ held.1) in
+            let same = same_Some e held.0 (sym is' ∙ held.1) in
             ap (λ (v : Entry). is_whole (page v.place)) same ∙ ap (λ q. is_whole (page q)) held.2 ∙ here));
       }
 
@@ -141,10 +123,6 @@ module _ (page : Place → Page) (m : Entries) (addresses : List ℕ) (i d : ℕ
 
 -- ---- what is answered
 
-all_from : (page : Place → Page) (es : List (ℕ × Entry)) (x : Entries) → AllByRecursion (λ e. is_whole (page e.1.place) ≡ true) es → all_whole page es x ≡ Ok x
-all_from page [] x all = refl
-all_from page (e ∷ es) x all = ap (λ b. cond b (all_whole page es x) (Err (damaged e.1.place))) all.0 ∙ all_from page es x all.1
-
 find_above : (k : ℕ) (es : List (ℕ × Entry)) → below_all nat_cmp k es ≡ true → (a : ℕ) (v : Entry) → find nat_cmp a es ≡ Some v → k < a
 find_above k [] below a v is = absurd (cc)
 find_above k (e ∷ es) below a v is =
@@ -153,9 +131,6 @@ find_above k (e ∷ es) below a v is =
       | inl t ↦ let same : a ≡ e.0 = grind (arith, nat_tests) in let low : k < e.0 = less_key k e.0 parts.0 in omega (arith, same, low)
       | inr f ↦ find_above k es parts.1 a v (sym (ap (λ b. cond b (Some e.1) (find nat_cmp a es)) (eq_key a e.0 ∙ f)) ∙ is)
     ]
-  where
-    less_key : (x y : ℕ) → is_lt (nat_cmp x y) ≡ true → x < y
-    less_key x y e = grind (arith, nat_tests)
 
 -- where all before an address are whole, its own page decides
 module _ (page : Place → Page) (x : Entries) (a : ℕ) (v : Entry) where
@@ -166,7 +141,7 @@ module _ (page : Place → Page) (x : Entries) (a : ℕ) (v : Entry) where
       elim (cases_Bool (a == e.0)) [
         | inl t ↦
             let value : Some e.1 ≡ Some v = sym (ap (λ b. cond b (Some e.1) (find nat_cmp a es)) (eq_key a e.0 ∙ t)) ∙ is in
-            (all_whole page es x, ap (λ (w : Entry). cond (is_whole (page w.place)) (all_whole page es x) (Err (damaged w.place))) (same_value e.1 v value))
+            (all_whole page es x, ap (λ (w : Entry). cond (is_whole (page w.place)) (all_whole page es x) (Err (damaged w.place))) (same_Some e.1 v value))
         | inr f ↦
             let there : find nat_cmp a es ≡ Some v = sym (ap (λ b. cond b (Some e.1) (find nat_cmp a es)) (eq_key a e.0 ∙ f)) ∙ is in
             let rest = decided es parts.1 before.1 there in
@@ -175,7 +150,7 @@ module _ (page : Place → Page) (x : Entries) (a : ℕ) (v : Entry) where
 
 module _ (page : Place → Page) (m : Entries) (addresses : List ℕ) (has : HasAddresses m addresses) (i : ℕ) (looked : Looked page m addresses i) where
   pub looked_all : length addresses ≤ i → all_whole page (entries m) m ≡ Ok m
-  looked_all past = all_from page (entries m) m (all_entries m (λ a e. is_whole (page e.place) ≡ true) (λ a e is. whole_at a (has a e is) e is))
+  looked_all past = all_whole-from page (entries m) m (all_entries m (λ a e. is_whole (page e.place) ≡ true) (λ a e is. whole_at a (has a e is) e is))
     where
       whole_at : (a : ℕ) → Contains addresses a → IsWholeAt page m a
       whole_at a there = All-contains (IsWholeAt page m) addresses a (All-from_all_within (IsWholeAt page m) addresses (AllWithin-upto (IsWholeAt page m) addresses 0 i (length addresses) past looked.whole)) there

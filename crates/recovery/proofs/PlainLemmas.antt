@@ -2,7 +2,7 @@
 use Rattle.std.proofs.Common.{◌≡◌, ℕ, suc, ◌+◌, ◌-◌, ◌*◌, ◌<◌, ◌≤◌, Bool, true, false, cond, List, ◌∷◌, length, get_or, drop, Option, Some, None, ok_or, Result, Ok, Err, refl, sym, ◌∙◌, ap, ap₂, subst, arith}
 use Rattle.std.specs.Option.{MatchOption, option_map, option_or, option_and_then}
 use Rattle.std.specs.FinMap.{entries}
-use Rattle.std.proofs.lemmas.List.{at_drop_more, at_drop_all}
+use Rattle.std.proofs.lemmas.List.{at_drop_more}
 use Rattle.ft_base.specs.declared.geometry.Geometry.{Geometry}
 use Rattle.ft_base.specs.declared.block.Place.{Place}
 use Rattle.ft_base.specs.declared.block.Page.{Page}
@@ -18,11 +18,10 @@ use Rattle.cache_model.specs.Reading.{read_records}
 use Rattle.cache_model.specs.Loading.{Refusal, ◌>>=◌, Complete, complete, said, header_at, seal_at, sealed_from, era_in, checkpoint_in, checkpoint_region, pages_from, after_all, newest, is_wanted, wanted, checkpoint_of, replayed, all_whole, load}
 use Rattle.cache_model.specs.Loading.Refusal.{NotFormatted, OtherGeometry, Damaged as damaged}
 use Rattle.cache_model.proofs.FitsLemmas.{fits-true, fits-from}
-use Rattle.ft_base.proofs.LayoutLemmas.{k_holds}
 use Rattle.mapping.specs.MapValue.{MapValue}
 use Rattle.op_log.specs.Walk.{page_step}
+use Rattle.checkpoint.proofs.FormatLemmas.{some_pages}
 use Rattle.recovery.proofs.LoadLemmas.{maps_applied, log_applied, both_parts}
-use Rattle.op_log.proofs.ApplyLemmas.{applied_all}
 
 -- ---- a region
 
@@ -32,12 +31,6 @@ pub record MapsSoFar (era : ℕ) (at : ℕ → Place) (page : Place → Page) (n
   pub few : count ≤ 127 * i
 
 module _ (era : ℕ) (at : ℕ → Place) (page : Place → Page) (n : ℕ) where
-  pub maps_none : MapsSoFar era at page n 0 0
-  maps_none = record { same = let all : n ≡ n - 0 = omega arith in ap (λ k. sealed_from era 0 0 (pages_from page at 0 k)) all; few = omega arith }
-
-  pub maps_all : (i count : ℕ) → n ≤ i → MapsSoFar era at page n i count → None ≡ sealed_from era 0 0 (pages_from page at 0 n)
-  maps_all i count past so = let none : n - i ≡ 0 = omega arith in sym (so.same ∙ ap (λ k. sealed_from era i count (pages_from page at i k)) none)
-
   module _ (i count : ℕ) (within : i < n) (so : MapsSoFar era at page n i count) where
     next_page : (seal : Option Seal) (header : Option Header) → seal ≡ seal_at era i count (page (at i)) → header ≡ header_at Map era i (page (at i))
         → sealed_from era 0 0 (pages_from page at 0 n) ≡ option_or (option_map (complete era i) seal)
@@ -52,12 +45,6 @@ module _ (era : ℕ) (at : ℕ → Place) (page : Place → Page) (n : ℕ) wher
       same_page : p ≡ page (at i)
       same_page = read ∙ ap page here
 
-      pub sealed_here : (seal : Seal) → Some seal ≡ seal_at era i count p → Some (complete era i seal) ≡ sealed_from era 0 0 (pages_from page at 0 n)
-      sealed_here seal is = sym (next_page (Some seal) (header_at Map era i (page (at i))) (is ∙ ap (seal_at era i count) same_page) refl)
-
-      pub no_map : None ≡ seal_at era i count p → None ≡ header_at Map era i p → None ≡ sealed_from era 0 0 (pages_from page at 0 n)
-      no_map unsealed none = sym (next_page None None (unsealed ∙ ap (seal_at era i count) same_page) (none ∙ ap (header_at Map era i) same_page))
-
       pub maps_more : (h : Header) → None ≡ seal_at era i count p → Some h ≡ header_at Map era i p → h.count ≤ 127 → MapsSoFar era at page n (i + 1) (count + h.count)
       maps_more h unsealed is short = record {
         same = next_page None (Some h) (unsealed ∙ ap (seal_at era i count) same_page) (is ∙ ap (header_at Map era i) same_page);
@@ -65,12 +52,9 @@ module _ (era : ℕ) (at : ℕ → Place) (page : Place → Page) (n : ℕ) wher
       }
 
 -- the first page names the era
-pub some_page : (g : Geometry) → 0 < checkpoint_pages g
-some_page g = let fits = k_holds g in omega arith
-
 first_page : (g : Geometry) (page : Place → Page) (region : ℕ) → (rest : List Page) × (checkpoint_region g page region ≡ page (checkpoint_at g region 0) ∷ rest)
 first_page g page region =
-    let some = some_page g in
+    let some = some_pages g in
     let long : checkpoint_pages g ≡ suc (checkpoint_pages g - 1) = omega arith in
     (pages_from page (checkpoint_at g region) 1 (checkpoint_pages g - 1), ap (pages_from page (checkpoint_at g region) 0) long)
 
@@ -122,9 +106,6 @@ module _ (changes : List Record) (i : ℕ) (d : Record) (within : i < length cha
       }
 
 -- ---- a page
-
-pub step_absent : (g : Geometry) (kind : PageKind) (era i : ℕ) (at : Place) (p : Page) (m : Entries) → None ≡ header_at kind era i p → page_step g kind era i at p m ≡ None
-step_absent g kind era i at p m none = ap (option_map (λ h. ok_or (option_and_then (λ changes. after_all g changes m) (said (read_records h) p)) (damaged at))) (sym none)
 
 pub step_there : (g : Geometry) (kind : PageKind) (era i : ℕ) (at : Place) (p : Page) (m : Entries) (h : Header) (left : Option Entries) → Some h ≡ header_at kind era i p
     → option_and_then (λ changes. after_all g changes m) (said (read_records h) p) ≡ left → page_step g kind era i at p m ≡ Some (ok_or left (damaged at))

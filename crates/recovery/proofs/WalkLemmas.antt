@@ -1,5 +1,5 @@
 -- Pages of records in order, one after the other.
-use Rattle.std.proofs.Common.{◌≡◌, ℕ, zero, suc, ◌+◌, ◌-◌, ◌<◌, ◌≤◌, ◌⊎◌, inl, inr, Bool, true, false, List, ◌∷◌, ◌++◌, length, take, Option, Some, None, ok_or, Result, Ok, Err, refl, sym, ◌∙◌, ap, arith}
+use Rattle.std.proofs.Common.{◌≡◌, ℕ, suc, ◌+◌, ◌-◌, ◌<◌, ◌≤◌, ◌⊎◌, inl, inr, Bool, true, false, ◌∷◌, ◌++◌, length, Option, Some, None, ok_or, Result, Ok, Err, refl, sym, ◌∙◌, ap, arith}
 use Rattle.std.specs.Option.{option_map, option_map_or, option_and_then}
 use Rattle.std.proofs.lemmas.List.{length-append}
 use Rattle.std.proofs.lemmas.Bool.{cases_cond}
@@ -12,8 +12,9 @@ use Rattle.cache_model.specs.Records.{Entries}
 use Rattle.cache_model.specs.Reading.{read_records}
 use Rattle.cache_model.specs.Loading.{Refusal, ◌>>=◌, pages_from, said, header_at, after_all, after_pages, Complete, chosen, checkpoint_in, checkpoint_region, checkpoint_of}
 use Rattle.cache_model.specs.Loading.Refusal.{Damaged as damaged}
-use Rattle.cache_model.proofs.LoadLemmas.{newest_is, newest_below, checkpoint_below}
+use Rattle.cache_model.proofs.LoadLemmas.{newest_is, checkpoint_below}
 use Rattle.cache_model.proofs.CheckpointLemmas.{checkpoint_is}
+use Rattle.cache_model.proofs.LogLemmas.{length-pages}
 use Rattle.op_log.specs.declared.error.OpenError.{OpenError}
 use Rattle.op_log.specs.declared.error.OpenError.TheVariants.{NotFormatted, OtherGeometry, Damaged, FlashFault, DiskFault, PowerLost, OutOfMemory}
 use Rattle.op_log.specs.Refusals.{IsRefusal}
@@ -28,12 +29,6 @@ map_then f k None d = refl
 map_then f k (Some x) d = refl
 
 module _ (g : Geometry) (kind : PageKind) (era : ℕ) (at : ℕ → Place) (page : Place → Page) (n : ℕ) (old : Entries) where
-  pub walk_begins : Walked g kind era at page n old 0 old
-  walk_begins = record { same = let all : n ≡ n - 0 = omega arith in ap (λ k. after_pages g kind era at 0 (pages_from page at 0 k) old) all }
-
-  pub walk_ends : (i : ℕ) (now : Entries) → n ≤ i → Walked g kind era at page n old i now → after_pages g kind era at 0 (pages_from page at 0 n) old ≡ Ok now
-  walk_ends i now past walked = let none : n - i ≡ 0 = omega arith in walked.same ∙ ap (λ k. after_pages g kind era at i (pages_from page at i k) now) none
-
   module _ (i : ℕ) (now : Entries) (within : i < n) (walked : Walked g kind era at page n old i now) where
     -- the next page, and then those behind it
     next_page : after_pages g kind era at 0 (pages_from page at 0 n) old ≡ option_map_or (λ r. r >>= after_pages g kind era at (i + 1) (pages_from page at (i + 1) (n - (i + 1)))) (page_step g kind era i (at i) (page (at i)) now) (Ok now)
@@ -78,15 +73,6 @@ module _ (g : Geometry) (kind : PageKind) (era : ℕ) (at : ℕ → Place) (page
 
 -- ---- where the pages lie
 
-pub length_pages : (page : Place → Page) (at : ℕ → Place) (i n : ℕ) → length (pages_from page at i n) ≡ n
-length_pages page at i zero = refl
-length_pages page at i (suc n) = ap suc (length_pages page at (i + 1) n)
-
-pub take_pages : (page : Place → Page) (at : ℕ → Place) (i n all : ℕ) → n ≤ all → take n (pages_from page at i all) ≡ pages_from page at i n
-take_pages page at i zero all few = refl
-take_pages page at i (suc n) zero few = absurd (omega arith)
-take_pages page at i (suc n) (suc all) few = ap (λ (ps : List Page). page (at i) ∷ ps) (take_pages page at (i + 1) n all (omega arith))
-
 -- the chosen checkpoint is one of the two
 one_of_two : (x y : Option Complete) (c : ℕ × Complete) → chosen x y ≡ Some c → (x ≡ Some c.1) ⊎ (y ≡ Some c.1)
 one_of_two None None c is = absurd (cc)
@@ -100,14 +86,11 @@ one_of_two (Some x) (Some y) c is = elim (cases_cond _ (Some (1, y)) (Some (0, x
 few_maps : (g : Geometry) (page : Place → Page) (region : ℕ) (c : Complete) → checkpoint_in (checkpoint_region g page region) ≡ Some c → c.pages ≤ checkpoint_pages g
 few_maps g page region c is =
     let whole = checkpoint_is c (checkpoint_region g page region) is in
-    let long : length (whole.maps ++ whole.seal ∷ whole.rest) ≡ checkpoint_pages g = ap length (sym whole.parts) ∙ length_pages page (checkpoint_at g region) 0 (checkpoint_pages g) in
+    let long : length (whole.maps ++ whole.seal ∷ whole.rest) ≡ checkpoint_pages g = ap length (sym whole.parts) ∙ length-pages page (checkpoint_at g region) 0 (checkpoint_pages g) in
     let number = whole.number in
     omega (arith, long, length-append whole.maps (whole.seal ∷ whole.rest))
 
--- the checkpoint that counts lies in region 0 or 1, and its map pages within the region
-pub region_low : (g : Geometry) (page : Place → Page) (c : ℕ × Complete) → checkpoint_of g page ≡ Ok c → c.0 < 2
-region_low g page c is = newest_below g page c (newest_is g page c is)
-
+-- the map pages of the checkpoint that counts lie within its region
 pub maps_within : (g : Geometry) (page : Place → Page) (c : ℕ × Complete) → checkpoint_of g page ≡ Ok c → c.1.pages ≤ checkpoint_pages g
 maps_within g page c is = elim (one_of_two (checkpoint_in (checkpoint_region g page 0)) (checkpoint_in (checkpoint_region g page 1)) c (newest_is g page c is)) [
   | inl x ↦ few_maps g page 0 c.1 x
@@ -119,9 +102,3 @@ map_block g region i n place low within few here =
     let below = checkpoint_below g region i low (omega arith) in
     let block = ap (λ (q : Place). q.block) here in
     omega (arith, block, below)
-
-pub map_page : (g : Geometry) (region i : ℕ) (place : Place) → place ≡ checkpoint_at g region i → place.page < g.p
-map_page g region i place here =
-    let some = g.in_range.p_low in
-    let number = ap (λ (q : Place). q.page) here in
-    omega (arith, number, some)
