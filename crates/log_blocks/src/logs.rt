@@ -103,6 +103,7 @@ impl LogBlocks {
     {
         match self.used.push(block) {
             Ok(()) => {}
+            // The list was made with room for all L log blocks, and fewer are in it.
             Err(_) => unreachable!(),
         }
         self.open_block = None;
@@ -160,6 +161,7 @@ impl LogBlocks {
         ensures place { result ≡ next_place self.now }
         ensures page { result.page < self.now.geometry.p }
     {
+        // Pages are left only where a block is open.
         let Some(block) = self.open_block else {
             unreachable!()
         };
