@@ -18,8 +18,9 @@ use Rattle.log_blocks.specs.Logs.{LogBlocksValue, IsInUse, next_place}
 use Rattle.merge_engine.specs.declared.parts.Parts.{Parts}
 use Rattle.merge_engine.specs.Agreement.{Agree, IsOpenBlock, Lists}
 use Rattle.merge_engine.specs.Steps.{IsNewPage}
-use Rattle.merge_engine.proofs.BesideLemmas.{ChangedBeside, leaves_beside, loaded_whole, lists_beside, agree_beside, set_beside}
+use Rattle.merge_engine.proofs.BesideLemmas.{ChangedBeside, leaves_beside, lists_beside, agree_beside, set_beside}
 use Rattle.merge_engine.proofs.RoleLemmas.{open_in_use}
+use Rattle.cache_model.proofs.StandLemmas.{entry_whole}
 
 -- with one page of the open log block fewer left
 abbrev pub one_page_less : LogBlocksValue → LogBlocksValue
@@ -36,7 +37,7 @@ module _ (parts : Parts) (old new : Contents) (agree : Agree parts old) (ahead :
   blank = ahead (next_place parts.logs) (next_place parts.logs).page (agree.sound.open_block some) (omega arith)
 
   loaded : (a : ℕ) (e : Entry) → get agree.sound.current.durable a ≡ Some e → is_whole (old.flash.page e.place) ≡ true
-  loaded = loaded_whole parts.log.geometry old.flash.page agree.sound.current.durable agree.sound.current.loads
+  loaded = entry_whole parts.log.geometry old.flash.page agree.sound.current.durable agree.sound.current.loads
 
   pub lists_programmed : LeavesPage old.flash new.flash (next_place parts.logs) block spare → (list durable : CacheList) → Lists parts old.flash.page list durable → Lists parts new.flash.page list durable
   lists_programmed leaves = lists_beside parts old new agree (leaves_beside parts.geometry parts.map.entries agree.sound.current.durable old.flash new.flash (next_place parts.logs) block spare high blank agree.sound.whole.whole loaded leaves)

@@ -15,19 +15,17 @@ use Rattle.ft_media.specs.Media.{LeavesPage, PagesErased}
 use Rattle.cache_model.specs.declared.entry.Entry.{Entry}
 use Rattle.cache_model.specs.declared.format.PageKind.TheVariants.{Log}
 use Rattle.cache_model.specs.Records.{Entries}
-use Rattle.cache_model.specs.Entries.{IsMap}
 use Rattle.cache_model.specs.Loading.{◌>>=◌, after_all, checkpoint_of, load, log_region, is_whole, wanted}
 use Rattle.cache_model.specs.Loading.Refusal.{NotFormatted}
 use Rattle.cache_model.specs.Laws.{ArePages}
 use Rattle.cache_model.proofs.Alike.{LoadsAlike, SameBut}
 use Rattle.cache_model.specs.CacheList.{CacheList}
 use Rattle.cache_model.specs.Stands.{FlashStandsFor, held_at, held_in}
-use Rattle.cache_model.proofs.MapLemmas.{by_get}
-use Rattle.cache_model.proofs.LoadLemmas.{checkpoint_below, log_below, loaded_is, newest_below, newest_is, same_for, load_same, stands_but, set_page-other, pages_from-same}
-use Rattle.cache_model.proofs.FitsLemmas.{load-map, after_all-map}
+use Rattle.cache_model.proofs.LoadLemmas.{checkpoint_below, log_below, loaded_is, newest_below, same_for, load_same, stands_but, set_page-other, pages_from-same}
 use Rattle.mapping.specs.MapValue.{MapValue}
 use Rattle.op_log.specs.Log.{LogValue, FitsOn}
 use Rattle.checkpoint.specs.Current.{IsCurrent, IsOpenLog}
+use Rattle.checkpoint.proofs.SealedLemmas.{current_low}
 use Rattle.merge_engine.specs.declared.parts.Parts.{Parts}
 use Rattle.block_pool.specs.Pool.{PoolValue}
 use Rattle.log_blocks.specs.Logs.{LogBlocksValue}
@@ -68,12 +66,6 @@ pub held_same : (page page' : Place → Page) (o : Option Entry) → ((e : Entry
 held_same page page' None at = refl
 held_same page page' (Some e) at = ap (held_in e.dirty) (at e refl)
 
-pub current_map : (page : Place → Page) (log : LogValue) (m : Entries) → IsCurrent page log m → IsMap log.geometry m
-current_map page log m k = after_all-map log.geometry log.buffered k.durable m (load-map log.geometry page k.durable k.loads) k.buffered
-
-pub region_low : (page : Place → Page) (log : LogValue) (m : Entries) → IsCurrent page log m → log.region < 2
-region_low page log m k = newest_below log.geometry page (log.region, k.newest) (newest_is log.geometry page (log.region, k.newest) k.chosen)
-
 -- a flash that differs in the pool alone has the same open log
 pub open_log_same : (log : LogValue) (old new : Flash) → log.region < 2 → ((at : Place) → at.block < first_pool log.geometry → old.page at ≡ new.page at) → ((b : ℕ) → b < first_pool log.geometry → new.next b ≡ old.next b) → IsOpenLog old log → IsOpenLog new log
 open_log_same log old new low pages ready k = record {
@@ -94,10 +86,6 @@ current_alike page page' log m k alike = record {
 -- what is loaded is one
 pub loaded_durable : (g : Geometry) (page : Place → Page) (list : CacheList) (stands : FlashStandsFor g page list) (m : Entries) → load g page ≡ Ok m → stands.loaded ≡ m
 loaded_durable g page list stands m loads = cc
-
--- the place of a page that isn't whole is none of an entry of what is loaded
-pub loaded_whole : (g : Geometry) (page : Place → Page) (m : Entries) → load g page ≡ Ok m → (a : ℕ) (e : Entry) → get m a ≡ Some e → is_whole (page e.place) ≡ true
-loaded_whole g page m loads = by_get m (λ a e. is_whole (page e.place) ≡ true) (loaded_is g page m loads).1
 
 -- the lists are those of the map
 pub lists_as : (p q : Parts) (page : Place → Page) (list durable : CacheList) → q.map ≡ p.map → q.geometry ≡ p.geometry → Lists p page list durable → Lists q page list durable
@@ -121,11 +109,7 @@ module _ (parts : Parts) (old new : Contents) (agree : Agree parts old) (beside 
   alike : LoadsAlike parts.geometry old.flash.page new.flash.page
   alike = alike_but parts.geometry old.flash.page new.flash.page agree.sound.current.durable loads but
 
-  -- the flash is loaded as before
-  pub load-beside : load parts.geometry new.flash.page ≡ load parts.geometry old.flash.page
-  load-beside = sym (load_same parts.geometry old.flash.page new.flash.page alike)
-
-  -- and stands for what it stood for
+  -- the flash stands for what it stood for
   pub stands_beside : (durable : CacheList) → FlashStandsFor parts.geometry old.flash.page durable → FlashStandsFor parts.geometry new.flash.page durable
   stands_beside durable stands =
       stands_but parts.geometry old.flash.page new.flash.page durable stands
@@ -154,7 +138,7 @@ module _ (parts : Parts) (old new : Contents) (agree : Agree parts old) (beside 
           logs = sound;
           open_block = opened;
         };
-        open_log = open_log_same parts.log old.flash new.flash (region_low old.flash.page parts.log parts.map.entries s.current) low (subst (λ (g : Geometry). (b : ℕ) → b < first_pool g → new.flash.next b ≡ old.flash.next b) (sym log_is) ready) agree.open_log;
+        open_log = open_log_same parts.log old.flash new.flash (current_low parts.log old.flash.page parts.map.entries s.current) low (subst (λ (g : Geometry). (b : ℕ) → b < first_pool g → new.flash.next b ≡ old.flash.next b) (sym log_is) ready) agree.open_log;
       }
 
 -- ---- which pages these are

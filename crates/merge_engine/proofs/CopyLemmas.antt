@@ -33,7 +33,9 @@ use Rattle.merge_engine.specs.declared.parts.Parts.{Parts}
 use Rattle.merge_engine.specs.Agreement.{Agree, AreOfOne, Lists}
 use Rattle.merge_engine.specs.Merges.{ReachesTo}
 use Rattle.merge_engine.specs.Steps.{IsCopyOf, filler_page}
-use Rattle.merge_engine.proofs.BesideLemmas.{ChangedBeside, leaves_beside, lists_beside, agree_beside, loaded_whole, current_map}
+use Rattle.merge_engine.proofs.BesideLemmas.{ChangedBeside, leaves_beside, lists_beside, agree_beside}
+use Rattle.checkpoint.proofs.SealedLemmas.{current_map}
+use Rattle.cache_model.proofs.StandLemmas.{entry_whole}
 use Rattle.cache_model.proofs.LogLemmas.{set_page-here}
 use Rattle.merge_engine.proofs.RoleLemmas.{free_in_pool, free_not_in_use, open_in_use}
 
@@ -46,7 +48,7 @@ module _ (parts : Parts) (old new : Contents) (agree : Agree parts old) (at : Pl
   beside : LeavesPage old.flash new.flash at block spare → ChangedBeside parts.geometry parts.map.entries agree.sound.current.durable old.flash.page new.flash.page
   beside leaves =
       leaves_beside parts.geometry parts.map.entries agree.sound.current.durable old.flash new.flash at block spare in_pool.0 (ahead at at.page ready (omega arith)) agree.sound.whole.whole
-      (loaded_whole parts.geometry old.flash.page agree.sound.current.durable (subst (λ (g : Geometry). load g old.flash.page ≡ Ok agree.sound.current.durable) agree.sound.of_one.log agree.sound.current.loads))
+      (entry_whole parts.geometry old.flash.page agree.sound.current.durable (subst (λ (g : Geometry). load g old.flash.page ≡ Ok agree.sound.current.durable) agree.sound.of_one.log agree.sound.current.loads))
       leaves
 
   pub lists_unheld : LeavesPage old.flash new.flash at block spare → (list durable : CacheList) → Lists parts old.flash.page list durable → Lists parts new.flash.page list durable
@@ -79,7 +81,7 @@ pub readable : (parts : Parts) (contents : Contents) (lba : ℕ) (from : Place) 
 readable parts contents lba from dirty agree is =
     let s = agree.sound in
     let x = placed_entry (get parts.map.entries lba) from dirty is in
-    let pool : InPool parts.geometry x.0.place = subst (λ (g : Geometry). InPool g x.0.place) s.of_one.log ((current_map contents.flash.page parts.log parts.map.entries s.current).in_pool lba x.0 x.1) in
+    let pool : InPool parts.geometry x.0.place = subst (λ (g : Geometry). InPool g x.0.place) s.of_one.log ((current_map parts.log contents.flash.page parts.map.entries s.current).in_pool lba x.0 x.1) in
     subst (λ (p : Place). IsReadable contents p) x.2 (record {
       block = let below = pool.below in let most = s.shape.blocks in omega arith;
       page = subst (λ n. x.0.place.page < n) (sym s.shape.pages) pool.page;
@@ -278,7 +280,7 @@ pub is_page_of_group : (parts : Parts) (contents : Contents) (group held page : 
 is_page_of_group parts contents group held page agree is low =
     let of_one = agree.sound.of_one in
     page_below parts.geometry parts.map.entries group held (subst (λ (g : Geometry). held ≡ chosen_of Held g parts.map.entries group) of_one.map is) page
-    (subst (λ (g : Geometry). IsMap g parts.map.entries) of_one.log (current_map contents.flash.page parts.log parts.map.entries agree.sound.current)) low
+    (subst (λ (g : Geometry). IsMap g parts.map.entries) of_one.log (current_map parts.log contents.flash.page parts.map.entries agree.sound.current)) low
 
 pub pages_of_group : (parts : Parts) (group held pages : ℕ) → AreOfOne parts → held ≡ chosen_of Held parts.map.geometry parts.map.entries group → ReachesTo parts.geometry parts.map.entries group pages → 64 - count_leading_zeros 64 held ≡ pages
 pages_of_group parts group held pages of_one is reach = pages_are parts.geometry parts.map.entries group held (subst (λ (g : Geometry). held ≡ chosen_of Held g parts.map.entries group) of_one.map is) pages reach

@@ -60,7 +60,7 @@ each_once-append (x ∷ xs) ys = by (member x xs) (member x (xs ++ ys)) (member-
     by false false is rest = omega arith
 
 -- a log block in use is a member of the list
-member-used : (n : ℕ) (xs : List ℕ) → list.is_in n xs ≡ true → member n xs ≡ true
+pub member-used : (n : ℕ) (xs : List ℕ) → list.is_in n xs ≡ true → member n xs ≡ true
 member-used n [] t = absurd (cc)
 member-used n (x ∷ xs) t = elim (or_cases (n == x) (list.is_in n xs) t) [
   | inl here ↦ or_left (x == n) (member n xs) (turned x (eqb-true n x here))

@@ -3,6 +3,7 @@ use Rattle.std.proofs.Common.{◌≡◌, ℕ, suc, ◌/◌, ◌<◌, ◌≤◌, 
 use Rattle.std.specs.Option.{option_and_then}
 use Rattle.std.specs.FinMap.{get, entries}
 use Rattle.std.proofs.lemmas.Bool.{cases_Bool, cases_eq, both_ways, or_cases}
+use Rattle.std.proofs.lemmas.Option.{same_Some}
 use Rattle.ft_base.specs.declared.geometry.Geometry.{Geometry}
 use Rattle.ft_base.specs.declared.block.Place.{Place}
 use Rattle.ft_base.specs.declared.block.Page.{Page}
@@ -23,10 +24,10 @@ use Rattle.silent_evict.specs.Candidates.{HasDataBlock, IsGroupHeld, IsClean, Is
 use Rattle.silent_evict.specs.Candidates as entries_are
 use Rattle.silent_evict.proofs.GroupLemmas.{chosen_none, chosen_some}
 use Rattle.merge_engine.specs.Agreement.{IsListOn}
-use Rattle.merge_engine.specs.Merges.{HasBlockOrRoom, OthersStay, FlashStandsForEither, dropped, list_without}
+use Rattle.merge_engine.specs.Merges.{HasBlockOrRoom, OthersStay, FlashStandsForEither, list_without}
 use Rattle.merge_engine.specs.Room.{GaveRoom, GaveWay, GivesRoom, HasNoCandidate, LacksRoom, FlashStandsForGiven}
 use Rattle.merge_engine.specs.Steps.{IsMerged, OthersStayOrGo, PageMappedStay}
-use Rattle.merge_engine.proofs.MovedLemmas.{dropped_here, dropped_other}
+use Rattle.merge_engine.proofs.MovedLemmas.{dropped_here, dropped_other, dropped}
 
 -- ---- groups with a data block
 
@@ -93,11 +94,8 @@ module _ (g : Geometry) (m : Entries) (page : Place → Page) (s : CacheList) (w
       by_entry None at = absurd (let no : None ≡ Some h = sym (on a ∙ ap (option_and_then (held_at page)) at) ∙ is in cc)
       by_entry (Some e) at =
           let x = listed a e at in
-          let same : h ≡ x.0 = some_held h x.0 (sym is ∙ x.1) in
+          let same : h ≡ x.0 = same_Some h x.0 (sym is ∙ x.1) in
           (e, at, ap (λ (k : Held). k.dirty) same ∙ x.2)
-        where
-          some_held : (x y : Held) → Some x ≡ Some y → x ≡ y
-          some_held x y e = cc
 
   -- a group that is wholly clean in the entries is so in the list
   pub clean_listed : (group : ℕ) → entries_are.HoldsCleanAlone g m group → IsWhollyClean g s group

@@ -4,6 +4,7 @@ use Rattle.std.proofs.lemmas.Bool.{cases_Bool, cases_lt, or_cases, and_parts, an
 use Rattle.ft_base.specs.declared.geometry.Geometry.{Geometry}
 use Rattle.ft_base.specs.Contents.{Contents, Flash}
 use Rattle.cache_model.proofs.CountLemmas.{same_number}
+use Rattle.mapping.specs.Numbers.{StandsNoneIn}
 use Rattle.mapping.specs.MapValue.{MapValue}
 use Rattle.block_pool.specs.Pool.{PoolValue, IsInPool, role_of}
 use Rattle.block_pool.specs.declared.pool.Role.TheVariants.{Free, Data, Log}
@@ -12,7 +13,7 @@ use Rattle.log_blocks.specs.Logs as list
 use Rattle.log_blocks.proofs.LogsLemmas.{is_in-at, is_in-without, length-without}
 use Rattle.merge_engine.specs.declared.parts.Parts.{Parts}
 use Rattle.merge_engine.specs.Agreement.{Agree, AreOfOne, IsOpenBlock, RolesAgree}
-use Rattle.merge_engine.specs.Steps.{CanBeginLog, HasUnheldLog, IsUnheld}
+use Rattle.merge_engine.specs.Steps.{CanBeginLog, HasUnheldLog}
 use Rattle.merge_engine.proofs.BesideLemmas.{same_beside, agree_beside}
 
 -- another block is in use as before
@@ -37,7 +38,7 @@ open_still logs block flash opened = by_case (is_open logs block) refl
     by_case true is = subst (λ b. IsOpenBlock (record logs { used = without_block block logs.used; open_block = cond b None logs.open_block; room = cond b 0 logs.room }) flash) (sym is) (λ some. absurd (omega arith))
     by_case false is = subst (λ b. IsOpenBlock (record logs { used = without_block block logs.used; open_block = cond b None logs.open_block; room = cond b 0 logs.room }) flash) (sym is) opened
 
-module _ (parts : Parts) (block : ℕ) (in_pool : IsInPool parts.geometry block) (unheld : IsUnheld parts.map.entries block) (pool : PoolValue)
+module _ (parts : Parts) (block : ℕ) (in_pool : IsInPool parts.geometry block) (unheld : StandsNoneIn parts.map.entries block) (pool : PoolValue)
     (role : role_of pool block ≡ Free) (others : (b : ℕ) → IsInPool parts.geometry b → (b ≡ block → ⊥) → role_of pool b ≡ role_of parts.pool b) where
   pub roles_given : RolesAgree parts → RolesAgree (record parts { pool = pool; logs = released block parts.logs })
   roles_given roles = record {
@@ -79,8 +80,8 @@ pub record GaveBack (old new : Parts) : Type 0 where
   pub in_pool : (b : ℕ) → IsInUse new.logs b → IsInPool new.geometry b
   pub agree : (contents : Contents) → Agree old contents → Agree new contents
 
-pub gave_back-more : (old mid new : Parts) (block : ℕ) → GaveBack old mid → new ≡ record mid { pool = new.pool; logs = released block mid.logs } → AreOfOne new → IsUnheld mid.map.entries block
-    → ((contents : Contents) → Agree mid contents → IsUnheld mid.map.entries block → Agree new contents) → GaveBack old new
+pub gave_back-more : (old mid new : Parts) (block : ℕ) → GaveBack old mid → new ≡ record mid { pool = new.pool; logs = released block mid.logs } → AreOfOne new → StandsNoneIn mid.map.entries block
+    → ((contents : Contents) → Agree mid contents → StandsNoneIn mid.map.entries block → Agree new contents) → GaveBack old new
 gave_back-more old mid new block gave is of_one unheld agree = record {
   cache = is ∙ ap (λ (p : Parts). record p { pool = new.pool; logs = released block mid.logs }) gave.cache ∙ ap (λ (l : LogBlocksValue). record old { pool = new.pool; logs = l }) (sym (ap (λ (p : Parts). p.logs) is));
   of_one = of_one;
@@ -94,14 +95,14 @@ one_fewer mid new block is sound used = ap (λ (p : Parts). length p.logs.used +
 
 -- fewer are in use; or all that were, and something stands in each of the first so many
 abbrev pub FewerOrHeld : Parts → Parts → ℕ → Type 0
-FewerOrHeld old new i = (length new.logs.used < length old.logs.used) ⊎ ((new.logs ≡ old.logs) × ((k b : ℕ) → k < i → slice_get old.logs.used k ≡ Some b → IsUnheld old.map.entries b → ⊥))
+FewerOrHeld old new i = (length new.logs.used < length old.logs.used) ⊎ ((new.logs ≡ old.logs) × ((k b : ℕ) → k < i → slice_get old.logs.used k ≡ Some b → StandsNoneIn old.map.entries b → ⊥))
 
 pub fewer_given : (old mid new : Parts) (i : ℕ) → length new.logs.used + 1 ≡ length mid.logs.used → FewerOrHeld old mid i → FewerOrHeld old new i
 fewer_given old mid new i one (inl less) = inl (omega arith)
 fewer_given old mid new i one (inr same) = let all = ap (λ (l : LogBlocksValue). length l.used) same.0 in inl (omega arith)
 
 -- something stands in the next one too
-pub fewer_passed : (old mid : Parts) (i block : ℕ) → mid.map ≡ old.map → Some block ≡ slice_get mid.logs.used i → (IsUnheld mid.map.entries block → ⊥) → FewerOrHeld old mid i → FewerOrHeld old mid (i + 1)
+pub fewer_passed : (old mid : Parts) (i block : ℕ) → mid.map ≡ old.map → Some block ≡ slice_get mid.logs.used i → (StandsNoneIn mid.map.entries block → ⊥) → FewerOrHeld old mid i → FewerOrHeld old mid (i + 1)
 fewer_passed old mid i block map_is at held (inl less) = inl less
 fewer_passed old mid i block map_is at held (inr same) = inr (
   same.0,
@@ -111,7 +112,7 @@ fewer_passed old mid i block map_is at held (inr same) = inr (
         let number : k ≡ i = omega arith in
         let both : Some b ≡ Some block = sym is ∙ ap (λ (l : LogBlocksValue). slice_get l.used k) (sym same.0) ∙ ap (slice_get mid.logs.used) number ∙ sym at in
         let one : b ≡ block = cc in
-        held (subst (λ n. IsUnheld mid.map.entries n) one (subst (λ (m : MapValue). IsUnheld m.entries b) (sym map_is) unheld))
+        held (subst (λ n. StandsNoneIn mid.map.entries n) one (subst (λ (m : MapValue). StandsNoneIn m.entries b) (sym map_is) unheld))
   ],
 )
 

@@ -2,7 +2,7 @@
 use Rattle.std.proofs.Common.{◌≡◌, ◌≢◌, ◌⊎◌, ℕ, suc, ◌+◌, ◌-◌, ◌/◌, ◌<◌, ◌≤◌, ◌==◌, ◌||◌, nat_eq, Bool, true, false, not, List, [], ◌∷◌, ◌++◌, map, filter, length, length-append, Some, None, inl, inr, refl, sym, ◌∙◌, ap, subst, arith, eqb-true, if◌then◌else◌}
 use Rattle.std.specs.List.{AllByRecursion, IsDistinct}
 use Rattle.std.specs.FinMap.{get, entries}
-use Rattle.std.proofs.lemmas.Bool.{cases_Bool, cases_eq, cases_lt, or_cases}
+use Rattle.std.proofs.lemmas.Bool.{cases_Bool, cases_eq, cases_lt, or_cases, false_from_ne_true}
 use Rattle.std.proofs.lemmas.Bool.Decides.{nat_tests}
 use Rattle.std.proofs.lemmas.Nat.{div-mul-add}
 use Rattle.std.proofs.lemmas.Map.Keys.{IsDistinct-push}
@@ -175,10 +175,6 @@ in_from_member n (x ∷ xs) = ap (λ b. b || member n xs) (turned n x) ∙ ap (�
 no_more_than : (xs ys : List ℕ) → IsDistinct nat_eq xs → ((n : ℕ) → is_in n xs ≡ true → member n ys ≡ true) → length xs ≤ length (each_once ys)
 no_more_than xs ys distinct within = subst (λ n. n ≤ length (each_once ys)) (distinct_count xs distinct) (each_once-le xs ys (λ n there. within n (sym (in_from_member n xs) ∙ there)))
 
-absent : (b : Bool) → (b ≡ true → ⊥) → b ≡ false
-absent true not = absurd (not refl)
-absent false not = refl
-
 module _ (g : Geometry) (pool : PoolValue) (logs : LogBlocksValue) (block : ℕ) (so_far : AdoptedBelow g pool logs block) where
   pub not_adopted : IsInUse logs block → ⊥
   not_adopted used = let low = (so_far.used block used).2 in omega arith
@@ -187,7 +183,7 @@ module _ (g : Geometry) (pool : PoolValue) (logs : LogBlocksValue) (block : ℕ)
   pub few_adopted : (m : Entries) → IsMap g m → RolesOf g m pool → IsInPool g block → role_of pool block ≡ Log → length logs.used < logs.geometry.l
   few_adopted m is_map roles in_pool is_log =
       let counted = map (λ (x : ℕ × Entry). x.1.place.block) (filter (λ (x : ℕ × Entry). page_mapped x.1) (entries m)) in
-      let most = no_more_than (logs.used ++ block ∷ []) counted (IsDistinct-push nat_eq_equiv logs.used block so_far.sound.distinct (absent (is_in block logs.used) not_adopted)) (λ n there. elim (or_cases (is_in n logs.used) (nat_eq n block) (sym (is_in-push n block logs.used) ∙ there)) [
+      let most = no_more_than (logs.used ++ block ∷ []) counted (IsDistinct-push nat_eq_equiv logs.used block so_far.sound.distinct (false_from_ne_true (is_in block logs.used) not_adopted)) (λ n there. elim (or_cases (is_in n logs.used) (nat_eq n block) (sym (is_in-push n block logs.used) ∙ there)) [
         | inl before ↦ let at = so_far.used n before in is_counted n at.0 at.1
         | inr here ↦ let same : n ≡ block = eqb-true n block here in is_counted n (subst (IsInPool g) (sym same) in_pool) (ap (role_of pool) same ∙ is_log)
       ]) in

@@ -15,12 +15,13 @@ use Rattle.silent_evict.specs.Candidates.{IsCandidate, IsGroupHeld, IsVictim}
 use Rattle.silent_evict.proofs.GroupLemmas.{chosen_none, chosen_some}
 use Rattle.merge_engine.specs.declared.parts.Parts.{Parts}
 use Rattle.merge_engine.specs.Agreement.{Agree, Lists}
-use Rattle.merge_engine.specs.Merges.{HasBlockOrRoom, OthersStay, FlashStandsForEither, dropped, list_without}
+use Rattle.merge_engine.specs.Merges.{HasBlockOrRoom, OthersStay, FlashStandsForEither, list_without}
 use Rattle.merge_engine.specs.Room.{GaveWay, GivesRoom, HasNoCandidate, LacksRoom, FlashStandsForGiven}
 use Rattle.merge_engine.specs.Steps.{IsMerged, OthersStayOrGo, PageMappedStay}
 use Rattle.merge_engine.proofs.TakeLemmas.{agree_map}
 use Rattle.merge_engine.proofs.MoveLemmas.{either_same}
 use Rattle.merge_engine.proofs.GaveLemmas.{other_gave, other_way, itself_gave, itself_way, itself_clean, held_still, room_made, page_mapped_stay, dropped_stay, mapped_then, others_then, dropped_merged, dropped_others, given_either, none_way}
+use Rattle.merge_engine.proofs.MovedLemmas.{dropped}
 
 -- the list is the same, whatever chooses the victims
 pub lists_victims : (parts : Parts) (victims : Geometry) (page : Place → Page) (list durable : CacheList) → Lists parts page list durable → Lists (record parts { victims = victims }) page list durable

@@ -14,6 +14,7 @@ use Rattle.cache_model.specs.declared.entry.Entry.{Entry}
 use Rattle.cache_model.specs.Records.{Entries}
 use Rattle.cache_model.specs.CacheList.{CacheList}
 use Rattle.cache_model.specs.Stands.{FlashStandsFor}
+use Rattle.mapping.specs.Numbers.{StandsNoneIn}
 use Rattle.checkpoint.specs.Counts.{programs_counted}
 use Rattle.checkpoint.specs.Current.{PoolStays}
 use Rattle.block_pool.specs.Pool.{PoolValue, IsFree, IsInPool, role_of}
@@ -21,14 +22,14 @@ use Rattle.log_blocks.specs.Logs.{IsInUse, next_place}
 use Rattle.silent_evict.specs.Candidates.{IsGroupHeld}
 use Rattle.merge_engine.specs.declared.parts.Parts.{Parts}
 use Rattle.merge_engine.specs.Agreement.{Agree, IsOpenBlock, Lists, RolesAgree}
-use Rattle.merge_engine.specs.Merges.{HasBlockOrRoom, OthersStay, ReachesTo, FlashStandsForEither, dropped, move_counted, moved}
+use Rattle.merge_engine.specs.Merges.{HasBlockOrRoom, OthersStay, ReachesTo, FlashStandsForEither, move_counted, moved}
 use Rattle.merge_engine.specs.Room.{LacksRoom}
-use Rattle.merge_engine.specs.Steps.{HasFillers, IsCopied, IsFilledUp, IsMerged, IsUnheld, filler_page}
+use Rattle.merge_engine.specs.Steps.{HasFillers, IsCopied, IsFilledUp, IsMerged, filler_page}
 use Rattle.merge_engine.proofs.BesideLemmas.{ChangedBeside, erased_beside, agree_beside, nothing_buffered}
 use Rattle.merge_engine.proofs.RoleLemmas.{free_in_pool, free_unheld, free_not_in_use, open_in_use}
 use Rattle.merge_engine.proofs.TakeLemmas.{erased_pages}
 use Rattle.merge_engine.proofs.PutLemmas.{of_one_roles}
-use Rattle.merge_engine.proofs.MovedLemmas.{dropped_here, moved_from, moved_here, moved_other}
+use Rattle.merge_engine.proofs.MovedLemmas.{dropped_here, moved_from, moved_here, moved_other, dropped}
 
 -- the list is the same, whatever the pool is used for
 pub lists_roles : (parts : Parts) (pool : PoolValue) (page : Place → Page) (list durable : CacheList) → Lists parts page list durable → Lists (record parts { pool = pool }) page list durable
@@ -41,13 +42,13 @@ module _ (parts : Parts) (old new : Contents) (agree : Agree parts old) (none : 
   in_pool : IsInPool parts.geometry block
   in_pool = free_in_pool parts agree.sound.of_one block free
 
-  unheld : IsUnheld parts.map.entries block
+  unheld : StandsNoneIn parts.map.entries block
   unheld = free_unheld parts agree.sound.of_one agree.sound.roles block free
 
   beside : ChangedBeside parts.geometry parts.map.entries agree.sound.current.durable old.flash.page new.flash.page
   beside =
       let is = nothing_buffered old.flash.page parts.log parts.map.entries agree.sound.current none in
-      erased_beside parts.geometry parts.map.entries agree.sound.current.durable old.flash new.flash block in_pool.0 unheld (subst (λ (m : Entries). IsUnheld m block) (sym is) unheld) (erased_pages old.flash new.flash block ok)
+      erased_beside parts.geometry parts.map.entries agree.sound.current.durable old.flash new.flash block in_pool.0 unheld (subst (λ (m : Entries). StandsNoneIn m block) (sym is) unheld) (erased_pages old.flash new.flash block ok)
 
   next_other : (b : ℕ) → (block ≡ b → ⊥) → new.flash.next b ≡ old.flash.next b
   next_other b other = ap (λ (f : Flash). f.next b) ok ∙ set_other old.flash.next block b (Some 0) other

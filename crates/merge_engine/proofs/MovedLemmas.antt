@@ -5,16 +5,18 @@ use Rattle.std.specs.FinMap.{get, entries}
 use Rattle.std.proofs.lemmas.Bool.{cases_eq, and_parts, and_from, both_ways}
 use Rattle.std.proofs.lemmas.Nat.{div-add-mod', mod_below, and_comm}
 use Rattle.std.proofs.lemmas.Nat.Bits.{bit_at-zero}
+use Rattle.std.proofs.lemmas.Option.{same_Some}
 use Rattle.ft_base.specs.declared.geometry.Geometry.{Geometry}
 use Rattle.ft_base.specs.declared.record.Record.TheVariants.{RemoveGroup}
 use Rattle.cache_model.specs.declared.entry.Entry.{Entry}
 use Rattle.cache_model.specs.declared.format.PageKind.TheVariants.{Log as log_page}
-use Rattle.cache_model.specs.Records.{Entries, page_of_group, has_bit}
+use Rattle.cache_model.specs.Records.{Entries, after, page_of_group, has_bit}
 use Rattle.cache_model.specs.Entries.{each_once, groups_with, IsMap, Fits}
 use Rattle.cache_model.specs.Spelling.{may_stand_in}
 use Rattle.cache_model.proofs.StepLemmas.{get-after}
 use Rattle.cache_model.proofs.CountLemmas.{member, numbers, count_le, each_once-le, remove_group_fits}
 use Rattle.block_map.proofs.PageSetLemmas.{and-from_IsWithin}
+use Rattle.mapping.specs.Numbers.{StandsNoneIn}
 use Rattle.block_pool.specs.Pool.{IsInPool}
 use Rattle.mapping.specs.declared.bits.Choice.{Choice}
 use Rattle.mapping.specs.declared.bits.Choice.TheVariants.{Held, Dirty}
@@ -24,12 +26,12 @@ use Rattle.mapping.proofs.CountsLemmas.{div_mono}
 use Rattle.mapping.proofs.FittingLemmas.{group_fits}
 use Rattle.mapping.proofs.MarksLemmas.{member_from, member_to}
 use Rattle.silent_evict.specs.Candidates.{IsGroupHeld}
-use Rattle.merge_engine.specs.Merges.{move_record, moved, dropped, HasBlockOrRoom}
-use Rattle.merge_engine.specs.Steps.{IsUnheld}
+use Rattle.merge_engine.specs.Merges.{move_record, moved, HasBlockOrRoom}
 use Rattle.mapping.proofs.SeekingLemmas.{none_some}
 
-some_same : (x y : Entry) → Some x ≡ Some y → x ≡ y
-some_same x y s = cc
+-- the entries without the group
+abbrev pub dropped : Geometry → Entries → ℕ → Entries
+dropped g m group = after g (RemoveGroup group) m
 
 module _ (g : Geometry) (m : Entries) (group : ℕ) where
   some_pages : 0 < g.p
@@ -121,7 +123,7 @@ module _ (g : Geometry) (m : Entries) (group block : ℕ) where
     where
       by_entry : (o : Option Entry) → get m a ≡ o → (e : Entry) × (get m a ≡ Some e) × (f ≡ in_block (a % g.p) e)
       by_entry None is = none_some f (sym (as_chosen a None same is) ∙ at)
-      by_entry (Some e) is = (e, is, some_same f (in_block (a % g.p) e) (sym at ∙ moved_here a e is same))
+      by_entry (Some e) is = (e, is, same_Some f (in_block (a % g.p) e) (sym at ∙ moved_here a e is same))
 
   pub moved_other : (a : ℕ) → (a / g.p ≡ group → ⊥) → get (moved g m group block) a ≡ get m a
   moved_other a other = get-after g (move_record g m group block) m a ∙ ap (λ b. cond b (page_of_group block (chosen_of Held g m group) (chosen_of Dirty g m group) (a % g.p)) (get m a)) (ne_eqb (a / g.p) group other)
@@ -179,7 +181,7 @@ module _ (g : Geometry) (m : Entries) (group block : ℕ) where
     dirty_groups = few_dirty is_map;
   })
 
-  pub move_fits : IsMap g m → IsGroupHeld g m group → HasBlockOrRoom g m group → IsInPool g block → IsUnheld m block → Fits g (move_record g m group block) m
+  pub move_fits : IsMap g m → IsGroupHeld g m group → HasBlockOrRoom g m group → IsInPool g block → StandsNoneIn m block → Fits g (move_record g m group block) m
   move_fits is_map held room in_pool unheld = switch_fits is_map held room in_pool (λ a e is other same. unheld a e is same)
 
   -- ---- it can be spelled

@@ -6,11 +6,12 @@ use Rattle.ft_base.specs.declared.geometry.Geometry.{Geometry}
 use Rattle.ft_base.specs.declared.block.Place.{Place}
 use Rattle.cache_model.specs.Records.{Entries}
 use Rattle.cache_model.specs.Entries.{IsMap}
+use Rattle.mapping.specs.Numbers.{StandsNoneIn}
 use Rattle.mapping.specs.Counts.{Owns}
 use Rattle.log_blocks.specs.Logs.{IsInUse}
 use Rattle.merge_engine.specs.declared.parts.Parts.{Parts}
 use Rattle.merge_engine.specs.Agreement.{RolesAgree}
-use Rattle.merge_engine.specs.Steps.{IsMerged, IsUnheld, IsUnowned, PageMappedStay}
+use Rattle.merge_engine.specs.Steps.{IsMerged, IsUnowned, PageMappedStay}
 use Rattle.merge_engine.proofs.RoleLemmas.{log_page_mapped}
 
 -- once the group of its owner is merged, no entry stands at a page of a log block
@@ -43,9 +44,9 @@ none_before-more m block i before here page low = elim (cases_lt page i) [
   | inr last ↦ let same : page ≡ i = omega arith in subst (λ n. IsUnowned m (record { block = block; page = n })) (sym same) here
 ]
 
-pub none_before-all : (g : Geometry) (m : Entries) (block : ℕ) → IsMap g m → NoneBefore m block g.p → IsUnheld m block
+pub none_before-all : (g : Geometry) (m : Entries) (block : ℕ) → IsMap g m → NoneBefore m block g.p → StandsNoneIn m block
 none_before-all g m block is_map before a e is here = before e.place.page (is_map.in_pool a e is).page a e is (ap (λ b. record { block = b; page = e.place.page }) here)
 
 -- where nothing stands in a block, nothing stands at a page of it
-pub unowned_in : (old now : Parts) (block page : ℕ) → now ≡ old → IsUnheld old.map.entries block → IsUnowned now.map.entries (record { block = block; page = page })
+pub unowned_in : (old now : Parts) (block page : ℕ) → now ≡ old → StandsNoneIn old.map.entries block → IsUnowned now.map.entries (record { block = block; page = page })
 unowned_in old now block page same unheld a e is here = unheld a e (subst (λ (p : Parts). get p.map.entries a ≡ Some e) same is) (ap (λ (p : Place). p.block) here)

@@ -29,13 +29,13 @@ use Rattle.log_blocks.specs.Logs.{IsInUse}
 use Rattle.silent_evict.specs.Candidates.{IsGroupHeld}
 use Rattle.merge_engine.specs.declared.parts.Parts.{Parts}
 use Rattle.merge_engine.specs.Agreement.{Agree, AreOfOne, IsDataBlockOf, RolesAgree, Lists}
-use Rattle.merge_engine.specs.Merges.{HasBlockOrRoom, OthersStay, move_record, moved, dropped, list_without}
+use Rattle.merge_engine.specs.Merges.{HasBlockOrRoom, OthersStay, move_record, moved, list_without}
 use Rattle.merge_engine.specs.Steps.{FollowsGroup, IsCopied, IsCopyOf}
 use Rattle.merge_engine.proofs.RoleLemmas.{free_in_pool, free_unheld, free_not_in_use}
 use Rattle.merge_engine.proofs.NoteLemmas.{current_pushed}
 use Rattle.merge_engine.proofs.TakeLemmas.{agree_map}
 use Rattle.merge_engine.proofs.FollowLemmas.{role_follows, page_mapped_follow, not_data_log}
-use Rattle.merge_engine.proofs.MovedLemmas.{drop_fits, move_fits, move_spelled, in_block, moved_here, moved_none, moved_from, moved_other, dropped_here, dropped_other}
+use Rattle.merge_engine.proofs.MovedLemmas.{drop_fits, move_fits, move_spelled, in_block, moved_here, moved_none, moved_from, moved_other, dropped_here, dropped_other, dropped}
 
 -- ---- one record more
 

@@ -1,5 +1,5 @@
 -- What a clause says of a result that is Ok.
-use Rattle.std.proofs.Common.{◌≡◌, Result, Ok, Err, OnOk, IfOk, refl, subst}
+use Rattle.std.proofs.Common.{◌≡◌, Result, Ok, Err, OnOk, IfOk, refl}
 
 pub on_ok_from : {T E P : Type 0} (r : Result T E) → ((v : T) → r ≡ Ok v → P) → OnOk r P
 on_ok_from (Ok v) f = f v refl
@@ -12,6 +12,3 @@ if_ok_from (Err e) f = tt
 pub ok_at : {T E P : Type 0} (r : Result T E) (v : T) → r ≡ Ok v → OnOk r P → P
 ok_at (Ok w) v is h = h
 ok_at (Err e) v is h = absurd (cc)
-
-pub if_ok_at : {T E : Type 0} (P : T → Type 0) (r : Result T E) (v : T) → r ≡ Ok v → IfOk r P → P v
-if_ok_at P r v is h = subst (λ (q : Result _ _). IfOk q P) is h

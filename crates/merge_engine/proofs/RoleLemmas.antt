@@ -4,6 +4,7 @@ use Rattle.std.specs.FinMap.{get}
 use Rattle.std.specs.Option.{unwrap_or}
 use Rattle.std.proofs.lemmas.Bool.{cases_Bool}
 use Rattle.cache_model.specs.declared.entry.Entry.{Entry}
+use Rattle.mapping.specs.Numbers.{StandsNoneIn}
 use Rattle.block_pool.specs.Pool.{IsFree, IsInPool, role_of}
 use Rattle.block_pool.specs.declared.pool.Role.TheVariants.{Free, Data, Log}
 use Rattle.ft_base.specs.declared.geometry.Geometry.{Geometry}
@@ -12,14 +13,13 @@ use Rattle.log_blocks.specs.Logs as list
 use Rattle.log_blocks.proofs.LogsLemmas.{is_in-at}
 use Rattle.merge_engine.specs.declared.parts.Parts.{Parts}
 use Rattle.merge_engine.specs.Agreement.{AreOfOne, RolesAgree}
-use Rattle.merge_engine.specs.Steps.{IsUnheld}
 
 -- a free block of the pool is one of this geometry
 pub free_in_pool : (parts : Parts) → AreOfOne parts → (b : ℕ) → IsFree parts.pool b → IsInPool parts.geometry b
 free_in_pool parts one b free = subst (λ (g : Geometry). IsInPool g b) one.pool free.0
 
 -- in a free block nothing stands
-pub free_unheld : (parts : Parts) → AreOfOne parts → RolesAgree parts → (b : ℕ) → IsFree parts.pool b → IsUnheld parts.map.entries b
+pub free_unheld : (parts : Parts) → AreOfOne parts → RolesAgree parts → (b : ℕ) → IsFree parts.pool b → StandsNoneIn parts.map.entries b
 free_unheld parts one roles b free a e is here = elim (cases_Bool e.block_mapped) [
   | inl t ↦ let kind : role_of parts.pool b ≡ Data = (roles.data_blocks b in_pool).1 (a, e, is, t, here) in let both : Data ≡ Free = sym kind ∙ free.1 in cc
   | inr f ↦ let log : role_of parts.pool b ≡ Log = (roles.log_blocks b in_pool).1 (subst (λ n. IsInUse parts.logs n) here (roles.page_mapped a e is f)) in let both : Log ≡ Free = sym log ∙ free.1 in cc

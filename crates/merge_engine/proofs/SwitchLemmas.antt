@@ -1,5 +1,5 @@
 -- A group that stands in order in the pages of a log block.
-use Rattle.std.proofs.Common.{◌≡◌, ℕ, ◌+◌, ◌*◌, ◌/◌, ◌%◌, ◌<◌, Bool, None, Some, inl, inr, refl, sym, ◌∙◌, ap, subst, arith}
+use Rattle.std.proofs.Common.{◌≡◌, ℕ, ◌+◌, ◌*◌, ◌/◌, ◌%◌, ◌<◌, Bool, Some, inl, inr, refl, sym, ◌∙◌, ap, subst, arith}
 use Rattle.std.specs.Option.{option_map}
 use Rattle.std.specs.FinMap.{get}
 use Rattle.std.proofs.lemmas.Nat.{div-add-mod', div-mul-add, mod_below}
@@ -10,16 +10,15 @@ use Rattle.cache_model.specs.declared.entry.Entry.{Entry}
 use Rattle.cache_model.specs.Records.{Entries}
 use Rattle.cache_model.specs.Entries.{IsMap}
 use Rattle.mapping.specs.Counts.{Owns, place_and_mark}
-use Rattle.silent_evict.specs.Candidates.{IsGroupHeld}
 use Rattle.log_blocks.specs.Logs.{LogBlocksValue, IsInUse, released}
 use Rattle.merge_engine.specs.declared.parts.Parts.{Parts}
-use Rattle.merge_engine.specs.Merges.{dropped, moved}
+use Rattle.merge_engine.specs.Merges.{moved}
 use Rattle.merge_engine.specs.Steps.{HasFillers}
 use Rattle.merge_engine.specs.Switch.{CanSwitch, IsInOrder, IsSwitched, LogsStayOrLose, LogsStayOrSwitch}
 use Rattle.merge_engine.proofs.CopyLemmas.{placed_entry}
 use Rattle.merge_engine.proofs.GaveLemmas.{dropped_was}
 use Rattle.merge_engine.proofs.GiveBackLemmas.{not_in_use, was_in_use}
-use Rattle.merge_engine.proofs.MovedLemmas.{moved_here}
+use Rattle.merge_engine.proofs.MovedLemmas.{moved_here, dropped}
 
 -- an address has one place
 pub one_place : (m : Entries) (a : ℕ) (e : Entry) (at : Place) → get m a ≡ Some e → Owns m at a → e.place ≡ at
@@ -27,13 +26,6 @@ one_place m a e at is owns =
     let both : Some e ≡ Some owns.0 = sym is ∙ owns.1 in
     let same : e ≡ owns.0 = cc in
     ap (λ (x : Entry). x.place) same ∙ owns.2
-
--- the first address of a group that is held is below the size
-pub first_low : (g : Geometry) (m : Entries) (group : ℕ) → IsMap g m → IsGroupHeld g m group → group * g.p < g.size
-first_low g m group is_map held =
-    let within = is_map.within held.0 held.1 held.2 in
-    let whole : group * g.p + held.0 % g.p ≡ held.0 = ap (λ q. q * g.p + held.0 % g.p) (sym held.3) ∙ div-add-mod' held.0 g.p in
-    omega arith
 
 module _ (g : Geometry) (m : Entries) (group block : ℕ) (order : IsInOrder g m group block) where
   some_pages : 0 < g.p
@@ -141,9 +133,6 @@ module _ (parts : Parts) (group block : ℕ) (can : CanSwitch parts group block)
       let some : 0 < parts.geometry.p = omega (arith, parts.geometry.in_range.p_low) in
       let number : group * parts.geometry.p + 0 ≡ group * parts.geometry.p = omega arith in
       subst (λ k. Owns parts.map.entries (record { block = block; page = 0 }) k) number (can.in_order 0 some)
-
-  pub first_is_held : None ≡ option_map place_and_mark (get parts.map.entries (group * parts.geometry.p)) → ⊥
-  first_is_held none = let both : None ≡ Some (place_and_mark first_at.0) = none ∙ ap (option_map place_and_mark) first_at.1 in absurd (cc)
 
   pub block_is : (at : Place) (dirty : Bool) → Some (at, dirty) ≡ option_map place_and_mark (get parts.map.entries (group * parts.geometry.p)) → at.block ≡ block
   block_is at dirty is =

@@ -10,19 +10,20 @@ use Rattle.ft_media.specs.Media.{PagesErased, after_erase}
 use Rattle.cache_model.specs.Records.{Entries}
 use Rattle.cache_model.specs.Entries.{IsMap}
 use Rattle.cache_model.specs.CacheList.{CacheList}
+use Rattle.mapping.specs.Numbers.{StandsNoneIn}
 use Rattle.block_pool.specs.Pool.{IsFree, IsInPool}
 use Rattle.log_blocks.specs.Logs.{block_begun, next_place}
 use Rattle.log_blocks.specs.Logs as list
 use Rattle.merge_engine.specs.declared.parts.Parts.{Parts}
 use Rattle.merge_engine.specs.Agreement.{Agree, AreOfOne, IsOpenBlock, Lists, RolesAgree}
-use Rattle.merge_engine.specs.Steps.{IsUnheld}
-use Rattle.merge_engine.proofs.BesideLemmas.{ChangedBeside, erased_beside, lists_beside, agree_beside, nothing_buffered, current_map}
+use Rattle.merge_engine.proofs.BesideLemmas.{ChangedBeside, erased_beside, lists_beside, agree_beside, nothing_buffered}
+use Rattle.checkpoint.proofs.SealedLemmas.{current_map}
 use Rattle.merge_engine.proofs.RoleLemmas.{free_in_pool, free_unheld}
 use Rattle.merge_engine.proofs.FreeLemmas.{free_block}
 
 -- the entries are a map of this geometry
 pub agree_map : (parts : Parts) (contents : Contents) → Agree parts contents → IsMap parts.geometry parts.map.entries
-agree_map parts contents agree = subst (λ (g : Geometry). IsMap g parts.map.entries) agree.sound.of_one.log (current_map contents.flash.page parts.log parts.map.entries agree.sound.current)
+agree_map parts contents agree = subst (λ (g : Geometry). IsMap g parts.map.entries) agree.sound.of_one.log (current_map parts.log contents.flash.page parts.map.entries agree.sound.current)
 
 -- where the parts agree a block is free
 pub one_is_free : (parts : Parts) (contents : Contents) → Agree parts contents → (b : ℕ) × IsFree parts.pool b
@@ -39,13 +40,13 @@ module _ (parts : Parts) (old new : Contents) (agree : Agree parts old) (none : 
   in_pool : IsInPool parts.geometry block
   in_pool = free_in_pool parts agree.sound.of_one block free
 
-  unheld : IsUnheld parts.map.entries block
+  unheld : StandsNoneIn parts.map.entries block
   unheld = free_unheld parts agree.sound.of_one agree.sound.roles block free
 
   beside : ChangedBeside parts.geometry parts.map.entries agree.sound.current.durable old.flash.page new.flash.page
   beside =
       let same = nothing_buffered old.flash.page parts.log parts.map.entries agree.sound.current none in
-      erased_beside parts.geometry parts.map.entries agree.sound.current.durable old.flash new.flash block in_pool.0 unheld (subst (λ (m : Entries). IsUnheld m block) (sym same) unheld) erased
+      erased_beside parts.geometry parts.map.entries agree.sound.current.durable old.flash new.flash block in_pool.0 unheld (subst (λ (m : Entries). StandsNoneIn m block) (sym same) unheld) erased
 
   pub lists_taken : (list durable : CacheList) → Lists parts old.flash.page list durable → Lists parts new.flash.page list durable
   lists_taken = lists_beside parts old new agree beside

@@ -72,7 +72,8 @@ pub record MergesList {T : Type 0} (old new : Parts) (group : ℕ) (before now :
   pub stands : (list durable : CacheList) → Lists old before.flash.page list durable
       → FlashStandsForGiven old.geometry now.flash.page durable list
 
--- Ok, one more record may be buffered, and the list stays or gave room; whatever is answered, the flash stands for it, or for the one that it stood for
+-- Ok, one more record may be buffered, and the list stays or gave room; whatever is answered, the flash stands for it, or for the
+-- one that it stood for
 pub record KeepsOrGives {T : Type 0} (old new : Parts) (before now : Contents) (result : Result T MediaError) : Type 0 where
   pub agree : OnOk result (Agree new now)
   pub room : OnOk result (length new.log.buffered < page_records new.log.geometry)
@@ -96,7 +97,8 @@ pub record IsGathered (g : Geometry) (m : Entries) (group : ℕ) (page : Place �
   pub merged : IsMerged g m group
   pub filled : HasFillers g m group page
 
--- a log block that can become the data block does, with one program and no erase; where none can: one erase, a program for each page up to the last held one, and one for the log page
+-- a log block that can become the data block does, with one program and no erase; where none can: one erase, a program for each page
+-- up to the last held one, and one for the log page
 pub record CostsOfMove (old new : Parts) (group : ℕ) (before now : Counts) : Type 0 where
   pub switched : (block : ℕ) → CanSwitch old group block → IsSwitched old new group block
   pub one_program : (block : ℕ) → CanSwitch old group block → old.log.next < log_pages old.geometry → now ≡ program_counted before

@@ -24,7 +24,8 @@ role_for block_mapped = if block_mapped then Data else Log
 abbrev pub IsUsedAs : Entries → ℕ → Role → Type 0
 IsUsedAs m block role = (a : ℕ) × (e : Entry) × (get m a ≡ Some e) × (e.place.block ≡ block) × (role ≡ role_for e.block_mapped)
 
--- the blocks of the entries of the first so many numbers are used as they say, and every other one is free or is used as an entry in it says
+-- the blocks of the entries of the first so many numbers are used as they say, and every other one is free or is used as an entry in
+-- it says
 pub record RolesSoFar (g : Geometry) (m : Entries) (pool : PoolValue) (i : ℕ) : Type 0 where
   pub seen : (a : ℕ) (e : Entry) → get m a ≡ Some e → number_of g e.place < i → role_of pool e.place.block ≡ role_for e.block_mapped
   pub rest : (b : ℕ) → IsInPool g b → (role_of pool b ≡ Free) ⊎ IsUsedAs m b (role_of pool b)

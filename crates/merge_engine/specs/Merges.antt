@@ -5,7 +5,7 @@ use Rattle.ft_base.specs.declared.geometry.Geometry.{Geometry}
 use Rattle.ft_base.specs.declared.block.Place.{Place}
 use Rattle.ft_base.specs.declared.block.Page.{Page}
 use Rattle.ft_base.specs.declared.record.Record.{Record}
-use Rattle.ft_base.specs.declared.record.Record.TheVariants.{SetGroup, RemoveGroup}
+use Rattle.ft_base.specs.declared.record.Record.TheVariants.{SetGroup}
 use Rattle.ft_media.specs.declared.rig.Counts.{Counts}
 use Rattle.ft_media.specs.Media.{program_counted, erase_counted}
 use Rattle.cache_model.specs.declared.entry.Entry.{Entry}
@@ -25,10 +25,6 @@ move_record g m group block = SetGroup group block (chosen_of Held g m group) (c
 -- the entries where the group stands in this erase block
 abbrev pub moved : Geometry → Entries → ℕ → ℕ → Entries
 moved g m group block = after g (move_record g m group block) m
-
--- the entries without the group
-abbrev pub dropped : Geometry → Entries → ℕ → Entries
-dropped g m group = after g (RemoveGroup group) m
 
 -- the list without the group
 abbrev pub list_without : Geometry → ℕ → CacheList → CacheList

@@ -15,6 +15,7 @@ use Rattle.cache_model.specs.Records.{Entries}
 use Rattle.cache_model.specs.Cache.{with_group}
 use Rattle.cache_model.specs.CacheList.{CacheList}
 use Rattle.cache_model.specs.Entries.{groups_with}
+use Rattle.mapping.specs.Numbers.{StandsNoneIn}
 use Rattle.op_log.specs.Log.{LogValue}
 use Rattle.log_blocks.specs.Logs.{IsInUse}
 use Rattle.merge_engine.specs.declared.parts.Parts.{Parts}
@@ -92,17 +93,13 @@ dirty_groups_with g m a = length (with_group (a / g.p) (groups_with g (λ e. e.d
 abbrev pub HasRoomFor : Geometry → Entries → ℕ → Type 0
 HasRoomFor g m a = dirty_groups_with g m a ≤ g.c
 
--- no entry stands in the erase block
-abbrev pub IsUnheld : Entries → ℕ → Type 0
-IsUnheld m block = (a : ℕ) (e : Entry) → get m a ≡ Some e → e.place.block ≡ block → ⊥
-
 -- no entry stands at the place
 abbrev pub IsUnowned : Entries → Place → Type 0
 IsUnowned m at = (a : ℕ) (e : Entry) → get m a ≡ Some e → e.place ≡ at → ⊥
 
 -- nothing stands in one of the log blocks in use
 abbrev pub HasUnheldLog : Parts → Type 0
-HasUnheldLog parts = (b : ℕ) × IsInUse parts.logs b × IsUnheld parts.map.entries b
+HasUnheldLog parts = (b : ℕ) × IsInUse parts.logs b × StandsNoneIn parts.map.entries b
 
 -- a log block can be begun without a merge: fewer than L are in use, or nothing stands in one of them
 abbrev pub CanBeginLog : Parts → Type 0

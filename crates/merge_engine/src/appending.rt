@@ -101,6 +101,8 @@ fn commit_and_take<M: Media>(cache: &mut Parts, media: &mut M) -> Result<(), Med
     ensures kept { CommitsList cache.old cache.new (M.state media.old).contents (M.state media.new).contents result }
     ensures drives { OnlyDrives (M.state media.old) (M.state media.new) result }
 {
+    // What is buffered is committed before a block is erased: a change that is only buffered may have
+    // made the block free, and the flash's own map still names its pages.
     commit(cache, media)?;
     take_log_block(cache, media)
 }

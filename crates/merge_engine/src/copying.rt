@@ -3,6 +3,7 @@ ghost use Rattle.std.specs.Prelude.{◌≡◌, ◌<◌, ◌+◌, [], ℕ, true, 
 ghost use Rattle.std.specs.FinMap.{get};
 ghost use Rattle.ft_base.specs.declared.block.Place.{Place as PlaceValue};
 ghost use Rattle.ft_base.specs.declared.block.Page.TheVariants.{Whole};
+ghost use Rattle.ft_base.specs.Contents as contents;
 ghost use Rattle.ft_media.specs.Media.{after_program, program_counted};
 ghost use Rattle.ft_media.specs.Drives.{OnlyDrives};
 ghost use Rattle.cache_model.specs.declared.entry.Entry.{Entry};
@@ -43,23 +44,33 @@ pub(crate) fn copy_group<M: Media>(
     ensures drives { OnlyDrives (M.state media.old) (M.state media.new) result }
 {
     let held = cache.map.held_bits(group);
+    let zeros = zero_block();
     let mut buffer = zero_block();
     for page in 0..u64::BITS - held.leading_zeros() {
         let lba = group * cache.geometry.p as u64 + page as u64;
-        copy_page(cache, media, lba, Place { block, page }, &mut buffer)?;
+        copy_page(
+            cache,
+            media,
+            lba,
+            Place { block, page },
+            &mut buffer,
+            &zeros,
+        )?;
     }
     Ok(())
 }
 
 /// Programs one page of a data block: what stands at the address's page, with its spare bytes, or a filler
-/// where the address isn't held.
+/// of the zero block where the address isn't held.
 fn copy_page<M: Media>(
     cache: &Parts,
     media: &mut M,
     lba: u64,
     to: Place,
     buffer: &mut Block,
+    zeros: &Block,
 ) -> Result<(), MediaError>
+    requires zeros { zeros.now ≡ contents.zero_block }
     requires agree { Agree cache.now (M.state media.old).contents }
     requires free { IsFree cache.now.pool to.block }
     requires ready { (M.state media.old).contents.flash.next to.block ≡ Some to.page }
@@ -78,7 +89,7 @@ fn copy_page<M: Media>(
 {
     let Some((from, _)) = cache.map.place(lba) else {
         let spare = write_spare(SpareKind::Filler, 0, 0);
-        return program_unheld(cache, media, to, &zero_block(), &spare);
+        return program_unheld(cache, media, to, zeros, &spare);
     };
     let mut spare = Spare([0; 32]);
     read_whole(media, from, buffer, &mut spare)?;

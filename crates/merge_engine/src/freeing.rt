@@ -1,10 +1,11 @@
 ghost use Rattle.std.specs.Prelude.{◌≡◌, ◌≤◌, length, ℕ, Some, slice_get, OnOk, IsOk};
 ghost use Rattle.ft_base.specs.Contents.{Contents};
 ghost use Rattle.ft_media.specs.Drives.{OnlyDrives};
+ghost use Rattle.mapping.specs.Numbers.{StandsNoneIn};
 ghost use Rattle.block_pool.specs.Pool.{IsInPool};
 ghost use Rattle.log_blocks.specs.Logs.{IsInUse, released};
 ghost use Rattle.merge_engine.specs.Agreement.{Agree, AreOfOne, RolesAgree};
-ghost use Rattle.merge_engine.specs.Steps.{IsUnheld, IsUnowned, PageMappedStay};
+ghost use Rattle.merge_engine.specs.Steps.{IsUnowned, PageMappedStay};
 ghost use Rattle.merge_engine.specs.Switch.{LogsStayOrLose};
 ghost use Rattle.merge_engine.specs.Kept.{CanGoOn, KeepsRoom, KeepsOrGives};
 
@@ -25,7 +26,7 @@ pub fn free_log_block<M: Media>(cache: &mut Parts, media: &mut M) -> Result<(), 
         → cache.new.logs ≡ released oldest cache.old.logs) }
     // Whatever is answered, there is no log block that wasn't one.
     ensures used { (b : ℕ) → IsInUse cache.new.logs b → IsInUse cache.old.logs b }
-    ensures unheld { (oldest : ℕ) → slice_get cache.old.logs.used 0 ≡ Some oldest → IsUnheld cache.old.map.entries oldest
+    ensures unheld { (oldest : ℕ) → slice_get cache.old.logs.used 0 ≡ Some oldest → StandsNoneIn cache.old.map.entries oldest
         → IsOk result × (cache.new ≡ record cache.old { pool = cache.new.pool; logs = cache.new.logs })
         × (M.state media.new ≡ M.state media.old) }
     ensures room { KeepsRoom cache.old.map cache.new.map cache.old.geometry.p }
@@ -45,12 +46,12 @@ fn merge_owners<M: Media>(cache: &mut Parts, media: &mut M, block: u32) -> Resul
     requires can { CanGoOn cache.old (M.state media.old).contents cache.old.geometry.p }
     requires in_use { IsInUse cache.old.logs block }
     ensures geometry { cache.new.geometry ≡ cache.old.geometry }
-    ensures nothing { IsUnheld cache.old.map.entries block → IsOk result × (cache.new ≡ cache.old)
+    ensures nothing { StandsNoneIn cache.old.map.entries block → IsOk result × (cache.new ≡ cache.old)
         × (M.state media.new ≡ M.state media.old) }
     ensures logs { LogsStayOrLose block cache.old.logs cache.new.logs }
     ensures room { KeepsRoom cache.old.map cache.new.map cache.old.geometry.p }
     ensures goes { KeepsOrGives cache.old cache.new (M.state media.old).contents (M.state media.new).contents result }
-    ensures unheld { OnOk result (IsInUse cache.new.logs block → IsUnheld cache.new.map.entries block) }
+    ensures unheld { OnOk result (IsInUse cache.new.logs block → StandsNoneIn cache.new.map.entries block) }
     ensures drives { OnlyDrives (M.state media.old) (M.state media.new) result }
 {
     for page in 0..cache.geometry.p {
@@ -90,7 +91,7 @@ fn give_back_used(cache: &mut Parts, block: u32)
     ensures cache { cache.new ≡ record cache.old { pool = cache.new.pool; logs = cache.new.logs } }
     ensures used { IsInUse cache.old.logs block → cache.new.logs ≡ released block cache.old.logs }
     ensures switched { (IsInUse cache.old.logs block → ⊥) → cache.new.logs ≡ cache.old.logs }
-    ensures agree { (contents : Contents) → Agree cache.old contents → (IsInUse cache.old.logs block → IsUnheld cache.old.map.entries block)
+    ensures agree { (contents : Contents) → Agree cache.old contents → (IsInUse cache.old.logs block → StandsNoneIn cache.old.map.entries block)
         → Agree cache.new contents }
 {
     if cache.pool.role(block) == Role::Log {
@@ -105,7 +106,7 @@ pub(crate) fn give_back(cache: &mut Parts, block: u32)
     requires in_use { IsInUse cache.old.logs block }
     ensures cache { cache.new ≡ record cache.old { pool = cache.new.pool; logs = released block cache.old.logs } }
     ensures of_one { AreOfOne cache.new }
-    ensures agree { (contents : Contents) → Agree cache.old contents → IsUnheld cache.old.map.entries block → Agree cache.new contents }
+    ensures agree { (contents : Contents) → Agree cache.old contents → StandsNoneIn cache.old.map.entries block → Agree cache.new contents }
 {
     cache.logs.release(block);
     cache.pool.set_role(block, Role::Free);

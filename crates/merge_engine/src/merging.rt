@@ -120,6 +120,8 @@ fn gather_group<M: Media>(cache: &mut Parts, media: &mut M, group: u64) -> Resul
         → (M.state media.new).counts ≡ move_counted pages (M.state media.old).counts) }
     ensures drives { OnlyDrives (M.state media.old) (M.state media.new) result }
 {
+    // What is buffered is committed before a block is erased: a change that is only buffered may have
+    // made the block free, and the flash's own map still names its pages.
     commit(cache, media)?;
     let block = copy_out(cache, media, group)?;
     put_group(cache, group, block);

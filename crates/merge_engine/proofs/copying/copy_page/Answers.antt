@@ -28,7 +28,7 @@ returns-clause-copied g c =
 
 pub returns-in_default-clause-filler : goal.returns-in_default-clause-filler
 returns-in_default-clause-filler g c = on_ok_from c.program_unheld.result (λ v is. λ none.
-    filler_is (g.M.Media.state c.args.media.now).contents.flash (g.M.Media.state c.program_unheld.new.media).contents.flash c.args.to c.zero_block.result c.write_spare-spare.result c.zero_block.ensures c.write_spare-spare.ensures.spelled
+    filler_is (g.M.Media.state c.args.media.now).contents.flash (g.M.Media.state c.program_unheld.new.media).contents.flash c.args.to c.args.zeros.now c.write_spare-spare.result c.requires.zeros c.write_spare-spare.ensures.spelled
     (ok_at c.program_unheld.result v is c.program_unheld.ensures.programmed))
 
 pub returns-clause-filler : goal.returns-clause-filler

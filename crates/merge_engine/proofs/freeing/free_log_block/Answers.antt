@@ -1,9 +1,9 @@
 use Rattle.std.proofs.Common.{◌≡◌, ◌<◌, length, Some, false, true, refl, sym, ◌∙◌, ap, subst}
 use Rattle.ft_base.specs.Layout.{page_records}
+use Rattle.mapping.specs.Numbers.{StandsNoneIn}
 use Rattle.log_blocks.specs.Logs.{LogBlocksValue, IsInUse, released}
 use Rattle.merge_engine.specs.declared.parts.Parts.{Parts}
 use Rattle.merge_engine.proofs.GoesLemmas.{goes_as}
-use Rattle.merge_engine.specs.Steps.{IsUnheld}
 use Rattle.merge_engine.proofs.LogRoomLemmas.{given_same}
 use Rattle.merge_engine.proofs.GiveBackLemmas.{was_in_use}
 use Rattle.merge_engine.proofs.SwitchLemmas.{lost_at_last, used_before}
@@ -13,7 +13,7 @@ pub returns-in_err-merge_owners-clause-unheld : goal.returns-in_err-merge_owners
 returns-in_err-merge_owners-clause-unheld g c = λ oldest is unheld.
     let same : Some oldest ≡ Some c.in-Some.block = sym is ∙ sym c.in-Some.ensures.oldest in
     let one : oldest ≡ c.in-Some.block = cc in
-    let was = c.in_err-merge_owners.ensures.nothing (subst (λ n. IsUnheld c.args.cache.now.map.entries n) one unheld) in
+    let was = c.in_err-merge_owners.ensures.nothing (subst (λ n. StandsNoneIn c.args.cache.now.map.entries n) one unheld) in
     let both : false ≡ true = was.0 in
     absurd (cc)
 
@@ -21,7 +21,7 @@ pub returns-clause-unheld : goal.returns-clause-unheld
 returns-clause-unheld g c = λ oldest is unheld.
     let same : Some oldest ≡ Some c.in-Some.block = sym is ∙ sym c.in-Some.ensures.oldest in
     let one : oldest ≡ c.in-Some.block = cc in
-    let was = c.merge_owners.ensures.nothing (subst (λ n. IsUnheld c.args.cache.now.map.entries n) one unheld) in
+    let was = c.merge_owners.ensures.nothing (subst (λ n. StandsNoneIn c.args.cache.now.map.entries n) one unheld) in
     (refl, given_same c.args.cache.now c.merge_owners.new.cache c.give_back_used.new.cache _ was.1 c.give_back_used.ensures.cache, was.2)
 
 pub returns-clause-logs : goal.returns-clause-logs

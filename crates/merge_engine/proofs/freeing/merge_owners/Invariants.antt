@@ -1,8 +1,9 @@
 use Rattle.std.proofs.Common.{◌≡◌, ◌≤◌, ◌<◌, ◌+◌, false, length}
 use Rattle.ft_media.specs.Drives.{DrivesFlash}
 use Rattle.cache_model.specs.CacheList.{CacheList}
+use Rattle.mapping.specs.Numbers.{StandsNoneIn}
 use Rattle.merge_engine.specs.Agreement.{Agree, Lists}
-use Rattle.merge_engine.specs.Steps.{GoesOn, IsUnheld}
+use Rattle.merge_engine.specs.Steps.{GoesOn}
 use Rattle.log_blocks.specs.Logs.{IsInUse}
 use Rattle.merge_engine.specs.Switch.{LogsStayOrLose}
 use Rattle.merge_engine.proofs.OwnerLemmas.{NoneBefore}
@@ -19,7 +20,7 @@ invariant-loop-page g l =
       groups : l.fn.cache.map.spare_groups ≤ l.cache.map.spare_groups + l.page;
       agree : Agree l.cache now.contents;
       room : length l.cache.log.buffered < 127;
-      nothing : IsUnheld l.fn.cache.map.entries l.block → (l.cache ≡ l.fn.cache) × (now ≡ old);
+      nothing : StandsNoneIn l.fn.cache.map.entries l.block → (l.cache ≡ l.fn.cache) × (now ≡ old);
       unowned : IsInUse l.cache.logs l.block → NoneBefore l.cache.map.entries l.block l.page;
       lists : (list durable : CacheList) → Lists l.fn.cache old.contents.flash.page list durable → GoesOn l.fn.cache.log l.cache now.contents.flash.page list durable;
       drives : DrivesFlash old now false false;
