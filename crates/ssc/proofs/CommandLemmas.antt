@@ -33,7 +33,7 @@ use Rattle.ssc.specs.CacheState.{Holds, entries_of}
 use Rattle.ssc.specs.Commands.{FlashStandsForOne, AsUndone, AsBefore, AsAfter}
 use Rattle.ssc.specs.Steps.{FlashStandsForEither}
 use Rattle.ssc.proofs.HoldsLemmas.{held_none, held_some}
-use Rattle.merge_engine.proofs.CopyLemmas.{placed_entry}
+use Rattle.merge_engine.proofs.CopyLemmas.{IsReadable, placed_entry}
 
 -- ---- images
 
@@ -124,11 +124,6 @@ entry_there (Some e) r b is there = (λ t. (e, refl), λ x. there ∙ ap is_some
 -- ---- a block that is read
 
 -- the page of an address is there, and whole
-pub record IsReadable (contents : Contents) (at : Place) : Type 0 where
-  pub block : at.block < contents.shape.blocks
-  pub page : at.page < contents.shape.pages
-  pub whole : is_whole (contents.flash.page at) ≡ true
-
 pub readable : (c : Ssc) (contents : Contents) (s : CacheList) (lba : ℕ) (at : Place) (dirty : Bool) → Holds c contents s → Some (at, dirty) ≡ option_map place_and_mark (get (entries_of c) lba) → IsReadable contents at
 readable c contents s lba at dirty holds is =
     let k = holds.agree.sound in

@@ -3,7 +3,7 @@ use Rattle.std.proofs.Common.{◌≡◌, ℕ, suc, ◌+◌, ◌<◌, ◌==◌, �
 use Rattle.std.specs.Option.{option_and_then, option_map}
 use Rattle.std.specs.List.{list_all, AllByRecursion}
 use Rattle.std.specs.FinMap.{get}
-use Rattle.std.proofs.lemmas.Bool.{cases_Bool, and_parts, and_from, or_parts, false≢true}
+use Rattle.std.proofs.lemmas.Bool.{cases_Bool, and_parts, and_from, or_parts}
 use Rattle.std.proofs.lemmas.Bool.Decides.{nat_tests}
 use Rattle.ft_base.specs.declared.block.Block.{Block}
 use Rattle.ft_base.specs.declared.block.Place.{Place}
@@ -20,11 +20,10 @@ use Rattle.cache_model.proofs.MapLemmas.{get_insert}
 use Rattle.cache_model.proofs.CountLemmas.{member, same_number}
 use Rattle.cache_model.proofs.UndoLemmas.{undone_at, undo_inserted, undo_cleaned, get_marked}
 use Rattle.mapping.proofs.CountsLemmas.{member_push}
-use Rattle.mapping.specs.MapValue.{MapValue}
 use Rattle.merge_engine.specs.declared.parts.Parts.{Parts}
 use Rattle.merge_engine.specs.Agreement.{Agree, Lists}
 use Rattle.ssc.specs.declared.cache.Ssc.{Ssc}
-use Rattle.ssc.specs.CacheState.{HasMemory, Holds, IsAsBefore, entries_of, geometry_of, may_wait, waiting_as, waiting, pending}
+use Rattle.ssc.specs.CacheState.{HasMemory, Holds, entries_of, geometry_of, may_wait, waiting_as, waiting, pending}
 use Rattle.ssc.specs.Commands.{PendsWith}
 use Rattle.ssc.specs.Steps.{ListsAfter}
 
@@ -202,46 +201,6 @@ module _ (s : CacheList) (lba : ℕ) (h : Held) (is : get s lba ≡ Some h) (dir
   pub holds_cleaned : (old new : Ssc) (contents contents' : Contents) → Holds old contents s → IsSettled new contents' → length new.parts.log.buffered < 127
       → ListsAfter old.parts.log.buffered (Clean lba) new.parts contents'.flash.page (undo (pending old) s) s (made_clean lba s) → Holds new contents' (made_clean lba s)
   holds_cleaned = holds_after s (made_clean lba s) (Clean lba) refl dirty_not_clean other_cleaned (held h.block h.spare false, here_cleaned, refl) (λ q away. undo_cleaned q s lba h.block h.spare is_dirty away)
-
--- ---- a cache whose map alone has more buckets
-
-with_map : (old : Ssc) (contents : Contents) (s : CacheList) (map : MapValue) → map ≡ record old.parts.map { records = map.records; buckets = map.buckets } → old.ready ≡ false → Holds old contents s → Holds (record old { parts = record old.parts { map = map } }) contents s
-with_map old contents s map is unready holds =
-    let sound = holds.agree.sound in
-    subst (λ (n : MapValue). Holds (record old { parts = record old.parts { map = n } }) contents s) (sym is) (record {
-      agree = record {
-        sound = record {
-          of_one = record {
-            map = sound.of_one.map;
-            log = sound.of_one.log;
-            pool = sound.of_one.pool;
-            victims = sound.of_one.victims;
-            logs = sound.of_one.logs;
-            marks = sound.of_one.marks;
-          };
-          shape = sound.shape;
-          current = sound.current;
-          whole = sound.whole;
-          roles = record {
-            data_blocks = sound.roles.data_blocks;
-            log_blocks = sound.roles.log_blocks;
-            in_pool = sound.roles.in_pool;
-            page_mapped = sound.roles.page_mapped;
-          };
-          logs = sound.logs;
-          open_block = sound.open_block;
-        };
-        open_log = holds.agree.open_log;
-      };
-      lists = record { held = holds.lists.held; stands = holds.lists.stands };
-      kinds = holds.kinds;
-      waits = holds.waits;
-      memory = λ t. absurd (false≢true (sym unready ∙ t));
-    })
-
--- it holds what it held
-pub before_holds : (old new : Ssc) (contents : Contents) (s : CacheList) → IsAsBefore old new → old.ready ≡ false → Holds old contents s → Holds new contents s
-before_holds old new contents s before unready holds = subst (λ (c : Ssc). Holds c contents s) (sym before.parts) (with_map old contents s new.parts.map before.map unready holds)
 
 -- ---- entries and the list
 

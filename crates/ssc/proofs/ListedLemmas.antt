@@ -12,7 +12,7 @@ use Rattle.std.proofs.lemmas.List.Sums.{sum_by-cons, sum_by_push}
 use Rattle.std.proofs.lemmas.List.Sorted.{sum_by-IsPermutation}
 use Rattle.std.proofs.Math.ListN.{drop_of_length-le}
 use Rattle.std.proofs.Math.Seq.{drop-append_seam, take-append_seam}
-use Rattle.std.proofs.lemmas.List.{append-nil}
+use Rattle.std.proofs.lemmas.List.{append-nil, take_all}
 use borrow.Rule.Slice.PartMut.{mid_of, post_of, put_mid}
 use Rattle.std.specs.FinMap.{FinMap, get, entries, entries_sorted, find, is_sorted, get-entries, nat_cmp-IsAntisymmetric}
 use Rattle.std.specs.FinMap.Entries.{below_all, same_entries}
@@ -38,11 +38,8 @@ use Rattle.cache_model.proofs.MapLemmas.{less_key}
 
 -- ---- one entry
 
-abbrev IsDirtyIn : Entries → ℕ → Type 0
-IsDirtyIn m a = (e : Entry) × (get m a ≡ Some e) × (e.dirty ≡ true)
-
 module _ (g : Geometry) (m : Entries) (is_map : IsMap g m) (i a from end : ℕ) (at : Place) (is : HasNumber g m i (a, at)) where
-  pub not_dirty : (IsDirtyIn m a → ⊥) → IsListedAt g m from end i None
+  pub not_dirty : ((e : Entry) × (get m a ≡ Some e) × (e.dirty ≡ true) → ⊥) → IsListedAt g m from end i None
   not_dirty never = the_entry g m is_map i a at is (λ x. is_dirty_from from end x ≡ false) (elim (cases_Bool is.owns.0.dirty) [
     | inl t ↦ absurd (never (is.owns.0, is.owns.1, t))
     | inr f ↦ ap (λ b. b && nat_le from a && nat_lt a end) f
@@ -74,12 +71,8 @@ pub record ListedSoFar (g : Geometry) (m : Entries) (from to end : ℕ) (old now
   pub each : (a : ℕ) → count_by (λ n. n == a) found ≡ times_below g from to end a (get m a)
 
 pub listed_none : (g : Geometry) (m : Entries) (from to : ℕ) (old : List ℕ) → ListedSoFar g m from to 0 old old
-listed_none g m from to old = record { found = []; items = nothing old; each = λ a. none a (get m a) }
+listed_none g m from to old = record { found = []; items = sym (append-nil old); each = λ a. none a (get m a) }
   where
-    nothing : (l : List ℕ) → l ≡ l ++ []
-    nothing [] = refl
-    nothing (x ∷ xs) = ap (λ l. x ∷ l) (nothing xs)
-
     below_zero : (n : ℕ) → nat_lt n 0 ≡ false
     below_zero n = grind (arith, nat_tests)
 
@@ -116,13 +109,9 @@ times_one g from to end a e number shows = by (is_dirty_from from to (a, e)) (nu
 pub listed_more : (g : Geometry) (m : Entries) (from to end : ℕ) (old now new : List ℕ) → IsMap g m → ListedSoFar g m from to end old now → AddsNumber g m from to end now new → ListedSoFar g m from to (end + 1) old new
 listed_more g m from to end old now new is_map so_far (None, other, is) = record {
   found = so_far.found;
-  items = is ∙ nothing now ∙ so_far.items;
+  items = is ∙ append-nil now ∙ so_far.items;
   each = λ a. so_far.each a ∙ sym (times_same g from to end a (get m a) (λ e there number. other a e there number));
 }
-  where
-    nothing : (l : List ℕ) → l ++ [] ≡ l
-    nothing [] = refl
-    nothing (x ∷ xs) = ap (λ l. x ∷ l) (nothing xs)
 listed_more g m from to end old now new is_map so_far (Some lba, (e, there, number, shows), is) = record {
   found = so_far.found ++ lba ∷ [];
   items = is ∙ ap (λ l. l ++ lba ∷ []) so_far.items ∙ append_assoc old so_far.found (lba ∷ []);
@@ -288,16 +277,7 @@ sorted_listed from end m found sorted each moved up = same_rising sorted (listed
 
 -- ---- a list whose last part is sorted
 
-whole_front : (ns : List ℕ) (i : ℕ) → length ns ≤ i → take i ns ≡ ns
-whole_front [] zero past = refl
-whole_front [] (suc i) past = refl
-whole_front (n ∷ ns) zero past = absurd (omega arith)
-whole_front (n ∷ ns) (suc i) past = ap (λ l. n ∷ l) (whole_front ns i (omega arith))
-
 module _ (before len : ℕ) (old found now items sorted : List ℕ) (shows : now ≡ items) (is : items ≡ old ++ found) (len_is : len ≡ length items) (before_is : before ≡ length old) where
-  abbrev size : ℕ
-  size = length now - before
-
   abbrev after : List ℕ
   after = put_mid before (length now - before) now sorted
 
@@ -311,7 +291,7 @@ module _ (before len : ℕ) (old found now items sorted : List ℕ) (shows : now
   few = let all = count in omega arith
 
   pub part_is : mid_of before (length now - before) now ≡ found
-  part_is = ap (take (length now - before)) tail ∙ whole_front found (length now - before) few
+  part_is = ap (take (length now - before)) tail ∙ take_all (length now - before) found few
 
   pub sorted_part : length sorted ≡ length found → take len (after ++ drop (length after) items) ≡ old ++ sorted
   sorted_part same =

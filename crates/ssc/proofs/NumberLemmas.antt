@@ -1,12 +1,12 @@
 -- Entries by the numbers of their pages.
-use Rattle.std.proofs.Common.{◌≡◌, ℕ, ◌+◌, ◌-◌, ◌*◌, ◌/◌, ◌<◌, ◌==◌, nat_lt, Bool, true, false, cond, List, [], ◌∷◌, length, Some, refl, sym, ◌∙◌, ap, subst, arith, nat_cmp, inl, inr, eqb-true, eq-eqb, ne_eqb, lt-ltb, count_by, T}
+use Rattle.std.proofs.Common.{◌≡◌, ℕ, ◌+◌, ◌-◌, ◌*◌, ◌/◌, ◌<◌, ◌==◌, nat_lt, Bool, true, false, cond, List, [], ◌∷◌, length, Some, refl, sym, ◌∙◌, ap, subst, arith, nat_cmp, inl, inr, eqb-true, eq-eqb, ne_eqb, lt-ltb, count_by}
 use Rattle.std.specs.List.{AllByRecursion}
 use Rattle.std.specs.Ordering.{is_lt}
 use Rattle.std.specs.FinMap.{FinMap, get, entries, entries_sorted, find, is_sorted, get-entries}
 use Rattle.std.specs.FinMap.Entries.{below_all}
 use Rattle.std.proofs.lemmas.Bool.{cases_Bool, and_parts, both_ways}
 use Rattle.std.proofs.lemmas.Bool.Decides.{nat_tests}
-use Rattle.std.proofs.lemmas.Nat.{div-mul-add}
+use Rattle.std.proofs.lemmas.Nat.{same_from_place}
 use Rattle.std.proofs.lemmas.List.Sums.{sum_by-cons}
 use Rattle.ft_base.specs.declared.geometry.Geometry.{Geometry}
 use Rattle.ft_base.specs.declared.block.Place.{Place}
@@ -19,15 +19,9 @@ use Rattle.mapping.specs.Numbers.{number_of, HasNumber}
 
 -- ---- one number, one place
 
-same_parts : (p b c i j : ℕ) → i < p → j < p → b * p + i ≡ c * p + j → (b ≡ c) × (i ≡ j)
-same_parts p b c i j low low' is =
-    let same : b ≡ c = sym (div-mul-add b p i low) ∙ ap (λ k. k / p) is ∙ div-mul-add c p j low' in
-    let products : b * p ≡ c * p = ap (λ k. k * p) same in
-    (same, omega arith)
-
 pub same_place : (g : Geometry) (at other : Place) → InPool g at → InPool g other → number_of g at ≡ number_of g other → at ≡ other
 same_place g at other pool pool' is =
-    let parts = same_parts g.p (at.block - first_pool g) (other.block - first_pool g) at.page other.page pool.page pool'.page is in
+    let parts = same_from_place (at.block - first_pool g) at.page (other.block - first_pool g) other.page g.p pool.page pool'.page is in
     let above = pool.above in
     let above' = pool'.above in
     let blocks = parts.0 in

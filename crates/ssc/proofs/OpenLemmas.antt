@@ -18,7 +18,7 @@ use Rattle.cache_model.specs.Loading.{Complete, checkpoint_in, checkpoint_region
 use Rattle.cache_model.specs.CacheList.{CacheList}
 use Rattle.cache_model.specs.Stands.{FlashStandsFor, held_at}
 use Rattle.cache_model.proofs.RegionLemmas.{checkpoint_era}
-use Rattle.cache_model.proofs.LoadLemmas.{newest_below, newest_is}
+use Rattle.cache_model.proofs.LoadLemmas.{newest_is}
 use Rattle.cache_model.proofs.StandLemmas.{entry_whole}
 use Rattle.mapping.specs.MapValue.{MapValue}
 use Rattle.op_log.specs.Log.{LogValue, FitsOn}
@@ -60,10 +60,7 @@ loaded_current g page loaded log m is same log_is = subst (λ (l : LogValue). Is
   era = is.era;
 }))
 
--- the region and the era of a checkpoint that is loaded
-pub loaded_region : (g : Geometry) (page : Place → Page) (loaded : Loaded) → IsLoaded g page loaded → loaded.region < 2
-loaded_region g page loaded is = newest_below g page (loaded.region, is.newest) (newest_is g page (loaded.region, is.newest) is.chosen)
-
+-- the era of a checkpoint that is loaded
 chosen_era : (x y : Option Complete) (c : ℕ × Complete) → ((d : Complete) → x ≡ Some d → d.era ≤ 2) → ((d : Complete) → y ≡ Some d → d.era ≤ 2) → chosen x y ≡ Some c → c.1.era ≤ 2
 chosen_era None None c first second is = absurd (cc)
 chosen_era None (Some d) c first second is = let e : c ≡ (1, d) = cc in subst (λ (x : ℕ × Complete). x.1.era ≤ 2) (sym e) (second d refl)

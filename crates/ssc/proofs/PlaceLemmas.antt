@@ -1,7 +1,7 @@
 -- A new page of a log block may take an address.
-use Rattle.std.proofs.Common.{◌≡◌, ℕ, suc, ◌/◌, ◌<◌, ◌≤◌, ◌==◌, Bool, true, false, cond, List, [], ◌∷◌, length, Some, refl, sym, ◌∙◌, ap, subst, arith, inl, inr, eqb-true, eq-eqb}
+use Rattle.std.proofs.Common.{◌≡◌, ℕ, suc, ◌/◌, ◌<◌, ◌≤◌, ◌==◌, Bool, true, false, cond, List, [], ◌∷◌, length, Some, refl, sym, ◌∙◌, ap, subst, arith, inl, inr, eq-eqb}
 use Rattle.std.specs.FinMap.{get, entries}
-use Rattle.std.proofs.lemmas.Bool.{cases_Bool, or_cases, or_left, or_right, both_ways, not-true}
+use Rattle.std.proofs.lemmas.Bool.{cases_Bool, or_left, or_right, both_ways, not-true}
 use Rattle.ft_base.specs.declared.geometry.Geometry.{Geometry}
 use Rattle.ft_base.specs.declared.block.Block.{Block}
 use Rattle.ft_base.specs.declared.block.Place.{Place}
@@ -11,13 +11,14 @@ use Rattle.ft_base.specs.Contents.{Contents}
 use Rattle.cache_model.specs.declared.entry.Entry.{Entry}
 use Rattle.cache_model.specs.Records.{Entries, after}
 use Rattle.cache_model.specs.Entries.{each_once, groups_with, blocks_with, page_mapped, Fits, IsMap, InPool}
-use Rattle.cache_model.proofs.CountLemmas.{member, numbers, each_once-le, count_le, same_number}
+use Rattle.cache_model.proofs.CountLemmas.{member, numbers, each_once-le, count_le}
 use Rattle.mapping.proofs.FittingLemmas.{page_cases, page_fits}
 use Rattle.log_blocks.specs.Logs.{IsInUse}
 use Rattle.log_blocks.specs.Logs as list
 use Rattle.merge_engine.specs.declared.parts.Parts.{Parts}
 use Rattle.merge_engine.specs.Agreement.{Agree}
 use Rattle.merge_engine.specs.Steps.{IsNewPage, HasRoomFor}
+use Rattle.merge_engine.proofs.FreeLemmas.{member-used}
 use Rattle.merge_engine.proofs.TakeLemmas.{agree_map}
 use Rattle.merge_engine.proofs.RoleLemmas.{log_page_mapped}
 use Rattle.ssc.proofs.DirtyLemmas.{member_once, member_from, member_to}
@@ -31,14 +32,6 @@ once_most (n ∷ ns) = by (member n ns) (once_most ns)
     by : (b : Bool) → length (each_once ns) ≤ length ns → length (cond b (each_once ns) (n ∷ each_once ns)) ≤ suc (length ns)
     by true rest = omega arith
     by false rest = omega arith
-
--- a log block in use is a member of the list
-member_used : (n : ℕ) (xs : List ℕ) → list.is_in n xs ≡ true → member n xs ≡ true
-member_used n [] t = absurd (cc)
-member_used n (x ∷ xs) t = elim (or_cases (n == x) (list.is_in n xs) t) [
-  | inl here ↦ let same : n ≡ x = eqb-true n x here in or_left (x == n) (member n xs) (ap (λ k. x == k) same ∙ same_number x)
-  | inr later ↦ or_right (x == n) (member n xs) (member_used n xs later)
-]
 
 module _ (parts : Parts) (contents : Contents) (agree : Agree parts contents) (page : Place → Page) (at : Place) (lba : ℕ) (block : Block) (fresh : IsNewPage parts page at lba block) (dirty : Bool) where
   abbrev g : Geometry
@@ -67,7 +60,7 @@ module _ (parts : Parts) (contents : Contents) (agree : Agree parts contents) (p
   logs =
       let within = each_once-le (numbers (λ (x : ℕ × Entry). x.1.place.block) page_mapped (entries new)) parts.logs.used (λ n mem.
       let x = member_to (λ (x : ℕ × Entry). x.1.place.block) page_mapped new n mem in
-      member_used n parts.logs.used (subst (λ k. IsInUse parts.logs k) x.3 (in_log_blocks x.0.0 x.0.1 x.1 x.2))) in
+      member-used n parts.logs.used (subst (λ k. IsInUse parts.logs k) x.3 (in_log_blocks x.0.0 x.0.1 x.1 x.2))) in
       let most = once_most parts.logs.used in
       let few : length parts.logs.used ≤ g.l = subst (λ (h : Geometry). length parts.logs.used ≤ h.l) agree.sound.of_one.logs agree.sound.logs.few in
       omega arith

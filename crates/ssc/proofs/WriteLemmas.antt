@@ -18,10 +18,11 @@ use Rattle.cache_model.specs.declared.entry.Entry.{Entry}
 use Rattle.cache_model.specs.Records.{Entries}
 use Rattle.cache_model.specs.Cache.{Inserted, written_block, IsFull, Vanish, dirty_groups, undo, with_group, written_clean}
 use Rattle.cache_model.specs.CacheList.{CacheList, Held}
+use Rattle.mapping.specs.Numbers.{StandsNoneIn}
 use Rattle.op_log.specs.Log.{LogValue}
 use Rattle.merge_engine.specs.declared.parts.Parts.{Parts}
 use Rattle.merge_engine.specs.Agreement.{Agree, Lists}
-use Rattle.merge_engine.specs.Steps.{HasLogRoom, HasRoomFor, IsUnheld, dirty_groups_with}
+use Rattle.merge_engine.specs.Steps.{HasLogRoom, HasRoomFor, dirty_groups_with}
 use Rattle.merge_engine.proofs.RoomLemmas.{gave_vanish}
 use Rattle.ssc.specs.declared.cache.Ssc.{Ssc}
 use Rattle.ssc.specs.declared.error.SscError.{SscError}
@@ -183,7 +184,7 @@ log_room_left old r is same room = subst (λ (p : Parts). HasLogRoom p) (sym is)
     by : HasLogRoom old.parts → HasLogRoom (record old.parts { map = r.parts.map })
     by (inl some) = inl some
     by (inr (inl few)) = inr (inl few)
-    by (inr (inr one)) = inr (inr (one.0, one.1, subst (λ (m : Entries). IsUnheld m one.0) (sym same) one.2))
+    by (inr (inr one)) = inr (inr (one.0, one.1, subst (λ (m : Entries). StandsNoneIn m one.0) (sym same) one.2))
 
 pub few_left : (old r : Ssc) → r.parts ≡ record old.parts { map = r.parts.map } → length (pending old) + 2 ≤ 127 → length r.parts.log.buffered + 2 ≤ 127
 few_left old r is few = let same : length r.parts.log.buffered ≡ length old.parts.log.buffered = ap (λ (p : Parts). length p.log.buffered) is in omega (arith, length_waiting old.parts.log.buffered)

@@ -25,7 +25,8 @@ abbrev pub ImagesOf : Ssc → Contents → CacheList → CacheList → Type 0
 ImagesOf c contents before after = (x : Image) → Now contents x
     → FlashStandsForOne (geometry_of c) x.page (undo (pending c) before) before after
 
--- what a crash may leave of a write at an address: the list of before without what was buffered; or the list from which clean groups may have given way, before the step or after it
+-- what a crash may leave of a write at an address: the list of before without what was buffered; or the list from which clean groups
+-- may have given way, before the step or after it
 pub data FlashStandsForWrite (g : Geometry) (page : Place → Page) (undone before : CacheList) (a : ℕ)
     (step : CacheList → CacheList) : Type 0 where
   AsUndone : FlashStandsFor g page undone → FlashStandsForWrite g page undone before a step

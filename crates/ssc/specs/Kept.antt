@@ -57,7 +57,8 @@ pub record CostsDirty {T : Type 0} (old : Ssc) (before after : State) (result : 
   pub programs : OnOk result (Rose before.counts.programs after.counts.programs)
   pub spends : OnOk result (Spends 2 before after)
 
--- a clean write spends a device write at least; it programs one page where the address is absent and the open log block and the buffer have room
+-- a clean write spends a device write at least; it programs one page where the address is absent and the open log block and the buffer
+-- have room
 pub record CostsClean {T : Type 0} (old new : Ssc) (lba : ℕ) (before after : State) (result : Result T SscError) : Type 0 where
   pub one_program : OnOk result ((s : CacheList) → Holds old before.contents s → get s lba ≡ None → 1 ≤ open_room old
       → length (pending old) + 2 ≤ page_records (geometry_of old)

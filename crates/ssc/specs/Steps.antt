@@ -23,7 +23,8 @@ use Rattle.merge_engine.specs.Steps.{HasLogRoom}
 pub use Rattle.merge_engine.specs.Merges.{FlashStandsForEither}
 use Rattle.ssc.specs.Commands.{FlashStandsForOne}
 
--- a step that made one list of another is buffered behind all that was; or alone, where the list of before was committed first; or it is committed with all
+-- a step that made one list of another is buffered behind all that was; or alone, where the list of before was committed first; or it
+-- is committed with all
 abbrev pub ListsAfter : List Record → Record → Parts → (Place → Page) → CacheList → CacheList → CacheList → Type 0
 ListsAfter buffered own parts page durable before list =
     ((parts.log.buffered ≡ buffered ++ own ∷ []) × Lists parts page list durable)
@@ -74,7 +75,8 @@ pub record Programs (n : ℕ) (before after : State) : Type 0 where
   pub count : Rose before.counts.programs after.counts.programs
   pub spends : Spends n before after
 
--- the parts over what was loaded: their log is that of the checkpoint that counts, with nothing of it read or buffered, and no log block is open
+-- the parts over what was loaded: their log is that of the checkpoint that counts, with nothing of it read or buffered, and no log
+-- block is open
 pub record IsLoadedAs (g : Geometry) (loaded : Loaded) (parts : Parts) : Type 0 where
   pub of_one : AreOfOne parts
   pub geometry : parts.geometry ≡ g

@@ -19,12 +19,13 @@ pub struct Ssc {
     pub(crate) parts: Parts,
     // The memory of the next write is there.
     pub(crate) ready: bool,
-    // A device write failed or was cut: the flash is to be opened again.
+    // A command that writes failed or was cut: the flash is to be opened again.
     pub(crate) stopped: bool,
 }
 
 impl Ssc {
-    /// Whether a command failed or was cut, so that the flash is to be opened again.
+    /// Whether a command that writes failed or was cut, so that the flash is to be opened again. A read or a
+    /// scrub that is refused stops nothing.
     pub fn is_stopped(&self) -> bool
         ensures { result ≡ self.now.stopped }
     {

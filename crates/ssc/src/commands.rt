@@ -26,7 +26,8 @@ use std::alloc::AllocError;
 impl Ssc {
     /// Holds the block at an address, dirty, on the flash when it answers.
     ///
-    /// Full is decided first, then want of memory; both change nothing.
+    /// Full is decided first, then want of memory; both change nothing, but in want of memory the map may
+    /// have more buckets.
     pub fn write_dirty<M: Media>(
         &mut self,
         media: &mut M,
@@ -158,7 +159,9 @@ impl Ssc {
         let mut spare = Spare([0; 32]);
         match media.read_page(place, block, &mut spare) {
             Ok(PageRead::Whole) => Ok(true),
+            // The page of an address that is held is whole: not blank,
             Ok(PageRead::Blank) => unreachable!(),
+            // and not torn.
             Ok(PageRead::Torn) => unreachable!(),
             Err(error) => Err(of_media(error)),
         }

@@ -21,7 +21,7 @@ pub enum SscError {
     /// Power was lost, and the count of cuts rose.
     #[error("power was lost")]
     PowerLost,
-    /// There was no memory. Nothing was changed.
+    /// There was no memory. Nothing was changed, but the map may have more buckets.
     #[error("out of memory")]
     OutOfMemory,
 }

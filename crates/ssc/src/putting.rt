@@ -52,7 +52,7 @@ impl Ssc {
         }
     }
 
-    /// Gives the cache up where a device write was refused.
+    /// Gives the cache up where the device refused a call of a command that writes.
     pub(crate) fn give_up(&mut self, error: MediaError) -> SscError
         ensures error { result ≡ errors.of_media error }
         ensures cache { self.new ≡ record self.old { stopped = true } }
@@ -62,7 +62,7 @@ impl Ssc {
     }
 }
 
-/// Puts a block at an address, dirty, and commits that.
+/// Puts a block at an address, dirty or clean, and commits that.
 pub(crate) fn write_committed<M: Media>(
     parts: &mut Parts,
     media: &mut M,
@@ -142,6 +142,7 @@ fn write_page<M: Media>(
     ensures programs { OnOk result (Programs 1 (M.state media.old) (M.state media.new)) }
     ensures drives { OnlyDrives (M.state media.old) (M.state media.new) result }
 {
+    // The page first: a log page may name whole pages alone.
     let place = append(parts, media, lba, block)?;
     put_page(parts, lba, place, dirty);
     Ok(())
