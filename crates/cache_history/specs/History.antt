@@ -19,7 +19,8 @@ pub record Given : Type 0 where
 abbrev pub given : Kind → ℕ → Block → Given
 given kind address block = record { kind = kind; address = address; block = block }
 
--- it was answered Ok; or refused by a device or for want of power, and the cache opened again; or there was a crash between two commands, and an opening
+-- it was answered Ok; or refused by a device or for want of power, and the cache opened again; or there was a crash between two
+-- commands, and an opening
 pub data CacheEvent : Type 0 where
   Answered : Given → CacheEvent
   Refused : Given → CacheEvent
@@ -48,7 +49,8 @@ pub record TwoLists : Type 0 where
 abbrev pub both_alike : CacheList → TwoLists
 both_alike s = record { now = s; durable = s }
 
--- a command of this kind is on the flash when it answers Ok, with all that was buffered: a clean write and an evict where the address was held
+-- a command of this kind is on the flash when it answers Ok, with all that was buffered: a clean write and an evict where the address
+-- was held
 abbrev pub IsAtOnce : Kind → ℕ → CacheList → Type 0
 IsAtOnce WriteDirty a s = Unit {0}
 IsAtOnce WriteClean a s = IsHeldIn s a
@@ -79,7 +81,8 @@ unless_gone None left before = before
 abbrev pub LosesAlike : TwoLists → CacheList → CacheList → Type 0
 LosesAlike old left durable = (a : ℕ) → get durable a ≡ unless_gone (get old.now a) (get left a) (get old.durable a)
 
--- after Ok the list is that of the step on what was left; and a crash would leave what it would have left before, but for what gave way, or the list before the step or after it
+-- after Ok the list is that of the step on what was left; and a crash would leave what it would have left before, but for what gave
+-- way, or the list before the step or after it
 pub record AfterAnswer (g : Geometry) (x : Given) (old new : TwoLists) : Type 0 where
   pub left : CacheList
   pub left_by : LeftBy g x old.now left

@@ -2,8 +2,8 @@
 //!
 //! `give` is a command of any kind, and `reopen` an opening; each says what becomes of the two lists of
 //! a cache, the one that it holds and the one that a crash would leave. `history_laws` says what
-//! follows over any number of them. A write may let wholly clean groups go. The layer above relies on
-//! these laws: an address that was evicted, or gave way, stays absent until it is written again, a
+//! follows over any number of them. A write may let wholly clean groups go. These laws are for who uses a
+//! cache alone: an address that was evicted, or gave way, stays absent until it is written again, a
 //! dirty block stays until its address is written, evicted or cleaned, no older block than the newest
 //! that was acknowledged is read, and each dirty address is listed.
 #![tactic(auto)]
