@@ -45,7 +45,7 @@ fn read(nand: &mut MemNand, page: u32) -> Result<(PageRead, u8), MediaError> {
 }
 
 #[test]
-fn pages_are_programmed_and_erased(rt: HostRuntime) -> Result<(), Fail> {
+fn pages_are_programmed_in_order(rt: HostRuntime) -> Result<(), Fail> {
     let alloc = rt.alloc();
     let mut nand = MemNand::new(alloc, Vec::from_slice(alloc, &[4, 7])?);
     assert_eq!(rt; [nand.blocks(), nand.pages()], [0, 0]);
@@ -72,6 +72,23 @@ fn pages_are_programmed_and_erased(rt: HostRuntime) -> Result<(), Fail> {
     );
     assert_eq!(rt; read(&mut nand, 2), Ok((PageRead::Torn, 0)));
     assert_eq!(rt; program(&mut nand, &first, Current::On), None);
+    assert_eq!(rt; [nand.programs(), nand.erases(), nand.faults()], [2, 0, 2]);
+    Ok(())
+}
+
+#[test]
+fn an_erased_block_is_programmed_again(rt: HostRuntime) -> Result<(), Fail> {
+    let alloc = rt.alloc();
+    let mut nand = MemNand::new(alloc, Vec::from_slice(alloc, &[2])?);
+    nand.fit(alloc, 2, 3)?;
+    let first = Block([1; 4096]);
+    let second = Block([2; 4096]);
+    assert_eq!(rt; program(&mut nand, &first, Current::On), Some(Ending::Done));
+    assert_eq!(rt;
+        program(&mut nand, &first, Current::On),
+        Some(Ending::Failed)
+    );
+    assert_eq!(rt; read(&mut nand, 1), Ok((PageRead::Torn, 0)));
     assert_eq!(rt; erase(&mut nand, Current::On), Some(Ending::Done));
     // The bytes of a page that was erased are taken again.
     assert_eq!(rt;
@@ -88,7 +105,7 @@ fn pages_are_programmed_and_erased(rt: HostRuntime) -> Result<(), Fail> {
     assert_eq!(rt; erase(&mut nand, Current::On), Some(Ending::Done));
     nand.stop();
     assert_eq!(rt; program(&mut nand, &first, Current::On), None);
-    assert_eq!(rt; [nand.programs(), nand.erases(), nand.faults()], [3, 2, 2]);
+    assert_eq!(rt; [nand.programs(), nand.erases(), nand.faults()], [2, 2, 1]);
     Ok(())
 }
 

@@ -37,6 +37,14 @@ pub(crate) struct Plain {
 }
 
 impl Device {
+    fn new(failing: Vec<u64>) -> Device {
+        Device {
+            failing,
+            made: 0,
+            faults: 0,
+        }
+    }
+
     fn read_fails(&mut self) -> bool {
         self.made = self.made.saturating_add(1);
         let fails = self.failing.contains(&self.made);
@@ -95,16 +103,8 @@ impl Plain {
             on: true,
             stops: Vec::new(alloc),
             seen: 0,
-            flash: Device {
-                failing: flash,
-                made: 0,
-                faults: 0,
-            },
-            disk: Device {
-                failing: disk,
-                made: 0,
-                faults: 0,
-            },
+            flash: Device::new(flash),
+            disk: Device::new(disk),
             cuts: 0,
             counts: Counts {
                 programs: 0,

@@ -582,6 +582,17 @@ fn same_program(rig: &mut MemRig, plain: &mut Plain, block: u32, number: u64) ->
     answered == answer(plain.program(block, page, number))
 }
 
+/// Arms both with one more cut, drawn at random, while there is room.
+fn arm_both<R: Rig>(rig: &mut R, plain: &mut Plain, draw: &mut Draw) -> Result<(), AllocError> {
+    let after = u64::from(draw.below(32)) + 1;
+    let outcome = draw.outcome();
+    if rig.armed() < 16 {
+        rig.arm(after, outcome);
+        plain.stops.push(Stop { after, outcome })?;
+    }
+    Ok(())
+}
+
 /// One call, drawn at random, of both, but no program. Whether they answer alike.
 fn same_step<R: Rig>(
     rig: &mut R,
@@ -605,12 +616,7 @@ fn same_step<R: Rig>(
         }
         18..22 => rig.flush_disk() == answer(plain.flush()),
         22..25 => {
-            let after = u64::from(draw.below(32)) + 1;
-            let outcome = draw.outcome();
-            if rig.armed() < 16 {
-                rig.arm(after, outcome);
-                plain.stops.push(Stop { after, outcome })?;
-            }
+            arm_both(rig, plain, draw)?;
             true
         }
         25 => {
