@@ -1,6 +1,8 @@
 -- A call that opens the volume where it is down, and then does its work.
-use Rattle.std.proofs.Common.{◌≡◌, ℕ, Bool, true, false, List, [], ◌∷◌, Result, Ok, Err, ◌+◌, ◌≤◌, inl, inr, refl, sym, ◌∙◌, ap, subst, arith}
+use Rattle.std.proofs.Common.{◌≡◌, ℕ, false, List, [], ◌∷◌, Result, Ok, Err, ◌+◌, ◌≤◌, inl, inr, refl, sym, ◌∙◌, ap, subst, arith}
 use Rattle.std.specs.Prelude.{OnOk, IsErrOf}
+use Rattle.std.proofs.lemmas.Bool.{both_ways}
+use Rattle.std.proofs.lemmas.Result.{on_ok_weaker}
 use Rattle.ft_base.specs.Contents.{Contents, Image}
 use Rattle.ft_base.specs.Count.{RoseBy}
 use Rattle.ft_base.specs.declared.block.Page.{Page}
@@ -12,7 +14,7 @@ use Rattle.ft_media.specs.Passes.{Passes}
 use Rattle.ft_media.specs.State.{Faults, State}
 use Rattle.ft_volume.specs.declared.volume.VolumeError.{VolumeError}
 use Rattle.ft_volume.specs.declared.volume.VolumeError.TheVariants.{FlashFault, DiskFault, PowerLost, OutOfMemory, OutOfVolume}
-use Rattle.ft_volume.specs.Volume.{Call, ComesUp, Costs, Done, Goes, HasCause, IsAny, IsOwn, Programs, VolumeState, WasDone, backs_of, misses, opened_of, table_after, volume_lost}
+use Rattle.ft_volume.specs.Volume.{Call, ComesUp, Costs, Done, FaultDowns, Goes, HasCause, IsAny, Programs, VolumeState, WasDone, backs_of, misses, opened_of, volume_lost}
 use Rattle.ft_volume.specs.Standing.{StandFor}
 use Rattle.ft_media.proofs.PassesLemmas.{passes_then}
 
@@ -52,18 +54,33 @@ lost_at S T PowerLost = refl
 lost_at S T OutOfMemory = refl
 lost_at S T OutOfVolume = refl
 
-not_both : (b : Bool) → b ≡ true → b ≡ false → ⊥
-not_both b is_true is_false = let both : true ≡ false = sym is_true ∙ is_false in cc
+-- of what was found nothing counts but what is owed
+pub was_from : {T : Type 0} (stands : Told → Image → PlainDisk → Type 0) (call : Call) (old mid new : VolumeState) (after : Contents) (result : Result T VolumeError) (base : PlainDisk)
+    → mid.owed ≡ old.owed → WasDone stands call mid new after result base → WasDone stands call old new after result base
+was_from stands call old mid new after result base owed is = subst (λ (ws : List BlockWrite). WasDone stands call (record old { owed = ws }) new after result base) owed (record { images = is.images; lost = is.lost; done = is.done; found = is.found; up = is.up; memory = is.memory })
 
--- refused, with no block read from the disk or written to it
-pub costs_err : {T : Type 0} (call : Call) (old new : VolumeState) (before after : State) (e : VolumeError) → after.counts.disk_reads ≡ before.counts.disk_reads → after.counts.disk_writes ≡ before.counts.disk_writes → Costs {T = T} call old new before after (Err e)
-costs_err call old new before after e reads writes = record {
-  table = tt;
-  held = tt;
-  disk_writes = tt;
-  most_writes = omega (arith, writes);
-  most_reads = omega (arith, reads);
+-- a step that was answered, and then another: a fault of the disk takes it down, so nothing is said of the disk after one
+pub goes_then : {T : Type 0} (old mid new : VolumeState) (before between after : State) (result : Result T VolumeError) → Goes {T = Unit {0}} old mid before between (Ok tt) → Goes mid new between after result → FaultDowns result new.down → Goes old new before after result
+goes_then old mid new before between after result first goes faulted = record {
+  told = goes.told ∙ first.told;
+  up = goes.up;
+  lost = λ on is. goes.lost (first.passes.stayed on refl).on is;
+  memory = λ is up. goes.memory is first.up;
+  ready = λ now b there. goes.ready now b (first.ready first.up b there);
+  disk = λ is up now. absurd (both_ways new.down now (faulted.disk is));
+  cause = cause_then before.faults between.faults after.faults tt result first.cause goes.cause;
+  passes = passes_then before between after (volume_lost result) first.passes goes.passes;
 }
+
+pub programs_then : {T : Type 0} (before between after : State) (result : Result T VolumeError) → Passes before between false → OnOk result (Programs between after) → OnOk result (Programs before after)
+programs_then before between after result first = on_ok_weaker result (λ programs. record {
+  count = let x = first.counts.programs in let y = programs.count in omega (arith, x, y);
+  spends = λ on some.
+      let s = first.stayed on refl in
+      let falls = s.falls some in
+      let spent = programs.spends s.on (λ none. some (sym s.stops ∙ none)) in
+      omega (arith, falls, spent);
+})
 
 -- ---- it came up
 
@@ -101,36 +118,9 @@ module _ {S T : Type 0} (stands : Told → Image → PlainDisk → Type 0) (load
       }
 
   pub programs_through : OnOk result (Programs between after) → OnOk result (Programs before after)
-  programs_through = by_result result
-    where
-      by_result : (r : Result T VolumeError) → OnOk r (Programs between after) → OnOk r (Programs before after)
-      by_result (Ok w) programs = record {
-        count = let x = up.passes.counts.programs in let y = programs.count in omega (arith, x, y);
-        spends = λ on some.
-            let s = up.passes.stayed on refl in
-            let falls = s.falls some in
-            let spent = programs.spends s.on (λ none. some (sym s.stops ∙ none)) in
-            omega (arith, falls, spent);
-      }
-      by_result (Err e) programs = tt
+  programs_through = programs_then before between after result up.passes
 
 -- ---- its opening was refused
-
-module _ {S T : Type 0} (stands : Told → Image → PlainDisk → Type 0) (loads : Told → (Place → Page) → Entries → Type 0) (old new : VolumeState) (before after : State) (e : VolumeError) (up : ComesUp {T = S} stands loads old new before after (Err e)) where
-  pub goes_refused : Goes {T = T} old new before after (Err e)
-  goes_refused = record {
-    told = up.told;
-    up = tt;
-    lost = λ on is. up.refused.1;
-    memory = λ is was. absurd (not_both old.down up.refused.0 was);
-    ready = λ now. absurd (not_both new.down up.refused.1 now);
-    disk = λ is was now. absurd (not_both old.down up.refused.0 was);
-    cause = cause_at S T before.faults after.faults e up.cause;
-    passes = subst (λ (l : Bool). Passes before after l) (lost_at S T e) up.passes;
-  }
-
-  pub costs_refused : (call : Call) (m : Entries) → Costs {T = T} call (opened_of old m) new before after (Err e)
-  costs_refused call m = costs_err call (opened_of old m) new before after e up.disk_reads up.disk_writes
 
 pub done_refused : {S T : Type 0} (stands : Told → Image → PlainDisk → Type 0) (loads : Told → (Place → Page) → Entries → Type 0) (call : Call) (old new : VolumeState) (before after : State)
     (e : VolumeError) → ComesUp {T = S} stands loads old new before after (Err e) → Done {T = T} stands call old new before.contents after.contents (Err e)
@@ -139,30 +129,10 @@ done_refused {T = T} stands loads call old new before after PowerLost up bases a
   lost = λ is. inl stand;
   done = tt;
   found = tt;
-  up = λ now. absurd (not_both new.down up.refused.1 now);
+  up = λ now. absurd (both_ways new.down now up.refused.1);
   memory = λ is. absurd (cc);
 }) bases (up.fixed bases any))
 done_refused stands loads call old new before after FlashFault up bases any = inr (record { fixes = refl; inside = λ is. up.refused; images = up.fixed bases any })
 done_refused stands loads call old new before after DiskFault up bases any = inr (record { fixes = refl; inside = λ is. up.refused; images = up.fixed bases any })
 done_refused stands loads call old new before after OutOfMemory up bases any = inr (record { fixes = refl; inside = λ is. up.refused; images = up.fixed bases any })
 done_refused stands loads call old new before after OutOfVolume up bases any = inr (record { fixes = refl; inside = λ is. up.refused; images = up.fixed bases any })
-
--- ---- an address outside, where nothing changed
-
-pub done_outside : {T : Type 0} (stands : Told → Image → PlainDisk → Type 0) (call : Call) (v : VolumeState) (contents : Contents) → Done {T = T} stands call v v contents contents (Err OutOfVolume)
-done_outside stands call v contents bases any = inr (record { fixes = refl; inside = λ is. absurd (is refl); images = any })
-
--- ---- nothing was done
-
-pub costs_nothing : {T : Type 0} (call : Call) (v : VolumeState) (s : State) (value : T) → table_after call v.told v.table ≡ v.table → backs_of call v.told v.table ≡ 0 → ((a : ℕ) → IsOwn call a → ⊥) → Costs {T = T} call v v s s (Ok value)
-costs_nothing call v s value table none own = record {
-  table = sym table;
-  held = record { own = λ a is. absurd (own a is); only = λ a is. inl is; stays = λ groups lie a is. is };
-  disk_writes = λ below. omega (arith, none);
-  most_writes = omega arith;
-  most_reads = omega arith;
-}
-
--- an address outside
-pub costs_outside : {T : Type 0} (call : Call) (old new : VolumeState) (s : State) (e : VolumeError) → Costs {T = T} call old new s s (Err e)
-costs_outside call old new s e = costs_err call old new s s e refl refl

@@ -262,7 +262,7 @@ abbrev pub idled_of : Told → ℕ → ℕ → Idled
 idled_of told groups room = if goes_back told.mode told.dirty groups then Cleaned else
     (if nat_le (2 * room) (log_pages told.geometry) then Checkpointed else Nothing)
 
--- ---- what a report says
+-- ---- what a write costs the flash
 
 -- a page was programmed: the count tells it, and it is one device write less before the front stop
 pub record Programs (before after : State) : Type 0 where
