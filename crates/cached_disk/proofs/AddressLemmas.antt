@@ -1,6 +1,6 @@
 -- The dirty addresses of a list of held blocks, ascending.
-use Rattle.std.proofs.Common.{◌≡◌, ◌⊎◌, ℕ, ◌+◌, ◌*◌, ◌/◌, ◌%◌, ◌≤◌, ◌<◌, ◌==◌, nat_le, nat_lt, not, ◌&&◌, ◌||◌, Bool, true, false, cond, T, List, [], ◌∷◌, length}
-use Rattle.std.proofs.Common.{map, filter, Option, Some, None, Ordering, Less, Equal, Greater, inl, inr, refl, sym, ◌∙◌, ap, subst, arith, nat_cmp, eqb-true, eq-eqb, leb-true, ltb-true, le-leb, lt-ltb, div-add-mod'}
+use Rattle.std.proofs.Common.{◌≡◌, ◌⊎◌, ℕ, ◌+◌, ◌/◌, ◌≤◌, ◌<◌, ◌==◌, nat_le, nat_lt, not, ◌&&◌, ◌||◌, Bool, true, false, cond, T, List, [], ◌∷◌, length}
+use Rattle.std.proofs.Common.{map, filter, Option, Some, None, Ordering, Less, Equal, Greater, inl, inr, refl, sym, ◌∙◌, ap, subst, arith, nat_cmp, eqb-true, eq-eqb}
 use Rattle.std.specs.List.{AllByRecursion, list_any}
 use Rattle.std.specs.Option.{is_some}
 use Rattle.std.specs.Ordering.{is_lt, match_ordering}
@@ -8,7 +8,6 @@ use Rattle.std.specs.FinMap.{get, insert, entries, entries_sorted, is_sorted}
 use Rattle.std.specs.FinMap.Entries.{below_all}
 use Rattle.std.proofs.lemmas.Bool.{cases_Bool, cases_order, false≢true, not-true, and_from, and_parts, and_right, or_cases, or_from, or_left, or_right}
 use Rattle.std.proofs.lemmas.Bool.Decides.{nat_tests}
-use Rattle.std.proofs.lemmas.Nat.{le-div, div_below, mod_below}
 use Rattle.ft_base.specs.Contents.{Contents}
 use Rattle.ft_base.specs.Table.{with_lba}
 use Rattle.ft_base.specs.Told.{Told}
@@ -21,9 +20,12 @@ use Rattle.cache_model.specs.CacheList.{CacheList, Held}
 use Rattle.cache_model.specs.Entries.{each_once}
 use Rattle.cache_model.proofs.CountLemmas.{all_members, each_once-le, member_of, same_number}
 use Rattle.cache_model.proofs.MapLemmas.{less_key, all_entries, by_get, get_insert}
+use Rattle.mapping.proofs.MarksLemmas.{same_bools}
+use Rattle.merge_engine.specs.Loaded.{AreAscending}
 use Rattle.merge_engine.proofs.TakeLemmas.{agree_map}
 use Rattle.ssc.specs.declared.cache.Ssc.{Ssc}
 use Rattle.ssc.specs.CacheState.{Holds, entries_of, geometry_of}
+use Rattle.ssc.proofs.DirtyLemmas.{member_once}
 use Rattle.ssc.proofs.HoldsLemmas.{held_none, held_some}
 use Rattle.ssc.proofs.ListedLemmas.{dirty_alike, marks, same_marks}
 use Rattle.cached_disk.specs.Kept.{IsDirtyIn}
@@ -65,11 +67,6 @@ lbas_dirty s a there =
 
 -- ---- ascending lists of numbers
 
--- each is below all later ones
-abbrev pub IsAscending : List ℕ → Type 0
-IsAscending [] = Unit {0}
-IsAscending (n ∷ ns) = AllByRecursion (λ k. n < k) ns × IsAscending ns
-
 above_apart : (n k : ℕ) → n < k → (k == n) ≡ false
 above_apart n k less = grind (arith, nat_tests)
 
@@ -82,7 +79,7 @@ not_above n [] all = refl
 not_above n (k ∷ ks) all = or_from (k == n) (has_lba n ks) (above_apart n k all.0) (not_above n ks all.1)
 
 -- two with the same numbers are one
-pub ascending_same : (xs ys : List ℕ) → IsAscending xs → IsAscending ys → ((a : ℕ) → has_lba a xs ≡ has_lba a ys) → xs ≡ ys
+pub ascending_same : (xs ys : List ℕ) → AreAscending xs → AreAscending ys → ((a : ℕ) → has_lba a xs ≡ has_lba a ys) → xs ≡ ys
 ascending_same [] [] up up' same = refl
 ascending_same [] (y ∷ ys) up up' same = absurd (false≢true (same y ∙ or_left (y == y) (has_lba y ys) (same_number y)))
 ascending_same (x ∷ xs) [] up up' same = absurd (false≢true (sym (same x) ∙ or_left (x == x) (has_lba x xs) (same_number x)))
@@ -111,11 +108,11 @@ all_filter P t (n ∷ ns) all = by (t n) (all_filter P t ns all.1)
     by true rest = (all.0, rest)
     by false rest = rest
 
-pub filter_ascending : (t : ℕ → Bool) (ns : List ℕ) → IsAscending ns → IsAscending (filter t ns)
+pub filter_ascending : (t : ℕ → Bool) (ns : List ℕ) → AreAscending ns → AreAscending (filter t ns)
 filter_ascending t [] up = tt
 filter_ascending t (n ∷ ns) up = by (t n) (filter_ascending t ns up.1)
   where
-    by : (b : Bool) → IsAscending (filter t ns) → IsAscending (cond b (n ∷ filter t ns) (filter t ns))
+    by : (b : Bool) → AreAscending (filter t ns) → AreAscending (cond b (n ∷ filter t ns) (filter t ns))
     by true rest = (all_filter (λ k. n < k) t ns up.0, rest)
     by false rest = rest
 
@@ -153,11 +150,11 @@ all_with P a (n ∷ ns) here all = by (nat_cmp a n) (all_with P a ns here all.1)
     by Equal rest = all
     by Greater rest = (all.0, rest)
 
-pub with_ascending : (a : ℕ) (ns : List ℕ) → IsAscending ns → IsAscending (with_lba a ns)
+pub with_ascending : (a : ℕ) (ns : List ℕ) → AreAscending ns → AreAscending (with_lba a ns)
 with_ascending a [] up = (tt, tt)
 with_ascending a (n ∷ ns) up = by (nat_cmp a n) refl (with_ascending a ns up.1)
   where
-    by : (o : Ordering) → nat_cmp a n ≡ o → IsAscending (with_lba a ns) → IsAscending (match_ordering o (a ∷ n ∷ ns) (n ∷ ns) (n ∷ with_lba a ns))
+    by : (o : Ordering) → nat_cmp a n ≡ o → AreAscending (with_lba a ns) → AreAscending (match_ordering o (a ∷ n ∷ ns) (n ∷ ns) (n ∷ with_lba a ns))
     by Less is rest = ((cmp_less a n is, lower a n ns (cmp_less a n is) up.0), up)
     by Equal is rest = up
     by Greater is rest = (all_with (λ k. n < k) a ns (cmp_greater a n is) up.0, rest)
@@ -197,29 +194,24 @@ module _ {X : Type 0} (t : ℕ × X → Bool) where
       by true here rest = (here, rest)
       by false here rest = rest
 
-  keys_ascending : (es : List (ℕ × X)) → is_sorted nat_cmp es ≡ true → IsAscending (map (λ x. x.0) (filter t es))
+  keys_ascending : (es : List (ℕ × X)) → is_sorted nat_cmp es ≡ true → AreAscending (map (λ x. x.0) (filter t es))
   keys_ascending [] sorted = tt
   keys_ascending (e ∷ es) sorted =
       let parts = and_parts (below_all nat_cmp e.0 es) (is_sorted nat_cmp es) sorted in
       by (t e) (above_keys e.0 es parts.0) (keys_ascending es parts.1)
     where
-      by : (b : Bool) → AllByRecursion (λ k. e.0 < k) (map (λ x. x.0) (filter t es)) → IsAscending (map (λ x. x.0) (filter t es)) → IsAscending (map (λ x. x.0) (cond b (e ∷ filter t es) (filter t es)))
+      by : (b : Bool) → AllByRecursion (λ k. e.0 < k) (map (λ x. x.0) (filter t es)) → AreAscending (map (λ x. x.0) (filter t es)) → AreAscending (map (λ x. x.0) (cond b (e ∷ filter t es) (filter t es)))
       by true here rest = (here, rest)
       by false here rest = rest
 
-pub lbas_ascending : (s : CacheList) → IsAscending (lbas_in s)
+pub lbas_ascending : (s : CacheList) → AreAscending (lbas_in s)
 lbas_ascending s = keys_ascending (λ (x : ℕ × Held). x.1.dirty) (entries s) (true_of _ (entries_sorted s))
 
 -- ---- the dirty addresses of two lists
 
-pub same_test : (b c : Bool) → (b ≡ true → c ≡ true) → (c ≡ true → b ≡ true) → b ≡ c
-same_test true c there back = sym (there refl)
-same_test false true there back = absurd (false≢true (back refl))
-same_test false false there back = refl
-
 pub lbas_same : (s t : CacheList) → ((a : ℕ) → IsDirtyIn s a → IsDirtyIn t a) → ((a : ℕ) → IsDirtyIn t a → IsDirtyIn s a) → lbas_in t ≡ lbas_in s
 lbas_same s t there back = ascending_same (lbas_in t) (lbas_in s) (lbas_ascending t) (lbas_ascending s) (λ a.
-    same_test (has_lba a (lbas_in t)) (has_lba a (lbas_in s)) (λ has. lbas_has s a (back a (lbas_dirty t a has))) (λ has. lbas_has t a (there a (lbas_dirty s a has))))
+    same_bools (has_lba a (lbas_in t)) (has_lba a (lbas_in s)) (λ has. lbas_has s a (back a (lbas_dirty t a has))) (λ has. lbas_has t a (there a (lbas_dirty s a has))))
 
 -- the dirty addresses of a cache are those of the list that it holds
 by_mark : {X : Type 0} (dirty : X → Bool) (es : List (ℕ × X)) → map (λ x. x.0) (filter (λ x. dirty x.1) es) ≡ map (λ x. x.0) (filter (λ x. x.1) (marks dirty es))
@@ -239,17 +231,6 @@ holds_lbas c contents s holds =
     ∙ sym (by_mark (λ (h : Held). h.dirty) (entries s))
 
 -- ---- a write: few groups are held, so nothing gives way
-
-pub member_once : (n : ℕ) (ns : List ℕ) → has_lba n (each_once ns) ≡ has_lba n ns
-member_once n [] = refl
-member_once n (m ∷ ns) = elim (cases_Bool (has_lba m ns)) [
-  | inl t ↦ ap (λ b. has_lba n (cond b (each_once ns) (m ∷ each_once ns))) t ∙ member_once n ns ∙ known (m == n) (has_lba n ns) (λ e. ap (λ k. has_lba k ns) (sym (eqb-true m n e)) ∙ t)
-  | inr f ↦ ap (λ b. has_lba n (cond b (each_once ns) (m ∷ each_once ns))) f ∙ ap (λ b. (m == n) || b) (member_once n ns)
-]
-  where
-    known : (a b : Bool) → (a ≡ true → b ≡ true) → b ≡ (a || b)
-    known true b is = is refl
-    known false b is = refl
 
 pub once_short : (ns : List ℕ) → length (each_once ns) ≤ length ns
 once_short [] = omega arith
@@ -317,7 +298,7 @@ module _ (told : Told) (call : Call) (s v : CacheList) (lba : ℕ) (h : Held) (v
 
 pub lbas_with : (s t : CacheList) (lba : ℕ) → IsDirtyIn t lba → ((a : ℕ) → IsDirtyIn s a → IsDirtyIn t a) → ((a : ℕ) → IsDirtyIn t a → (a ≡ lba) ⊎ IsDirtyIn s a) → lbas_in t ≡ with_lba lba (lbas_in s)
 lbas_with s t lba here stays was = ascending_same (lbas_in t) (with_lba lba (lbas_in s)) (lbas_ascending t) (with_ascending lba (lbas_in s) (lbas_ascending s)) (λ a.
-    same_test (has_lba a (lbas_in t)) ((lba == a) || has_lba a (lbas_in s)) (from a) (into a) ∙ sym (has_lba-with a lba (lbas_in s)))
+    same_bools (has_lba a (lbas_in t)) ((lba == a) || has_lba a (lbas_in s)) (from a) (into a) ∙ sym (has_lba-with a lba (lbas_in s)))
   where
     from : (a : ℕ) → has_lba a (lbas_in t) ≡ true → ((lba == a) || has_lba a (lbas_in s)) ≡ true
     from a has = elim (was a (lbas_dirty t a has)) [
@@ -333,7 +314,7 @@ lbas_with s t lba here stays was = ascending_same (lbas_in t) (with_lba lba (lba
 
 pub lbas_without : (s t : CacheList) (p n : ℕ) → ((a : ℕ) → IsDirtyIn t a → IsDirtyIn s a × ((a / p == n) ≡ false)) → ((a : ℕ) → IsDirtyIn s a → (a / p == n) ≡ false → IsDirtyIn t a) → lbas_in t ≡ filter (λ a. not (a / p == n)) (lbas_in s)
 lbas_without s t p n was stays = ascending_same (lbas_in t) (filter (λ a. not (a / p == n)) (lbas_in s)) (lbas_ascending t) (filter_ascending (λ a. not (a / p == n)) (lbas_in s) (lbas_ascending s)) (λ a.
-    same_test (has_lba a (lbas_in t)) (has_lba a (lbas_in s) && not (a / p == n)) (from a) (into a) ∙ sym (has_lba-filter (λ a. not (a / p == n)) a (lbas_in s)))
+    same_bools (has_lba a (lbas_in t)) (has_lba a (lbas_in s) && not (a / p == n)) (from a) (into a) ∙ sym (has_lba-filter (λ a. not (a / p == n)) a (lbas_in s)))
   where
     from : (a : ℕ) → has_lba a (lbas_in t) ≡ true → (has_lba a (lbas_in s) && not (a / p == n)) ≡ true
     from a has = let dirty = was a (lbas_dirty t a has) in and_from (has_lba a (lbas_in s)) (not (a / p == n)) (lbas_has s a dirty.0) (ap not dirty.1)
@@ -344,7 +325,7 @@ lbas_without s t p n was stays = ascending_same (lbas_in t) (filter (λ a. not (
         lbas_has t a (stays a (lbas_dirty s a parts.0) (not-true (a / p == n) parts.1))
 
 pub lbas_none : (s : CacheList) → ((a : ℕ) → IsDirtyIn s a → ⊥) → lbas_in s ≡ []
-lbas_none s none = ascending_same (lbas_in s) [] (lbas_ascending s) tt (λ a. same_test (has_lba a (lbas_in s)) false (λ has. absurd (none a (lbas_dirty s a has))) (λ is. absurd (false≢true is)))
+lbas_none s none = ascending_same (lbas_in s) [] (lbas_ascending s) tt (λ a. same_bools (has_lba a (lbas_in s)) false (λ has. absurd (none a (lbas_dirty s a has))) (λ is. absurd (false≢true is)))
 
 -- ---- those of a range
 
@@ -360,65 +341,3 @@ pub lbas_between : (s : CacheList) (size : ℕ) → ((a : ℕ) (h : Held) → ge
 lbas_between s size within = ap (λ (l : List (ℕ × Held)). map (λ x. x.0) l)
     (filter_same (λ (x : ℕ × Held). x.1.dirty && nat_le 0 x.0 && nat_lt x.0 (0 + size)) (λ x. x.1.dirty) (entries s)
     (all_entries s (λ a h. (h.dirty && nat_le 0 a && nat_lt a (0 + size)) ≡ h.dirty) (λ a h at. below_size h.dirty a size (within a h at))))
-
-filter_keys : {X : Type 0} (t : ℕ × X → Bool) (u : ℕ → Bool) (es : List (ℕ × X)) → filter u (map (λ x. x.0) (filter t es)) ≡ map (λ x. x.0) (filter (λ x. t x && u x.0) es)
-filter_keys t u [] = refl
-filter_keys t u (e ∷ es) = by (t e) (filter_keys t u es)
-  where
-    inner : (b : Bool) → filter u (map (λ x. x.0) (filter t es)) ≡ map (λ x. x.0) (filter (λ x. t x && u x.0) es)
-        → cond b (e.0 ∷ filter u (map (λ x. x.0) (filter t es))) (filter u (map (λ x. x.0) (filter t es))) ≡ map (λ x. x.0) (cond b (e ∷ filter (λ x. t x && u x.0) es) (filter (λ x. t x && u x.0) es))
-    inner true rest = ap (λ l. e.0 ∷ l) rest
-    inner false rest = rest
-
-    by : (b : Bool) → filter u (map (λ x. x.0) (filter t es)) ≡ map (λ x. x.0) (filter (λ x. t x && u x.0) es) → filter u (map (λ x. x.0) (cond b (e ∷ filter t es) (filter t es))) ≡ map (λ x. x.0) (cond (b && u e.0) (e ∷ filter (λ x. t x && u x.0) es) (filter (λ x. t x && u x.0) es))
-    by true rest = inner (u e.0) rest
-    by false rest = rest
-
-in_group : (p n a : ℕ) → 0 < p → n * p ≤ a → a < n * p + p → a / p ≡ n
-in_group p n a pos low high =
-    let above : a < (n + 1) * p = omega (arith, high) in
-    let least : n ≤ a / p = le-div n a p pos low in
-    let most : a / p < n + 1 = div_below a p (n + 1) pos above in
-    omega (arith, least, most)
-
-from_group : (p n a : ℕ) → 0 < p → a / p ≡ n → (n * p ≤ a) × (a < n * p + p)
-from_group p n a pos is =
-    let split : n * p + a % p ≡ a = ap (λ k. k * p + a % p) (sym is) ∙ div-add-mod' a p in
-    let rest : a % p < p = mod_below a p pos in
-    (omega (arith, split, rest), omega (arith, split, rest))
-
--- a range is that of a group, which is cut short by the size
-abbrev IsRangeOf : ℕ → ℕ → ℕ → ℕ → Type 0
-IsRangeOf p n size count = (n * p + count ≡ n * p + p) ⊎ ((n * p + count ≡ size) × (size ≤ n * p + p))
-
-range_high : (p n size count a : ℕ) → IsRangeOf p n size count → a < n * p + count → a < n * p + p
-range_high p n size count a (inl whole) below = omega (arith, whole, below)
-range_high p n size count a (inr cut) below = let end = cut.0 in let short = cut.1 in omega (arith, end, short, below)
-
-range_low : (p n size count a : ℕ) → IsRangeOf p n size count → a < size → a < n * p + p → a < n * p + count
-range_low p n size count a (inl whole) within below = omega (arith, whole, below)
-range_low p n size count a (inr cut) within below = let end = cut.0 in omega (arith, end, within)
-
-same_range : (p n size count a : ℕ) → 0 < p → a < size → IsRangeOf p n size count → (nat_le (n * p) a && nat_lt a (n * p + count)) ≡ (a / p == n)
-same_range p n size count a pos within range = same_test (nat_le (n * p) a && nat_lt a (n * p + count)) (a / p == n) from into
-  where
-    from : (nat_le (n * p) a && nat_lt a (n * p + count)) ≡ true → (a / p == n) ≡ true
-    from both =
-        let parts = and_parts (nat_le (n * p) a) (nat_lt a (n * p + count)) both in
-        eq-eqb (a / p) n (in_group p n a pos (leb-true (n * p) a parts.0) (range_high p n size count a range (ltb-true a (n * p + count) parts.1)))
-
-    into : (a / p == n) ≡ true → (nat_le (n * p) a && nat_lt a (n * p + count)) ≡ true
-    into is =
-        let ends = from_group p n a pos (eqb-true (a / p) n is) in
-        and_from (nat_le (n * p) a) (nat_lt a (n * p + count)) (le-leb (n * p) a ends.0) (lt-ltb a (n * p + count) (range_low p n size count a range within ends.1))
-
-marked_range : (d x y z : Bool) → (x && y) ≡ z → (d && x && y) ≡ (d && z)
-marked_range true x y z is = is
-marked_range false x y z is = refl
-
-pub lbas_group : (s : CacheList) (p n size count : ℕ) → 0 < p → ((a : ℕ) (h : Held) → get s a ≡ Some h → a < size) → (n * p + count ≡ n * p + p) ⊎ ((n * p + count ≡ size) × (size ≤ n * p + p)) → dirty_between (n * p) count s ≡ filter (λ a. a / p == n) (lbas_in s)
-lbas_group s p n size count pos within range =
-    ap (λ (l : List (ℕ × Held)). map (λ x. x.0) l) (filter_same (λ (x : ℕ × Held). x.1.dirty && nat_le (n * p) x.0 && nat_lt x.0 (n * p + count)) (λ x. x.1.dirty && (x.0 / p == n)) (entries s)
-    (all_entries s (λ a h. (h.dirty && nat_le (n * p) a && nat_lt a (n * p + count)) ≡ (h.dirty && (a / p == n))) (λ a h at.
-    marked_range h.dirty (nat_le (n * p) a) (nat_lt a (n * p + count)) (a / p == n) (same_range p n size count a pos (within a h at) range))))
-    ∙ sym (filter_keys (λ (x : ℕ × Held). x.1.dirty) (λ a. a / p == n) (entries s))

@@ -1,13 +1,13 @@
 -- What it leaves of its media while it is up, and once it is down.
-use Rattle.std.proofs.Common.{◌≡◌, ◌⊎◌, ℕ, ◌<◌, ◌==◌, Bool, true, false, cond, List, [], ◌∷◌, Option, Some, None, inl, inr, refl, sym, ◌∙◌, ap, subst}
+use Rattle.std.proofs.Common.{◌≡◌, ◌⊎◌, ℕ, ◌<◌, ◌==◌, Bool, true, false, cond, List, [], ◌∷◌, Option, Some, None, inl, inr, refl, sym, ◌∙◌, ap, ap₂, subst}
 use Rattle.std.specs.List.{AllByRecursion}
 use Rattle.std.specs.FinMap.{get}
-use Rattle.std.proofs.lemmas.Bool.{false≢true, or_parts, or_right}
+use Rattle.std.proofs.lemmas.Bool.{both_ways, false≢true, or_parts, or_right}
 use Rattle.ft_base.specs.declared.block.Block.{Block}
 use Rattle.ft_base.specs.declared.geometry.Geometry.{Geometry}
 use Rattle.ft_base.specs.declared.told.Mode.{Mode}
 use Rattle.ft_base.specs.declared.told.Mode.TheVariants.{Back, Through}
-use Rattle.ft_base.specs.Contents.{Contents, Values}
+use Rattle.ft_base.specs.Contents.{Contents, Flash, Shape, Values}
 use Rattle.ft_base.specs.PlainDisk.{PlainDisk}
 use Rattle.ft_media.specs.Media.{Crashed, DiskStays}
 use Rattle.ft_volume.specs.Opening.{ImageIs, Suits}
@@ -26,8 +26,26 @@ use Rattle.cached_disk.specs.Kept.{IsBeneath, IsDirtyIn, IsHeld, IsInserted, IsL
 use Rattle.cached_disk.proofs.DiskLemmas.{Had, IsOver, agrees_fewer, one_of_any, over_fewer, over_stands, stands_over}
 use Rattle.cached_disk.proofs.StepLemmas.{over_same, same_back, undo_agrees, undo_dirty, undo_same}
 
-pub both : (b : Bool) → b ≡ true → b ≡ false → ⊥
-both b t f = false≢true (sym f ∙ t)
+-- ---- what the cache holds, the disk has no part in it
+
+holds_beside : (c : Ssc) (old : Contents) (disk : ℕ → Values) (s : CacheList) → Holds c old s → Holds c (record old { disk = disk }) s
+holds_beside c old disk s holds =
+    let sound = holds.agree.sound in
+    record {
+      agree = record {
+        sound = record { of_one = sound.of_one; shape = sound.shape; current = sound.current; whole = sound.whole; roles = sound.roles; logs = sound.logs; open_block = sound.open_block };
+        open_log = holds.agree.open_log;
+      };
+      lists = holds.lists;
+      kinds = holds.kinds;
+      waits = holds.waits;
+      memory = holds.memory;
+    }
+
+pub holds_over : (c : Ssc) (old new : Contents) (s : CacheList) → new.flash ≡ old.flash → new.shape ≡ old.shape → Holds c old s → Holds c new s
+holds_over c old new s flash shape holds =
+    let same : new ≡ record old { disk = new.disk } = ap₂ (λ (x : Shape) (f : Flash). record { shape = x; flash = f; disk = new.disk }) shape flash in
+    subst (λ (x : Contents). Holds c x s) (sym same) (holds_beside c old new.disk s holds)
 
 -- ---- marks that suit the mode
 
@@ -124,7 +142,7 @@ read_absent (Some h) b read = absurd (false≢true read.0)
 
 -- a crash leaves this list
 pub down_left : (v : CachedDisk) (contents : Contents) (s : CacheList) → geometry_of v.cache ≡ v.options.geometry → FitsOn v.options.geometry contents.shape → is_down v ≡ true → IsBeneath (told_of v) contents s → IsLeft v contents
-down_left v contents s own shape down beneath = record { own = own; shape = shape; list = s; beneath = beneath; held = s; up = λ up. absurd (both (is_down v) down up) }
+down_left v contents s own shape down beneath = record { own = own; shape = shape; list = s; beneath = beneath; held = s; up = λ up. absurd (both_ways (is_down v) up down) }
 
 -- the cache and the contents are as before
 pub left_same : (v : CachedDisk) (c : Ssc) (old new : Contents) → c ≡ v.cache → new ≡ old → IsLeft v old → IsLeft (record v { cache = c }) new

@@ -1,10 +1,9 @@
 -- A volume over a cache that was just opened.
 use Rattle.std.proofs.Common.{◌≡◌, ℕ, ◌<◌, Bool, true, false, List, [], Option, Some, None, Result, Ok, Err, inl, inr, refl, sym, ◌∙◌, ap, ap₂, subst, nat_cmp}
 use Rattle.std.specs.Prelude.{OnOk}
-use Rattle.std.specs.List.{AllByRecursion}
 use Rattle.std.specs.FinMap.{get, get-empty}
 use Rattle.std.specs.Option.{is_some}
-use Rattle.std.proofs.lemmas.Bool.{cases_Bool}
+use Rattle.std.proofs.lemmas.Bool.{both_ways, cases_Bool}
 use Rattle.ft_base.specs.declared.block.Block.{Block}
 use Rattle.ft_base.specs.declared.block.Place.{Place}
 use Rattle.ft_base.specs.declared.block.Page.{Page}
@@ -27,7 +26,6 @@ use Rattle.ft_volume.specs.declared.volume.VolumeError.{VolumeError}
 use Rattle.ft_volume.specs.declared.volume.VolumeError.TheVariants as volume
 use Rattle.ft_volume.proofs.OpenedLemmas.{opened_down, opened_up}
 use Rattle.ft_volume.proofs.UpLemmas.{any_map}
-use Rattle.cache_model.specs.Cache.{Buffered}
 use Rattle.cache_model.specs.CacheList.{Agrees, CacheList, Held, held_or}
 use Rattle.cache_model.specs.Loading.{load}
 use Rattle.cache_model.specs.Records.{Entries}
@@ -39,15 +37,11 @@ use Rattle.op_log.specs.Refusals.{open_lost}
 use Rattle.ssc.specs.CacheState.{Holds, entries_of, log_room, pending}
 use Rattle.cached_disk.specs.declared.disk.CachedDisk.{CachedDisk}
 use Rattle.cached_disk.specs.Errors.{IsOfOpening, disk_failed}
-use Rattle.cached_disk.specs.Kept.{IsBeneath, IsDirtyIn, IsFresh, IsHeld, IsInserted, IsLeft, IsOpenCache, IsOrderOf, IsVolume, Loads, MayUndo, Reopens, dirty_of, is_down, state_in, told_of}
+use Rattle.cached_disk.specs.Kept.{IsBeneath, IsDirtyIn, IsFresh, IsHeld, IsLeft, IsOpenCache, IsOrderOf, IsVolume, Loads, Reopens, dirty_of, is_down, state_in, told_of}
 use Rattle.cached_disk.proofs.DiskLemmas.{agrees_fewer, any_left, one_left, one_value, over_stands}
-use Rattle.cached_disk.proofs.HeldLemmas.{both, down_left}
+use Rattle.cached_disk.proofs.HeldLemmas.{down_left}
+use Rattle.cached_disk.proofs.ReadLemmas.{may_none}
 use Rattle.cached_disk.proofs.AddressLemmas.{holds_held, holds_lbas, holds_within, lbas_between, lbas_none}
-
--- nothing is buffered
-undo_none : (mode : Mode) (q : List Buffered) → q ≡ [] → MayUndo mode q
-undo_none Back q none = tt
-undo_none Through q none = subst (λ (q : List Buffered). AllByRecursion IsInserted q) (sym none) tt
 
 module _ (v : CachedDisk) (old new : Contents) (s : CacheList) (cache : IsOpenCache v.options.geometry old new v.cache) (opens : Opens v.options.geometry old new false false) (stands : FlashStandsFor v.options.geometry old.flash.page s) where
   holds_now : Holds v.cache new s
@@ -66,7 +60,7 @@ module _ (v : CachedDisk) (old new : Contents) (s : CacheList) (cache : IsOpenCa
       agrees = beneath_now.agrees;
       settled = λ a. inl (alone_now a);
       suits = suits;
-      undo = undo_none v.mode (pending v.cache) cache.nothing_waits;
+      undo = may_none v.mode (pending v.cache) cache.nothing_waits;
     }
 
     pub opened_left : FitsOn v.options.geometry new.shape → IsLeft v new
@@ -219,7 +213,7 @@ module _ {S T : Type 0} (old new : CachedDisk) (was is : List ℕ) (before after
       record {
         told = told;
         owed = refl;
-        same = λ up. absurd (both (is_down old) down up);
+        same = λ up. absurd (both_ways (is_down old) up down);
         up = tt;
         opens = tt;
         refused = (down, refl);
@@ -260,7 +254,7 @@ nothing_dirty v contents s through is = holds_lbas v.cache contents s is.holds �
     clean = subst (λ (mode : Mode). Suits mode s) through is.suits
 
     none : (a : ℕ) → IsDirtyIn s a → ⊥
-    none a dirty = both dirty.0.dirty dirty.2 (clean a dirty.0 dirty.1)
+    none a dirty = both_ways dirty.0.dirty (clean a dirty.0 dirty.1) dirty.2
 
 pub no_order : (v : CachedDisk) → dirty_of v ≡ [] → IsOrderOf [] v
 no_order v none = sym (ap (λ (lbas : List ℕ). table_of v.options.geometry.p [] lbas) none)

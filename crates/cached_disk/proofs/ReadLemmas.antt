@@ -5,6 +5,7 @@ use Rattle.std.specs.FinMap.{get}
 use Rattle.std.specs.Option.{is_some}
 use Rattle.std.specs.Prelude.{OnOk, is_err}
 use Rattle.std.proofs.lemmas.Bool.{false≢true, le-leb, lt-leb}
+use Rattle.std.proofs.lemmas.Nat.{mul-le}
 use Rattle.ft_base.specs.declared.block.Block.{Block}
 use Rattle.ft_base.specs.declared.block.Place.{Place}
 use Rattle.ft_base.specs.declared.block.Page.{Page}
@@ -169,7 +170,7 @@ module _ (v : CachedDisk) (contents : Contents) (s : CacheList) (is : IsHeld v c
   one_block block newest b has = elim (is.settled lba) [ inl none ↦ one_value (contents.disk lba) b none has ∙ sym newest | inr dirty ↦ absurd (not_dirty dirty) ]
 
 -- the entries tell whether it is held
-not_some : {A : Type 0} (o : Option A) → is_some o ≡ false → o ≡ None
+pub not_some : {A : Type 0} (o : Option A) → is_some o ≡ false → o ≡ None
 not_some None is = refl
 not_some (Some x) is = absurd (false≢true (sym is))
 
@@ -281,12 +282,9 @@ module _ (v : CachedDisk) (c : Ssc) (old new : Contents) (s : CacheList) (by : D
 
 -- ---- what is left of the log
 
-mul_le : (a b c d : ℕ) → a ≤ b → c ≤ d → a * c ≤ b * d
-mul_le a b c d le le' = grind arith
-
 pub room_fits : (g : Geometry) (next room : ℕ) → room ≡ log_pages g - next → 2 * room < 2 ^ 32
 room_fits g next room is =
-    let most : g.j * g.p ≤ 16 * 64 = mul_le g.j 16 g.p 64 g.in_range.j_high g.in_range.p_high in
+    let most : g.j * g.p ≤ 16 * 64 = mul-le g.j g.p 16 64 g.in_range.j_high g.in_range.p_high in
     omega (arith, is, most)
 
 -- a checkpoint is due where no more than half is left

@@ -7,7 +7,8 @@ use Rattle.cache_model.specs.Buckets.{AreBucketsFor}
 use Rattle.cache_model.specs.Entries.{groups_with}
 use Rattle.ft_volume.specs.declared.volume.Report.{Report}
 
--- of the entries that the flash has: how many there are, of how many groups some are dirty, and how many pages were looked at; and buckets for those that stand in log blocks
+-- of the entries that the flash has: how many there are, of how many groups some are dirty, and how many
+-- pages were looked at; and buckets for those that stand in log blocks
 pub record IsReport (g : Geometry) (m : Entries) (report : Report) : Type 0 where
   pub held : report.held ≡ length (entries m)
   pub dirty_groups : report.dirty_groups ≡ length (groups_with g (λ e. e.dirty) m)

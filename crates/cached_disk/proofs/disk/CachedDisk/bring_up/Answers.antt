@@ -1,10 +1,11 @@
 use Rattle.std.proofs.Common.{◌≡◌, refl, rules, sym, subst, false, true}
+use Rattle.std.proofs.lemmas.Bool.{both_ways}
 use Rattle.ft_base.specs.Contents.{Shape}
 use Rattle.op_log.specs.Log.{FitsOn}
 use Rattle.cached_disk.specs.declared.disk.CachedDisk.{CachedDisk}
 use Rattle.cached_disk.specs.Kept.{is_down, told_of}
 use Rattle.cached_disk.proofs.DiskLemmas.{one_left}
-use Rattle.cached_disk.proofs.HeldLemmas.{both, one_held}
+use Rattle.cached_disk.proofs.HeldLemmas.{one_held}
 use Rattle.cached_disk.proofs.OpenedLemmas.{alone_now, opened_entries, opened_left, refused_fixed, refused_left}
 use Rattle.cached_disk.proofs.disk.CachedDisk.bring_up.Goals as goal
 
@@ -17,7 +18,7 @@ returns-then-not-is_down-clause-reopens g c =
       mode = refl;
       same = λ was. (refl, refl);
       up = up;
-      opens = λ down. absurd (both (is_down v) down up);
+      opens = λ down. absurd (both_ways (is_down v) up down);
       refused = tt;
       disk_reads = refl;
       disk_writes = refl;
@@ -45,7 +46,7 @@ returns-in-Ok-clause-reopens g c =
     record {
       options = refl;
       mode = refl;
-      same = λ up. absurd (both (is_down v) down up);
+      same = λ up. absurd (both_ways (is_down v) up down);
       up = c.in-Ok.ensures.opened.goes;
       opens = λ was. opened_entries w v.options.geometry old new c.in-Ok.ensures.opened;
       refused = tt;
@@ -68,7 +69,7 @@ returns-in-Err-clause-reopens g c =
     record {
       options = refl;
       mode = refl;
-      same = λ up. absurd (both (is_down v) down up);
+      same = λ up. absurd (both_ways (is_down v) up down);
       up = tt;
       opens = tt;
       refused = (down, down);

@@ -1,4 +1,5 @@
 use Rattle.std.proofs.Common.{◌≡◌, false, [], Ok, Err, refl, sym, ◌∙◌, ap, subst, rules}
+use Rattle.std.proofs.lemmas.Bool.{both_ways}
 use Rattle.ft_base.specs.Contents.{Contents}
 use Rattle.ft_volume.specs.Opening.{ImageIs}
 use Rattle.ft_volume.specs.Volume.{Reports, dirty_lbas}
@@ -10,7 +11,7 @@ use Rattle.ssc.specs.CacheState.{entries_of, pending}
 use Rattle.cached_disk.specs.declared.disk.CachedDisk.{CachedDisk}
 use Rattle.cached_disk.specs.Kept.{is_down, state_in, told_of}
 use Rattle.cached_disk.proofs.CallLemmas.{answered_same, refused_same}
-use Rattle.cached_disk.proofs.HeldLemmas.{both, is_up, left_same}
+use Rattle.cached_disk.proofs.HeldLemmas.{is_up, left_same}
 use Rattle.cached_disk.proofs.ReportLemmas.{costs_at, costs_read, costs_unread, flushed_stands, goes_at, goes_both, goes_read, goes_unread, loads_left, not_disk, report_is}
 use Rattle.cached_disk.proofs.disk.CachedDisk.report.Goals as goal
 
@@ -34,7 +35,7 @@ pub returns-in-Err-clause-costs : goal.returns-in-Err-clause-costs
 returns-in-Err-clause-costs g c = λ order. costs_at {S = Unit {0}} {T = Report} (state_in order c.args.self.now) (state_in order c.flush.new.self) (g.M.Media.state c.args.media.now) (g.M.Media.state c.flush.new.media) c.in-Err.error (c.in-Err.ensures.costs order)
 
 pub returns-in-Err-clause-nothing_waits : goal.returns-in-Err-clause-nothing_waits
-returns-in-Err-clause-nothing_waits g c = λ up. absurd (both (is_down c.flush.new.self) c.in-Err.ensures.refused up)
+returns-in-Err-clause-nothing_waits g c = λ up. absurd (both_ways (is_down c.flush.new.self) up c.in-Err.ensures.refused)
 
 -- all is on the flash
 
