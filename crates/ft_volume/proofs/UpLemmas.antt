@@ -60,9 +60,10 @@ pub was_from : {T : Type 0} (stands : Told → Image → PlainDisk → Type 0) (
 was_from stands call old mid new after result base owed is = subst (λ (ws : List BlockWrite). WasDone stands call (record old { owed = ws }) new after result base) owed (record { images = is.images; lost = is.lost; done = is.done; found = is.found; up = is.up; memory = is.memory })
 
 -- a step that was answered, and then another: a fault of the disk takes it down, so nothing is said of the disk after one
-pub goes_then : {T : Type 0} (old mid new : VolumeState) (before between after : State) (result : Result T VolumeError) → Goes {T = Unit {0}} old mid before between (Ok tt) → Goes mid new between after result → FaultDowns result new.down → Goes old new before after result
-goes_then old mid new before between after result first goes faulted = record {
-  told = goes.told ∙ first.told;
+pub goes_then : {T : Type 0} (old was mid new : VolumeState) (before between after : State) (result : Result T VolumeError)
+    → was.told ≡ old.told → Goes {T = Unit {0}} was mid before between (Ok tt) → Goes mid new between after result → FaultDowns result new.down → Goes old new before after result
+goes_then old was mid new before between after result same first goes faulted = record {
+  told = goes.told ∙ first.told ∙ same;
   up = goes.up;
   lost = λ on is. goes.lost (first.passes.stayed on refl).on is;
   memory = λ is up. goes.memory is first.up;

@@ -55,7 +55,3 @@ pub left_may_open : (v : CachedDisk) (contents : Contents) (o : Options) → kep
 left_may_open v contents o left own s stands =
     let same = same_list v.options.geometry contents.flash.page left.list s left.beneath.flash (subst (λ (g : Geometry). FlashStandsFor g contents.flash.page s) (sym own) stands) in
     (subst (λ (t : CacheList). Agrees t contents.disk) same left.beneath.agrees, tt)
-
-pub if_ok_then : {T E : Type 0} {P Q : T → Type 0} (r : Result T E) → ((t : T) → P t → Q t) → IfOk r P → IfOk r Q
-if_ok_then (Ok t) f p = f t p
-if_ok_then (Err e) f p = tt

@@ -1,9 +1,9 @@
 -- Addresses whose blocks the disk has are made clean, and with that a group is written back.
-use Rattle.std.proofs.Common.{◌≡◌, ◌⊎◌, ℕ, ◌+◌, ◌*◌, ◌-◌, ◌/◌, min, ◌<◌, ◌≤◌, ◌==◌, ◌&&◌, ◌||◌, not, Bool, true, false, cond, List, [], ◌∷◌, length, take, get_or, filter, Option, Some, None, option_map, Ok, Err, inl, inr, refl, sym, ◌∙◌, ap, ap₂, subst, arith, eqb-true}
+use Rattle.std.proofs.Common.{◌≡◌, ◌⊎◌, ℕ, ◌+◌, ◌/◌, ◌<◌, ◌==◌, ◌&&◌, ◌||◌, not, Bool, true, false, cond, List, [], ◌∷◌, length, take, get_or, filter, Option, Some, None, option_map, Ok, Err, inl, inr, refl, sym, ◌∙◌, ap, ap₂, subst, arith, eqb-true, eq-eqb}
 use Rattle.std.specs.Prelude.{OnErr, OnOk}
 use Rattle.std.specs.Option.{is_some}
 use Rattle.std.specs.FinMap.{get}
-use Rattle.std.proofs.lemmas.Bool.{and_parts, cases_Bool, cases_lt, false≢true, or_cases, or_from}
+use Rattle.std.proofs.lemmas.Bool.{and_parts, both_ways, cases_Bool, false≢true, or_cases, or_from}
 use Rattle.std.proofs.lemmas.Bool.Decides.{nat_tests}
 use Rattle.std.proofs.lemmas.List.Folds.{list_any_at, list_any_more}
 use Rattle.std.proofs.lemmas.List.{take_all}
@@ -19,7 +19,7 @@ use Rattle.ft_media.specs.State.{State}
 use Rattle.ft_media.specs.Drives.{DrivesFlash}
 use Rattle.ft_volume.specs.Opening.{Suits}
 use Rattle.ft_volume.specs.declared.volume.VolumeError.{VolumeError}
-use Rattle.cache_model.specs.Cache.{dirty_between, made_clean, marked_as, undo}
+use Rattle.cache_model.specs.Cache.{made_clean, marked_as, undo}
 use Rattle.cache_model.specs.CacheList.{Agrees, CacheList, Held, held_or}
 use Rattle.cache_model.specs.Stands.{FlashStandsFor}
 use Rattle.cache_model.proofs.UndoLemmas.{get_marked}
@@ -35,11 +35,11 @@ use Rattle.cached_disk.specs.Errors.{IsOfCache}
 use Rattle.cached_disk.specs.Kept.{IsBeneath, IsDirtyIn, IsHeld, IsLeft, MayUndo, dirty_of, is_down, told_of, WritesDisk}
 use Rattle.cached_disk.proofs.DiskLemmas.{IsOver, one_value, over_stands}
 use Rattle.cached_disk.proofs.StepLemmas.{IsSameOver, over_same, undo_agrees}
-use Rattle.cached_disk.proofs.HeldLemmas.{Stays, both, down_left, drove, goes_on, held_left, held_over, held_stands, step_beneath, step_over, stopped_down, undone_over}
+use Rattle.cached_disk.proofs.HeldLemmas.{Stays, down_left, drove, goes_on, held_left, held_over, held_stands, step_beneath, step_over, stopped_down, undone_over}
 use Rattle.cached_disk.proofs.CallLemmas.{gives_up}
 use Rattle.write_back.specs.Left.{in_group, out_of_group}
 use Rattle.write_back.specs.Cleaning.{IsFlushed, IsOnDisk, Proceeds, is_among}
-use Rattle.cached_disk.proofs.AddressLemmas.{holds_held, holds_lbas, holds_within, lbas_group, lbas_without}
+use Rattle.cached_disk.proofs.AddressLemmas.{holds_held, holds_lbas, lbas_without}
 use Rattle.write_back.proofs.PartLemmas.{Answer, Answers, Refuses, answers_drive, proceeds_as, proceeds_down, proceeds_refused, proceeds_then, refuses_drive, writes_nothing}
 use Rattle.write_back.proofs.CopyLemmas.{dirty_is, holds_one, is_dirty}
 
@@ -269,10 +269,7 @@ among_filter p (x ∷ lbas) a = among_step p x a lbas (filter p lbas) (among_fil
 
 -- the address of this turn
 pub among_here : (lbas : List ℕ) (i : ℕ) → i < length lbas → is_among lbas (get_or lbas i 0) ≡ true
-among_here lbas i below = list_any_at (λ k. k == get_or lbas i 0) lbas i 0 below (same_number (get_or lbas i 0))
-  where
-    same_number : (n : ℕ) → (n == n) ≡ true
-    same_number n = grind (arith, nat_tests)
+among_here lbas i below = list_any_at (λ k. k == get_or lbas i 0) lbas i 0 below (eq-eqb (get_or lbas i 0) (get_or lbas i 0) refl)
 
 pub among_next : (lbas : List ℕ) (i a : ℕ) → i < length lbas → is_among (take (i + 1) lbas) a ≡ (is_among (take i lbas) a || (get_or lbas i 0 == a))
 among_next lbas i a below = list_any_more (λ k. k == a) lbas i 0 below
@@ -327,24 +324,6 @@ group_cleaned v w old new s t p n is now cleaned =
     stays : (a : ℕ) → IsDirtyIn s a → (a / p == n) ≡ false → IsDirtyIn t a
     stays a dirty other = dirty_is w new t now a (told a ∙ whole (is_among (dirty_of v) a) (a / p == n) (is_dirty v old s is a dirty) other)
 
--- the dirty addresses of a group are those that were listed
-module _ (v : CachedDisk) (contents : Contents) (left : IsLeft v contents) (up : is_down v ≡ false) (group : ℕ) (within : group * v.options.geometry.p < v.options.geometry.size) where
-  ends_at : (x p size count : ℕ) → x < size → count ≡ min p (size - x) → (x + count ≡ x + p) ⊎ ((x + count ≡ size) × (size ≤ x + p))
-  ends_at x p size count inside is = elim (cases_lt p (size - x)) [
-    | inl lt ↦ inl (omega (arith, lt, is, inside))
-    | inr ge ↦ inr (omega (arith, ge, is, inside), omega (arith, ge, inside))
-  ]
-
-  pub listed_group : (items : List ℕ) (count : ℕ) → count ≡ min v.options.geometry.p (v.options.geometry.size - group * v.options.geometry.p)
-      → ((x : Contents) (s : CacheList) → Holds v.cache x s → items ≡ dirty_between (group * v.options.geometry.p) count s) → items ≡ in_group v.options.geometry.p group (dirty_of v)
-  listed_group items count is listed =
-      let g = v.options.geometry in
-      let holds = (left.up up).holds in
-      let some : 0 < g.p = (let low = g.in_range.p_low in omega (arith, low)) in
-      listed contents left.held holds
-      ∙ lbas_group left.held g.p group g.size count some (λ a h at. subst (λ (x : Geometry). a < x.size) left.own (holds_within v.cache contents left.held holds a h at)) (ends_at (group * g.p) g.p g.size count within is)
-      ∙ ap (λ (lbas : List ℕ). in_group g.p group lbas) (sym (holds_lbas v.cache contents left.held holds))
-
 pub group_among : (p n : ℕ) (xs lbas items : List ℕ) → lbas ≡ items → items ≡ in_group p n xs → (a : ℕ) → is_among lbas a ≡ true → is_among xs a ≡ true
 group_among p n xs lbas items are own a among = (and_parts (a / p == n) (is_among xs a) (sym (among_filter (λ k. k / p == n) xs a) ∙ sym (ap (λ (l : List ℕ). is_among l a) (are ∙ own)) ∙ among)).1
 
@@ -352,7 +331,7 @@ group_among p n xs lbas items are own a among = (and_parts (a / p == n) (is_amon
 
 pub back_refused : (v w : CachedDisk) (r : Answer) → OnErr r (is_down w ≡ true) → OnErr r (is_down w ≡ false → dirty_of w ≡ dirty_of v)
 back_refused v w (Ok done) down = tt
-back_refused v w (Err e) down = λ up. absurd (both (is_down w) down up)
+back_refused v w (Err e) down = λ up. absurd (both_ways (is_down w) up down)
 
 pub copy_failed : (v a : CachedDisk) (s t : State) (lbas items listed : List ℕ) → lbas ≡ items → items ≡ listed → (e : VolumeError) (r : Answer) → r ≡ Err e → Proceeds (length lbas) v a s t (Err e) → Proceeds (length listed) v a s t r
 copy_failed v a s t lbas items listed are own e r is refused = proceeds_as (length listed) v a s t e r is (subst (λ (l : List ℕ). Proceeds (length l) v a s t (Err e)) (are ∙ own) refused)

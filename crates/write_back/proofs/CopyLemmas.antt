@@ -1,5 +1,5 @@
 -- The held blocks of dirty addresses go to the disk, and the disk is flushed.
-use Rattle.std.proofs.Common.{◌≡◌, ◌⊎◌, ℕ, ◌<◌, Bool, true, false, List, [], Option, Some, Ok, Err, inl, inr, refl, sym, ◌∙◌, ap, ap₂, subst}
+use Rattle.std.proofs.Common.{◌≡◌, ◌⊎◌, ℕ, ◌<◌, Bool, true, false, List, [], Option, Some, Ok, Err, inl, inr, refl, sym, ◌∙◌, ap, subst}
 use Rattle.std.specs.FinMap.{get, same_map, nat_cmp-IsAntisymmetric}
 use Rattle.std.specs.Cmp.{nat_cmp_total}
 use Rattle.std.proofs.lemmas.Bool.{cases_eq, false≢true}
@@ -7,7 +7,7 @@ use Rattle.ft_base.specs.declared.block.Block.{Block}
 use Rattle.ft_base.specs.declared.block.Place.{Place}
 use Rattle.ft_base.specs.declared.block.Page.{Page}
 use Rattle.ft_base.specs.declared.geometry.Geometry.{Geometry}
-use Rattle.ft_base.specs.Contents.{Contents, Flash, Shape, Values, HasValue, flushed, written}
+use Rattle.ft_base.specs.Contents.{Contents, Shape, Values, HasValue, flushed, written}
 use Rattle.ft_base.specs.PlainDisk.{PlainDisk}
 use Rattle.ft_base.proofs.Images.{set_here, set_other}
 use Rattle.ft_media.specs.declared.media.MediaError.{MediaError}
@@ -35,7 +35,7 @@ use Rattle.cached_disk.specs.Errors.{IsOfCache, disk_error}
 use Rattle.cached_disk.specs.Kept.{IsBeneath, IsDirtyIn, IsHeld, IsLeft, dirty_of, is_down, told_of, WritesDisk}
 use Rattle.cached_disk.proofs.DiskLemmas.{IsOver, over_stands}
 use Rattle.cached_disk.proofs.StepLemmas.{over_same, undo_agrees, undo_same}
-use Rattle.cached_disk.proofs.HeldLemmas.{down_left, held_beneath, held_left, held_over}
+use Rattle.cached_disk.proofs.HeldLemmas.{down_left, held_beneath, held_left, held_over, holds_over}
 use Rattle.write_back.specs.Cleaning.{IsFlushed, IsOnDisk, Proceeds, is_among}
 use Rattle.cached_disk.proofs.AddressLemmas.{has_lba, holds_lbas, holds_within, lbas_dirty, lbas_has}
 use Rattle.write_back.proofs.PartLemmas.{Answers, CallsDisk, answers_disk, answers_read, lacks_memory, proceeds_down, proceeds_then, refuses_disk, refuses_read, writes_nothing, writes_one}
@@ -44,26 +44,6 @@ use Rattle.write_back.proofs.PartLemmas.{Answers, CallsDisk, answers_disk, answe
 
 pub holds_one : (c : Ssc) (contents : Contents) (s t : CacheList) → Holds c contents s → Holds c contents t → s ≡ t
 holds_one c contents s t x y = same_map nat_cmp_total nat_cmp-IsAntisymmetric s t (λ a. x.lists.held a ∙ sym (y.lists.held a))
-
--- the disk has no part in it
-holds_beside : (c : Ssc) (old : Contents) (disk : ℕ → Values) (s : CacheList) → Holds c old s → Holds c (record old { disk = disk }) s
-holds_beside c old disk s holds =
-    let sound = holds.agree.sound in
-    record {
-      agree = record {
-        sound = record { of_one = sound.of_one; shape = sound.shape; current = sound.current; whole = sound.whole; roles = sound.roles; logs = sound.logs; open_block = sound.open_block };
-        open_log = holds.agree.open_log;
-      };
-      lists = holds.lists;
-      kinds = holds.kinds;
-      waits = holds.waits;
-      memory = holds.memory;
-    }
-
-pub holds_over : (c : Ssc) (old new : Contents) (s : CacheList) → new.flash ≡ old.flash → new.shape ≡ old.shape → Holds c old s → Holds c new s
-holds_over c old new s flash shape holds =
-    let same : new ≡ record old { disk = new.disk } = ap₂ (λ (x : Shape) (f : Flash). record { shape = x; flash = f; disk = new.disk }) shape flash in
-    subst (λ (x : Contents). Holds c x s) (sym same) (holds_beside c old new.disk s holds)
 
 -- an address among the dirty ones
 module _ (v : CachedDisk) (contents : Contents) (s : CacheList) (is : IsHeld v contents s) where

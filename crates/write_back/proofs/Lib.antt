@@ -1,5 +1,6 @@
 pub mod CleaningLemmas
 pub mod CopyLemmas
+pub mod GroupLemmas
 pub mod PartLemmas
 pub mod TableLemmas
 pub mod VolumeLemmas

@@ -1,6 +1,7 @@
 -- Parts of a write-back: one after another, and what the media do in each.
 use Rattle.std.proofs.Common.{◌≡◌, ℕ, ◌+◌, ◌≤◌, Bool, true, false, List, [], None, Result, Ok, Err, refl, sym, ◌∙◌, ap, subst, arith}
 use Rattle.std.specs.Prelude.{OnOk}
+use Rattle.std.proofs.lemmas.Bool.{both_ways}
 use Rattle.ft_base.specs.Contents.{Contents}
 use Rattle.ft_base.specs.Count.{RoseBy, bumped}
 use Rattle.ft_base.specs.PlainDisk.{PlainDisk}
@@ -27,7 +28,6 @@ use Rattle.ssc.specs.Errors.{ssc_failed, ssc_lost}
 use Rattle.cached_disk.specs.declared.disk.CachedDisk.{CachedDisk}
 use Rattle.cached_disk.specs.Errors.{IsOfCache, disk_error}
 use Rattle.cached_disk.specs.Kept.{IsLeft, is_down, state_in, told_of, WritesDisk}
-use Rattle.cached_disk.proofs.HeldLemmas.{both}
 use Rattle.write_back.specs.Cleaning.{Proceeds}
 
 abbrev pub Answer : Type 0
@@ -67,7 +67,7 @@ module _ (a b c : CachedDisk) (s t u : State) (m n : ℕ) (first : Proceeds m a 
     lost = λ on is. then.lost (before.passes.stayed on refl).on is;
     memory = λ is was. then.memory is before.up;
     ready = λ up b there. then.ready up b (before.ready before.up b there);
-    disk = λ is was up. absurd (both (is_down c) (downs.disk is) up);
+    disk = λ is was up. absurd (both_ways (is_down c) up (downs.disk is));
     cause = cause_first s.faults t.faults u.faults r before.cause then.cause;
     passes = passes_then s t u (volume_lost r) before.passes then.passes;
   }
@@ -297,14 +297,14 @@ module _ (v : CachedDisk) (k : Ssc) (d : Bool) (s t : State) (r : VolumeError) w
     options = refl;
     mode = refl;
     reserved = reserved;
-    held = λ up a. absurd (both (is_down refused_disk) down up);
+    held = λ up a. absurd (both_ways (is_down refused_disk) up down);
     goes = λ before_order after_order. record {
       told = refl;
       up = tt;
       lost = λ on is. down;
       memory = λ is was. absurd (refuses.memory (let same : r ≡ volume.OutOfMemory = cc in same));
-      ready = λ up. absurd (both (is_down refused_disk) down up);
-      disk = λ is was up. absurd (both (is_down refused_disk) down up);
+      ready = λ up. absurd (both_ways (is_down refused_disk) up down);
+      disk = λ is was up. absurd (both_ways (is_down refused_disk) up down);
       cause = refuses.cause;
       passes = refuses.passes;
     };

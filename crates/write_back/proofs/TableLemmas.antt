@@ -18,8 +18,11 @@ use Rattle.cache_model.specs.Entries.{IsMap, each_once}
 use Rattle.cache_model.proofs.CountLemmas.{all_members, each_once-le, each_once-same, member, member_of, same_number}
 use Rattle.cache_model.proofs.MapLemmas.{all_entries, by_get}
 use Rattle.dirty_table.specs.Groups.{has, oldest_of, touched, without_first}
+use Rattle.mapping.proofs.MarksLemmas.{same_bools}
+use Rattle.merge_engine.specs.Loaded.{AreAscending}
+use Rattle.ssc.proofs.DirtyLemmas.{member_once}
 use Rattle.cached_disk.specs.Kept.{waiting_in}
-use Rattle.cached_disk.proofs.AddressLemmas.{IsAscending, ascending_same, filter_ascending, has_lba, has_lba-filter, has_lba-with, lbas_dirty, lbas_has, lbas_in, member_once, same_test, with_ascending}
+use Rattle.cached_disk.proofs.AddressLemmas.{ascending_same, filter_ascending, has_lba, has_lba-filter, has_lba-with, lbas_dirty, lbas_has, lbas_in, with_ascending}
 use Rattle.write_back.specs.Left.{IsExact, in_group, out_of_group}
 
 -- ---- a list of distinct groups, one that is touched, and one that is taken out
@@ -208,7 +211,7 @@ lbas_are p n order lbas exact = elim (cases_Bool (has n order)) [
 ]
 
 -- an address that passes, and one that does not
-filter_with : (t : ℕ → Bool) (a : ℕ) (ns : List ℕ) → IsAscending ns → t a ≡ true → filter t (with_lba a ns) ≡ with_lba a (filter t ns)
+filter_with : (t : ℕ → Bool) (a : ℕ) (ns : List ℕ) → AreAscending ns → t a ≡ true → filter t (with_lba a ns) ≡ with_lba a (filter t ns)
 filter_with t a ns up pass = ascending_same (filter t (with_lba a ns)) (with_lba a (filter t ns)) (filter_ascending t (with_lba a ns) (with_ascending a ns up)) (with_ascending a (filter t ns) (filter_ascending t ns up)) (λ x.
     has_lba-filter t x (with_lba a ns)
     ∙ ap (λ b. b && t x) (has_lba-with x a ns)
@@ -229,7 +232,7 @@ filter_with_other t a (n ∷ ns) fail = by (nat_cmp a n) (filter_with_other t a 
     by Equal rest = refl
     by Greater rest = ap (λ l. cond (t n) (n ∷ l) l) rest
 
-pub put_waiting : (p : ℕ) (order lbas : List ℕ) (a : ℕ) → AreApart order → IsExact p order lbas → IsAscending lbas → put_first (a / p) a (waiting_in p order lbas) ≡ waiting_in p (touched (a / p) order) (with_lba a lbas)
+pub put_waiting : (p : ℕ) (order lbas : List ℕ) (a : ℕ) → AreApart order → IsExact p order lbas → AreAscending lbas → put_first (a / p) a (waiting_in p order lbas) ≡ waiting_in p (touched (a / p) order) (with_lba a lbas)
 put_waiting p order lbas a apart exact up =
     let same = λ (m : ℕ) (other : (m == a / p) ≡ false). sym (filter_with_other (λ x. x / p == m) a lbas (turned (a / p) m ∙ other)) in
     ap (λ l. row (a / p) (with_lba a l) ∷ filter (λ w. not (is_of (a / p) w)) (waiting_in p order lbas)) (lbas_are p (a / p) order lbas exact)
@@ -243,7 +246,7 @@ module _ (g : Geometry) (s : CacheList) (order : List ℕ) (apart : AreApart ord
   all_groups = map (λ x. x.0 / g.p) (filter (λ x. x.1.dirty) (entries s))
 
   groups_has : (n : ℕ) → member n all_groups ≡ member n order
-  groups_has n = same_test (member n all_groups) (member n order) from into
+  groups_has n = same_bools (member n all_groups) (member n order) from into
     where
       from : member n all_groups ≡ true → member n order ≡ true
       from there =
@@ -304,13 +307,13 @@ all_take P zero ns all = tt
 all_take P (suc i) [] all = tt
 all_take P (suc i) (n ∷ ns) all = (all.0, all_take P i ns all.1)
 
-take_ascending : (i : ℕ) (ns : List ℕ) → IsAscending ns → IsAscending (take i ns)
+take_ascending : (i : ℕ) (ns : List ℕ) → AreAscending ns → AreAscending (take i ns)
 take_ascending zero ns up = tt
 take_ascending (suc i) [] up = tt
 take_ascending (suc i) (n ∷ ns) up = (all_take (λ k. n < k) i ns up.0, take_ascending i ns up.1)
 
 -- what stands before an address is below it
-before_below : (i : ℕ) (ns : List ℕ) → IsAscending ns → i < length ns → AllByRecursion (λ k. k < get_or ns i 0) (take i ns)
+before_below : (i : ℕ) (ns : List ℕ) → AreAscending ns → i < length ns → AllByRecursion (λ k. k < get_or ns i 0) (take i ns)
 before_below zero ns up within = tt
 before_below (suc i) [] up within = tt
 before_below (suc i) (n ∷ ns) up within = (all_at (λ k. n < k) ns i up.0 (omega (arith, within)), before_below i ns up.1 (omega (arith, within)))
@@ -327,7 +330,7 @@ table_of-push : (p : ℕ) (t : Table) (ns : List ℕ) (a : ℕ) → table_of p t
 table_of-push p t [] a = refl
 table_of-push p t (n ∷ ns) a = table_of-push p (put_first (n / p) n t) ns a
 
-pub so_far_more : (p : ℕ) (lbas : List ℕ) (i : ℕ) (order : List ℕ) → IsAscending lbas → i < length lbas → IsTableSoFar p lbas i order → IsTableSoFar p lbas (i + 1) (touched (get_or lbas i 0 / p) order)
+pub so_far_more : (p : ℕ) (lbas : List ℕ) (i : ℕ) (order : List ℕ) → AreAscending lbas → i < length lbas → IsTableSoFar p lbas i order → IsTableSoFar p lbas (i + 1) (touched (get_or lbas i 0 / p) order)
 so_far_more p lbas i order up within so_far = record {
   apart = touched_apart (lba / p) order so_far.apart;
   exact = subst (λ (l : List ℕ). IsExact p (touched (lba / p) order) l) (sym more) (exact_touched p order (take i lbas) lba so_far.exact);
@@ -370,11 +373,7 @@ module _ (p : ℕ) (lbas : List ℕ) (i : ℕ) (order : List ℕ) (so_far : IsTa
       let x = so_far.exact.only n (has_member n order ∙ there) in
       ap (λ k. member k (map (λ a. a / p) lbas)) (sym x.2) ∙ member_map (λ a. a / p) x.0 lbas (member_take x.0 i lbas x.1)
 
-  -- no more groups than those of all addresses
-  pub so_far_few : length order ≤ length (each_once (map (λ a. a / p) lbas))
-  so_far_few = subst (λ (l : List ℕ). length l ≤ length (each_once (map (λ a. a / p) lbas))) (once_apart order so_far.apart) (each_once-le order (map (λ a. a / p) lbas) among_all)
-
-  -- so the next address finds room for its own
+  -- no more groups are there than those of all addresses, so the next address finds room for its own
   pub so_far_room : (c : ℕ) → i < length lbas → length (each_once (map (λ a. a / p) lbas)) ≤ c → (has (get_or lbas i 0 / p) order ≡ true) ⊎ (length order < c)
   so_far_room c within few = elim (cases_Bool (has n order)) [
     | inl there ↦ inl there

@@ -22,7 +22,8 @@ use Rattle.ssc.specs.CacheState.{Holds, entries_of}
 use Rattle.cached_disk.specs.declared.disk.CachedDisk.{CachedDisk}
 use Rattle.cached_disk.specs.Kept.{IsOrderOf, Loads, dirty_of, is_down, waiting_in, WritesDisk}
 use Rattle.cached_disk.specs.Kept as kept
-use Rattle.cached_disk.proofs.AddressLemmas.{IsAscending, holds_lbas, holds_within, lbas_ascending, lbas_between}
+use Rattle.merge_engine.specs.Loaded.{AreAscending}
+use Rattle.cached_disk.proofs.AddressLemmas.{holds_lbas, holds_within, lbas_ascending, lbas_between}
 use Rattle.cached_disk.proofs.HeldLemmas.{one_held}
 use Rattle.cached_disk.proofs.OpenedLemmas.{given_up_left}
 use Rattle.write_back.specs.declared.volume.WriteBack.{WriteBack}
@@ -60,8 +61,8 @@ module _ (v : CachedDisk) (over : (contents : Contents) × kept.IsLeft v content
       ∙ sym (holds_lbas v.cache over.0 held holds)
 
   module _ (lbas : List ℕ) (is : lbas ≡ dirty_of v) where
-    ascends : IsAscending lbas
-    ascends = subst (λ (l : List ℕ). IsAscending l) (sym (is ∙ holds_lbas v.cache over.0 held holds)) (lbas_ascending held)
+    ascends : AreAscending lbas
+    ascends = subst (λ (l : List ℕ). AreAscending l) (sym (is ∙ holds_lbas v.cache over.0 held holds)) (lbas_ascending held)
 
     few : length (each_once (map (λ a. a / v.options.geometry.p) lbas)) ≤ v.options.geometry.c
     few =

@@ -6,22 +6,22 @@ use Rattle.std.specs.Prelude.{OnOk, is_err}
 use Rattle.std.specs.FinMap.{entries, get}
 use Rattle.std.specs.List.{slice_get}
 use Rattle.std.specs.Option.{is_some}
-use Rattle.std.proofs.lemmas.Bool.{false≢true, or_left, or_right}
+use Rattle.std.proofs.lemmas.Bool.{both_ways, or_left, or_right}
+use Rattle.std.proofs.lemmas.Result.{on_ok_weaker}
 use Rattle.ft_base.specs.declared.block.Block.{Block}
 use Rattle.ft_base.specs.declared.block.Place.{Place}
 use Rattle.ft_base.specs.declared.block.Page.{Page}
 use Rattle.ft_base.specs.declared.geometry.Geometry.{Geometry}
 use Rattle.ft_base.specs.declared.told.Mode.{Mode}
 use Rattle.ft_base.specs.declared.told.Mode.TheVariants.{Back}
-use Rattle.ft_base.specs.Contents.{Contents, Image, Shape, set}
+use Rattle.ft_base.specs.Contents.{Contents, Shape, set}
 use Rattle.ft_base.specs.Count.{RoseBy}
-use Rattle.ft_base.specs.PlainDisk.{BlockWrite, PlainDisk}
+use Rattle.ft_base.specs.PlainDisk.{PlainDisk}
 use Rattle.ft_base.specs.Table.{Table, Waiting, backs_written, is_full, last_size, put_first, table_written, with_lba, without_last}
 use Rattle.ft_base.specs.Told.{Told}
 use Rattle.ft_base.proofs.Images.{newest_image, with_newest}
 use Rattle.ft_media.specs.Drives.{DrivesFlash}
-use Rattle.ft_media.specs.State.{Faults, State}
-use Rattle.ft_media.proofs.PassesLemmas.{passes_then}
+use Rattle.ft_media.specs.State.{State}
 use Rattle.ft_volume.specs.declared.volume.VolumeError.{VolumeError}
 use Rattle.ft_volume.specs.declared.volume.VolumeError.TheVariants as error
 use Rattle.ft_volume.specs.Opening.{ImageIs, Suits}
@@ -49,17 +49,13 @@ use Rattle.cached_disk.specs.Kept as kept
 use Rattle.cached_disk.proofs.AddressLemmas.{holds_held, holds_lbas, holds_within, lbas_ascending, lbas_dirty, lbas_in, lbas_with, written_held}
 use Rattle.cached_disk.proofs.CallLemmas.{answered_write, gives_up, refused_same, refused_write}
 use Rattle.cached_disk.proofs.DiskLemmas.{IsOver, over_stands}
-use Rattle.cached_disk.proofs.HeldLemmas.{Stays, both, down_left, drove, held_beneath, held_left, held_over, held_stands, step_beneath, step_held, step_over, stopped_down, undone, undone_over}
+use Rattle.cached_disk.proofs.HeldLemmas.{Stays, down_left, drove, held_beneath, held_left, held_over, held_stands, step_beneath, step_held, step_over, stopped_down, undone, undone_over}
 use Rattle.cached_disk.proofs.StepLemmas.{over_same, vanish_agrees, vanish_dirty, vanish_same, vanish_was, written_agrees, written_dirty-keeps, written_here, written_over, written_was}
 use Rattle.write_back.specs.declared.volume.WriteBack.{WriteBack}
 use Rattle.write_back.specs.Left.{IsExact, IsLeft, IsTable, out_of_group, state_of}
 use Rattle.write_back.specs.Writing.{HasTableRoom, backs_made, room_made}
 use Rattle.write_back.proofs.TableLemmas.{map_twice, exact_touched, exact_without, few_exact, few_lbas, full_waiting, length_waiting, not_full_exact, put_waiting, touched_apart, without_apart}
 use Rattle.cached_disk.proofs.ReadLemmas.{on_ok_of}
-
-pub ok_then : {T E P Q : Type 0} (r : Result T E) → (P → Q) → OnOk r P → OnOk r Q
-ok_then (Ok t) step p = step p
-ok_then (Err e) step p = tt
 
 -- ---- lists of groups
 
@@ -149,7 +145,7 @@ module _ (v : WriteBack) (contents : Contents) (left : IsLeft v contents) (up : 
   -- a refusal of the cache takes it down, where the memory was there
   pub refused_down : (lba : ℕ) → HasTableRoom v.dirty (lba / v.disk.options.geometry.p) → v.disk.cache.ready ≡ true → (c : Ssc) (e : SscError) → FullExactly (geometry_of v.disk.cache) held_list lba {T = Unit {0}} (Err e)
       → (e ≡ OutOfMemory → v.disk.cache.ready ≡ false) → c.stopped ≡ stops {T = Unit {0}} (Err e) → is_down (record v.disk { cache = c }) ≡ true
-  refused_down lba room ready c e exactly memory stopped = stopped_down v.disk c (stopped ∙ gives_up e (has_room lba room e exactly) (λ is. both v.disk.cache.ready ready (memory is)))
+  refused_down lba room ready c e exactly memory stopped = stopped_down v.disk c (stopped ∙ gives_up e (has_room lba room e exactly) (λ is. both_ways v.disk.cache.ready (memory is) ready))
 
 -- ---- the oldest group was written back
 
@@ -361,7 +357,7 @@ module _ (v : WriteBack) (lba : ℕ) (c : Ssc) (table : Groups) (noted : table �
         disk = cut_left v.disk before.contents after.contents left.disk.held left.disk.own is left.mode lba block c geometry shape stays stands down;
         mode = left.mode;
         table = noted_table left.table;
-        exact = λ still. absurd (both (is_down written.disk) down still);
+        exact = λ still. absurd (both_ways (is_down written.disk) still down);
       }
 
       pub refused_was : (e : VolumeError) → (e ≡ error.OutOfMemory → ⊥) → (d : PlainDisk) → StandFor (ImageIs (told_of v.disk)) before.contents d → WasDone {T = Unit {0}} ImageIs (Writes lba block) (state_of v) (state_of written) after.contents (Err e) d
@@ -396,47 +392,6 @@ module _ (v : WriteBack) (k : Ssc) (entries : entries_of k ≡ entries_of v.disk
     exact = λ up. subst (λ (m : Entries). IsExact v.disk.options.geometry.p v.dirty.order (dirty_lbas m)) (sym entries) (left.exact (sym reserved_up ∙ up));
   }
 
--- ---- a step that changes no block, and then a write
-
-cause_then : {S T : Type 0} (a b c : Faults) (value : S) (result : Result T VolumeError) → HasCause {T = S} a b (Ok value) → HasCause b c result → HasCause a c result
-cause_then a b c value result first then = record {
-  flash = let x = first.flash in let y = then.flash in omega (arith, x, y);
-  disk = let x = first.disk in let y = then.disk in omega (arith, x, y);
-  cuts = let x = first.cuts in let y = then.cuts in omega (arith, x, y);
-  flash_fault = λ is. let x = first.flash in let y = then.flash_fault is in omega (arith, x, y);
-  disk_fault = λ is. let x = first.disk in let y = then.disk_fault is in omega (arith, x, y);
-  power_lost = λ is. let x = first.cuts in let y = then.power_lost is in omega (arith, x, y);
-}
-
--- of what was found nothing counts but what is owed
-pub was_from : {T : Type 0} (stands : Told → Image → PlainDisk → Type 0) (call : Call) (old mid new : VolumeState) (after : Contents) (result : Result T VolumeError) (base : PlainDisk)
-    → mid.owed ≡ old.owed → WasDone stands call mid new after result base → WasDone stands call old new after result base
-was_from stands call old mid new after result base owed is = subst (λ (ws : List BlockWrite). WasDone stands call (record old { owed = ws }) new after result base) owed (record { images = is.images; lost = is.lost; done = is.done; found = is.found; up = is.up; memory = is.memory })
-
-module _ {T : Type 0} (old was mid new : VolumeState) (before between after : State) (same : was.told ≡ old.told) (first : Goes {T = Unit {0}} was mid before between (Ok tt)) (result : Result T VolumeError) where
-  -- a fault of the disk takes it down, so nothing is said of the disk after one
-  pub goes_then : Goes mid new between after result → FaultDowns result new.down → Goes old new before after result
-  goes_then goes faulted = record {
-    told = goes.told ∙ first.told ∙ same;
-    up = goes.up;
-    lost = λ on is. goes.lost (first.passes.stayed on refl).on is;
-    memory = λ is up. goes.memory is first.up;
-    ready = λ now b there. goes.ready now b (first.ready first.up b there);
-    disk = λ is up now. absurd (both new.down (faulted.disk is) now);
-    cause = cause_then before.faults between.faults after.faults tt result first.cause goes.cause;
-    passes = passes_then before between after (volume_lost result) first.passes goes.passes;
-  }
-
-  pub programs_then : OnOk result (Programs between after) → OnOk result (Programs before after)
-  programs_then = ok_then result (λ programs. record {
-    count = let x = first.passes.counts.programs in let y = programs.count in omega (arith, x, y);
-    spends = λ on some.
-        let s = first.passes.stayed on refl in
-        let falls = s.falls some in
-        let spent = programs.spends s.on (λ none. some (sym s.stops ∙ none)) in
-        omega (arith, falls, spent);
-  })
-
 -- room was made for the group of an address, and then its block was written
 module _ (lba : ℕ) (block : Block) (old mid new : VolumeState) (before between after : State) (back : old.told.mode ≡ Back) (told : mid.told ≡ old.told) where
   own_group : lba / mid.told.geometry.p ≡ lba / old.told.geometry.p
@@ -452,8 +407,8 @@ module _ (lba : ℕ) (block : Block) (old mid new : VolumeState) (before between
       → OnOk result (new.table ≡ put_first (lba / mid.told.geometry.p) lba mid.table) → OnOk result (volume.HoldsAfter mid.told (Writes lba block) mid.held new.held) → after.counts.disk_reads ≡ between.counts.disk_reads → after.counts.disk_writes ≡ between.counts.disk_writes
       → Costs (Writes lba block) old new before after result
   costs_then result room held backs put holds reads writes = record {
-    table = ok_then result (λ is. is ∙ ap (λ n. put_first n lba mid.table) own_group ∙ ap (λ (t : Table). put_first (lba / old.told.geometry.p) lba t) room ∙ table_back) put;
-    held = ok_then result (λ is. subst (λ (t : Told). volume.HoldsAfter t (Writes lba block) old.held new.held) told (subst (λ (f : ℕ → Bool). volume.HoldsAfter mid.told (Writes lba block) f new.held) (fun_ext held) is)) holds;
+    table = on_ok_weaker result (λ is. is ∙ ap (λ n. put_first n lba mid.table) own_group ∙ ap (λ (t : Table). put_first (lba / old.told.geometry.p) lba t) room ∙ table_back) put;
+    held = on_ok_weaker result (λ is. subst (λ (t : Told). volume.HoldsAfter t (Writes lba block) old.held new.held) told (subst (λ (f : ℕ → Bool). volume.HoldsAfter mid.told (Writes lba block) f new.held) (fun_ext held) is)) holds;
     disk_writes = every_ok result (subst (λ (n : ℕ). RoseBy n before.counts.disk_writes after.counts.disk_writes) backs_back (subst (λ (n : ℕ). RoseBy (backs_made old.told.geometry.c (lba / old.told.geometry.p) old.table) before.counts.disk_writes n) (sym writes) backs.exact));
     most_writes = subst (λ (n : ℕ). after.counts.disk_writes ≤ before.counts.disk_writes + n) backs_back (subst (λ (n : ℕ). n ≤ before.counts.disk_writes + backs_made old.told.geometry.c (lba / old.told.geometry.p) old.table) (sym writes) backs.most);
     most_reads = let x = backs.reads in omega (arith, reads, x);

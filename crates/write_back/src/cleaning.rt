@@ -6,6 +6,7 @@ ghost use Rattle.cached_disk.specs.Kept as kept;
 ghost use Rattle.write_back.specs.Cleaning.{IsFlushed, IsOnDisk, Proceeds, is_among};
 ghost use Rattle.write_back.specs.Left.{in_group, out_of_group};
 
+use block_map::page_set;
 use cached_disk::{CachedDisk, cache_error, disk_error};
 use ft_base::{Block, zero_block};
 use ft_media::{Media, MediaError};
@@ -36,18 +37,23 @@ pub(crate) fn write_group_back<M: Media>(
     clean_blocks(disk, media, lbas.as_slice())
 }
 
-/// The dirty addresses of a group, ascending.
+/// The dirty addresses of a group, ascending. It looks at the pages of the group alone.
 fn dirty_in_group(disk: &CachedDisk, group: u64) -> Result<Vec<u64>, AllocError>
     requires left { (contents : Contents) × IsLeft disk.now contents }
     requires up { kept.is_down disk.now ≡ false }
     requires group { group * disk.now.options.geometry.p < disk.now.options.geometry.size }
     ensures { IfOk result (λ lbas. lbas.items ≡ in_group disk.now.options.geometry.p group (dirty_of disk.now)) }
 {
-    let pages = disk.options.geometry.p() as u64;
-    let first = group * pages;
-    let count = pages.min(disk.options.geometry.size() - first);
+    let pages = disk.options.geometry.p();
+    let first = group * pages as u64;
+    let dirty = disk.cache.dirty_bits(group);
     let mut lbas = Vec::new(disk.alloc);
-    disk.cache.exists(first, count, &mut lbas)?;
+    for page in 0..pages {
+        // No address past the size is held, so none is dirty.
+        if page_set::contains(dirty, page) {
+            lbas.push(first + page as u64)?;
+        }
+    }
     Ok(lbas)
 }
 

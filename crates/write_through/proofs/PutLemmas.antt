@@ -29,7 +29,8 @@ use Rattle.cached_disk.specs.declared.disk.CachedDisk.{CachedDisk}
 use Rattle.cached_disk.specs.Kept.{IsBeneath, IsHeld, IsLeft, is_down, told_of}
 use Rattle.cached_disk.proofs.AddressLemmas.{holds_held}
 use Rattle.cached_disk.proofs.DiskLemmas.{IsOver, one_value}
-use Rattle.cached_disk.proofs.HeldLemmas.{down_left, held_beneath, held_left, held_over, undone, undone_over}
+use Rattle.cached_disk.proofs.ReadLemmas.{not_some}
+use Rattle.cached_disk.proofs.HeldLemmas.{down_left, held_beneath, held_left, held_over, holds_over, undone, undone_over}
 
 -- each value is one that the disk had, or the block
 abbrev pub IsOldOr : Contents → Contents → ℕ → Block → Type 0
@@ -45,12 +46,8 @@ put_newest lba block old new put = sym (ap (λ (v : Values). v.newest) (put lba)
 
 -- ---- an address that isn't held
 
-none_held : (o : Option Held) → is_some o ≡ false → o ≡ None
-none_held None is = refl
-none_held (Some h) is = absurd (false≢true (sym is))
-
 pub absent_of : (c : Ssc) (contents : Contents) (s : CacheList) → Holds c contents s → (a : ℕ) → is_some (get (entries_of c) a) ≡ false → get s a ≡ None
-absent_of c contents s holds a is = none_held (get s a) (sym (holds_held c contents s holds a) ∙ is)
+absent_of c contents s holds a is = not_some (get s a) (sym (holds_held c contents s holds a) ∙ is)
 
 -- it isn't held without what is buffered either
 undone_absent : (q : List Buffered) (s : CacheList) (a : ℕ) → get s a ≡ None → get (undo q s) a ≡ None
@@ -67,34 +64,6 @@ undone_absent q s a none = get_undo q s a ∙ ap (undone_at q a) none ∙ by q
     by : (q : List Buffered) → undone_at q a None ≡ None
     by [] = refl
     by (x ∷ q) = ap (undone_at q a) (back x) ∙ by q
-
--- ---- the flash is as it was
-
-agree_same : (parts : Parts) (old new : Contents) → new.shape ≡ old.shape → new.flash ≡ old.flash → Agree parts old → Agree parts new
-agree_same parts old new shape flash agree =
-    let sound = agree.sound in
-    let page : new.flash.page ≡ old.flash.page = ap (λ (f : Flash). f.page) flash in
-    record {
-      sound = record {
-        of_one = sound.of_one;
-        shape = subst (λ (x : Shape). FitsOn parts.geometry x) (sym shape) sound.shape;
-        current = rw page sound.current;
-        whole = rw page sound.whole;
-        roles = sound.roles;
-        logs = sound.logs;
-        open_block = subst (λ (f : Flash). IsOpenBlock parts.logs f) (sym flash) sound.open_block;
-      };
-      open_log = rw flash agree.open_log;
-    }
-
-holds_same : (c : Ssc) (old new : Contents) (s : CacheList) → new.shape ≡ old.shape → new.flash ≡ old.flash → Holds c old s → Holds c new s
-holds_same c old new s shape flash holds = record {
-  agree = agree_same c.parts old new shape flash holds.agree;
-  lists = subst (λ (f : Flash). Lists c.parts f.page s (undo (pending c) s)) (sym flash) holds.lists;
-  kinds = holds.kinds;
-  waits = holds.waits;
-  memory = holds.memory;
-}
 
 -- ---- over a list that lacks the address
 
@@ -195,7 +164,7 @@ module _ (v : CachedDisk) (old new : Contents) (left : IsLeft v old) (up : is_do
 
   pub put_left : new.flash ≡ old.flash → IsPut old new lba block → IsLeft v new
   put_left flash put = held_left v new left.held left.own (record {
-    holds = holds_same v.cache old new left.held shape flash is.holds;
+    holds = holds_over v.cache old new left.held flash shape is.holds;
     agrees = agrees_now lba block old new values left.held absent is.agrees;
     settled = λ a. inl (ap (λ (x : Values). x.earlier) (put a));
     suits = is.suits;

@@ -2,6 +2,7 @@
 use Rattle.std.proofs.Common.{◌≡◌, ℕ, ◌≤◌, ◌+◌, ◌==◌, Bool, true, false, cond, [], Result, Ok, Err, inl, inr, refl, sym, ◌∙◌, ap, subst, arith, eqb-true}
 use Rattle.std.specs.Prelude.{IsErrOf, OnErr, OnOk}
 use Rattle.std.proofs.lemmas.Bool.{cases_Bool, false≢true}
+use Rattle.std.proofs.lemmas.Result.{on_ok_weaker}
 use Rattle.ft_base.specs.declared.block.Block.{Block}
 use Rattle.ft_base.specs.declared.told.Mode.{Mode}
 use Rattle.ft_base.specs.declared.told.Mode.TheVariants.{Through}
@@ -26,47 +27,9 @@ use Rattle.cached_disk.proofs.CallLemmas.{answered_write, refused_write}
 pub told_as : (t u : Told) (contents : Contents) (d : PlainDisk) → u ≡ t → StandFor (ImageIs t) contents d → StandFor (ImageIs u) contents d
 told_as t u contents d same stand = subst (λ (k : Told). StandFor (ImageIs k) contents d) (sym same) stand
 
--- what is said of the volume before names only what it owed
-pub was_of : {T : Type 0} (call : Call) (old mid new : VolumeState) (after : Contents) (r : Result T VolumeError) (d : PlainDisk) → old.owed ≡ mid.owed → WasDone ImageIs call mid new after r d → WasDone ImageIs call old new after r d
-was_of call old mid new after r d same was = subst (λ ws. WasDone ImageIs call (record old { owed = ws }) new after r d) (sym same) (record { images = was.images; lost = was.lost; done = was.done; found = was.found; up = was.up; memory = was.memory })
-
-cause_then : {T : Type 0} (a b c : Faults) (r : Result T VolumeError) → HasCause {T = Unit {0}} a b (Ok tt) → HasCause b c r → HasCause a c r
-cause_then a b c r first then = record {
-  flash = let x = first.flash in let y = then.flash in omega (arith, x, y);
-  disk = let x = first.disk in let y = then.disk in omega (arith, x, y);
-  cuts = let x = first.cuts in let y = then.cuts in omega (arith, x, y);
-  flash_fault = λ is. let x = first.flash in let y = then.flash_fault is in omega (arith, x, y);
-  disk_fault = λ is. let x = first.disk in let y = then.disk_fault is in omega (arith, x, y);
-  power_lost = λ is. let x = first.cuts in let y = then.power_lost is in omega (arith, x, y);
-}
-
--- a step that answered Ok, and another that is down where the disk failed
-pub goes_then : {T : Type 0} (old mid new : VolumeState) (a b c : State) (r : Result T VolumeError) → Goes {T = Unit {0}} old mid a b (Ok tt) → Goes mid new b c r → FaultDowns r new.down → Goes old new a c r
-goes_then old mid new a b c r first goes faulted = record {
-  told = goes.told ∙ first.told;
-  up = goes.up;
-  lost = λ on is. goes.lost (first.passes.stayed on refl).on is;
-  memory = λ is was. goes.memory is first.up;
-  ready = λ up k there. goes.ready up k (first.ready first.up k there);
-  disk = λ is was up. absurd (false≢true (sym up ∙ faulted.disk is));
-  cause = cause_then a.faults b.faults c.faults r first.cause goes.cause;
-  passes = passes_then a b c (volume_lost r) first.passes goes.passes;
-}
-
 pub fault_downs : {T : Type 0} (r : Result T VolumeError) (down : Bool) → OnErr r (down ≡ true) → FaultDowns r down
 fault_downs (Ok value) down refused = record { flash = λ is. absurd (cc); disk = λ is. absurd (cc) }
 fault_downs (Err e) down refused = record { flash = λ is. refused; disk = λ is. refused }
-
-pub programs_then : {T : Type 0} (a b c : State) (r : Result T VolumeError) → Passes a b false → OnOk r (Programs b c) → OnOk r (Programs a c)
-programs_then a b c (Ok value) first programs = record {
-  count = let x = first.counts.programs in let y = programs.count in omega (arith, x, y);
-  spends = λ on some.
-      let s = first.stayed on refl in
-      let falls = s.falls some in
-      let spent = programs.spends s.on (λ none. some (sym s.stops ∙ none)) in
-      omega (arith, falls, spent);
-}
-programs_then a b c (Err e) first programs = tt
 
 -- ---- a write whose block is on the disk
 
@@ -97,10 +60,6 @@ held_then told lba block old mid new taken holds = record {
 pub held_as : (told : Told) (lba : ℕ) (b block : Block) (old new : ℕ → Bool) → HoldsAfter told (Reads lba b) old new → HoldsAfter told (Writes lba block) old new
 held_as told lba b block old new holds = record { own = holds.own; only = holds.only; stays = λ groups lie. holds.stays groups (record { few = lie.few; all = lie.all }) }
 
-on_ok : {T : Type 0} (r : Result T VolumeError) (A B : Type 0) → (A → B) → OnOk r A → OnOk r B
-on_ok (Ok value) A B step holds = step holds
-on_ok (Err e) A B step holds = tt
-
 always : {T : Type 0} (r : Result T VolumeError) (A : Type 0) → A → OnOk r A
 always (Ok value) A holds = holds
 always (Err e) A holds = tt
@@ -111,7 +70,7 @@ pub written_costs : {T : Type 0} (lba : ℕ) (block : Block) (old mid new : Volu
     → RoseBy 1 before.counts.disk_writes after.counts.disk_writes → after.counts.disk_writes ≤ before.counts.disk_writes + 1 → after.counts.disk_reads ≡ before.counts.disk_reads → Costs (Writes lba block) old new before after r
 written_costs lba block old mid new before after r through none none_new told taken held rose most reads = record {
   table = always r _ (none_new ∙ sym none ∙ sym (ap (λ (m : Mode). table_written m old.told lba old.table) through));
-  held = on_ok r _ _ (λ holds. held_then old.told lba block old.held mid.held new.held taken (subst (λ (t : Told). HoldsAfter t (Writes lba block) mid.held new.held) told holds)) held;
+  held = on_ok_weaker r (λ holds. held_then old.told lba block old.held mid.held new.held taken (subst (λ (t : Told). HoldsAfter t (Writes lba block) mid.held new.held) told holds)) held;
   disk_writes = always r _ (subst (λ (n : ℕ). RoseBy n before.counts.disk_writes after.counts.disk_writes) (sym one) rose);
   most_writes = subst (λ (n : ℕ). after.counts.disk_writes ≤ before.counts.disk_writes + n) (sym one) most;
   most_reads = omega (arith, reads);

@@ -1,18 +1,32 @@
-use Rattle.std.proofs.Common.{◌≡◌, ℕ, ◌*◌, ◌-◌, ◌++◌, List, min, ◌∙◌, ap, ap₂}
-use Rattle.ft_base.specs.Contents.{Contents}
-use Rattle.cache_model.specs.Cache.{dirty_between}
-use Rattle.cache_model.specs.CacheList.{CacheList}
-use Rattle.ssc.specs.CacheState.{Holds}
-use Rattle.write_back.proofs.CleaningLemmas.{listed_group}
+use Rattle.std.proofs.Common.{◌≡◌, ◌+◌, ◌*◌, ◌<◌, ◌++◌, ℕ, [], ◌∷◌, List, Vec, Global, arith, sym, ◌∙◌, ap, subst}
+use Rattle.cached_disk.specs.Kept.{dirty_of}
+use Rattle.write_back.specs.Cleaning.{is_among}
+use Rattle.write_back.proofs.GroupLemmas.{GroupSoFar, bit_dirty, group_listed, group_passed, group_pushed}
+use Rattle.write_back.proofs.cleaning.dirty_in_group.Goals.{then-contains+in_ok-push, else-contains}
 use Rattle.write_back.proofs.cleaning.dirty_in_group.Goals as goal
+
+pub loop-page-preserved : goal.loop-page-preserved
+loop-page-preserved c =
+    let v = c.args.disk.now in
+    let group = c.args.group in
+    let page = c.loop-page.page in
+    let p = v.options.geometry.p in
+    let lbas = c.loop-page.lbas.items in
+    let low : page < p = omega (arith, c.loop-page-test.true, c.p-pages.ensures) in
+    let bit : c.contains.result ≡ is_among (dirty_of v) (group * p + page) = c.contains.ensures ∙ bit_dirty v c.requires.left.0 c.requires.left.1 c.requires.up group c.dirty_bits-dirty.result c.dirty_bits-dirty.ensures.list page low in
+    elim c.if-contains.branch [
+      | then-contains+in_ok-push w ↦
+          let own : c.if-contains.lbas.items ≡ lbas ++ (group * p + page) ∷ [] = ap (λ (l : Vec ℕ Global). l.items) w.lbas-is ∙ w.in_ok-push.ensures.items ∙ ap (λ (n : ℕ). lbas ++ (group * n + page) ∷ []) c.p-pages.ensures in
+          subst (λ (l : List ℕ). GroupSoFar p group (page + 1) (dirty_of v) l) (sym own) (group_pushed p group page (dirty_of v) lbas low c.loop-page.invariant (sym bit ∙ w.if-contains.true))
+      | else-contains w ↦
+          let own : c.if-contains.lbas.items ≡ lbas = ap (λ (l : Vec ℕ Global). l.items) w.lbas-is in
+          subst (λ (l : List ℕ). GroupSoFar p group (page + 1) (dirty_of v) l) (sym own) (group_passed p group page (dirty_of v) lbas low c.loop-page.invariant (sym bit ∙ w.if-contains.false))
+    ]
 
 pub returns : goal.returns
 returns c =
     let v = c.args.disk.now in
-    let g = v.options.geometry in
-    let count : c.min-count.result ≡ min g.p (g.size - c.args.group * g.p) = c.min-count.ensures ∙ ap₂ (λ (p size : ℕ). min p (size - c.args.group * p)) c.p-pages.ensures c.size.ensures in
-    let listed : (x : Contents) (s : CacheList) → Holds v.cache x s → c.exists.new.out.items ≡ dirty_between (c.args.group * g.p) c.min-count.result s = λ x s holds.
-    c.in_ok-exists.ensures.done x s holds
-    ∙ ap (λ (old : List ℕ). old ++ dirty_between (c.args.group * c.p-pages.result) c.min-count.result s) c.new-lbas.ensures.items
-    ∙ ap (λ (p : ℕ). dirty_between (c.args.group * p) c.min-count.result s) c.p-pages.ensures in
-    listed_group v c.requires.left.0 c.requires.left.1 c.requires.up c.args.group c.requires.group c.exists.new.out.items c.min-count.result count listed
+    let p = v.options.geometry.p in
+    let all : c.loop-page.page ≡ p = omega (arith, c.loop-page-test.false, c.loop-page.auto.page-end, c.p-pages.ensures) in
+    group_listed v c.requires.left.0 c.requires.left.1 c.requires.up c.args.group c.loop-page.lbas.items
+    (subst (λ (n : ℕ). GroupSoFar p c.args.group n (dirty_of v) c.loop-page.lbas.items) all c.loop-page.invariant)

@@ -1,9 +1,10 @@
 use Rattle.std.proofs.Common.{◌≡◌, Bool, true, cond, nat_le, length, inl, sym, subst, ap, ◌∙◌, arith}
+use Rattle.std.proofs.lemmas.Result.{on_ok_weaker}
 use Rattle.std.proofs.lemmas.Bool.Decides.{nat_tests}
 use Rattle.ft_base.specs.Table.{last_size, without_last}
 use Rattle.cached_disk.specs.Kept.{WritesDisk}
 use Rattle.write_back.specs.Left.{state_of}
-use Rattle.write_back.proofs.WriteLemmas.{full_is, none_back, ok_then, room_left, room_there}
+use Rattle.write_back.proofs.WriteLemmas.{full_is, none_back, room_left, room_there}
 use Rattle.write_back.proofs.volume.WriteBack.make_room.Goals as goal
 
 pub returns-then-has-clause-table : goal.returns-then-has-clause-table
@@ -22,7 +23,7 @@ pub returns-clause-room : goal.returns-clause-room
 returns-clause-room g c =
     let v = c.args.self.now in
     let to = c.write_oldest_back.ensures in
-    ok_then c.write_oldest_back.result (room_left v c.write_oldest_back.new.self (g.M.Media.state c.args.media.now).contents (g.M.Media.state c.write_oldest_back.new.media).contents c.args.group c.requires.left c.requires.up to.steps.left to.steps.goes.told) to.table
+    on_ok_weaker c.write_oldest_back.result (room_left v c.write_oldest_back.new.self (g.M.Media.state c.args.media.now).contents (g.M.Media.state c.write_oldest_back.new.media).contents c.args.group c.requires.left c.requires.up to.steps.left to.steps.goes.told) to.table
 
 pub returns-clause-table : goal.returns-clause-table
 returns-clause-table g c =
@@ -30,7 +31,7 @@ returns-clause-table g c =
     let n = v.disk.options.geometry in
     let many : nat_le n.c (length v.dirty.order) ≡ true = grind (arith, nat_tests) in
     let full = full_is n.p n.c c.args.group v.dirty.order _ (sym c.if-has.ensures) many in
-    ok_then c.write_oldest_back.result (λ is. is ∙ sym (ap (λ b. cond b (without_last (state_of v).table) (state_of v).table) full)) c.write_oldest_back.ensures.table
+    on_ok_weaker c.write_oldest_back.result (λ is. is ∙ sym (ap (λ b. cond b (without_last (state_of v).table) (state_of v).table) full)) c.write_oldest_back.ensures.table
 
 pub returns-clause-writes : goal.returns-clause-writes
 returns-clause-writes g c =

@@ -1,7 +1,8 @@
 use Rattle.std.proofs.Common.{Err, refl, ap, rules}
+use Rattle.std.proofs.lemmas.Bool.{both_ways}
 use Rattle.cached_disk.specs.Kept.{state_in}
 use Rattle.cached_disk.proofs.CallLemmas.{goes_down, goes_driven, not_memory}
-use Rattle.cached_disk.proofs.HeldLemmas.{both, is_up}
+use Rattle.cached_disk.proofs.HeldLemmas.{is_up}
 use Rattle.cached_disk.proofs.ReadLemmas.{still_up}
 use Rattle.write_back.specs.Left.{state_of}
 use Rattle.write_back.proofs.WriteLemmas.{has_room, is_held, noted_as, put_holds, put_left, put_table, put_was, refused_down, refused_left, refused_was}
@@ -77,7 +78,7 @@ returns-in-Err-clause-steps g c =
       left = refused_left v c.args.lba c.write_dirty.new.self c.touch.new.self noted old (g.M.Media.state c.write_dirty.new.media) left c.requires.may.up c.args.block.now c.write_dirty.ensures.runs.geometry c.write_dirty.ensures.runs.drives
           (c.write_dirty.ensures.images left.disk.held holds) down;
       goes = goes_down old (g.M.Media.state c.write_dirty.new.media) (state_of v) (state_in c.touch.new.self.order (record v.disk { cache = c.write_dirty.new.self })) c.in-Err.error c.cache_error.result refl down c.cache_error.ensures
-          (λ same. both v.disk.cache.ready c.requires.ready (c.in-Err.ensures.refused.memory (ap Err same)).0) c.in-Err.ensures.runs.drives;
+          (λ same. both_ways v.disk.cache.ready (c.in-Err.ensures.refused.memory (ap Err same)).0 c.requires.ready) c.in-Err.ensures.runs.drives;
       faulted = search rules;
       within = search rules;
     }
@@ -92,4 +93,4 @@ returns-in-Err-clause-was g c =
     let down = refused_down v old.contents left c.requires.may.up c.args.lba c.requires.room c.requires.ready c.write_dirty.new.self c.in-Err.error (c.in-Err.ensures.full left.disk.held holds) (λ same. (c.in-Err.ensures.refused.memory (ap Err same)).0) c.in-Err.ensures.runs.stopped in
     refused_was v c.args.lba c.write_dirty.new.self c.touch.new.self noted old (g.M.Media.state c.write_dirty.new.media) left c.requires.may.up c.args.block.now c.write_dirty.ensures.runs.geometry c.write_dirty.ensures.runs.drives
     (c.write_dirty.ensures.images left.disk.held holds) down c.cache_error.result
-    (not_memory c.in-Err.error c.cache_error.result c.cache_error.ensures (λ same. both v.disk.cache.ready c.requires.ready (c.in-Err.ensures.refused.memory (ap Err same)).0))
+    (not_memory c.in-Err.error c.cache_error.result c.cache_error.ensures (λ same. both_ways v.disk.cache.ready (c.in-Err.ensures.refused.memory (ap Err same)).0 c.requires.ready))

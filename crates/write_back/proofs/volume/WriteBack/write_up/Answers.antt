@@ -10,7 +10,8 @@ use Rattle.cached_disk.specs.Kept.{waiting_in, WritesDisk}
 use Rattle.cached_disk.proofs.CallLemmas.{refused_same}
 use Rattle.write_back.specs.Left.{state_of}
 use Rattle.write_back.specs.Writing.{backs_made, room_made}
-use Rattle.write_back.proofs.WriteLemmas.{costs_then, goes_then, programs_then, reserved, reserved_left, was_from}
+use Rattle.ft_volume.proofs.UpLemmas.{goes_then, programs_then, was_from}
+use Rattle.write_back.proofs.WriteLemmas.{costs_then, reserved, reserved_left}
 use Rattle.write_back.proofs.volume.WriteBack.write_up.Goals as goal
 
 pub make_room-requires-clause-left : goal.make_room-requires-clause-left
@@ -48,7 +49,7 @@ returns-in-Ok-clause-steps g c =
     record {
       left = search rules;
       goes = goes_then (state_of v) (state_of (reserved v c.reserve.new.self c.reserve.ensures.entries c.reserve.ensures.stopped)) (state_of c.make_room.new.self) (state_of c.put_dirty.new.self)
-          (g.M.Media.state c.args.media.now) (g.M.Media.state c.make_room.new.media) (g.M.Media.state c.put_dirty.new.media) refl c.in-Ok.ensures.steps.goes c.put_dirty.result c.put_dirty.ensures.steps.goes c.put_dirty.ensures.steps.faulted;
+          (g.M.Media.state c.args.media.now) (g.M.Media.state c.make_room.new.media) (g.M.Media.state c.put_dirty.new.media) c.put_dirty.result refl c.in-Ok.ensures.steps.goes c.put_dirty.ensures.steps.goes c.put_dirty.ensures.steps.faulted;
       faulted = search rules;
       within = search rules;
     }
@@ -69,8 +70,7 @@ returns-in-Ok-clause-costs g c =
 pub returns-in-Ok-clause-programs : goal.returns-in-Ok-clause-programs
 returns-in-Ok-clause-programs g c =
     let v = c.args.self.now in
-    programs_then (state_of v) (state_of (reserved v c.reserve.new.self c.reserve.ensures.entries c.reserve.ensures.stopped)) (state_of c.make_room.new.self) (state_of c.put_dirty.new.self)
-    (g.M.Media.state c.args.media.now) (g.M.Media.state c.make_room.new.media) (g.M.Media.state c.put_dirty.new.media) refl c.in-Ok.ensures.steps.goes c.put_dirty.result c.put_dirty.ensures.programs
+    programs_then (g.M.Media.state c.args.media.now) (g.M.Media.state c.make_room.new.media) (g.M.Media.state c.put_dirty.new.media) c.put_dirty.result c.in-Ok.ensures.steps.goes.passes c.put_dirty.ensures.programs
 
 -- refused before the cache was asked
 

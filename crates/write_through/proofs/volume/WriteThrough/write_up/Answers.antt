@@ -10,7 +10,8 @@ use Rattle.ssc.specs.declared.cache.Ssc.{Ssc}
 use Rattle.ssc.specs.CacheState.{entries_of}
 use Rattle.cached_disk.proofs.CallLemmas.{refused_same}
 use Rattle.write_through.specs.Left.{state_of}
-use Rattle.write_through.proofs.WriteLemmas.{fault_downs, goes_then, programs_then, told_as, was_of, written_costs, written_was}
+use Rattle.ft_volume.proofs.UpLemmas.{goes_then, programs_then, was_from}
+use Rattle.write_through.proofs.WriteLemmas.{fault_downs, told_as, written_costs, written_was}
 use Rattle.write_through.proofs.volume.WriteThrough.write_up.Goals as goal
 
 pub take_out-requires : goal.take_out-requires
@@ -67,7 +68,7 @@ returns-in_err-put_on_disk-clause-was g c = λ d stand.
     let call = Writes c.args.lba c.args.block.now in
     let is : c.from_residual-in_err-put_on_disk.result ≡ Err c.in_err-put_on_disk.field-0.0 = search rules in
     subst (λ (r : Result (Unit {0}) VolumeError). WasDone ImageIs call v v3 new r d) (sym is)
-    (was_of call v v2 v3 new (Err c.in_err-put_on_disk.field-0.0) d refl (c.in_err-put_on_disk.ensures.was d between))
+    (was_from ImageIs call v v2 v3 new (Err c.in_err-put_on_disk.field-0.0) d refl (c.in_err-put_on_disk.ensures.was d between))
 
 pub returns-in_err-put_on_disk-clause-steps : goal.returns-in_err-put_on_disk-clause-steps
 returns-in_err-put_on_disk-clause-steps g c =
@@ -83,7 +84,7 @@ returns-in_err-put_on_disk-clause-steps g c =
       left = search rules;
       goes = subst (λ (r : Result (Unit {0}) VolumeError). Goes v v3 a e r) (sym is)
           (subst (λ (s : VolumeState). Goes {T = Unit {0}} s v3 a e (Err c.in_err-put_on_disk.field-0.0)) c.reserve.ensures.same
-          (goes_then v1 v2 v3 a b e (Err c.in_err-put_on_disk.field-0.0) c.in_ok-take_out.ensures.steps.goes c.in_err-put_on_disk.ensures.steps.goes c.in_err-put_on_disk.ensures.faulted));
+          (goes_then v1 v1 v2 v3 a b e (Err c.in_err-put_on_disk.field-0.0) refl c.in_ok-take_out.ensures.steps.goes c.in_err-put_on_disk.ensures.steps.goes c.in_err-put_on_disk.ensures.faulted));
       within = search rules;
     }
 
@@ -126,7 +127,7 @@ returns-clause-steps g c =
     record {
       left = search rules;
       goes = subst (λ (s : VolumeState). Goes s v4 a f r) c.reserve.ensures.same
-          (goes_then v1 v2 v4 a b f r c.in_ok-take_out.ensures.steps.goes (goes_then v2 v3 v4 b e f r c.in_ok-put_on_disk.ensures.steps.goes c.put_in_cache.ensures.steps.goes faulted) faulted);
+          (goes_then v1 v1 v2 v4 a b f r refl c.in_ok-take_out.ensures.steps.goes (goes_then v2 v2 v3 v4 b e f r refl c.in_ok-put_on_disk.ensures.steps.goes c.put_in_cache.ensures.steps.goes faulted) faulted);
       within = search rules;
     }
 
