@@ -48,13 +48,6 @@ pub record GroupSoFar (p group page : ℕ) (others lbas : List ℕ) : Type 0 whe
   pub each : (a : ℕ) → is_among lbas a ≡ true → (a / p ≡ group) × (a % p < page) × (is_among others a ≡ true)
   pub all : (a : ℕ) → a / p ≡ group → a % p < page → is_among others a ≡ true → is_among lbas a ≡ true
 
-pub group_none : (p group : ℕ) (others lbas : List ℕ) → lbas ≡ [] → GroupSoFar p group 0 others lbas
-group_none p group others lbas none = subst (λ (l : List ℕ). GroupSoFar p group 0 others l) (sym none) (record {
-  ascend = tt;
-  each = λ a there. absurd (false≢true there);
-  all = λ a own below. absurd (omega (arith, below));
-})
-
 module _ (p group page : ℕ) (others lbas : List ℕ) (low : page < p) (so_far : GroupSoFar p group page others lbas) where
   whole_address : (a : ℕ) → a / p ≡ group → group * p + a % p ≡ a
   whole_address a own = ap (λ k. k * p + a % p) (sym own) ∙ div-add-mod' a p

@@ -6,7 +6,7 @@ use Rattle.std.proofs.lemmas.Bool.{cases_eq, false≢true}
 use Rattle.ft_base.specs.declared.block.Block.{Block}
 use Rattle.ft_base.specs.declared.block.Place.{Place}
 use Rattle.ft_base.specs.declared.block.Page.{Page}
-use Rattle.ft_base.specs.Contents.{Contents, Flash, HasValue, Image, Now, Shape, Values, flushed, set, written}
+use Rattle.ft_base.specs.Contents.{Contents, HasValue, Image, Now, Shape, Values, flushed, set, written}
 use Rattle.ft_base.specs.PlainDisk.{PlainDisk}
 use Rattle.ft_base.specs.Told.{Told}
 use Rattle.ft_base.proofs.Images.{set_here, set_other}
@@ -21,8 +21,6 @@ use Rattle.cache_model.specs.CacheList.{Agrees, CacheList, Held, held_or}
 use Rattle.cache_model.specs.Stands.{FlashStandsFor}
 use Rattle.cache_model.proofs.UndoLemmas.{back_at, get_undo, undone_at}
 use Rattle.op_log.specs.Log.{FitsOn}
-use Rattle.merge_engine.specs.declared.parts.Parts.{Parts}
-use Rattle.merge_engine.specs.Agreement.{Agree, IsOpenBlock, Lists}
 use Rattle.ssc.specs.declared.cache.Ssc.{Ssc}
 use Rattle.ssc.specs.CacheState.{Holds, entries_of, pending}
 use Rattle.cached_disk.specs.declared.disk.CachedDisk.{CachedDisk}

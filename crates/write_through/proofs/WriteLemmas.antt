@@ -1,5 +1,5 @@
 -- A write, step by step.
-use Rattle.std.proofs.Common.{◌≡◌, ℕ, ◌≤◌, ◌+◌, ◌==◌, Bool, true, false, cond, [], Result, Ok, Err, inl, inr, refl, sym, ◌∙◌, ap, subst, arith, eqb-true}
+use Rattle.std.proofs.Common.{◌≡◌, ℕ, ◌≤◌, ◌+◌, ◌==◌, Bool, true, false, cond, [], Result, Ok, Err, inl, inr, sym, ◌∙◌, ap, subst, arith, eqb-true}
 use Rattle.std.specs.Prelude.{IsErrOf, OnErr, OnOk}
 use Rattle.std.proofs.lemmas.Bool.{cases_Bool, false≢true}
 use Rattle.std.proofs.lemmas.Result.{on_ok_weaker}
@@ -11,11 +11,9 @@ use Rattle.ft_base.specs.Count.{RoseBy}
 use Rattle.ft_base.specs.PlainDisk.{PlainDisk}
 use Rattle.ft_base.specs.Table.{backs_written, table_written}
 use Rattle.ft_base.specs.Told.{Told}
-use Rattle.ft_media.specs.Passes.{Passes}
-use Rattle.ft_media.specs.State.{Faults, State}
-use Rattle.ft_media.proofs.PassesLemmas.{passes_then}
+use Rattle.ft_media.specs.State.{State}
 use Rattle.ft_volume.specs.Opening.{ImageIs}
-use Rattle.ft_volume.specs.Volume.{Call, Costs, FaultDowns, Goes, HasCause, HoldsAfter, Programs, Reads, VolumeState, WasDone, Writes, volume_lost}
+use Rattle.ft_volume.specs.Volume.{Costs, FaultDowns, HoldsAfter, Reads, VolumeState, WasDone, Writes}
 use Rattle.ft_volume.specs.Standing.{StandFor}
 use Rattle.ft_volume.specs.declared.volume.VolumeError.{VolumeError}
 use Rattle.ft_volume.specs.declared.volume.VolumeError.TheVariants as volume
