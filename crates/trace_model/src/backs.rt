@@ -14,8 +14,11 @@ use std::alloc::{AllocError, Global};
 /// What a volume is made with.
 #[derive(Clone, Copy, Debug, PartialEq, Eq)]
 pub struct Plan {
+    /// The shape of the volume.
     pub geometry: Geometry,
+    /// How many groups may stay dirty after an idle step.
     pub dirty: u64,
+    /// When a write goes to the disk.
     pub mode: Mode,
 }
 
