@@ -1,5 +1,5 @@
 -- What a call did to a volume that owes nothing, and what going on after it leaves.
-use Rattle.std.proofs.Common.{◌≡◌, ◌≢◌, inl, inr, Bool, true, [], ◌∷◌, Result, Ok, Err, IfOk, IsErrOf, refl, sym, ap, ◌∙◌, subst}
+use Rattle.std.proofs.Common.{◌≡◌, ◌≢◌, inl, inr, Bool, true, [], ◌∷◌, Result, Err, IsErrOf, refl, sym, ap, ◌∙◌, subst}
 use Rattle.ft_base.specs.Contents.{Contents, Image}
 use Rattle.ft_base.specs.PlainDisk.{PlainDisk}
 use Rattle.ft_base.specs.Told.{Told}
@@ -59,8 +59,3 @@ still_contents volume.OutOfVolume before after lost same = let is = same (λ e. 
 -- a cut leaves the plain disk
 pub fixes_one : (stands : Told → Image → PlainDisk → Type 0) (old new : VolumeState) (before after : Contents) (d : PlainDisk) → Fixes stands old new before after → StandFor (stands old.told) before d → StandFor (stands new.told) after d
 fixes_one stands old new before after d fixes stood = elim (fixes (d ∷ []) (λ x now. inl (stood x now))) [ inl is ↦ is | inr none ↦ absurd none ]
-
--- what follows of what was answered
-pub if_ok : {T E : Type 0} (r : Result T E) (p q : T → Type 0) → ((value : T) → p value → q value) → IfOk r p → IfOk r q
-if_ok (Ok value) p q follows holds = follows value holds
-if_ok (Err e) p q follows holds = tt

@@ -26,8 +26,9 @@ use Rattle.trace_replay.specs.declared.ended.Ended.TheVariants as ended
 use Rattle.trace_replay.specs.Commands.{Gives, TellsEndPart, ends_in, is_end}
 use Rattle.trace_replay.specs.Events.{Event, answers_in, events_of, lines_given}
 use Rattle.trace_replay.specs.Events.Event.{Gave, Took, Touched}
-use Rattle.trace_replay.specs.Made.{BrokeMade, CameMade, lines_named, stand_in}
+use Rattle.trace_replay.specs.Made.{BrokeMade, CameMade, stand_in}
 use Rattle.trace_replay.specs.Said.{Said, SaidPart, Takes}
+use Rattle.trace_gen.proofs.MadeLemmas.{length-lines_made}
 use Rattle.trace_replay.proofs.GivenLemmas.{answers_in-append, lines_given-append}
 use Rattle.trace_replay.proofs.SaidLemmas.{said_none, said_then, said_part-then}
 use Rattle.trace_replay.proofs.ToldLemmas.{SkipsLines, said_of}
@@ -108,10 +109,6 @@ module _ (left : List Line) (x : SinkState) (s : SourceState) (b : SinkState) (e
   pub made_broke : (y : SinkState) (a : Answer) → is_end a ≡ true → SaidPart x y [] (Some a) → BrokeMade b y e (Took a)
   made_broke y a is part = (is, subst (λ (r : List Answer). SaidPart b y r (Some a)) (append-nil (ends_in (answers_in e))) (said_part-then b x y (ends_in (answers_in e)) [] (Some a) came.said part))
 
-  -- all lines were given
-  pub made_all : left ≡ [] → map accepted (lines_given e) ≡ map accepted (lines_named s.lent)
-  made_all none = sym (came.lines ∙ ap (λ (r : List Line). map accepted (lines_given e) ++ map accepted r) none ∙ append-nil (map accepted (lines_given e)))
-
 pub if_both : (r : Option Line) (P Q S : Line → Type 0) → ((l : Line) → P l → Q l → S l) → IfSome r P → IfSome r Q → IfSome r S
 if_both None P Q S both first next = tt
 if_both (Some l) P Q S both first next = both l first next
@@ -130,11 +127,6 @@ pub one_less : (xs ys : List Line) (l : Line) → xs ≡ l ∷ ys → length ys 
 one_less xs ys l is = let long : length xs ≡ suc (length ys) = ap length is in omega (arith, long)
 
 -- ---- from the start
-
-length-lines_made : (size hot number count : ℕ) (g : _) → length (lines_made size hot number count g) ≡ count
-unfolding made.lines_made
-length-lines_made size hot number zero g = refl
-length-lines_made size hot number (suc count) g = ap suc (length-lines_made size hot (number + 1) count (drawn g).1)
 
 -- no more lines are left than the trace has
 pub few_left : (g : TraceGen) (most : ℕ) → g.count < most → length (lines_left g) < most

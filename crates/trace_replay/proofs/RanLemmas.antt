@@ -2,7 +2,7 @@
 use Rattle.std.proofs.Common.{◌≡◌, ◌≢◌, inl, inr, ◌≤◌, ◌<◌, ◌+◌, ◌-◌, ◌==◌, ◌∷◌, ◌++◌, [], ℕ, Bool, true, false, cond, nat_le, List, Option, Some, None, drop, length, refl, sym, ap, ◌∙◌, subst, eqb-true, arith}
 use Rattle.std.proofs.lemmas.Bool.{cases_Bool}
 use Rattle.std.proofs.lemmas.Bool.Decides.{nat_tests}
-use Rattle.std.proofs.lemmas.List.{length-append}
+use Rattle.std.proofs.lemmas.List.{length_push}
 use Rattle.ft_base.specs.Contents.{Image}
 use Rattle.ft_base.specs.PlainDisk.{PlainDisk, empty}
 use Rattle.ft_base.specs.StreamState.{SinkState, SourceState}
@@ -119,15 +119,12 @@ few_reads (line.Stop after outcome) = omega arith
 few_reads (line.Cut outcome) = omega arith
 few_reads line.Nothing = omega arith
 
-one_line : (ls : List Line) (l : Line) → length (ls ++ l ∷ []) ≡ length ls + 1
-one_line ls l = length-append ls (l ∷ [])
-
 writes_few : (run : List Ran) → writes_in run ≤ length (lines_of run)
 writes_few [] = omega arith
 writes_few (ran ∷ run) =
     let rest = writes_few run in
     let one = few_writes ran.line in
-    let long = one_line (lines_of run) ran.line in
+    let long = length_push (lines_of run) ran.line in
     omega arith
 
 reads_few : (run : List Ran) → reads_in run ≤ length (lines_of run)
@@ -135,7 +132,7 @@ reads_few [] = omega arith
 reads_few (ran ∷ run) =
     let rest = reads_few run in
     let one = few_reads ran.line in
-    let long = one_line (lines_of run) ran.line in
+    let long = length_push (lines_of run) ran.line in
     omega arith
 
 -- ---- the lines that were run
@@ -208,7 +205,7 @@ module _ (o : Told) (stands : Image → PlainDisk → Type 0) (first a : State) 
     risen = risen_more (cuts_in run) (cuts + cut_count l) first.faults.cuts a.faults.cuts b.faults.cuts so_far.risen runs.risen;
     ready = λ none block ready. runs.ready (omega arith) block (so_far.ready (omega arith) block ready);
     tally = record {
-      lines = one.lines ∙ ap (λ n. n + 1) so_far.tally.lines ∙ sym (one_line (lines_of run) l);
+      lines = one.lines ∙ ap (λ n. n + 1) so_far.tally.lines ∙ sym (length_push (lines_of run) l);
       writes = one.writes ∙ ap (λ n. n + write_count l) so_far.tally.writes;
       reads = one.reads ∙ ap (λ n. n + read_count l) so_far.tally.reads;
       touched = one.touched ∙ ap (λ (xs : List ℕ). touching l xs) so_far.tally.touched;
@@ -223,7 +220,7 @@ so_far_told o k stands first a counted v run same so_far = subst (λ (j : Told).
 
 -- the lines that were counted, after one more
 pub lines_more : (run : List Ran) (one : Ran) (before after : ℕ) → before ≡ length (lines_of run) → after ≡ length (lines_of (one ∷ run)) → after ≡ before + 1
-lines_more run one before after before_is after_is = after_is ∙ one_line (lines_of run) one.line ∙ sym (ap (λ n. n + 1) before_is)
+lines_more run one before after before_is after_is = after_is ∙ length_push (lines_of run) one.line ∙ sym (ap (λ n. n + 1) before_is)
 
 -- ---- how a run goes on
 

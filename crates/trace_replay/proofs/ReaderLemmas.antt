@@ -82,9 +82,6 @@ since_all n (b ∷ bytes) none =
 
 -- ---- lines that were given
 
-lines_none : (size : ℕ) → AreLines size [] []
-lines_none size = record { says = λ whole rest. refl; feed = λ rest. refl }
-
 behind : (front line after : List ℕ) → (front ++ (line ++ 10 ∷ [])) ++ after ≡ front ++ (line ++ 10 ∷ after)
 behind front line after = append_assoc front (line ++ 10 ∷ []) after ∙ ap (λ (r : List ℕ). front ++ r) (append_assoc line (10 ∷ []) after)
 
@@ -101,22 +98,6 @@ lines_more size front lines line l are none is = record {
 }
 
 -- ---- where it stands then
-
--- nothing was read
-pub read_first : (size : ℕ) (ended : Bool) (rest : List ℕ) (s : SourceState) → ended ≡ false → rest ≡ [] → ReadSo size ended rest 0 0 s s []
-read_first size ended rest s going none = subst (λ (r : List ℕ). ReadSo size ended r 0 0 s s []) (sym none) (record {
-  bytes = [];
-  taken = nothing s.left;
-  most = let is = limit_is in omega arith;
-  counted = refl;
-  numbered = refl;
-  within = λ _. lines_none size;
-  whole = λ is. absurd (cc);
-})
-  where
-    nothing : (a : Option (List ℕ)) → Consumes a a []
-    nothing None = tt
-    nothing (Some xs) = refl
 
 module _ (size : ℕ) (ended : Bool) (rest : List ℕ) (count number : ℕ) (s a : SourceState) (lines : List Line) (so : ReadSo size ended rest count number s a lines) where
   -- a piece more was read

@@ -17,14 +17,16 @@ use Rattle.trace_model.specs.SoFar.{MayRemain, MayTell, WasRun, begun, disk_with
 use Rattle.trace_replay.specs.declared.ended.Ended.{Ended}
 use Rattle.trace_replay.specs.Said.{RoseAtLeast, TellsStops, TookPart}
 
--- what every run leaves, of these lines that were run and these that were begun: power on, the shape to which the rig was fitted, and few calls of the disk where power was not cut
+-- what every run leaves, of these lines that were run and these that were begun: power on, the shape to which the rig
+-- was fitted, and few calls of the disk where power was not cut
 pub record LeavesRig (o : Told) (first now : State) (run lines : List Ran) : Type 0 where
   pub on : now.power.on ≡ true
   pub shape : now.contents.shape ≡ first.contents.shape
   pub reads : ReadsFew o run lines first.counts.disk_reads now.counts.disk_reads
   pub writes : WritesNone o run lines first.counts.disk_writes now.counts.disk_writes
 
--- what is left after these lines, and so many cuts and lost block writes: whatever a crash leaves stands for the plain disk, the stops are those that did not cut, and where none was told power was not cut
+-- what is left after these lines, and so many cuts and lost block writes: whatever a crash leaves stands for the plain
+-- disk, the stops are those that did not cut, and where none was told power was not cut
 pub record Leaves (o : Told) (stands : Image → PlainDisk → Type 0) (first now : State) (run : List Ran) (cuts lost : ℕ) : Type 0 where
   pub rig : LeavesRig o first now run run
   pub fits : FitsEnd run cuts lost
@@ -38,7 +40,8 @@ abbrev pub StandForNext : Told → (Image → PlainDisk → Type 0) → Contents
 StandForNext o stands contents run left = (x : Image) → Now contents x → (lost : ℕ) × (n : ℕ) × MayRemain o run left lost n
     × stands x (disk_within run left lost n)
 
--- what is left after these lines where the next one was not begun: whatever a crash leaves stands for their plain disk, no stop is gone that did not cut one of them, and where none was told power was not cut
+-- what is left after these lines where the next one was not begun: whatever a crash leaves stands for their plain disk,
+-- no stop is gone that did not cut one of them, and where none was told power was not cut
 pub record LeavesLines (o : Told) (stands : Image → PlainDisk → Type 0) (first now : State) (run : List Ran)
     (left : List Reading) : Type 0 where
   pub rig : LeavesRig o first now run run
@@ -47,7 +50,8 @@ pub record LeavesLines (o : Told) (stands : Image → PlainDisk → Type 0) (fir
   pub risen : RoseAtLeast (cuts_in run) first.faults.cuts now.faults.cuts
   pub ready : cuts_in run ≡ 0 → KeepsReady first now
 
--- what a run is told by: what is known of its lines (of all of them or not), what was said of these lines and after them, and that with a part of an answer
+-- what a run is told by: what is known of its lines (of all of them or not), what was said of these lines and after
+-- them, and that with a part of an answer
 module _ (o : Told) (reads : List Reading → Bool → Type 0) (says : List Ran → List Answer → Type 0) (stands : Image → PlainDisk → Type 0)
     (first now : State) where
   -- every line of the trace was run: a plain disk's answers were said, and the end line after its cuts
@@ -84,7 +88,8 @@ module _ (o : Told) (reads : List Reading → Bool → Type 0) (says : List Ran 
     pub printed : says run []
     pub leaves : LeavesLines o stands first now run []
 
--- it ended so after the answers of these lines and before the last one of the next line; the media are the plain disk after the former, with first block writes of the latter
+-- it ended so after the answers of these lines and before the last one of the next line; the media are the plain disk
+-- after the former, with first block writes of the latter
 pub record EndsPart (o : Told) (reads : List Reading → Bool → Type 0) (says : List Ran → List Answer → Type 0)
     (short : List Ran → List Answer → Option Answer → Type 0) (stands : Image → PlainDisk → Type 0) (first now : State)
     (e : Ended) : Type 0 where

@@ -184,6 +184,7 @@ pub(crate) fn read_through<P: Script, R: Rig, V: Volume<R>>(
     ensures spends { SpendsSteps (Touches lba ∷ []) (V.state volume.old) (V.state volume.new) (R.state rig.old) (R.state rig.new) result }
 {
     let mut cuts = 0;
+    // At most 16 stops are armed, so the count of cuts can't overflow:
     let _armed = rig.armed();
     'again: loop {
         let cut = read_once(script, rig, volume, lba, block)?;
@@ -211,6 +212,7 @@ pub(crate) fn flush_through<P: Script, R: Rig, V: Volume<R>>(
     ensures spends { SpendsSteps [] (V.state volume.old) (V.state volume.new) (R.state rig.old) (R.state rig.new) result }
 {
     let mut cuts = 0;
+    // At most 16 stops are armed, so the count of cuts can't overflow:
     let _armed = rig.armed();
     'again: loop {
         let cut = flush_once(script, rig, volume)?;

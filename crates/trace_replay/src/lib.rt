@@ -13,6 +13,7 @@
 #![tactic(auto)]
 
 mod again;
+mod digest;
 mod ended;
 mod lines;
 mod made;

@@ -9,13 +9,13 @@ ghost use Rattle.trace_replay.specs.AsMade.{IsAsMade};
 ghost use Rattle.trace_replay.specs.Theorem.{EndsPart, RunsWhole};
 
 use crate::Ended;
+use crate::digest::EndDigest;
 use crate::output::say;
 use crate::running::replay_script;
 use crate::script::Script;
 use ft_base::{Block, Sink};
 use ft_media::{Media, Rig};
 use ft_volume::Volume;
-use sha2::{Digest, Sha256};
 use std::alloc::Global;
 use trace_gen::TraceGen;
 use trace_model::{Answer, Line};
@@ -27,7 +27,7 @@ pub struct MadeScript<'a, O: Sink> {
     made: TraceGen,
     sink: &'a mut O,
     /// Takes the blocks that are told.
-    hasher: Sha256,
+    digest: EndDigest,
     ghost few: { length (lines_left made) < 2 ^ 64 },
 }
 
@@ -46,7 +46,7 @@ impl<'a, O: Sink> MadeScript<'a, O> {
             alloc,
             made,
             sink,
-            hasher: Sha256::new(),
+            digest: EndDigest::new(),
         }
     }
 }
@@ -78,7 +78,7 @@ impl<'a, O: Sink> Script for MadeScript<'a, O> {
       lent = v.sink.ghost_name ∷ (O.state v.sink.now).lent;
     } };
 
-    ghost came = { λ s b e v. CameMade (lines_left v.made) (O.state v.sink.now) s b e × Holds256 v.hasher (told_bytes e) };
+    ghost came = { λ s b e v. CameMade (lines_left v.made) (O.state v.sink.now) s b e × Holds256 v.digest.hasher (told_bytes e) };
 
     ghost broke = { λ s b e event v. BrokeMade b (O.state v.sink.now) e event };
 
@@ -131,21 +131,13 @@ impl<'a, O: Sink> Script for MadeScript<'a, O> {
     }
 
     fn touched(&mut self, lba: u64, block: &Block) -> Result<(), Ended> {
-        self.hasher.update(lba.to_be_bytes());
-        self.hasher.update(block.0.as_slice());
+        self.digest.take(lba, block);
         Ok(())
     }
 
     fn end(&mut self, writes: u64, reads: u64, touched: u64) -> Result<(), Ended> {
-        let Ok(hasher) = self.hasher.clone() else {
+        let Ok(end) = self.digest.end(writes, reads, touched) else {
             return Err(Ended::Memory);
-        };
-        let digest = hasher.finalize();
-        let end = Answer::End {
-            writes,
-            reads,
-            touched,
-            digest,
         };
         say(self.alloc, &mut *self.sink, &end)
     }

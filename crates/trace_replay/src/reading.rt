@@ -45,7 +45,9 @@ pub(crate) fn read_blocks<P: Script, R: Rig, V: Volume<R>>(
         result }
 {
     let mut cuts = 0;
+    // At most 16 stops are armed, so the count of cuts can't overflow:
     let _armed = rig.armed();
+    // The size is a `u64`, so no address of the volume overflows:
     let _size = volume.size();
     scratch.answers.clear();
     for i in 0..count {

@@ -3,11 +3,11 @@ ghost use Rattle.std.specs.Prelude.{◌≡◌, ◌∷◌, ◌++◌, [], length, 
 ghost use Rattle.ft_base.specs.StreamState.{SinkState, SourceState};
 
 use crate::Ended;
+use crate::digest::EndDigest;
 use crate::output::{say, say_all};
 use crate::reader::{Reader, Unread};
 use crate::script::Script;
 use ft_base::{Block, Sink, Source};
-use sha2::{Digest, Sha256};
 use std::alloc::Global;
 use trace_model::{Answer, Line};
 
@@ -20,7 +20,7 @@ pub struct StreamScript<'a, I: Source, O: Sink> {
     sink: &'a mut O,
     reader: Reader,
     /// Takes the blocks that are told.
-    hasher: Sha256,
+    digest: EndDigest,
 }
 
 impl<'a, I: Source, O: Sink> StreamScript<'a, I, O> {
@@ -47,7 +47,7 @@ impl<'a, I: Source, O: Sink> StreamScript<'a, I, O> {
             source,
             sink,
             reader: Reader::new(size),
-            hasher: Sha256::new(),
+            digest: EndDigest::new(),
         }
     }
 }
@@ -71,7 +71,7 @@ impl<'a, I: Source, O: Sink> Script for StreamScript<'a, I, O> {
           ++ (O.state v.sink.now).lent;
     } };
 
-    ghost came = { λ s b e v. CameStream v.reader (I.state v.source.now) (O.state v.sink.now) s b e × Holds256 v.hasher (told_bytes e) };
+    ghost came = { λ s b e v. CameStream v.reader (I.state v.source.now) (O.state v.sink.now) s b e × Holds256 v.digest.hasher (told_bytes e) };
 
     ghost broke = { λ s b e event v. BrokeStream b (O.state v.sink.now) e event };
 
@@ -104,21 +104,13 @@ impl<'a, I: Source, O: Sink> Script for StreamScript<'a, I, O> {
     }
 
     fn touched(&mut self, lba: u64, block: &Block) -> Result<(), Ended> {
-        self.hasher.update(lba.to_be_bytes());
-        self.hasher.update(block.0.as_slice());
+        self.digest.take(lba, block);
         Ok(())
     }
 
     fn end(&mut self, writes: u64, reads: u64, touched: u64) -> Result<(), Ended> {
-        let Ok(hasher) = self.hasher.clone() else {
+        let Ok(end) = self.digest.end(writes, reads, touched) else {
             return Err(Ended::Memory);
-        };
-        let digest = hasher.finalize();
-        let end = Answer::End {
-            writes,
-            reads,
-            touched,
-            digest,
         };
         say(self.alloc, &mut *self.sink, &end)
     }

@@ -6,7 +6,7 @@ ghost use Rattle.trace_replay.specs.Ran.{IsTallied, IsTallyOf};
 
 use std::alloc::{AllocError, Global};
 use std::collections::BTreeSet;
-use trace_model::Line;
+use trace_model::{Line, reads_of, touch_each, writes_of};
 
 /// What was counted of the lines that were run.
 #[derive(Drop)]
@@ -52,26 +52,6 @@ pub(crate) fn count(tally: &mut Tally, line: &Line, size: u64) -> Result<(), All
     Ok(())
 }
 
-fn writes_of(line: &Line) -> u64
-    ensures value { result ≡ write_count line.now }
-    ensures few { result ≤ 1 }
-{
-    match *line {
-        Line::Write { .. } => 1,
-        _ => 0,
-    }
-}
-
-fn reads_of(line: &Line) -> u64
-    ensures value { result ≡ read_count line.now }
-    ensures few { result ≤ 1 }
-{
-    match *line {
-        Line::Read { .. } => 1,
-        _ => 0,
-    }
-}
-
 /// Adds the addresses of a line.
 fn touch(touched: &mut BTreeSet<u64>, line: &Line, size: u64) -> Result<(), AllocError>
     requires line { IsRunnable size line.now }
@@ -84,17 +64,4 @@ fn touch(touched: &mut BTreeSet<u64>, line: &Line, size: u64) -> Result<(), Allo
         Line::Read { lba, count } => touch_each(touched, lba, count),
         _ => Ok(()),
     }
-}
-
-#[tactic(auto, using(crate::proofs::TallyLemmas::with_one_address))]
-fn touch_each(touched: &mut BTreeSet<u64>, lba: u64, count: u64) -> Result<(), AllocError>
-    requires { lba + count < 2 ^ 64 }
-    ensures { OnOk result (touched.new.keys ≡ with_each lba count touched.old.keys) }
-{
-    for i in 0..count {
-        if touched.insert(lba + i).is_err() {
-            return Err(AllocError);
-        }
-    }
-    Ok(())
 }

@@ -46,7 +46,9 @@ pub(crate) fn tell_touched<P: Script, R: Rig, V: Volume<R>>(
         (R.state rig.new) result }
 {
     let mut cuts = 0;
+    // At most 16 stops are armed, so the count of cuts can't overflow:
     let _armed = rig.armed();
+    // The size is a `u64`, so no address of the volume overflows:
     let _size = volume.size();
     for address in touched {
         let more = read_through(script, rig, volume, *address, block)?;

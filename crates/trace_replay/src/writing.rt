@@ -59,6 +59,7 @@ pub(crate) fn write_blocks<P: Script, R: Rig, V: Volume<R>>(
     ensures spends { SpendsSteps (puts_of request.lba request.count) (V.state volume.old) (V.state volume.new) (R.state rig.old)
         (R.state rig.new) result }
 {
+    // The size is a `u64`, so no address of the volume overflows:
     let _size = volume.size();
     for i in 0..request.count {
         pattern(request.lba + i, request.tag, block);
@@ -92,6 +93,7 @@ pub(crate) fn kept_once<P: Script, R: Rig, V: Volume<R>>(
         (R.state rig.new).contents }
     ensures went { Went P.state P.came P.broke P.knows count_unless 0 script.old script.new (R.state rig.old) (R.state rig.new) result }
 {
+    // The size is a `u64`, so no address of the volume overflows:
     let _size = volume.size();
     for i in 0..request.count {
         let cut = read_once(script, rig, volume, request.lba + i, &mut scratch.block)?;
@@ -128,6 +130,7 @@ pub(crate) fn kept_blocks<P: Script, R: Rig, V: Volume<R>>(
     ensures went { Went P.state P.came P.broke P.knows (λ b. b.cuts) 0 script.old script.new (R.state rig.old) (R.state rig.new) result }
 {
     let mut cuts = 0;
+    // At most 16 stops are armed, so the count of cuts can't overflow:
     let _armed = rig.armed();
     'again: loop {
         let back = kept_once(script, rig, volume, request, scratch)?;
@@ -180,6 +183,7 @@ pub(crate) fn run_write<P: Script, R: Rig, V: Volume<R>>(
             kept: count,
         });
     }
+    // At most 16 stops are armed, so the count of cuts can't overflow:
     let _armed = rig.armed();
     let back = kept_blocks(script, rig, volume, request, scratch)?;
     let kept = back.kept;

@@ -1,7 +1,8 @@
 use Rattle.std.proofs.Common.{◌≡◌, refl, ◌∙◌, rules}
+use Rattle.std.proofs.lemmas.Result.{IfErr-weaker, on_ok_weaker}
 use Rattle.trace_replay.proofs.ExitLemmas.{blamed_at}
 use Rattle.trace_replay.proofs.FromLemmas.{before_itself, part_from, refused_from, unread_from, whole_from}
-use Rattle.trace_replay.proofs.StreamLemmas.{known_to, lent_apart, on_err, on_ok}
+use Rattle.trace_replay.proofs.StreamLemmas.{known_to, lent_apart}
 use Rattle.trace_replay.proofs.QuietLemmas.{shown_refusal, told_nothing, told_refusal}
 use Rattle.trace_replay.proofs.quiet.replay_quiet.Goals as goal
 
@@ -15,13 +16,13 @@ returns-clause-whole g c =
     let same_source : script.source.ghost_name ≡ c.new-script.result.source.ghost_name = apart.0 in
     let same_sink : script.sink.ghost_name ≡ c.new-script.result.sink.ghost_name = apart.1 in
     let size : script.reader.size ≡ told.geometry.size = c.replay_script.ensures.goes.size ∙ c.new-script.ensures.size ∙ c.size.ensures in
-    on_ok c.replay_script.result _ _ c.replay_script.ensures.whole (λ whole.
+    on_ok_weaker c.replay_script.result (λ whole.
     whole_from told _ _ _ _ _ _ _ _ _
     (known_to script.reader.size told.geometry.size a (g.I.Source.state script.source.now) _ size (search (rules, same_source)))
     (λ run answers says. told_refusal x (g.O.Sink.state script.sink.now) _ (search (rules, same_sink)) run answers says.0 says.1 says.2.said)
     (λ y d stood. stood)
     (before_itself _)
-    (whole a x c.new-script.ensures.came))
+    (whole a x c.new-script.ensures.came)) c.replay_script.ensures.whole
 
 pub returns-clause-silent : goal.returns-clause-silent
 returns-clause-silent g c =
@@ -30,9 +31,9 @@ returns-clause-silent g c =
     let script = c.replay_script.new.script in
     let apart = lent_apart _ _ _ _ _ _ _ _ c.replay_script.ensures.goes.script_lent in
     let same_sink : script.sink.ghost_name ≡ c.new-script.result.sink.ghost_name = apart.1 in
-    on_ok c.replay_script.result _ _ c.replay_script.ensures.whole (λ whole.
+    on_ok_weaker c.replay_script.result (λ whole.
     let ran = whole a x c.new-script.ensures.came in
-    told_nothing x.taken _ ran.run ran.cuts ran.lost (told_refusal x (g.O.Sink.state script.sink.now) _ (search (rules, same_sink)) ran.run _ ran.printed.0 ran.printed.1 ran.printed.2.said))
+    told_nothing x.taken _ ran.run ran.cuts ran.lost (told_refusal x (g.O.Sink.state script.sink.now) _ (search (rules, same_sink)) ran.run _ ran.printed.0 ran.printed.1 ran.printed.2.said)) c.replay_script.ensures.whole
 
 pub returns-clause-refused : goal.returns-clause-refused
 returns-clause-refused g c = λ is.
@@ -78,14 +79,14 @@ returns-clause-part g c =
     let same_source : script.source.ghost_name ≡ c.new-script.result.source.ghost_name = apart.0 in
     let same_sink : script.sink.ghost_name ≡ c.new-script.result.sink.ghost_name = apart.1 in
     let size : script.reader.size ≡ told.geometry.size = c.replay_script.ensures.goes.size ∙ c.new-script.ensures.size ∙ c.size.ensures in
-    on_err c.replay_script.result _ _ c.replay_script.ensures.part (λ e part not_trace not_source.
+    IfErr-weaker c.replay_script.result _ _ (λ e part not_trace not_source.
     part_from told _ _ _ _ _ _ _ _ _
     (known_to script.reader.size told.geometry.size a (g.I.Source.state script.source.now) _ size (search (rules, same_source)))
     (λ run answers says. told_refusal x (g.O.Sink.state script.sink.now) _ (search (rules, same_sink)) run answers says.0 says.1 says.2.said)
     (λ y d stood. stood)
     (before_itself _)
     _ _ (shown_refusal x (g.O.Sink.state script.sink.now) _ (search (rules, same_sink))) e
-    (part not_trace not_source a x c.new-script.ensures.came))
+    (part not_trace not_source a x c.new-script.ensures.came)) c.replay_script.ensures.part
 
 pub returns-clause-causes : goal.returns-clause-causes
 returns-clause-causes g c =

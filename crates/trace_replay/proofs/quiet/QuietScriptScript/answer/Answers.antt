@@ -1,12 +1,13 @@
 use Rattle.std.proofs.Common.{sym, ◌∙◌}
+use Rattle.std.proofs.lemmas.Result.{on_ok_weaker}
 use Rattle.trace_replay.specs.Events.Event.{Took}
-use Rattle.trace_replay.proofs.StreamLemmas.{on_ok, sink_part}
+use Rattle.trace_replay.proofs.StreamLemmas.{sink_part}
 use Rattle.trace_replay.proofs.QuietLemmas.{quiet_broke, quiet_said, quiet_unheard}
 use Rattle.trace_replay.proofs.quiet.QuietScriptScript.answer.Goals as goal
 
 pub returns-then-is_refusal-clause-taken : goal.returns-then-is_refusal-clause-taken
-returns-then-is_refusal-clause-taken g c = on_ok c.say.result _ _ c.say.ensures.ok (λ said s b e came.
-    quiet_said _ _ _ s b e came (g.O.Sink.state c.say.new.sink) c.args.answer.now (sym c.is_refusal.ensures ∙ c.if-is_refusal.true) said)
+returns-then-is_refusal-clause-taken g c = on_ok_weaker c.say.result (λ said s b e came.
+    quiet_said _ _ _ s b e came (g.O.Sink.state c.say.new.sink) c.args.answer.now (sym c.is_refusal.ensures ∙ c.if-is_refusal.true) said) c.say.ensures.ok
 
 pub returns-then-is_refusal-clause-sink : goal.returns-then-is_refusal-clause-sink
 returns-then-is_refusal-clause-sink g c = λ is. (

@@ -1,15 +1,16 @@
 use Rattle.std.proofs.Common.{Err, ap, ◌∙◌, subst, arith}
+use Rattle.std.proofs.lemmas.Option.{IfSome_then}
 use Rattle.trace_model.specs.declared.answer.Answer.TheVariants as answer
 use Rattle.trace_model.specs.Lines.{IsRunnable}
 use Rattle.trace_replay.specs.declared.ended.Ended.TheVariants as ended
 use Rattle.trace_replay.specs.Events.{lines_given}
 use Rattle.trace_replay.specs.Quiet.{heard}
 use Rattle.trace_replay.proofs.QuietLemmas.{quiet_broke-refused, quiet_gave, quiet_read, quiet_refused, quiet_silent, reads_heard, refuses_heard}
-use Rattle.trace_replay.proofs.StreamLemmas.{as_error, at_memory, at_sink, few_read, next_refused, on_some, same_error}
+use Rattle.trace_replay.proofs.StreamLemmas.{as_error, at_memory, at_sink, few_read, next_refused, same_error}
 use Rattle.trace_replay.proofs.quiet.QuietScriptScript.next.Goals as goal
 
 pub returns-in-Ok-clause-line : goal.returns-in-Ok-clause-line
-returns-in-Ok-clause-line g c = on_some c.in-Ok.line _ _ c.in-Ok.ensures.line (λ l gives. (
+returns-in-Ok-clause-line g c = IfSome_then c.in-Ok.line c.in-Ok.ensures.line (λ l gives. (
   subst (λ n. IsRunnable n l) c.next.ensures.size gives.runnable,
   (let more = gives.bytes in let few = few_read c.next.new.self in omega arith),
   gives.few,
