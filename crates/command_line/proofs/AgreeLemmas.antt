@@ -1,8 +1,8 @@
 -- clap's walk and this product's grammar agree on fair words.
-use Rattle.std.proofs.Common.{◌≡◌, Bool, true, false, ◌&&◌, cond, List, [], ◌∷◌, ◌++◌, Option, Some, None, is_some, refl, ap, sym, ◌∙◌, inl, inr, if◌then◌else◌, subst}
+use Rattle.std.proofs.Common.{◌≡◌, Bool, true, false, cond, List, [], ◌∷◌, ◌++◌, Option, Some, None, is_some, refl, ap, sym, ◌∙◌, inl, inr, if◌then◌else◌, subst}
 use Rattle.std.specs.Prelude.{fold, option_and_then}
 use Rattle.std.specs.List.{list_all}
-use Rattle.std.proofs.lemmas.Bool.{cases_Bool}
+use Rattle.std.proofs.lemmas.Bool.{cases_Bool, and_parts}
 use Rattle.clap.specs.Lexer.{long_of}
 use Rattle.clap.specs.Kinds.{Kinds, or_else}
 use Rattle.clap.specs.Walk.{Held, Row, Text, Walk, idle, option, settled, used, walked}
@@ -112,10 +112,6 @@ module _ (names : List Text) (got : List Pair) (pend : Option Pair) (w : Text) (
 
 -- ---- the induction
 
-both : (a b : Bool) → (a && b) ≡ true → (a ≡ true) × (b ≡ true)
-both true b h = (refl, h)
-both false b h = cc
-
 at_end : (names : List Text) (got : List Pair) (pend : Option Pair) (r : Option (List Pair)) → SettlesAs names (held_for got (pending_pair pend)) r → Agrees names (idle_at got pend) [] r
 unfolding walk_fault
 at_end names got pend None s = s
@@ -195,7 +191,7 @@ unfolding run
 agrees names [] got pend None fair knows = at_end names got pend (settle_pair got pend) (settles names got pend knows)
 agrees names [] got pend (Some n) fair knows = waits_at_end names got n knows
 agrees names (w ∷ ws) got pend (Some n) fair knows =
-    let (word, rest) = both (is_fair_word w) (list_all is_fair_word ws) fair in
+    let (word, rest) = and_parts (is_fair_word w) (list_all is_fair_word ws) fair in
     elim (cases_Bool (begins_with_minus w)) [
       | inl minus ↦ rw minus (
           let ((m, v), e) = some_long w word minus in
@@ -207,7 +203,7 @@ agrees names (w ∷ ws) got pend (Some n) fair knows =
           (agrees names ws got (Some (n, w)) None rest knows))
     ]
 agrees names (w ∷ ws) got pend None fair knows =
-    let (word, rest) = both (is_fair_word w) (list_all is_fair_word ws) fair in
+    let (word, rest) = and_parts (is_fair_word w) (list_all is_fair_word ws) fair in
     elim (cases_Bool (begins_with_minus w)) [
       | inl minus ↦
           let ((m, v), e) = some_long w word minus in

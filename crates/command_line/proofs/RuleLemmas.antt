@@ -94,9 +94,6 @@ use_fault_is n v rows = elim (cases_Bool (has_row n rows)) [
   | inr f ↦ rw f refl
 ]
 
-pub no_value_fault : (n : Text) (rows : List Row) → use_fault false (full_rule n) [] rows ≡ kind.InvalidValue ∷ []
-no_value_fault n rows = refl
-
 -- ---- after the walk
 
 pub no_defaults : (rows : List Row) (names : List Text) → defaults_fault rows (full_rules names) ≡ []

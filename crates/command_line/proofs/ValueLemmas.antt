@@ -44,10 +44,6 @@ same_mode : (word : Option Text) (m n : Mode) → IsGiven mode_word Back word m 
 same_mode None m n given other = given ∙ sym other
 same_mode (Some word) m n given other = same_word m n (sym given ∙ other)
 
-pub no_mode : (word : Text) → bytes_eq word (codes "back") ≡ false → bytes_eq word (codes "through") ≡ false → (m : Mode) → word ≡ mode_word m → ⊥
-no_mode word back through Back is = both_ways _ back ((bytes_eq-Decides word (codes "back")).1 is)
-no_mode word back through Through is = both_ways _ through ((bytes_eq-Decides word (codes "through")).1 is)
-
 -- ---- one geometry
 
 InRange-prop : (p c l j size : ℕ) → IsProp (InRange p c l j size)
