@@ -10,14 +10,6 @@ use Rattle.trace_replay.specs.declared.ended.Ended.TheVariants.{Trace, Source, S
 use Rattle.flashtier_cli.specs.Status.{RunsEveryLine, StatusHasCause, status_of}
 use Rattle.flashtier_cli.specs.Words.{ReadsTrace}
 
-pub if_ok : {A B E : Type 0} (r : Result (Unit {0}) E) → (A → B) → OnOk r A → OnOk r B
-if_ok (Ok done) f a = f a
-if_ok (Err e) f a = a
-
-pub if_err : {A B : Ended → Type 0} (r : Result (Unit {0}) Ended) → ((e : Ended) → A e → B e) → IfErr r A → IfErr r B
-if_err (Ok done) f a = a
-if_err (Err e) f a = f e a
-
 pub at_ok : {A : Type 0} (r : Result (Unit {0}) Ended) → OnOk r A → status_of r ≡ 0 → A
 at_ok (Ok done) a is = a
 at_ok (Err Trace) a is = absurd (omega (arith, is))

@@ -13,7 +13,8 @@ use Rattle.trace_replay.specs.declared.ended.Ended.{Ended}
 use Rattle.trace_replay.specs.declared.ended.Ended.TheVariants.{Flash, Disk, Memory}
 use Rattle.flashtier_cli.specs.Fitted.{fitted_for}
 
--- a new volume of these options, which owns such contents: it is up, its cache is empty and no block waits to be written back; a disk of zero blocks, on a rig that was fitted for it, with power on and nothing armed
+-- a new volume of these options, which owns such contents: it is up, its cache is empty and no block waits to be
+-- written back; a disk of zero blocks, on a rig that was fitted for it, with power on and nothing armed
 pub record IsNewVolume (o : Told) (owns : Contents → Type 0) (v : VolumeState) (old now : State) : Type 0 where
   pub left : owns now.contents
   pub told : v.told ≡ o
@@ -25,7 +26,8 @@ pub record IsNewVolume (o : Told) (owns : Contents → Type 0) (v : VolumeState)
   pub unarmed : now.power.stops ≡ []
   pub before : IsBefore (fitted_for o.geometry old) now
 
--- what making a volume does to the rig, whatever it answers: a device that failed is told by its count; power is on and nothing is armed unless memory was refused; no block of the disk is read or written
+-- what making a volume does to the rig, whatever it answers: a device that failed is told by its count; power is on and
+-- nothing is armed unless memory was refused; no block of the disk is read or written
 pub record Begins {V : Type 0} (result : Result V Ended) (old now : State) : Type 0 where
   pub only : OnErr result (IsErrOf result Flash ⊎ IsErrOf result Disk ⊎ IsErrOf result Memory)
   pub flash : IsErrOf result Flash → Rose old.faults.flash now.faults.flash

@@ -68,7 +68,8 @@ pub record PrintsFront (g : Geometry) (loads : (Place → Page) → Entries → 
 
 -- ---- asking for a report
 
--- after so many cuts of it: power is on, the shape and what lies beneath stay, no block of the disk was read or written, no count of faults fell, and of the stops those that cut it are gone, each of which was counted
+-- after so many cuts of it: power is on, the shape and what lies beneath stay, no block of the disk was read or
+-- written, no count of faults fell, and of the stops those that cut it are gone, each of which was counted
 pub record Asks (cuts : ℕ) (old new : State) : Type 0 where
   pub on : new.power.on ≡ true
   pub shape : new.contents.shape ≡ old.contents.shape
@@ -99,7 +100,9 @@ disk_over (line ∷ later) disk = disk_over later (after_line line (block_count 
 abbrev pub TellsReport : Report → SinkState → SinkState → List Ran → List Answer → Type 0
 TellsReport report old new run answers = Prints report old new
 
--- every line was run, over what is known of them; a report of the entries that the flash has at the end was printed and nothing else; and where no stop and no cut line was run, or power was not cut, the media stand for the plain disk after all block writes of the lines
+-- every line was run, over what is known of them; a report of the entries that the flash has at the end was printed and
+-- nothing else; and where no stop and no cut line was run, or power was not cut, the media stand for the plain disk
+-- after all block writes of the lines
 pub record Inspects (o : Told) (reads : List Reading → Bool → Type 0) (loads : (Place → Page) → Entries → Type 0) (old new : SinkState)
     (stands : Image → PlainDisk → Type 0) (first now : State) : Type 0 where
   pub report : Report
@@ -117,7 +120,8 @@ TellsInspectPart g loads now old new run answers None = ⊥
 TellsInspectPart g loads now old new run answers (Some next) = TellsRefusalPart old new run answers (Some next)
     ⊎ ((is_end next ≡ true) × PrintsFront g loads now old new)
 
--- it ended so before all of its text was printed: the media are the plain disk after the lines that were run, with first block writes of the next one; and where the sink did not fail nothing was printed
+-- it ended so before all of its text was printed: the media are the plain disk after the lines that were run, with
+-- first block writes of the next one; and where the sink did not fail nothing was printed
 pub record EndsInspecting (o : Told) (reads : List Reading → Bool → Type 0) (loads : (Place → Page) → Entries → Type 0)
     (old new : SinkState) (stands : Image → PlainDisk → Type 0) (first now : State) (e : Ended) : Type 0 where
   pub part : EndsPart o reads (TellsRefusal old new) (TellsInspectPart o.geometry loads now old new) stands first now e

@@ -1,8 +1,8 @@
 use Rattle.std.proofs.Common.{inr}
+use Rattle.std.proofs.lemmas.Result.{on_ok_weaker, IfErr-weaker}
 use Rattle.ft_base.specs.declared.told.Mode.TheVariants.{Back, Through}
 use Rattle.flashtier_cli.proofs.BeginLemmas.{cause_begun, cause_later, empty_new, fresh_new, lent_later}
 use Rattle.flashtier_cli.proofs.InspectLemmas.{inspecting_new, inspects_new, refused_quiet, unread_quiet}
-use Rattle.flashtier_cli.proofs.StatusLemmas.{if_err, if_ok}
 use Rattle.flashtier_cli.proofs.inspecting.inspect_with.Goals as goal
 
 -- ---- a volume that writes back
@@ -12,9 +12,8 @@ inspect-requires-clause-fresh g c = fresh_new Back c.args.options.now _ c.in-Ok.
 
 pub returns-in-Ok-clause-whole : goal.returns-in-Ok-clause-whole
 returns-in-Ok-clause-whole g c =
-    if_ok c.inspect.result (inspects_new c.args.mode Back c.args.options.now c.in-Back.is c.in-Ok.ensures.new _ c.inspect.ensures.told
-    (g.I.Source.state c.args.source.now) (g.I.Source.state c.inspect.new.source) (g.O.Sink.state c.args.sink.now) (g.O.Sink.state c.inspect.new.sink) (g.R.Media.state c.inspect.new.rig))
-    c.inspect.ensures.whole
+    on_ok_weaker c.inspect.result (inspects_new c.args.mode Back c.args.options.now c.in-Back.is c.in-Ok.ensures.new _ c.inspect.ensures.told
+    (g.I.Source.state c.args.source.now) (g.I.Source.state c.inspect.new.source) (g.O.Sink.state c.args.sink.now) (g.O.Sink.state c.inspect.new.sink) (g.R.Media.state c.inspect.new.rig)) c.inspect.ensures.whole
 
 pub returns-in-Ok-clause-refused : goal.returns-in-Ok-clause-refused
 returns-in-Ok-clause-refused g c = λ is.
@@ -30,11 +29,10 @@ returns-in-Ok-clause-unread g c = λ is.
 
 pub returns-in-Ok-clause-part : goal.returns-in-Ok-clause-part
 returns-in-Ok-clause-part g c =
-    if_err c.inspect.result (λ e part not_trace not_source. inr (
+    IfErr-weaker c.inspect.result _ _ (λ e part not_trace not_source. inr (
     inspecting_new c.args.mode Back c.args.options.now c.in-Back.is c.in-Ok.ensures.new _ c.inspect.ensures.told
     (g.I.Source.state c.args.source.now) (g.I.Source.state c.inspect.new.source) (g.O.Sink.state c.args.sink.now) (g.O.Sink.state c.inspect.new.sink) (g.R.Media.state c.inspect.new.rig)
-    e (part not_trace not_source)))
-    c.inspect.ensures.part
+    e (part not_trace not_source))) c.inspect.ensures.part
 
 pub returns-in-Ok-clause-causes : goal.returns-in-Ok-clause-causes
 returns-in-Ok-clause-causes g c = cause_later c.in-Ok.ensures.begins c.inspect.ensures.causes
@@ -52,9 +50,8 @@ inspect-requires-in-Ok-begin_through-clause-fresh g c = fresh_new Through c.args
 
 pub returns-in-Ok-begin_through-clause-whole : goal.returns-in-Ok-begin_through-clause-whole
 returns-in-Ok-begin_through-clause-whole g c =
-    if_ok c.inspect-in-Ok-begin_through.result (inspects_new c.args.mode Through c.args.options.now c.in-Through.is c.in-Ok-begin_through.ensures.new _ c.inspect-in-Ok-begin_through.ensures.told
-    (g.I.Source.state c.args.source.now) (g.I.Source.state c.inspect-in-Ok-begin_through.new.source) (g.O.Sink.state c.args.sink.now) (g.O.Sink.state c.inspect-in-Ok-begin_through.new.sink) (g.R.Media.state c.inspect-in-Ok-begin_through.new.rig))
-    c.inspect-in-Ok-begin_through.ensures.whole
+    on_ok_weaker c.inspect-in-Ok-begin_through.result (inspects_new c.args.mode Through c.args.options.now c.in-Through.is c.in-Ok-begin_through.ensures.new _ c.inspect-in-Ok-begin_through.ensures.told
+    (g.I.Source.state c.args.source.now) (g.I.Source.state c.inspect-in-Ok-begin_through.new.source) (g.O.Sink.state c.args.sink.now) (g.O.Sink.state c.inspect-in-Ok-begin_through.new.sink) (g.R.Media.state c.inspect-in-Ok-begin_through.new.rig)) c.inspect-in-Ok-begin_through.ensures.whole
 
 pub returns-in-Ok-begin_through-clause-refused : goal.returns-in-Ok-begin_through-clause-refused
 returns-in-Ok-begin_through-clause-refused g c = λ is.
@@ -70,11 +67,10 @@ returns-in-Ok-begin_through-clause-unread g c = λ is.
 
 pub returns-in-Ok-begin_through-clause-part : goal.returns-in-Ok-begin_through-clause-part
 returns-in-Ok-begin_through-clause-part g c =
-    if_err c.inspect-in-Ok-begin_through.result (λ e part not_trace not_source. inr (
+    IfErr-weaker c.inspect-in-Ok-begin_through.result _ _ (λ e part not_trace not_source. inr (
     inspecting_new c.args.mode Through c.args.options.now c.in-Through.is c.in-Ok-begin_through.ensures.new _ c.inspect-in-Ok-begin_through.ensures.told
     (g.I.Source.state c.args.source.now) (g.I.Source.state c.inspect-in-Ok-begin_through.new.source) (g.O.Sink.state c.args.sink.now) (g.O.Sink.state c.inspect-in-Ok-begin_through.new.sink) (g.R.Media.state c.inspect-in-Ok-begin_through.new.rig)
-    e (part not_trace not_source)))
-    c.inspect-in-Ok-begin_through.ensures.part
+    e (part not_trace not_source))) c.inspect-in-Ok-begin_through.ensures.part
 
 pub returns-in-Ok-begin_through-clause-causes : goal.returns-in-Ok-begin_through-clause-causes
 returns-in-Ok-begin_through-clause-causes g c = cause_later c.in-Ok-begin_through.ensures.begins c.inspect-in-Ok-begin_through.ensures.causes

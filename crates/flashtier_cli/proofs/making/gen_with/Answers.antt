@@ -1,7 +1,7 @@
 use Rattle.std.proofs.Common.{inr}
+use Rattle.std.proofs.lemmas.Result.{on_ok_weaker, IfErr-weaker}
 use Rattle.ft_base.specs.declared.told.Mode.TheVariants.{Back, Through}
 use Rattle.flashtier_cli.proofs.BeginLemmas.{empty_new, fresh_new, lent_untraced, part_made, untraced_begun, untraced_later, whole_made}
-use Rattle.flashtier_cli.proofs.StatusLemmas.{if_err, if_ok}
 use Rattle.flashtier_cli.proofs.making.gen_with.Goals as goal
 
 -- ---- a volume that writes back
@@ -11,17 +11,15 @@ replay_made-requires-clause-fresh g c = fresh_new Back c.args.options.now _ c.in
 
 pub returns-in-Ok-clause-whole : goal.returns-in-Ok-clause-whole
 returns-in-Ok-clause-whole g c =
-    if_ok c.replay_made.result (whole_made c.args.mode Back c.args.options.now c.in-Back.is c.in-Ok.ensures.new _ c.replay_made.ensures.told _ _ c.new-made.ensures.lines
-    (g.O.Sink.state c.args.sink.now) (g.O.Sink.state c.replay_made.new.sink) (g.R.Media.state c.replay_made.new.rig))
-    c.replay_made.ensures.whole
+    on_ok_weaker c.replay_made.result (whole_made c.args.mode Back c.args.options.now c.in-Back.is c.in-Ok.ensures.new _ c.replay_made.ensures.told _ _ c.new-made.ensures.lines
+    (g.O.Sink.state c.args.sink.now) (g.O.Sink.state c.replay_made.new.sink) (g.R.Media.state c.replay_made.new.rig)) c.replay_made.ensures.whole
 
 pub returns-in-Ok-clause-part : goal.returns-in-Ok-clause-part
 returns-in-Ok-clause-part g c =
-    if_err c.replay_made.result (λ e part. inr (
+    IfErr-weaker c.replay_made.result _ _ (λ e part. inr (
     part_made c.args.mode Back c.args.options.now c.in-Back.is c.in-Ok.ensures.new _ c.replay_made.ensures.told _ _ c.new-made.ensures.lines
     (g.O.Sink.state c.args.sink.now) (g.O.Sink.state c.replay_made.new.sink) (g.R.Media.state c.replay_made.new.rig)
-    e part))
-    c.replay_made.ensures.part
+    e part)) c.replay_made.ensures.part
 
 pub returns-in-Ok-clause-causes : goal.returns-in-Ok-clause-causes
 returns-in-Ok-clause-causes g c = untraced_later c.in-Ok.ensures.begins c.replay_made.ensures.causes
@@ -39,17 +37,15 @@ replay_made-requires-in-Ok-begin_through-clause-fresh g c = fresh_new Through c.
 
 pub returns-in-Ok-begin_through-clause-whole : goal.returns-in-Ok-begin_through-clause-whole
 returns-in-Ok-begin_through-clause-whole g c =
-    if_ok c.replay_made-in-Ok-begin_through.result (whole_made c.args.mode Through c.args.options.now c.in-Through.is c.in-Ok-begin_through.ensures.new _ c.replay_made-in-Ok-begin_through.ensures.told _ _ c.new-made.ensures.lines
-    (g.O.Sink.state c.args.sink.now) (g.O.Sink.state c.replay_made-in-Ok-begin_through.new.sink) (g.R.Media.state c.replay_made-in-Ok-begin_through.new.rig))
-    c.replay_made-in-Ok-begin_through.ensures.whole
+    on_ok_weaker c.replay_made-in-Ok-begin_through.result (whole_made c.args.mode Through c.args.options.now c.in-Through.is c.in-Ok-begin_through.ensures.new _ c.replay_made-in-Ok-begin_through.ensures.told _ _ c.new-made.ensures.lines
+    (g.O.Sink.state c.args.sink.now) (g.O.Sink.state c.replay_made-in-Ok-begin_through.new.sink) (g.R.Media.state c.replay_made-in-Ok-begin_through.new.rig)) c.replay_made-in-Ok-begin_through.ensures.whole
 
 pub returns-in-Ok-begin_through-clause-part : goal.returns-in-Ok-begin_through-clause-part
 returns-in-Ok-begin_through-clause-part g c =
-    if_err c.replay_made-in-Ok-begin_through.result (λ e part. inr (
+    IfErr-weaker c.replay_made-in-Ok-begin_through.result _ _ (λ e part. inr (
     part_made c.args.mode Through c.args.options.now c.in-Through.is c.in-Ok-begin_through.ensures.new _ c.replay_made-in-Ok-begin_through.ensures.told _ _ c.new-made.ensures.lines
     (g.O.Sink.state c.args.sink.now) (g.O.Sink.state c.replay_made-in-Ok-begin_through.new.sink) (g.R.Media.state c.replay_made-in-Ok-begin_through.new.rig)
-    e part))
-    c.replay_made-in-Ok-begin_through.ensures.part
+    e part)) c.replay_made-in-Ok-begin_through.ensures.part
 
 pub returns-in-Ok-begin_through-clause-causes : goal.returns-in-Ok-begin_through-clause-causes
 returns-in-Ok-begin_through-clause-causes g c = untraced_later c.in-Ok-begin_through.ensures.begins c.replay_made-in-Ok-begin_through.ensures.causes

@@ -1,7 +1,7 @@
 use Rattle.std.proofs.Common.{inr}
+use Rattle.std.proofs.lemmas.Result.{on_ok_weaker, IfErr-weaker}
 use Rattle.ft_base.specs.declared.told.Mode.TheVariants.{Back, Through}
 use Rattle.flashtier_cli.proofs.BeginLemmas.{cause_begun, cause_later, empty_new, fresh_new, lent_later, part_new, refused_new, unread_new, whole_new}
-use Rattle.flashtier_cli.proofs.StatusLemmas.{if_err, if_ok}
 use Rattle.flashtier_cli.proofs.replaying.replay_with.Goals as goal
 
 -- ---- a volume that writes back
@@ -11,9 +11,8 @@ replay-requires-clause-fresh g c = fresh_new Back c.args.options.now _ c.in-Ok.e
 
 pub returns-in-Ok-clause-whole : goal.returns-in-Ok-clause-whole
 returns-in-Ok-clause-whole g c =
-    if_ok c.replay.result (whole_new c.args.mode Back c.args.options.now c.in-Back.is c.in-Ok.ensures.new _ c.replay.ensures.told
-    (g.I.Source.state c.args.source.now) (g.I.Source.state c.replay.new.source) (g.O.Sink.state c.args.sink.now) (g.O.Sink.state c.replay.new.sink) (g.R.Media.state c.replay.new.rig))
-    c.replay.ensures.whole
+    on_ok_weaker c.replay.result (whole_new c.args.mode Back c.args.options.now c.in-Back.is c.in-Ok.ensures.new _ c.replay.ensures.told
+    (g.I.Source.state c.args.source.now) (g.I.Source.state c.replay.new.source) (g.O.Sink.state c.args.sink.now) (g.O.Sink.state c.replay.new.sink) (g.R.Media.state c.replay.new.rig)) c.replay.ensures.whole
 
 pub returns-in-Ok-clause-refused : goal.returns-in-Ok-clause-refused
 returns-in-Ok-clause-refused g c = λ is.
@@ -29,11 +28,10 @@ returns-in-Ok-clause-unread g c = λ is.
 
 pub returns-in-Ok-clause-part : goal.returns-in-Ok-clause-part
 returns-in-Ok-clause-part g c =
-    if_err c.replay.result (λ e part not_trace not_source. inr (
+    IfErr-weaker c.replay.result _ _ (λ e part not_trace not_source. inr (
     part_new c.args.mode Back c.args.options.now c.in-Back.is c.in-Ok.ensures.new _ c.replay.ensures.told
     (g.I.Source.state c.args.source.now) (g.I.Source.state c.replay.new.source) (g.O.Sink.state c.args.sink.now) (g.O.Sink.state c.replay.new.sink) (g.R.Media.state c.replay.new.rig)
-    e (part not_trace not_source)))
-    c.replay.ensures.part
+    e (part not_trace not_source))) c.replay.ensures.part
 
 pub returns-in-Ok-clause-causes : goal.returns-in-Ok-clause-causes
 returns-in-Ok-clause-causes g c = cause_later c.in-Ok.ensures.begins c.replay.ensures.causes
@@ -51,9 +49,8 @@ replay-requires-in-Ok-begin_through-clause-fresh g c = fresh_new Through c.args.
 
 pub returns-in-Ok-begin_through-clause-whole : goal.returns-in-Ok-begin_through-clause-whole
 returns-in-Ok-begin_through-clause-whole g c =
-    if_ok c.replay-in-Ok-begin_through.result (whole_new c.args.mode Through c.args.options.now c.in-Through.is c.in-Ok-begin_through.ensures.new _ c.replay-in-Ok-begin_through.ensures.told
-    (g.I.Source.state c.args.source.now) (g.I.Source.state c.replay-in-Ok-begin_through.new.source) (g.O.Sink.state c.args.sink.now) (g.O.Sink.state c.replay-in-Ok-begin_through.new.sink) (g.R.Media.state c.replay-in-Ok-begin_through.new.rig))
-    c.replay-in-Ok-begin_through.ensures.whole
+    on_ok_weaker c.replay-in-Ok-begin_through.result (whole_new c.args.mode Through c.args.options.now c.in-Through.is c.in-Ok-begin_through.ensures.new _ c.replay-in-Ok-begin_through.ensures.told
+    (g.I.Source.state c.args.source.now) (g.I.Source.state c.replay-in-Ok-begin_through.new.source) (g.O.Sink.state c.args.sink.now) (g.O.Sink.state c.replay-in-Ok-begin_through.new.sink) (g.R.Media.state c.replay-in-Ok-begin_through.new.rig)) c.replay-in-Ok-begin_through.ensures.whole
 
 pub returns-in-Ok-begin_through-clause-refused : goal.returns-in-Ok-begin_through-clause-refused
 returns-in-Ok-begin_through-clause-refused g c = λ is.
@@ -69,11 +66,10 @@ returns-in-Ok-begin_through-clause-unread g c = λ is.
 
 pub returns-in-Ok-begin_through-clause-part : goal.returns-in-Ok-begin_through-clause-part
 returns-in-Ok-begin_through-clause-part g c =
-    if_err c.replay-in-Ok-begin_through.result (λ e part not_trace not_source. inr (
+    IfErr-weaker c.replay-in-Ok-begin_through.result _ _ (λ e part not_trace not_source. inr (
     part_new c.args.mode Through c.args.options.now c.in-Through.is c.in-Ok-begin_through.ensures.new _ c.replay-in-Ok-begin_through.ensures.told
     (g.I.Source.state c.args.source.now) (g.I.Source.state c.replay-in-Ok-begin_through.new.source) (g.O.Sink.state c.args.sink.now) (g.O.Sink.state c.replay-in-Ok-begin_through.new.sink) (g.R.Media.state c.replay-in-Ok-begin_through.new.rig)
-    e (part not_trace not_source)))
-    c.replay-in-Ok-begin_through.ensures.part
+    e (part not_trace not_source))) c.replay-in-Ok-begin_through.ensures.part
 
 pub returns-in-Ok-begin_through-clause-causes : goal.returns-in-Ok-begin_through-clause-causes
 returns-in-Ok-begin_through-clause-causes g c = cause_later c.in-Ok-begin_through.ensures.begins c.replay-in-Ok-begin_through.ensures.causes

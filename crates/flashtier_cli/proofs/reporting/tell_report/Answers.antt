@@ -1,5 +1,5 @@
 use Rattle.flashtier_cli.proofs.AskLemmas.{ok_any, silent_but}
-use Rattle.flashtier_cli.proofs.StatusLemmas.{if_ok}
+use Rattle.std.proofs.lemmas.Result.{on_ok_weaker}
 use Rattle.flashtier_cli.proofs.reporting.tell_report.Goals as goal
 
 pub returns-in-Ok-clause-asks : goal.returns-in-Ok-clause-asks
@@ -8,7 +8,7 @@ returns-in-Ok-clause-asks g c =
     (asks.0, asks.1, ok_any c.print_report.result asks.2)
 
 pub returns-in-Ok-clause-printed : goal.returns-in-Ok-clause-printed
-returns-in-Ok-clause-printed g c = if_ok c.print_report.result (λ prints. record { report = c.in-Ok.report; is = c.in-Ok.ensures.report; printed = prints }) c.print_report.ensures.printed
+returns-in-Ok-clause-printed g c = on_ok_weaker c.print_report.result (λ prints. record { report = c.in-Ok.report; is = c.in-Ok.ensures.report; printed = prints }) c.print_report.ensures.printed
 
 pub returns-in-Ok-clause-short : goal.returns-in-Ok-clause-short
 returns-in-Ok-clause-short g c = λ is.
