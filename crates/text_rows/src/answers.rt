@@ -31,29 +31,10 @@ fn stop(after: u64) -> Ran
 #[test]
 fn reads_tell_what_was_written(rt: HostRuntime) -> Result<(), Fail> {
     let (lba, count, tag) = (5, 1, 7);
-    let (cuts, kept) = (0, 1);
-    let line = Line::Write { lba, count, tag };
-    let write = Ran {
-        line,
-        cuts,
-        kept,
-        lost: 0,
-    };
-    let line = Line::Read { lba, count };
-    let here = Ran {
-        line,
-        cuts,
-        kept,
-        lost: 0,
-    };
-    let line = Line::Read { lba: 6, count };
-    let there = Ran {
-        line,
-        cuts,
-        kept,
-        lost: 0,
-    };
-    let told = plain_told(rt.alloc(), &[there, here, write])?;
+    let first = ran(write(lba, count, tag), 0, 1);
+    let here = ran(Line::Read { lba, count }, 0, 1);
+    let there = ran(Line::Read { lba: 6, count }, 0, 1);
+    let told = plain_told(rt.alloc(), &[there, here, first])?;
     let wanted = [
         Answer::Wrote { lba, count },
         Answer::ReadBack { lba, tag },
@@ -68,44 +49,13 @@ fn reads_tell_what_was_written(rt: HostRuntime) -> Result<(), Fail> {
 #[test]
 fn a_cut_write_keeps_its_first_blocks(rt: HostRuntime) -> Result<(), Fail> {
     let outcome = Outcome::Torn;
-    let (lba, count, tag) = (2, 3, 9);
-    let (cuts, kept) = (0, 2);
-    let line = Line::Stop { after: 3, outcome };
-    let stop = Ran {
-        line,
-        cuts,
-        kept,
-        lost: 0,
-    };
-    let line = Line::Write { lba, count, tag };
-    let write = Ran {
-        line,
-        cuts: 1,
-        kept,
-        lost: 0,
-    };
-    let line = Line::Read { lba: 3, count: 2 };
-    let read = Ran {
-        line,
-        cuts,
-        kept,
-        lost: 0,
-    };
-    let line = Line::Flush;
-    let flush = Ran {
-        line,
-        cuts,
-        kept,
-        lost: 0,
-    };
-    let line = Line::Cut { outcome };
-    let cut = Ran {
-        line,
-        cuts,
-        kept,
-        lost: 0,
-    };
-    let told = plain_told(rt.alloc(), &[cut, flush, read, write, stop])?;
+    let (count, tag, kept) = (3, 9, 2);
+    let armed = ran(Line::Stop { after: 3, outcome }, 0, kept);
+    let torn = ran(write(2, count, tag), 1, kept);
+    let read = ran(Line::Read { lba: 3, count: 2 }, 0, kept);
+    let flush = ran(Line::Flush, 0, kept);
+    let cut = ran(Line::Cut { outcome }, 0, kept);
+    let told = plain_told(rt.alloc(), &[cut, flush, read, torn, armed])?;
     let wanted = [
         Answer::Stopped,
         Answer::Kept { kept, count },
