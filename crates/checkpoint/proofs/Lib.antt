@@ -2,6 +2,7 @@ pub mod OnlyLemmas
 pub mod PlacesLemmas
 pub mod CountsLemmas
 pub mod ListsLemmas
+pub mod AskedLemmas
 pub mod ErasingLemmas
 pub mod UnsealedLemmas
 pub mod CountingLemmas

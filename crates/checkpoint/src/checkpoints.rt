@@ -6,40 +6,47 @@ ghost use Rattle.ft_media.specs.Drives.{OnlyDrives};
 ghost use Rattle.checkpoint.specs.Commits.{CanCheckpoint, LogGoesOn, LeavesPool, AddsLogPage, AddsCheckpoint};
 ghost use Rattle.checkpoint.specs.Current.{IsOpenLog, IsCommitted, LogGoesLast, log_committed, log_checkpointed};
 
+use crate::asking::ROOM;
 use crate::writing::{Target, write_checkpoint};
-use ft_base::{Block, Geometry, zero_block};
+use ft_base::{Block, Geometry, Record, zero_block};
 use ft_media::{Media, MediaError};
 use mapping::Map;
 use op_log::OpLog;
 use std::alloc::{AllocError, Global};
 use std::marker::Model;
 
-/// Makes checkpoints, in a page of its own.
+/// Makes checkpoints, in a page and a list of records of its own.
 #[derive(Drop)]
 pub struct Checkpoints {
     geometry: Geometry,
     page: Box<Block>,
+    asked: Vec<Record>,
 }
 
 impl Model for Checkpoints {
+    ghost use Rattle.std.specs.Prelude.{◌≡◌, length};
     ghost use Rattle.ft_base.specs.declared.geometry.Geometry.{Geometry};
 
     ghost Value = { Geometry };
 
     ghost view = { λ c. c.geometry };
+
+    ghost invariant = { λ c. length c.asked.items ≡ 2032 };
 }
 
 impl Checkpoints {
-    /// Takes the page that checkpoints are written in.
+    /// Takes the page that checkpoints are written in, and the list for their records.
     pub fn new(alloc: Global, geometry: &Geometry) -> Result<Checkpoints, AllocError>
         ensures { IfOk result (λ c. c ≡ geometry.now) }
     {
         let Ok(page) = Box::new(alloc, zero_block()) else {
             return Err(AllocError);
         };
+        let asked = vec![in alloc; Record::Remove { lba: 0 }; ROOM as usize]?;
         Ok(Checkpoints {
             geometry: *geometry,
             page,
+            asked,
         })
     }
 
@@ -101,7 +108,8 @@ impl Checkpoints {
             region: 1 - log.region(),
             era: (log.era() + 1) % 3,
         };
-        write_checkpoint(media, &mut self.page, &self.geometry, map, &target)?;
+        let asked = self.asked.as_mut_slice();
+        write_checkpoint(media, &mut self.page, asked, &self.geometry, map, &target)?;
         log.restart(target.region, target.era);
         Ok(())
     }

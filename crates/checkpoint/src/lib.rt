@@ -7,6 +7,7 @@
 //! laws of loading are those of `cache_model::laws`.
 #![tactic(auto)]
 
+mod asking;
 mod checkpoints;
 mod erasing;
 mod formatting;

@@ -1,19 +1,23 @@
-ghost use Rattle.std.specs.Prelude.{◌≡◌, ◌⊎◌, ◌<◌, ◌≤◌, ◌+◌, ◌*◌, length, OnOk};
+ghost use Rattle.std.specs.Prelude.{true, ◌≡◌, ◌⊎◌, ◌<◌, ◌≤◌, ◌+◌, ◌*◌, length, OnOk};
+ghost use Rattle.std.specs.List.{list_all};
 ghost use Rattle.ft_base.specs.Count.{Rose};
 ghost use Rattle.ft_base.specs.Layout.{checkpoint_at, checkpoint_pages, k, page_records};
 ghost use Rattle.ft_media.specs.Media.{program_counted};
 ghost use Rattle.ft_media.specs.Passes.{Spends};
 ghost use Rattle.ft_media.specs.Drives.{OnlyDrives};
+ghost use Rattle.cache_model.specs.declared.format.PageKind.TheVariants as PageKind;
 ghost use Rattle.cache_model.specs.Entries.{IsMap};
+ghost use Rattle.cache_model.specs.Spelling.{may_stand_in};
 ghost use Rattle.mapping.specs.Checkpoint.{IsCheckpointOf};
 ghost use Rattle.op_log.specs.Log.{FitsOn};
 ghost use Rattle.checkpoint.specs.Counts.{programs_counted, checkpoint_counted};
 ghost use Rattle.checkpoint.specs.Regions.{AreBlank, CanProgram, IsReadyAt, IsMapPage, IsSealPage, Programmed, LeavesOne, MapsWritten, LeavesMaps, IsUnsealed, IsSealed, IsWritten, part, map_pages};
 
+use crate::asking::{ask, records_of};
 use crate::erasing::erase_regions;
 use crate::pages::{MOST, write_map, write_numbers};
 use cache_model::SpareKind;
-use ft_base::{Block, Geometry};
+use ft_base::{Block, Geometry, Record};
 use ft_media::{Media, MediaError};
 use mapping::Map;
 use page_oob::write_spare;
@@ -29,28 +33,30 @@ pub(crate) struct Target {
     ghost one_of_three: { era ≤ 2 },
 }
 
-/// Programs a map page of a checkpoint.
+/// Programs a map page of a checkpoint, of these records.
 fn program_map<M: Media>(
     media: &mut M,
     page: &mut Block,
     geometry: &Geometry,
-    map: &Map,
     target: &Target,
     sequence: u32,
+    records: &[Record],
 ) -> Result<(), MediaError>
-    requires can { CanProgram geometry.now map.now (M.state media.old).contents }
-    requires some { page_records geometry.now * sequence < length map.now.records }
+    requires shape { FitsOn geometry.now (M.state media.old).contents.shape }
+    requires kinds { list_all (may_stand_in PageKind.Map) records.now ≡ true }
+    requires some { 1 ≤ length records.now }
+    requires few { length records.now ≤ 127 }
     requires room { sequence < checkpoint_pages geometry.now }
     requires ready { IsReadyAt (checkpoint_at geometry.now target.now.region sequence) (M.state media.old).contents.flash }
-    ensures done { OnOk result (Programmed (IsMapPage target.now.era sequence (part geometry.now map.now.records sequence))
+    ensures done { OnOk result (Programmed (IsMapPage target.now.era sequence records.now)
         (checkpoint_at geometry.now target.now.region sequence) (M.state media.old).contents.flash (M.state media.new).contents.flash) }
     ensures counts { OnOk result ((M.state media.new).counts ≡ program_counted (M.state media.old).counts) }
-    ensures pages { LeavesOne (IsMapPage target.now.era sequence (part geometry.now map.now.records sequence))
+    ensures pages { LeavesOne (IsMapPage target.now.era sequence records.now)
         (checkpoint_at geometry.now target.now.region sequence) (M.state media.old).contents.flash (M.state media.new).contents.flash }
     ensures programs { OnOk result (Rose (M.state media.old).counts.programs (M.state media.new).counts.programs) }
     ensures drives { OnlyDrives (M.state media.old) (M.state media.new) result }
 {
-    write_map(page, map, target.era, sequence);
+    write_map(page, records, target.era, sequence);
     let at = geometry.checkpoint_at(target.region, sequence);
     let spare = write_spare(SpareKind::Map, target.era, sequence as u64);
     media.program(at, page, &spare)?;
@@ -61,6 +67,7 @@ fn program_map<M: Media>(
 fn program_maps<M: Media>(
     media: &mut M,
     page: &mut Block,
+    asked: &mut [Record],
     geometry: &Geometry,
     map: &Map,
     target: &Target,
@@ -70,6 +77,8 @@ fn program_maps<M: Media>(
     requires all { pages ≡ map_pages geometry.now map.now.records }
     requires room { pages < checkpoint_pages geometry.now }
     requires blank { AreBlank (target.now.region * k geometry.now) (k geometry.now) (M.state media.old).contents.flash }
+    requires asked { length asked.old ≡ 2032 }
+    ensures asked { length asked.new ≡ 2032 }
     ensures done { OnOk result (MapsWritten geometry.now target.now.region target.now.era map.now.records pages
         (M.state media.old).contents.flash (M.state media.new).contents.flash) }
     ensures counts { OnOk result ((M.state media.new).counts ≡ programs_counted pages (M.state media.old).counts) }
@@ -78,7 +87,9 @@ fn program_maps<M: Media>(
     ensures drives { OnlyDrives (M.state media.old) (M.state media.new) result }
 {
     for sequence in 0..pages {
-        program_map(media, page, geometry, map, target, sequence)?;
+        ask(map, asked, sequence);
+        let records = records_of(map, asked, sequence);
+        program_map(media, page, geometry, target, sequence, records)?;
     }
     Ok(())
 }
@@ -115,6 +126,7 @@ pub(crate) fn program_seal<M: Media>(
 pub(crate) fn write_checkpoint<M: Media>(
     media: &mut M,
     page: &mut Block,
+    asked: &mut [Record],
     geometry: &Geometry,
     map: &Map,
     target: &Target,
@@ -122,6 +134,8 @@ pub(crate) fn write_checkpoint<M: Media>(
     requires shape { FitsOn geometry.now (M.state media.old).contents.shape }
     requires map { map.now.geometry ≡ geometry.now }
     requires is_map { IsMap geometry.now map.now.entries }
+    requires asked { length asked.old ≡ 2032 }
+    ensures asked { length asked.new ≡ 2032 }
     ensures listing { IsCheckpointOf geometry.now map.now.entries map.now.records }
     ensures done { OnOk result (IsWritten geometry.now target.now.region target.now.era map.now.records (M.state media.old).contents.flash
         (M.state media.new).contents.flash) }
@@ -138,7 +152,7 @@ pub(crate) fn write_checkpoint<M: Media>(
     let records = map.checkpoint_len();
     let pages = (records + MOST - 1) / MOST;
     erase_regions(media, geometry, target.region)?;
-    program_maps(media, page, geometry, map, target, pages)?;
+    program_maps(media, page, asked, geometry, map, target, pages)?;
     // The seal last: until it is whole the old checkpoint counts.
     program_seal(media, page, geometry, target, pages, records)?;
     Ok(())
