@@ -1,5 +1,5 @@
 -- Records applied one after the other, with room for all of them.
-use Rattle.std.proofs.Common.{◌≡◌, ℕ, ◌+◌, ◌<◌, ◌≤◌, ◌==◌, Bool, true, false, cond, List, length, get_or, drop, None, refl, sym, ◌∙◌, ap, subst, arith}
+use Rattle.std.proofs.Common.{◌≡◌, ℕ, ◌+◌, ◌<◌, ◌≤◌, ◌==◌, Bool, true, false, cond, List, length, get_or, drop, None, refl, sym, ◌∙◌, ap, ap₂, subst, arith}
 use Rattle.std.proofs.lemmas.List.{at_drop_more}
 use Rattle.std.proofs.lemmas.List.Sums.{sum_by-drop_more}
 use Rattle.ft_base.specs.declared.geometry.Geometry.{Geometry}
@@ -26,10 +26,14 @@ group_taken (Clean lba) = refl
 group_taken (SetGroup group block present dirty) = refl
 group_taken (RemoveGroup group) = refl
 
--- the first i records are applied, and there is room for the others
+-- the first i records are applied
 pub record AppliedSoFar (changes : List Record) (i : ℕ) (first now : MapValue) : Type 0 where
   pub geometry : now.geometry ≡ first.geometry
   pub entries : after_all first.geometry changes first.entries ≡ after_all first.geometry (drop i changes) now.entries
+
+-- and there is room for the others
+pub record AppliedWithRoom (changes : List Record) (i : ℕ) (first now : MapValue) : Type 0 where
+  pub applied : AppliedSoFar changes i first now
   pub pages : pages_needed (drop i changes) ≤ now.spare_pages
   pub groups : groups_needed (drop i changes) ≤ now.spare_groups
   pub pages_gone : now.spare_pages + pages_needed changes ≡ first.spare_pages + pages_needed (drop i changes)
@@ -57,22 +61,31 @@ module _ (changes : List Record) (i : ℕ) (d : Record) (within : i < length cha
       by_test true t = absurd (unfit (subst (λ (g : Geometry). Fits g (get_or changes i d) now.entries) (sym so.geometry) (fits-true first.geometry (get_or changes i d) now.entries t)))
       by_test false t = next_first first now so ∙ ap (λ b. cond b (after_all first.geometry (drop (i + 1) changes) (after first.geometry (get_or changes i d) now.entries)) None) t
 
-  pub applied_more : (first now next : MapValue) → AppliedSoFar changes i first now → Fits now.geometry (get_or changes i d) now.entries → next.geometry ≡ now.geometry
-      → next.entries ≡ after now.geometry (get_or changes i d) now.entries → next.spare_pages + pages_taken (get_or changes i d) ≡ now.spare_pages
-      → next.spare_groups + groups_taken (get_or changes i d) ≡ now.spare_groups → AppliedSoFar changes (i + 1) first next
-  applied_more first now next so fit geometry entries pages groups =
+  -- a map that is ready for the record is as it was, and next is what it became
+  pub next_applied : (first now : MapValue) → AppliedSoFar changes i first now → (ready next : MapValue) → ready.geometry ≡ now.geometry → ready.entries ≡ now.entries
+      → Fits now.geometry (get_or changes i d) now.entries → next.geometry ≡ ready.geometry → next.entries ≡ after ready.geometry (get_or changes i d) ready.entries → AppliedSoFar changes (i + 1) first next
+  next_applied first now so ready next same_geometry same fit geometry entries =
       let r = get_or changes i d in
-      let some = so.pages in
-      let others = so.groups in
-      let gone = so.pages_gone in
-      let gone' = so.groups_gone in
-      let here : next.entries ≡ after first.geometry r now.entries = entries ∙ ap (λ g. after g r now.entries) so.geometry in
+      let at_first : ready.geometry ≡ first.geometry = same_geometry ∙ so.geometry in
+      let here : next.entries ≡ after first.geometry r now.entries = entries ∙ ap₂ (λ g m. after g r m) at_first same in
       record {
-        geometry = geometry ∙ so.geometry;
+        geometry = geometry ∙ at_first;
         entries =
             next_first first now so
             ∙ ap (λ b. cond b (after_all first.geometry (drop (i + 1) changes) (after first.geometry r now.entries)) None) (fits_here changes i r first now so fit)
             ∙ ap (λ m. after_all first.geometry (drop (i + 1) changes) m) (sym here);
+      }
+
+  pub applied_more : (first now next : MapValue) → AppliedWithRoom changes i first now → Fits now.geometry (get_or changes i d) now.entries → next.geometry ≡ now.geometry
+      → next.entries ≡ after now.geometry (get_or changes i d) now.entries → next.spare_pages + pages_taken (get_or changes i d) ≡ now.spare_pages
+      → next.spare_groups + groups_taken (get_or changes i d) ≡ now.spare_groups → AppliedWithRoom changes (i + 1) first next
+  applied_more first now next so fit geometry entries pages groups =
+      let some = so.pages in
+      let others = so.groups in
+      let gone = so.pages_gone in
+      let gone' = so.groups_gone in
+      record {
+        applied = next_applied first now so.applied now next refl refl fit geometry entries;
         pages = omega (arith, pages_left);
         groups = omega (arith, groups_left);
         pages_gone = omega (arith, pages_left);

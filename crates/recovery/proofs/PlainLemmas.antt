@@ -1,24 +1,19 @@
 -- The plain program, step by step.
-use Rattle.std.proofs.Common.{◌≡◌, ℕ, suc, ◌+◌, ◌-◌, ◌*◌, ◌<◌, ◌≤◌, Bool, true, false, cond, List, ◌∷◌, length, get_or, drop, Option, Some, None, ok_or, Result, Ok, Err, refl, sym, ◌∙◌, ap, ap₂, subst, arith}
+use Rattle.std.proofs.Common.{◌≡◌, ℕ, suc, ◌+◌, ◌-◌, ◌*◌, ◌<◌, ◌≤◌, Bool, true, false, cond, List, ◌∷◌, Option, Some, None, ok_or, Result, Ok, Err, sym, ◌∙◌, ap, ap₂, subst, arith}
 use Rattle.std.specs.Option.{MatchOption, option_map, option_or, option_and_then}
 use Rattle.std.specs.FinMap.{entries}
-use Rattle.std.proofs.lemmas.List.{at_drop_more}
 use Rattle.ft_base.specs.declared.geometry.Geometry.{Geometry}
 use Rattle.ft_base.specs.declared.block.Place.{Place}
 use Rattle.ft_base.specs.declared.block.Page.{Page}
-use Rattle.ft_base.specs.declared.record.Record.{Record}
 use Rattle.ft_base.specs.Layout.{checkpoint_at, checkpoint_pages}
 use Rattle.cache_model.specs.declared.format.PageKind.{PageKind}
 use Rattle.cache_model.specs.declared.format.PageKind.TheVariants.{Map}
 use Rattle.cache_model.specs.declared.format.Header.{Header}
 use Rattle.cache_model.specs.declared.format.Seal.{Seal}
-use Rattle.cache_model.specs.Records.{Entries, after, no_entries}
-use Rattle.cache_model.specs.Entries.{Fits, fits}
+use Rattle.cache_model.specs.Records.{Entries, no_entries}
 use Rattle.cache_model.specs.Reading.{read_records}
 use Rattle.cache_model.specs.Loading.{Refusal, ◌>>=◌, Complete, complete, said, header_at, seal_at, sealed_from, era_in, checkpoint_in, checkpoint_region, pages_from, after_all, newest, is_wanted, wanted, checkpoint_of, replayed, all_whole, load}
 use Rattle.cache_model.specs.Loading.Refusal.{NotFormatted, OtherGeometry, Damaged as damaged}
-use Rattle.cache_model.proofs.FitsLemmas.{fits-true, fits-from}
-use Rattle.mapping.specs.MapValue.{MapValue}
 use Rattle.op_log.specs.Walk.{page_step}
 use Rattle.checkpoint.proofs.FormatLemmas.{some_pages}
 use Rattle.recovery.proofs.LoadLemmas.{maps_applied, log_applied, both_parts}
@@ -72,38 +67,6 @@ pub era_some : (g : Geometry) (page : Place → Page) (region : ℕ) (place : Pl
     → left ≡ sealed_from era 0 0 (checkpoint_region g page region) → left ≡ checkpoint_in (checkpoint_region g page region)
 era_some g page region place p era left here read some is =
     is ∙ sym (by_era g page region ∙ ap (option_and_then (λ e. sealed_from e 0 0 (checkpoint_region g page region))) (sym (some ∙ ap era_in (read ∙ ap page here))))
-
--- ---- records
-
--- the first i records are applied
-pub record AppliedSoFar (changes : List Record) (i : ℕ) (first now : MapValue) : Type 0 where
-  pub geometry : now.geometry ≡ first.geometry
-  pub entries : after_all first.geometry changes first.entries ≡ after_all first.geometry (drop i changes) now.entries
-
-module _ (changes : List Record) (i : ℕ) (d : Record) (within : i < length changes) (first now : MapValue) (so : AppliedSoFar changes i first now) where
-  next_record : after_all first.geometry changes first.entries ≡ cond (fits first.geometry (get_or changes i d) now.entries) (after_all first.geometry (drop (i + 1) changes) (after first.geometry (get_or changes i d) now.entries)) None
-  next_record = so.entries ∙ at_drop_more (λ rs. after_all first.geometry rs now.entries) changes i d within
-
-  pub applied_refused : (Fits now.geometry (get_or changes i d) now.entries → ⊥) → after_all first.geometry changes first.entries ≡ None
-  applied_refused unfit = by_test (fits first.geometry (get_or changes i d) now.entries) refl
-    where
-      by_test : (b : Bool) → fits first.geometry (get_or changes i d) now.entries ≡ b → after_all first.geometry changes first.entries ≡ None
-      by_test true t = absurd (unfit (subst (λ (g : Geometry). Fits g (get_or changes i d) now.entries) (sym so.geometry) (fits-true first.geometry (get_or changes i d) now.entries t)))
-      by_test false t = next_record ∙ ap (λ b. cond b (after_all first.geometry (drop (i + 1) changes) (after first.geometry (get_or changes i d) now.entries)) None) t
-
-  pub applied_more : (ready next : MapValue) → ready.geometry ≡ now.geometry → ready.entries ≡ now.entries → Fits now.geometry (get_or changes i d) now.entries → next.geometry ≡ ready.geometry
-      → next.entries ≡ after ready.geometry (get_or changes i d) ready.entries → AppliedSoFar changes (i + 1) first next
-  applied_more ready next same_geometry same fit geometry entries =
-      let r = get_or changes i d in
-      let at_first : ready.geometry ≡ first.geometry = same_geometry ∙ so.geometry in
-      let here : next.entries ≡ after first.geometry r now.entries = entries ∙ ap₂ (λ g m. after g r m) at_first same in
-      record {
-        geometry = geometry ∙ at_first;
-        entries =
-            next_record
-            ∙ ap (λ b. cond b (after_all first.geometry (drop (i + 1) changes) (after first.geometry r now.entries)) None) (fits-from first.geometry r now.entries (subst (λ (g : Geometry). Fits g r now.entries) so.geometry fit))
-            ∙ ap (λ m. after_all first.geometry (drop (i + 1) changes) m) (sym here);
-      }
 
 -- ---- a page
 

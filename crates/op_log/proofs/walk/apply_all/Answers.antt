@@ -4,7 +4,7 @@ use Rattle.op_log.proofs.walk.apply_all.Goals as goal
 
 pub returns-then-not-fits-clause-value : goal.returns-then-not-fits-clause-value
 returns-then-not-fits-clause-value c =
-    applied_refused c.args.changes.now c.loop-change.change-index _ c.loop-change-test.true c.args.map.now c.loop-change.map c.loop-change.invariant (λ fit. both_ways c.fits.result c.if-not-fits.true (c.fits.ensures.1 fit))
+    applied_refused c.args.changes.now c.loop-change.change-index _ c.loop-change-test.true c.args.map.now c.loop-change.map c.loop-change.invariant.applied (λ fit. both_ways c.fits.result c.if-not-fits.true (c.fits.ensures.1 fit))
 
 pub loop-change-preserved : goal.loop-change-preserved
 loop-change-preserved c =

@@ -1,5 +1,5 @@
 use Rattle.std.proofs.lemmas.Bool.{both_ways}
-use Rattle.recovery.proofs.PlainLemmas.{applied_refused, applied_more}
+use Rattle.op_log.proofs.ApplyLemmas.{applied_refused, next_applied}
 use Rattle.recovery.proofs.plain.applying.apply_records.Goals as goal
 
 pub returns-then-not-fits-clause-applied : goal.returns-then-not-fits-clause-applied
@@ -8,5 +8,5 @@ returns-then-not-fits-clause-applied c =
 
 pub loop-change-preserved : goal.loop-change-preserved
 loop-change-preserved c =
-    applied_more c.args.changes.now c.loop-change.change-index _ c.loop-change-test.true c.args.map.now c.loop-change.map c.loop-change.invariant c.reserve.new.self c.apply.new.self c.in_ok-reserve.ensures.geometry c.in_ok-reserve.ensures.entries
+    next_applied c.args.changes.now c.loop-change.change-index _ c.loop-change-test.true c.args.map.now c.loop-change.map c.loop-change.invariant c.reserve.new.self c.apply.new.self c.in_ok-reserve.ensures.geometry c.in_ok-reserve.ensures.entries
     (c.fits.ensures.0 c.if-not-fits.false) c.apply.ensures.geometry c.apply.ensures.entries

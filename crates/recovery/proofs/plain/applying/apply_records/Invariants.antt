@@ -1,4 +1,4 @@
-use Rattle.recovery.proofs.PlainLemmas.{AppliedSoFar}
+use Rattle.op_log.proofs.ApplyLemmas.{AppliedSoFar}
 use Rattle.recovery.proofs.plain.applying.apply_records.Given as goal
 
 -- the records so far
