@@ -1,4 +1,4 @@
-use ft_base::{Place, Record, zero_block};
+use ft_base::{Block, Place, Record, zero_block};
 use record_codec::{
     Header, PageKind, Seal, read_header, read_page_header, read_records, read_seal, write_page,
     write_seal,
@@ -50,7 +50,7 @@ fn pages_have_the_bytes_written_down(rt: HostRuntime) {
 }
 
 #[test]
-fn groups_and_seals_are_read_as_written(rt: HostRuntime) {
+fn groups_are_read_as_written(rt: HostRuntime) {
     let mut page = zero_block();
     let mut out = [Record::Remove { lba: 0 }; 127];
     let map = Header {
@@ -69,6 +69,11 @@ fn groups_and_seals_are_read_as_written(rt: HostRuntime) {
     assert!(rt; page.0[32..64] == SET_GROUP_LINE[..]);
     assert!(rt; read_records(&page, &map, &mut out));
     assert_eq!(rt; out[0], set_group);
+}
+
+#[test]
+fn seals_are_read_as_written(rt: HostRuntime) {
+    let mut page = Block([1; 4096]);
     let header = Header {
         kind: PageKind::Seal,
         era: 2,
