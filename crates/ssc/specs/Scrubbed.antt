@@ -1,17 +1,22 @@
 -- What a scrub finds.
-use Rattle.std.specs.Prelude.{◌≡◌, ◌≤◌, ◌<◌, nat_lt, ℕ, Bool, true, false, Option, None, Some, count_by}
+use Rattle.std.specs.Prelude.{◌≡◌, ◌≤◌, ◌<◌, nat_lt, ℕ, Bool, true, false, Option, None, Some, Result, IsErrOf, count_by}
 use Rattle.std.specs.FinMap.{get, entries}
 use Rattle.ft_base.specs.declared.block.Block.{Block}
 use Rattle.ft_base.specs.declared.block.Place.{Place}
 use Rattle.ft_base.specs.declared.block.Page.{Page}
 use Rattle.ft_base.specs.declared.block.Page.TheVariants.{Whole}
 use Rattle.ft_base.specs.declared.geometry.Geometry.{Geometry}
+use Rattle.ft_media.specs.State.{State}
+use Rattle.ft_media.specs.Reads.{ReadsFlash}
 use Rattle.cache_model.specs.declared.entry.Entry.{Entry}
 use Rattle.cache_model.specs.Records.{Entries}
 use Rattle.cache_model.specs.Spelling.{data_spare}
 use Rattle.mapping.specs.Counts.{held_count}
 use Rattle.mapping.specs.Numbers.{number_of}
+use Rattle.ssc.specs.declared.error.SscError.{SscError}
+use Rattle.ssc.specs.declared.error.SscError.TheVariants.{Full, OutOfMemory}
 use Rattle.ssc.specs.declared.scrubbing.Scrub.{Scrub}
+use Rattle.ssc.specs.Errors.{ssc_failed, ssc_lost}
 
 -- the page has the spare bytes of a data page of the address
 abbrev pub IsDataPage : (Place → Page) → Place → ℕ → Type 0
@@ -40,6 +45,12 @@ pub record IsScrub (g : Geometry) (page : Place → Page) (m : Entries) (scrub :
   pub strange : IsLowestStrange g page m scrub.strange
 
 -- ---- while the pages are read, ascending
+
+-- the flash is only read, and neither room nor memory is wanted
+pub record OnlyReads {T : Type 0} (before after : State) (result : Result T SscError) : Type 0 where
+  pub full : (n l : ℕ) → IsErrOf result (Full n l) → ⊥
+  pub memory : IsErrOf result OutOfMemory → ⊥
+  pub reads : ReadsFlash before after (ssc_failed result) (ssc_lost result)
 
 -- each page of a number below the end that an entry names has the spare bytes of a data page of its address
 abbrev pub AreDataPagesBelow : Geometry → (Place → Page) → Entries → ℕ → Type 0

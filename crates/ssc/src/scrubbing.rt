@@ -5,7 +5,7 @@ ghost use Rattle.ssc.specs.Errors.{ssc_failed, ssc_lost};
 ghost use Rattle.cache_model.specs.Cache.{AreOwn};
 ghost use Rattle.cache_model.specs.CacheList.{CacheList};
 ghost use Rattle.ssc.specs.CacheState.{Holds, IsUp, entries_of, geometry_of};
-ghost use Rattle.ssc.specs.Scrubbed.{IsDataPage, IsScrub, IsScrubBelow, lowest_with};
+ghost use Rattle.ssc.specs.Scrubbed.{IsDataPage, IsScrub, IsScrubBelow, OnlyReads, lowest_with};
 
 use crate::error::of_media;
 use crate::{Ssc, SscError};
@@ -57,9 +57,7 @@ impl Ssc {
         requires before { IsScrubBelow (geometry_of self.now) (M.state media.old).contents.flash.page (entries_of self.now) i before }
         ensures found { IfOk result (IsScrubBelow (geometry_of self.now) (M.state media.old).contents.flash.page (entries_of self.now)
             (i + 1)) }
-        ensures full { (n l : ℕ) → IsErrOf result (SscError.Full n l) → ⊥ }
-        ensures memory { IsErrOf result SscError.OutOfMemory → ⊥ }
-        ensures reads { ReadsFlash (M.state media.old) (M.state media.new) (ssc_failed result) (ssc_lost result) }
+        ensures only { OnlyReads (M.state media.old) (M.state media.new) result }
     {
         match self.parts.map.nth(i) {
             Some((lba, place)) => {
@@ -79,9 +77,7 @@ fn is_data_page<M: Media>(media: &mut M, lba: u64, place: Place) -> Result<bool,
     requires block { place.block < (M.state media.old).contents.shape.blocks }
     requires page { place.page < (M.state media.old).contents.shape.pages }
     ensures found { IfOk result (λ found. IsTrue found ↔ IsDataPage (M.state media.old).contents.flash.page place lba) }
-    ensures full { (n l : ℕ) → IsErrOf result (SscError.Full n l) → ⊥ }
-    ensures memory { IsErrOf result SscError.OutOfMemory → ⊥ }
-    ensures reads { ReadsFlash (M.state media.old) (M.state media.new) (ssc_failed result) (ssc_lost result) }
+    ensures only { OnlyReads (M.state media.old) (M.state media.new) result }
 {
     let own = write_spare(SpareKind::Page, 0, lba);
     let mut block = zero_block();

@@ -22,13 +22,13 @@ scrub_number-requires-clause-before g c = subst (λ (k : Contents). IsScrubBelow
 
 pub loop-i-preserved : goal.loop-i-preserved
 loop-i-preserved g c = record {
-  reads = reads_then _ _ _ false false c.loop-i.invariant.reads c.in_ok-found.ensures.reads;
+  reads = reads_then _ _ _ false false c.loop-i.invariant.reads c.in_ok-found.ensures.only.reads;
   so_far = subst (λ (k : Contents). IsScrubBelow (geometry_of c.args.self.now) k.flash.page (entries_of c.args.self.now) (c.loop-i.i + 1) c.in_ok-found.found) c.loop-i.invariant.reads.contents c.in_ok-found.ensures.found;
 }
 
 pub returns-in_err-found-clause-reads : goal.returns-in_err-found-clause-reads
 returns-in_err-found-clause-reads g c =
-    reads_refused (g.M.Media.state c.args.media.now) (g.M.Media.state c.loop-i.media) (g.M.Media.state c.scrub_number.new.media) c.from_residual.result c.in_err-found.field-0.0 c.from_residual.ensures.1 c.loop-i.invariant.reads c.in_err-found.ensures.reads
+    reads_refused (g.M.Media.state c.args.media.now) (g.M.Media.state c.loop-i.media) (g.M.Media.state c.scrub_number.new.media) c.from_residual.result c.in_err-found.field-0.0 c.from_residual.ensures.1 c.loop-i.invariant.reads c.in_err-found.ensures.only.reads
 
 pub returns-clause-found : goal.returns-clause-found
 returns-clause-found g c =
