@@ -1,5 +1,5 @@
 -- What the tests open a volume over: flash that holds one clean block, or that another volume left.
-use Rattle.std.proofs.Common.{◌≡◌, ℕ, ◌/◌, ◌==◌, Bool, true, false, cond, List, [], Some, None, Result, Ok, Err, IfOk, refl, sym, ◌∙◌, ap, subst, eqb-true, nat_cmp}
+use Rattle.std.proofs.Common.{◌≡◌, ℕ, ◌/◌, ◌==◌, Bool, true, false, cond, List, [], Some, None, refl, sym, ◌∙◌, ap, subst, eqb-true, nat_cmp}
 use Rattle.std.specs.FinMap.{get, empty, get-empty}
 use Rattle.ft_base.specs.declared.block.Block.{Block}
 use Rattle.ft_base.specs.declared.geometry.Geometry.{Geometry}
