@@ -138,7 +138,7 @@ pub(crate) enum Fact {
     OpenRoom(u32),
     /// How many changes are buffered.
     Buffered(u32),
-    /// The buckets of the map of log pages.
+    /// The buckets of the map of page-mapped addresses.
     Buckets(u64),
 }
 

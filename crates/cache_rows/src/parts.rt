@@ -7,7 +7,7 @@ ghost use Rattle.cache_model.specs.Records.{no_entries};
 ghost use Rattle.mem_rig.specs.Rig.{state_of};
 ghost use Rattle.op_log.specs.Log.{FitsOn};
 ghost use Rattle.checkpoint.specs.Current.{IsCommitted, log_formatted};
-ghost use Rattle.merge_engine.specs.Agreement.{Agree, AreOfOne};
+ghost use Rattle.merge_engine.specs.Agreement.{PartsAgree, AreOfOne};
 
 use crate::bench::{fit, fits_on, geometry};
 use block_pool::{Role, plain};
@@ -17,7 +17,7 @@ use ft_media::{Counts, PageRead};
 use mapping::Map;
 use mem_rig::MemRig;
 use merge_engine::{
-    Parts, append, commit, free_log_block, loaded, make_checkpoint, merge_group, put_clean,
+    Parts, append, commit, free_log_block, loaded, make_checkpoint, merge_group, note_clean,
     put_out, put_page,
 };
 use page_oob::{SpareKind, read_spare};
@@ -117,7 +117,7 @@ fn parts_on(alloc: Global, rig: &MemRig, geometry: &Geometry, map: Map) -> Optio
     requires begins { IsCommitted (state_of rig.now).contents.flash (log_formatted geometry.now) no_entries }
     requires own { map.geometry ≡ geometry.now }
     requires entries { map.entries ≡ no_entries }
-    ensures { IfSome result (λ parts. Agree parts (state_of rig.now).contents) }
+    ensures { IfSome result (λ parts. PartsAgree parts (state_of rig.now).contents) }
 {
     match loaded(alloc, geometry, map, 0, 0) {
         Ok(parts) => Some(parts),
@@ -127,7 +127,7 @@ fn parts_on(alloc: Global, rig: &MemRig, geometry: &Geometry, map: Map) -> Optio
 
 /// The parts of a cache of nothing, with P = 4, C = 2 and L = 2. Its pool is the erase blocks 4 to 8.
 fn begun(alloc: Global, rig: &mut MemRig) -> Option<Parts>
-    ensures { IfSome result (λ parts. Agree parts (state_of rig.new).contents) }
+    ensures { IfSome result (λ parts. PartsAgree parts (state_of rig.new).contents) }
 {
     let geometry = geometry();
     if !formatted(alloc, rig, &geometry) {
@@ -141,9 +141,9 @@ fn begun(alloc: Global, rig: &mut MemRig) -> Option<Parts>
 
 /// Makes room in the map for one page and P groups.
 fn reserve(parts: &mut Parts, rig: &MemRig) -> bool
-    requires { Agree parts.old (state_of rig.now).contents }
+    requires { PartsAgree parts.old (state_of rig.now).contents }
     ensures cache { parts.new ≡ record parts.old { map = parts.new.map } }
-    ensures agree { Agree parts.new (state_of rig.now).contents }
+    ensures agree { PartsAgree parts.new (state_of rig.now).contents }
     ensures pages { OnTrue result (1 ≤ parts.new.map.spare_pages) }
     ensures groups { OnTrue result (parts.new.geometry.p ≤ parts.new.map.spare_groups) }
     ensures room { OnTrue result (length parts.new.log.buffered < page_records parts.new.log.geometry) }
@@ -158,8 +158,8 @@ fn reserve(parts: &mut Parts, rig: &MemRig) -> bool
 
 /// Appends a pattern of an address, and puts the address there.
 fn put(parts: &mut Parts, rig: &mut MemRig, lba: u64, tag: u64, dirty: bool) -> bool
-    requires { Agree parts.old (state_of rig.old).contents }
-    ensures { OnTrue result (Agree parts.new (state_of rig.new).contents) }
+    requires { PartsAgree parts.old (state_of rig.old).contents }
+    ensures { OnTrue result (PartsAgree parts.new (state_of rig.new).contents) }
 {
     if !reserve(parts, rig) {
         return false;
@@ -178,8 +178,8 @@ fn put(parts: &mut Parts, rig: &mut MemRig, lba: u64, tag: u64, dirty: bool) -> 
 
 /// Takes an address out that is held.
 fn take_out(parts: &mut Parts, rig: &MemRig, lba: u64) -> bool
-    requires { Agree parts.old (state_of rig.now).contents }
-    ensures { OnTrue result (Agree parts.new (state_of rig.now).contents) }
+    requires { PartsAgree parts.old (state_of rig.now).contents }
+    ensures { OnTrue result (PartsAgree parts.new (state_of rig.now).contents) }
 {
     if !reserve(parts, rig) || !parts.map.fits(&Record::Remove { lba }) {
         return false;
@@ -190,20 +190,20 @@ fn take_out(parts: &mut Parts, rig: &MemRig, lba: u64) -> bool
 
 /// Marks an address clean that is dirty.
 fn mark_clean(parts: &mut Parts, rig: &MemRig, lba: u64) -> bool
-    requires { Agree parts.old (state_of rig.now).contents }
-    ensures { OnTrue result (Agree parts.new (state_of rig.now).contents) }
+    requires { PartsAgree parts.old (state_of rig.now).contents }
+    ensures { OnTrue result (PartsAgree parts.new (state_of rig.now).contents) }
 {
     if !reserve(parts, rig) || !parts.map.fits(&Record::Clean { lba }) {
         return false;
     }
-    put_clean(parts, lba);
+    note_clean(parts, lba);
     true
 }
 
 /// Merges a group of which something is held.
 fn merge(parts: &mut Parts, rig: &mut MemRig, group: u64) -> bool
-    requires { Agree parts.old (state_of rig.old).contents }
-    ensures { OnTrue result (Agree parts.new (state_of rig.new).contents) }
+    requires { PartsAgree parts.old (state_of rig.old).contents }
+    ensures { OnTrue result (PartsAgree parts.new (state_of rig.new).contents) }
 {
     if !reserve(parts, rig) || parts.map.held_bits(group) == 0 {
         return false;
@@ -213,10 +213,10 @@ fn merge(parts: &mut Parts, rig: &mut MemRig, group: u64) -> bool
 
 /// Frees the log block that was taken first, where one is in use.
 fn free_oldest(parts: &mut Parts, rig: &mut MemRig) -> bool
-    requires { Agree parts.old (state_of rig.old).contents }
-    ensures { OnTrue result (Agree parts.new (state_of rig.new).contents) }
+    requires { PartsAgree parts.old (state_of rig.old).contents }
+    ensures { OnTrue result (PartsAgree parts.new (state_of rig.new).contents) }
 {
-    if !reserve(parts, rig) || parts.logs.used() == 0 {
+    if !reserve(parts, rig) || parts.log_blocks.used() == 0 {
         return false;
     }
     free_log_block(parts, rig).is_ok()
@@ -224,8 +224,8 @@ fn free_oldest(parts: &mut Parts, rig: &mut MemRig) -> bool
 
 /// Makes a step. False where its conditions don't hold, or it is refused.
 fn make(parts: &mut Parts, rig: &mut MemRig, step: &Step) -> bool
-    requires { Agree parts.old (state_of rig.old).contents }
-    ensures { OnTrue result (Agree parts.new (state_of rig.new).contents) }
+    requires { PartsAgree parts.old (state_of rig.old).contents }
+    ensures { OnTrue result (PartsAgree parts.new (state_of rig.new).contents) }
 {
     match *step {
         Step::Put(lba, tag, dirty) => put(parts, rig, lba, tag, dirty),
@@ -340,7 +340,8 @@ fn tells(parts: &Parts, fact: &Fact) -> bool
             parts.map.held_bits(group) == held && parts.map.dirty_bits(group) == dirty
         }
         Fact::Lies(lba, block, page) => lies(parts, lba, block, page),
-        Fact::LogBlocks { used, room } => parts.logs.used() == used && parts.logs.room() == room,
+        Fact::LogBlocks { used, room } => parts.log_blocks.used() == used
+            && parts.log_blocks.room() == room,
         Fact::Groups { data_blocks, dirty } => {
             parts.map.data_blocks() == data_blocks && parts.map.dirty_groups() == dirty
         }
@@ -373,8 +374,8 @@ fn wrote(old: &Counts, new: &Counts, erases: u64, programs: u64) -> bool {
 
 /// Whether a line is so, where device writes were counted at this.
 fn is_so(parts: &mut Parts, rig: &mut MemRig, counted: &mut Counts, line: &Line) -> bool
-    requires { Agree parts.old (state_of rig.old).contents }
-    ensures { OnTrue result (Agree parts.new (state_of rig.new).contents) }
+    requires { PartsAgree parts.old (state_of rig.old).contents }
+    ensures { OnTrue result (PartsAgree parts.new (state_of rig.new).contents) }
 {
     match line {
         Line::Do(step) => make(parts, rig, step),
@@ -389,8 +390,8 @@ fn is_so(parts: &mut Parts, rig: &mut MemRig, counted: &mut Counts, line: &Line)
 
 /// Makes these steps, one after another.
 fn run(parts: &mut Parts, rig: &mut MemRig, steps: &[Step]) -> bool
-    requires { Agree parts.old (state_of rig.old).contents }
-    ensures { OnTrue result (Agree parts.new (state_of rig.new).contents) }
+    requires { PartsAgree parts.old (state_of rig.old).contents }
+    ensures { OnTrue result (PartsAgree parts.new (state_of rig.new).contents) }
 {
     for step in steps {
         if !make(parts, rig, step) {
@@ -402,7 +403,7 @@ fn run(parts: &mut Parts, rig: &mut MemRig, steps: &[Step]) -> bool
 
 /// The first line that isn't so.
 fn first_wrong_on(parts: &mut Parts, rig: &mut MemRig, lines: &[Line]) -> Option<usize>
-    requires { Agree parts.old (state_of rig.old).contents }
+    requires { PartsAgree parts.old (state_of rig.old).contents }
 {
     let mut counted = rig.done();
     for i in 0..lines.len() {
@@ -420,7 +421,7 @@ fn first_wrong_after(
     steps: &[Step],
     lines: &[Line],
 ) -> Option<usize>
-    requires { Agree parts.old (state_of rig.old).contents }
+    requires { PartsAgree parts.old (state_of rig.old).contents }
 {
     if !run(parts, rig, steps) {
         return Some(lines.len());

@@ -33,7 +33,7 @@ holds_beside c old disk s holds =
     let sound = holds.agree.sound in
     record {
       agree = record {
-        sound = record { of_one = sound.of_one; shape = sound.shape; current = sound.current; whole = sound.whole; roles = sound.roles; logs = sound.logs; open_block = sound.open_block };
+        sound = record { of_one = sound.of_one; shape = sound.shape; current = sound.current; whole = sound.whole; roles = sound.roles; log_blocks = sound.log_blocks; open_block = sound.open_block };
         open_log = holds.agree.open_log;
       };
       lists = holds.lists;

@@ -9,7 +9,7 @@ use Rattle.std.proofs.lemmas.List.{length-map}
 use Rattle.std.proofs.lemmas.List.FromFn.{length-range_with_len}
 use Rattle.std.proofs.lemmas.Nat.{same_from_place}
 use Rattle.ft_base.specs.declared.geometry.Geometry.{Geometry}
-use Rattle.ft_base.specs.Layout.{up, most_records, page_records, pages_for, checkpoint_pages}
+use Rattle.ft_base.specs.Layout.{rounded_up, most_records, page_records, pages_for, checkpoint_pages}
 use Rattle.cache_model.specs.declared.entry.Entry.{Entry}
 use Rattle.cache_model.specs.Records.{Entries}
 use Rattle.cache_model.specs.Entries.{each_once, groups_with, blocks_with, page_mapped, IsMap}
@@ -169,7 +169,7 @@ module _ (g : Geometry) (m : Entries) (is_map : IsMap g m) where
   pub maps_fit : (records : List Record) → IsCheckpointOf g m records → map_pages g records < checkpoint_pages g
   maps_fit records listed = by_number (length records) (most_records g) (records_few records listed) (k_holds g)
     where
-      by_number : (a b : ℕ) → a ≤ b → pages_for g b ≤ checkpoint_pages g → up a (page_records g) < checkpoint_pages g
+      by_number : (a b : ℕ) → a ≤ b → pages_for g b ≤ checkpoint_pages g → rounded_up a (page_records g) < checkpoint_pages g
       by_number a b le fits = omega arith
 
 -- a listing of a map of this geometry

@@ -7,7 +7,7 @@ use Rattle.ft_base.specs.declared.block.Page.{Page}
 use Rattle.ft_base.specs.declared.block.Page.TheVariants.{Blank, Torn}
 use Rattle.ft_base.specs.declared.record.Record.{Record}
 use Rattle.ft_base.specs.Contents.{Contents, Flash, set, set_page}
-use Rattle.ft_base.specs.Layout.{checkpoint_at, checkpoint_pages, first_log, k, page_records, up}
+use Rattle.ft_base.specs.Layout.{checkpoint_at, checkpoint_pages, first_log, k, page_records, rounded_up}
 use Rattle.cache_model.specs.declared.format.Header.{Header}
 use Rattle.cache_model.specs.declared.format.PageKind.TheVariants.{Map, Seal as SealPage}
 use Rattle.cache_model.specs.declared.format.SpareKind.TheVariants.{Map as MapSpare, Seal as SealSpare}
@@ -73,7 +73,7 @@ part g records i = take (page_records g) (drop (page_records g * i) records)
 
 -- the map pages of so many records
 abbrev pub map_pages : Geometry → List Record → ℕ
-map_pages g records = up (length records) (page_records g)
+map_pages g records = rounded_up (length records) (page_records g)
 
 -- the header of a map page with these records, and of a seal over so many pages with so many
 abbrev pub map_header : ℕ → ℕ → List Record → Header

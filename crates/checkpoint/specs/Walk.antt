@@ -29,9 +29,9 @@ sealed_by None i count [] = None
 sealed_by None i count (page ∷ pages) = option_and_then (λ era. sealed_from era i count (page ∷ pages)) (era_in page)
 
 -- what a page makes of a walk that stands at it
-abbrev pub Steps : Walk → ℕ → Page → Step → Type 0
-Steps walk i page (step.On next) = (next.records ≤ walk.records + most_page_records)
+abbrev pub StepsOn : Walk → ℕ → Page → Step → Type 0
+StepsOn walk i page (step.On next) = (next.records ≤ walk.records + most_page_records)
     × ((rest : List Page) → sealed_by walk.era i walk.records (page ∷ rest) ≡ sealed_by next.era (i + 1) next.records rest)
-Steps walk i page (step.Complete era seal) = (rest : List Page)
+StepsOn walk i page (step.Complete era seal) = (rest : List Page)
     → sealed_by walk.era i walk.records (page ∷ rest) ≡ Some (complete era i seal)
-Steps walk i page step.Ends = (rest : List Page) → sealed_by walk.era i walk.records (page ∷ rest) ≡ None
+StepsOn walk i page step.Ends = (rest : List Page) → sealed_by walk.era i walk.records (page ∷ rest) ≡ None

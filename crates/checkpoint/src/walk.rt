@@ -5,7 +5,7 @@ ghost use Rattle.cache_model.specs.declared.format.Seal.{Seal as SealValue};
 ghost use Rattle.cache_model.specs.Reading.{read_page_header, read_seal};
 ghost use Rattle.cache_model.specs.Loading.{said, is_page, is_seal_of};
 ghost use Rattle.cache_model.specs.declared.format.PageKind.TheVariants.{Map as map_page};
-ghost use Rattle.checkpoint.specs.Walk.{IsFoundAs, IsFew, Steps};
+ghost use Rattle.checkpoint.specs.Walk.{IsFoundAs, IsFew, StepsOn};
 
 use crate::reading::Found;
 use cache_model::{Header, PageKind, Seal};
@@ -46,7 +46,7 @@ pub(crate) enum Step {
 pub(crate) fn after_page(walk: Walk, sequence: u32, found: Found) -> Step
     requires records { walk.records ≤ most_page_records * 2 ^ 16 }
     requires few { IsFew found }
-    ensures { (page : Page) → IsFoundAs page found → Steps walk sequence page result }
+    ensures { (page : Page) → IsFoundAs page found → StepsOn walk sequence page result }
 {
     match found {
         Found::Records(header) => after_records(walk, sequence, &header),
@@ -59,7 +59,7 @@ pub(crate) fn after_page(walk: Walk, sequence: u32, found: Found) -> Step
 fn after_records(walk: Walk, sequence: u32, header: &Header) -> Step
     requires records { walk.records ≤ most_page_records * 2 ^ 16 }
     requires few { header.now.count ≤ most_page_records }
-    ensures { (page : Page) → said read_page_header page ≡ Some header.now → Steps walk sequence page result }
+    ensures { (page : Page) → said read_page_header page ≡ Some header.now → StepsOn walk sequence page result }
 {
     let era = walk.era.unwrap_or(header.era);
     if !is_map_page(header, era, sequence) {
@@ -81,7 +81,7 @@ fn is_map_page(header: &Header, era: u8, sequence: u32) -> bool
 /// What a seal makes of it.
 fn after_seal(walk: Walk, sequence: u32, header: &Header, seal: &Seal) -> Step
     ensures { (page : Page) → said read_page_header page ≡ None → said read_seal page ≡ Some (header.now, seal.now)
-        → Steps walk sequence page result }
+        → StepsOn walk sequence page result }
 {
     let era = walk.era.unwrap_or(header.era);
     if !ends(header, era, sequence, walk.records) {

@@ -58,7 +58,7 @@ fn inspect<I: Source, O: Sink, R: Rig, V: Volume<R>>(
 
 /// Fits the rig, makes a volume of this mode and these options on it, runs the trace over it without printing
 /// more than a refused line, and then prints what is in the cache: the addresses that are held, the groups
-/// with a dirty one, the buckets of the map of log pages, and the pages that were read to see that all of it
+/// with a dirty one, the buckets of the map of page-mapped addresses, and the pages that were read to see that all of it
 /// is there. Power may stop within any device write; the run then goes on after recovery.
 pub fn inspect_with<I: Source, O: Sink, R: Rig>(
     alloc: Global,

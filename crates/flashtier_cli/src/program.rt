@@ -52,7 +52,7 @@ use std::alloc::Global;
 /// With `inspect` it runs a trace as `replay` does, but prints none of its answers. Then it puts all that is
 /// in the cache on the flash, reads each page that is held, again after each cut, and prints four lines:
 /// `held H`, the addresses that the cache has; `dirty groups D`, the groups with one that the disk lacks;
-/// `buckets B`, those of the map of log pages; and `scrubbed S`, the pages that were read.
+/// `buckets B`, those of the map of page-mapped addresses; and `scrubbed S`, the pages that were read.
 ///
 /// | Status | Comes |
 /// |---|---|

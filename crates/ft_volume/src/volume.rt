@@ -52,7 +52,7 @@ pub struct Report {
     pub held: u64,
     /// The groups with a dirty address.
     pub dirty_groups: u32,
-    /// The buckets of the map of log pages: none, or a power of two from 32 on.
+    /// The buckets of the map of page-mapped addresses: none, or a power of two from 32 on.
     pub buckets: u64,
     /// The pages that were read, each of an address that is held.
     pub scrubbed: u64,

@@ -25,7 +25,7 @@ struct Cache {
     geometry: Geometry,
     map: Map,
     log: OpLog,
-    marks: Checkpoints,
+    checkpoints: Checkpoints,
 }
 
 /// A cache of nothing, in region 0 and of era 0.
@@ -34,19 +34,19 @@ fn begin<M: Media>(media: &mut M, alloc: Global, geometry: &Geometry) -> Result<
     ensures shape { IfOk result (λ c. FitsOn c.log.geometry (M.state media.new).contents.shape) }
     ensures geometry { IfOk result (λ c. c.geometry ≡ c.log.geometry) }
     ensures map { IfOk result (λ c. c.map.geometry ≡ c.log.geometry) }
-    ensures marks { IfOk result (λ c. c.marks ≡ c.log.geometry) }
+    ensures checkpoints { IfOk result (λ c. c.checkpoints ≡ c.log.geometry) }
     ensures committed { IfOk result (λ c. IsCommitted (M.state media.new).contents.flash c.log c.map.entries) }
     ensures whole { IfOk result (λ c. AreWhole (M.state media.new).contents.flash.page c.map.entries) }
 {
     format(media, geometry)?;
     let map = Map::new(alloc, geometry)?;
     let log = OpLog::new(alloc, geometry, 0, 0)?;
-    let marks = Checkpoints::new(alloc, geometry)?;
+    let checkpoints = Checkpoints::new(alloc, geometry)?;
     Ok(Cache {
         geometry: *geometry,
         map,
         log,
-        marks,
+        checkpoints,
     })
 }
 
@@ -68,13 +68,13 @@ fn hold<M: Media>(media: &mut M, cache: &mut Cache, lba: u64) -> Result<(), Stuc
     requires shape { FitsOn cache.old.log.geometry (M.state media.old).contents.shape }
     requires geometry { cache.old.geometry ≡ cache.old.log.geometry }
     requires map { cache.old.map.geometry ≡ cache.old.log.geometry }
-    requires marks { cache.old.marks ≡ cache.old.log.geometry }
+    requires checkpoints { cache.old.checkpoints ≡ cache.old.log.geometry }
     requires committed { IsCommitted (M.state media.old).contents.flash cache.old.log cache.old.map.entries }
     requires whole { AreWhole (M.state media.old).contents.flash.page cache.old.map.entries }
     ensures shape { FitsOn cache.new.log.geometry (M.state media.new).contents.shape }
     ensures geometry { cache.new.geometry ≡ cache.new.log.geometry }
     ensures map { cache.new.map.geometry ≡ cache.new.log.geometry }
-    ensures marks { cache.new.marks ≡ cache.new.log.geometry }
+    ensures checkpoints { cache.new.checkpoints ≡ cache.new.log.geometry }
     ensures current { OnOk result (IsCurrent (M.state media.new).contents.flash.page cache.new.log cache.new.map.entries
         × IsOpenLog (M.state media.new).contents.flash cache.new.log) }
     ensures whole { OnOk result (AreWhole (M.state media.new).contents.flash.page cache.new.map.entries) }
@@ -102,18 +102,18 @@ fn put<M: Media>(media: &mut M, cache: &mut Cache, lba: u64) -> Result<(), Stuck
     requires shape { FitsOn cache.old.log.geometry (M.state media.old).contents.shape }
     requires geometry { cache.old.geometry ≡ cache.old.log.geometry }
     requires map { cache.old.map.geometry ≡ cache.old.log.geometry }
-    requires marks { cache.old.marks ≡ cache.old.log.geometry }
+    requires checkpoints { cache.old.checkpoints ≡ cache.old.log.geometry }
     requires committed { IsCommitted (M.state media.old).contents.flash cache.old.log cache.old.map.entries }
     requires whole { AreWhole (M.state media.old).contents.flash.page cache.old.map.entries }
     ensures shape { FitsOn cache.new.log.geometry (M.state media.new).contents.shape }
     ensures geometry { cache.new.geometry ≡ cache.new.log.geometry }
     ensures map { cache.new.map.geometry ≡ cache.new.log.geometry }
-    ensures marks { cache.new.marks ≡ cache.new.log.geometry }
+    ensures checkpoints { cache.new.checkpoints ≡ cache.new.log.geometry }
     ensures committed { OnOk result (IsCommitted (M.state media.new).contents.flash cache.new.log cache.new.map.entries) }
     ensures whole { OnOk result (AreWhole (M.state media.new).contents.flash.page cache.new.map.entries) }
 {
     hold(media, cache, lba)?;
-    cache.marks.commit(media, &cache.map, &mut cache.log)?;
+    cache.checkpoints.commit(media, &cache.map, &mut cache.log)?;
     Ok(())
 }
 
@@ -153,7 +153,7 @@ fn put_often<R: Rig>(rig: &mut R, cache: &mut Cache, count: u32) -> Result<Seen,
     requires shape { FitsOn cache.old.log.geometry (R.state rig.old).contents.shape }
     requires geometry { cache.old.geometry ≡ cache.old.log.geometry }
     requires map { cache.old.map.geometry ≡ cache.old.log.geometry }
-    requires marks { cache.old.marks ≡ cache.old.log.geometry }
+    requires checkpoints { cache.old.checkpoints ≡ cache.old.log.geometry }
     requires committed { IsCommitted (R.state rig.old).contents.flash cache.old.log cache.old.map.entries }
     requires whole { AreWhole (R.state rig.old).contents.flash.page cache.old.map.entries }
 {
@@ -174,7 +174,7 @@ fn stopped_checkpoint<R: Rig>(
     requires shape { FitsOn cache.old.log.geometry (R.state rig.old).contents.shape }
     requires geometry { cache.old.geometry ≡ cache.old.log.geometry }
     requires map { cache.old.map.geometry ≡ cache.old.log.geometry }
-    requires marks { cache.old.marks ≡ cache.old.log.geometry }
+    requires checkpoints { cache.old.checkpoints ≡ cache.old.log.geometry }
     requires current { IsCurrent (R.state rig.old).contents.flash.page cache.old.log cache.old.map.entries }
     requires whole { AreWhole (R.state rig.old).contents.flash.page cache.old.map.entries }
 {
@@ -183,7 +183,9 @@ fn stopped_checkpoint<R: Rig>(
     }
     let before = rig.counts();
     rig.arm(after, outcome);
-    let answer = cache.marks.checkpoint(rig, &cache.map, &mut cache.log);
+    let answer = cache
+        .checkpoints
+        .checkpoint(rig, &cache.map, &mut cache.log);
     rig.power_on();
     let lost = answer == Err(MediaError::PowerLost);
     Ok(look(rig, cache, before, lost)?)
@@ -220,7 +222,7 @@ fn carry_out<R: Rig>(rig: &mut R, cache: &mut Cache, act: Act) -> Result<Seen, S
     requires shape { FitsOn cache.old.log.geometry (R.state rig.old).contents.shape }
     requires geometry { cache.old.geometry ≡ cache.old.log.geometry }
     requires map { cache.old.map.geometry ≡ cache.old.log.geometry }
-    requires marks { cache.old.marks ≡ cache.old.log.geometry }
+    requires checkpoints { cache.old.checkpoints ≡ cache.old.log.geometry }
     requires committed { IsCommitted (R.state rig.old).contents.flash cache.old.log cache.old.map.entries }
     requires whole { AreWhole (R.state rig.old).contents.flash.page cache.old.map.entries }
 {

@@ -1,4 +1,4 @@
--- The records of a checkpoint in the order of the buckets: each data block and each log page once.
+-- The records of a checkpoint in the order of the buckets: each data block and each mapped page once.
 use Rattle.std.proofs.Common.{◌≡◌, ℕ, zero, suc, ◌+◌, ◌*◌, ◌/◌, ◌%◌, ◌^◌, ◌<◌, ◌≤◌, ◌==◌, ◌||◌, Bool, true, false, cond, not, List, [], ◌∷◌, ◌++◌, length, map}
 use Rattle.std.proofs.Common.{filter, Option, Some, None, Result, Ok, Err, OnOk, OnErr, refl, sym, ◌∙◌, ap, ap₂, arith, inl, inr, ◌⊎◌, nat_cmp, nat_le, eqb-true, eq-eqb, ne_eqb, pow-suc}
 use Rattle.std.specs.Bool.{then_some}
@@ -22,7 +22,7 @@ use Rattle.sparse_map.specs.Slots.{items_of}
 use Rattle.sparse_map.specs.Moved.{IsDistinct}
 use Rattle.sparse_map.specs.Packed.{PackedTable, map_of, len_of, buckets_of, IsSound}
 use Rattle.sparse_map.proofs.MapLemmas.{get-map_of, IsDistinct-items_of, len_of-items}
-use Rattle.mapping.specs.declared.log_page.LogPage.{LogPage}
+use Rattle.mapping.specs.declared.mapped_page.MappedPage.{MappedPage}
 use Rattle.mapping.specs.Checkpoint.{set_group_of, set_page_of, IsCheckpointOf}
 use Rattle.mapping.specs.Bits.{IsDataBlock}
 use Rattle.mapping.specs.Counts.{page_mapped_count, data_block_count}
@@ -121,7 +121,7 @@ some_page set p some below = elim (search_page set p) [
 
 -- ---- the listing
 
-module _ (g : Geometry) (pages : PackedTable LogPage) (blocks : PackedTable BlockPages) (packed : IsPackedMap g pages blocks) where
+module _ (g : Geometry) (pages : PackedTable MappedPage) (blocks : PackedTable BlockPages) (packed : IsPackedMap g pages blocks) where
   at : (a : ℕ) → get (entries_of g (map_of pages) (map_of blocks)) a ≡ entry_in (get (map_of pages) a) (page_in (get (map_of blocks) (a / g.p)) (a % g.p))
   at a = get_held g (map_of pages) (map_of blocks) a
 
@@ -135,7 +135,7 @@ module _ (g : Geometry) (pages : PackedTable LogPage) (blocks : PackedTable Bloc
       here : page_in (get (map_of blocks) ((k * g.p + i) / g.p)) ((k * g.p + i) % g.p) ≡ Some (record { place = record { block = b.block; page = i }; dirty = has_bit b.dirty i; block_mapped = true })
       here = ap₂ (λ j n. page_in (get (map_of blocks) j) n) (div-mul-add k g.p i low) (mod-mul-add k g.p i low) ∙ ap (λ o. page_in o i) is ∙ ap (λ c. then_some c (record { place = record { block = b.block; page = i }; dirty = has_bit b.dirty i; block_mapped = true })) t
 
-      by_log : (o : Option LogPage) → get (map_of pages) (k * g.p + i) ≡ o → (e : Entry) × (get (entries_of g (map_of pages) (map_of blocks)) (k * g.p + i) ≡ Some e) × (e.block_mapped ≡ true)
+      by_log : (o : Option MappedPage) → get (map_of pages) (k * g.p + i) ≡ o → (e : Entry) × (get (entries_of g (map_of pages) (map_of blocks)) (k * g.p + i) ≡ Some e) × (e.block_mapped ≡ true)
       by_log None none = (record { place = record { block = b.block; page = i }; dirty = has_bit b.dirty i; block_mapped = true }, at (k * g.p + i) ∙ ap₂ entry_in none here, refl)
       by_log (Some x) some = none_some (record { place = record { block = b.block; page = i }; dirty = has_bit b.dirty i; block_mapped = true }) (sym (packed.apart (k * g.p + i) x some) ∙ here)
 
@@ -147,13 +147,13 @@ module _ (g : Geometry) (pages : PackedTable LogPage) (blocks : PackedTable Bloc
       by_block None none s = none_some e s
       by_block (Some b) some s = (b, some)
 
-      by_log : (o : Option LogPage) → entry_in o (page_in (get (map_of blocks) (a / g.p)) (a % g.p)) ≡ Some e → (b : BlockPages) × (get (map_of blocks) (a / g.p) ≡ Some b)
+      by_log : (o : Option MappedPage) → entry_in o (page_in (get (map_of blocks) (a / g.p)) (a % g.p)) ≡ Some e → (b : BlockPages) × (get (map_of blocks) (a / g.p) ≡ Some b)
       by_log None s = by_block (get (map_of blocks) (a / g.p)) refl s
       by_log (Some x) s = absurd (both_ways e.block_mapped (ap (λ (f : Entry). f.block_mapped) (sym (same_Some (in_log_block x.place x.dirty) e s))) mapped)
 
-  -- an entry of a log block has its log page
-  log_page : (a : ℕ) (e : Entry) → get (entries_of g (map_of pages) (map_of blocks)) a ≡ Some e → page_mapped e ≡ true → (x : LogPage) × (get (map_of pages) a ≡ Some x)
-  log_page a e is mapped = by_log (get (map_of pages) a) refl (sym (at a) ∙ is)
+  -- an entry of a log block has its mapped page
+  mapped_page : (a : ℕ) (e : Entry) → get (entries_of g (map_of pages) (map_of blocks)) a ≡ Some e → page_mapped e ≡ true → (x : MappedPage) × (get (map_of pages) a ≡ Some x)
+  mapped_page a e is mapped = by_log (get (map_of pages) a) refl (sym (at a) ∙ is)
     where
       of_page : (b : Option BlockPages) → page_in b (a % g.p) ≡ Some e → e.block_mapped ≡ true
       of_page None s = none_some e s
@@ -163,11 +163,11 @@ module _ (g : Geometry) (pages : PackedTable LogPage) (blocks : PackedTable Bloc
           shown true s = ap (λ (f : Entry). f.block_mapped) (sym (same_Some _ e s))
           shown false s = none_some e s
 
-      by_log : (o : Option LogPage) → get (map_of pages) a ≡ o → entry_in o (page_in (get (map_of blocks) (a / g.p)) (a % g.p)) ≡ Some e → (x : LogPage) × (get (map_of pages) a ≡ Some x)
+      by_log : (o : Option MappedPage) → get (map_of pages) a ≡ o → entry_in o (page_in (get (map_of blocks) (a / g.p)) (a % g.p)) ≡ Some e → (x : MappedPage) × (get (map_of pages) a ≡ Some x)
       by_log None none s = absurd (both_ways (page_mapped e) (ap not (of_page (get (map_of blocks) (a / g.p)) s)) mapped)
       by_log (Some x) some s = (x, some)
 
-  page_entry : (a : ℕ) (x : LogPage) → get (map_of pages) a ≡ Some x → get (entries_of g (map_of pages) (map_of blocks)) a ≡ Some (in_log_block x.place x.dirty)
+  page_entry : (a : ℕ) (x : MappedPage) → get (map_of pages) a ≡ Some x → get (entries_of g (map_of pages) (map_of blocks)) a ≡ Some (in_log_block x.place x.dirty)
   page_entry a x is = at a ∙ ap (λ o. entry_in o (page_in (get (map_of blocks) (a / g.p)) (a % g.p))) is
 
   group_there : (k : ℕ) → member k (map (λ (x : ℕ × BlockPages). x.0) (items_of blocks.slots)) ≡ true → (a : ℕ) × (e : Entry) × (get (entries_of g (map_of pages) (map_of blocks)) a ≡ Some e) × (e.block_mapped ≡ true) × (a / g.p ≡ k)
@@ -192,25 +192,25 @@ module _ (g : Geometry) (pages : PackedTable LogPage) (blocks : PackedTable Bloc
   pages_count : length (items_of pages.slots) ≡ length (filter (λ x. page_mapped x.1) (entries (entries_of g (map_of pages) (map_of blocks))))
   pages_count =
       sym (keys_once pages packed.pages_sound)
-      ∙ each_once-same (map (λ (x : ℕ × LogPage). x.0) (items_of pages.slots)) (numbers (λ x. x.0) page_mapped (entries (entries_of g (map_of pages) (map_of blocks)))) (λ n. same_bools _ _
+      ∙ each_once-same (map (λ (x : ℕ × MappedPage). x.0) (items_of pages.slots)) (numbers (λ x. x.0) page_mapped (entries (entries_of g (map_of pages) (map_of blocks)))) (λ n. same_bools _ _
       (λ mem. let x = there_key pages packed.pages_sound n mem in member_from (λ x. x.0) page_mapped (entries_of g (map_of pages) (map_of blocks)) n (in_log_block x.0.place x.0.dirty) (page_entry n x.0 x.1) refl)
       (λ mem.
       let x = member_to (λ x. x.0) page_mapped (entries_of g (map_of pages) (map_of blocks)) n mem in
-      let y = log_page x.0.0 x.0.1 x.1 x.2 in
-      ap (λ k. member k (map (λ (x : ℕ × LogPage). x.0) (items_of pages.slots))) (sym x.3) ∙ key_there pages packed.pages_sound x.0.0 y.0 y.1))
+      let y = mapped_page x.0.0 x.0.1 x.1 x.2 in
+      ap (λ k. member k (map (λ (x : ℕ × MappedPage). x.0) (items_of pages.slots))) (sym x.3) ∙ key_there pages packed.pages_sound x.0.0 y.0 y.1))
       ∙ tally_is page_mapped (entries_of g (map_of pages) (map_of blocks))
 
-  items_entries : (xs : List (ℕ × LogPage)) → AllByRecursion (λ (x : ℕ × LogPage). get (map_of pages) x.0 ≡ Some x.1) xs
+  items_entries : (xs : List (ℕ × MappedPage)) → AllByRecursion (λ (x : ℕ × MappedPage). get (map_of pages) x.0 ≡ Some x.1) xs
       → AllByRecursion (λ (x : ℕ × Entry). (get (entries_of g (map_of pages) (map_of blocks)) x.0 ≡ Some x.1) × (page_mapped x.1 ≡ true))
-      (map (λ (x : ℕ × LogPage). (x.0, in_log_block x.1.place x.1.dirty)) xs)
+      (map (λ (x : ℕ × MappedPage). (x.0, in_log_block x.1.place x.1.dirty)) xs)
   items_entries [] all = tt
   items_entries (x ∷ xs) all = ((page_entry x.0 x.1 all.0, refl), items_entries xs all.1)
 
-  log_keys : (a : ℕ) (xs : List (ℕ × LogPage)) → member a (map (λ (x : ℕ × Entry). x.0) (map (λ (x : ℕ × LogPage). (x.0, in_log_block x.1.place x.1.dirty)) xs)) ≡ member a (map (λ (x : ℕ × LogPage). x.0) xs)
+  log_keys : (a : ℕ) (xs : List (ℕ × MappedPage)) → member a (map (λ (x : ℕ × Entry). x.0) (map (λ (x : ℕ × MappedPage). (x.0, in_log_block x.1.place x.1.dirty)) xs)) ≡ member a (map (λ (x : ℕ × MappedPage). x.0) xs)
   log_keys a [] = refl
   log_keys a (x ∷ xs) = ap (λ b. (x.0 == a) || b) (log_keys a xs)
 
-  pages_as : (xs : List (ℕ × LogPage)) → map page_record xs ≡ map set_page_of (map (λ (x : ℕ × LogPage). (x.0, in_log_block x.1.place x.1.dirty)) xs)
+  pages_as : (xs : List (ℕ × MappedPage)) → map page_record xs ≡ map set_page_of (map (λ (x : ℕ × MappedPage). (x.0, in_log_block x.1.place x.1.dirty)) xs)
   pages_as [] = refl
   pages_as (x ∷ xs) = ap (λ (l : List Record). page_record x ∷ l) (pages_as xs)
 
@@ -221,17 +221,17 @@ module _ (g : Geometry) (pages : PackedTable LogPage) (blocks : PackedTable Bloc
   pub listed : IsCheckpointOf g (entries_of g (map_of pages) (map_of blocks)) (records_of g (entries_of g (map_of pages) (map_of blocks)) (items_of pages.slots) (items_of blocks.slots))
   listed = record {
     groups = map (λ (x : ℕ × BlockPages). x.0) (items_of blocks.slots);
-    pages = map (λ (x : ℕ × LogPage). (x.0, in_log_block x.1.place x.1.dirty)) (items_of pages.slots);
+    pages = map (λ (x : ℕ × MappedPage). (x.0, in_log_block x.1.place x.1.dirty)) (items_of pages.slots);
     are = ap₂ (λ x y. x ++ y) (groups_as (set_group_of g (entries_of g (map_of pages) (map_of blocks))) (items_of blocks.slots)) (pages_as (items_of pages.slots));
     of_groups = record { each = group_there; all = there_group; once = length-map (items_of blocks.slots) (λ (x : ℕ × BlockPages). x.0) ∙ groups_count };
     of_pages = record {
       each = items_entries (items_of pages.slots) (all_items pages packed.pages_sound (λ k v. get (map_of pages) k ≡ Some v) (λ k v is. is));
-      all = λ a e is t. let x = log_page a e is t in log_keys a (items_of pages.slots) ∙ key_there pages packed.pages_sound a x.0 x.1;
-      once = length-map (items_of pages.slots) (λ (x : ℕ × LogPage). (x.0, in_log_block x.1.place x.1.dirty)) ∙ pages_count;
+      all = λ a e is t. let x = mapped_page a e is t in log_keys a (items_of pages.slots) ∙ key_there pages packed.pages_sound a x.0 x.1;
+      once = length-map (items_of pages.slots) (λ (x : ℕ × MappedPage). (x.0, in_log_block x.1.place x.1.dirty)) ∙ pages_count;
     };
   }
 
-  -- the data blocks and then the log pages, as they are offered
+  -- the data blocks and then the mapped pages, as they are offered
   pub records_as : map block_record (items_of blocks.slots) ++ map page_record (items_of pages.slots) ≡ records_of g (entries_of g (map_of pages) (map_of blocks)) (items_of pages.slots) (items_of blocks.slots)
   records_as = ap (λ (l : List Record). l ++ map page_record (items_of pages.slots)) (sym (blocks_as g (entries_of g (map_of pages) (map_of blocks)) (items_of blocks.slots)
       (all_items blocks packed.blocks_sound (λ k b. IsDataBlock g (entries_of g (map_of pages) (map_of blocks)) k b) (λ k b is. data_block_is g (map_of pages) (map_of blocks) packed.are_blocks packed.apart k b is))))
@@ -313,7 +313,7 @@ doubled_or_same (Ok x) need narrow wide few old doubled same = doubled_few need 
 doubled_or_same (Err e) need narrow wide few old doubled same = omega (arith, same, old)
 
 -- a table whose buckets and room stay as they were shows the same
-abbrev pub held_of : Geometry → PackedTable LogPage → PackedTable BlockPages → HeldValue
+abbrev pub held_of : Geometry → PackedTable MappedPage → PackedTable BlockPages → HeldValue
 held_of g pages blocks = record {
   geometry = g;
   entries = entries_of g (map_of pages) (map_of blocks);
@@ -324,7 +324,7 @@ held_of g pages blocks = record {
   group_buckets = buckets_of blocks;
 }
 
-pub pages_refused : {T E : Type 0} (r : Result T E) (g : Geometry) (pages new : PackedTable LogPage) (blocks : PackedTable BlockPages) → map_of new ≡ map_of pages → OnErr r (new.slots ≡ pages.slots) → OnErr r (new.spare ≡ pages.spare) → OnErr r (held_of g new blocks ≡ held_of g pages blocks)
+pub pages_refused : {T E : Type 0} (r : Result T E) (g : Geometry) (pages new : PackedTable MappedPage) (blocks : PackedTable BlockPages) → map_of new ≡ map_of pages → OnErr r (new.slots ≡ pages.slots) → OnErr r (new.spare ≡ pages.spare) → OnErr r (held_of g new blocks ≡ held_of g pages blocks)
 pages_refused (Ok x) g pages new blocks same slots spare = tt
 pages_refused (Err e) g pages new blocks same slots spare = λ t. record {
   geometry = g;
@@ -336,7 +336,7 @@ pages_refused (Err e) g pages new blocks same slots spare = λ t. record {
   group_buckets = buckets_of blocks;
 }
 
-pub blocks_refused : {T E : Type 0} (r : Result T E) (g : Geometry) (pages : PackedTable LogPage) (blocks new : PackedTable BlockPages) → map_of new ≡ map_of blocks → OnErr r (new.slots ≡ blocks.slots) → OnErr r (new.spare ≡ blocks.spare) → OnErr r (held_of g pages new ≡ held_of g pages blocks)
+pub blocks_refused : {T E : Type 0} (r : Result T E) (g : Geometry) (pages : PackedTable MappedPage) (blocks new : PackedTable BlockPages) → map_of new ≡ map_of blocks → OnErr r (new.slots ≡ blocks.slots) → OnErr r (new.spare ≡ blocks.spare) → OnErr r (held_of g pages new ≡ held_of g pages blocks)
 blocks_refused (Ok x) g pages blocks new same slots spare = tt
 blocks_refused (Err e) g pages blocks new same slots spare = λ t. record {
   geometry = g;

@@ -18,7 +18,7 @@ use Rattle.cache_model.specs.Records.{Entries, no_entries, after, has_bit, in_lo
 use Rattle.cache_model.proofs.StepLemmas.{and_of, get-after}
 use Rattle.cache_model.proofs.MapLemmas.{eq_key, get_insert, get_remove}
 use Rattle.block_map.specs.PageSets.{BlockPages, IsSoundBlock, IsLeftWithout, IsOnlyPage}
-use Rattle.mapping.specs.declared.log_page.LogPage.{LogPage}
+use Rattle.mapping.specs.declared.mapped_page.MappedPage.{MappedPage}
 use Rattle.mapping.specs.declared.bits.Choice.TheVariants.{Mapped, MappedDirty}
 use Rattle.mapping.specs.Checkpoint.{set_group_of}
 use Rattle.mapping.specs.Bits.{is_chosen, chosen_of, IsDataBlock}
@@ -32,8 +32,8 @@ use Rattle.mapping.proofs.SeekingLemmas.{none_some}
 
 -- ---- options and tests
 
--- neither a log page nor a page of a data block
-none_in : (o : Option LogPage) (r : Option Entry) → entry_in o r ≡ None → (o ≡ None) × (r ≡ None)
+-- neither a mapped page nor a page of a data block
+none_in : (o : Option MappedPage) (r : Option Entry) → entry_in o r ≡ None → (o ≡ None) × (r ≡ None)
 none_in None r is = (refl, is)
 none_in (Some x) r is = none_some (in_log_block x.place x.dirty) (sym is)
 
@@ -67,7 +67,7 @@ module _ (g : Geometry) where
         | inr f ↦ ap (λ b. cond b new (get (with_data_blocks g xs) q)) f ∙ get_block_list xs q ∙ sym (ap (λ b. page_in (cond b (Some x.1) (find nat_cmp (q / g.p) xs)) (q % g.p)) (eq_key (q / g.p) x.0 ∙ f))
       ]
 
-  get_log_list : (xs : List (ℕ × LogPage)) (m : Entries) (q : ℕ) → get (with_logs g xs m) q ≡ entry_in (find nat_cmp q xs) (get m q)
+  get_log_list : (xs : List (ℕ × MappedPage)) (m : Entries) (q : ℕ) → get (with_logs g xs m) q ≡ entry_in (find nat_cmp q xs) (get m q)
   get_log_list [] m q = refl
   get_log_list (x ∷ xs) m q =
       let new = Some (in_log_block x.1.place x.1.dirty) in
@@ -76,7 +76,7 @@ module _ (g : Geometry) where
         | inr f ↦ ap (λ b. cond b new (get (with_logs g xs m) q)) f ∙ get_log_list xs m q ∙ sym (ap (λ b. entry_in (cond b (Some x.1) (find nat_cmp q xs)) (get m q)) (eq_key q x.0 ∙ f))
       ]
 
-  -- the entry of the log page, or else that of the data block of the group
+  -- the entry of the mapped page, or else that of the data block of the group
   pub get_held : (pages : Pages) (blocks : Blocks) (q : ℕ) → get (entries_of g pages blocks) q ≡ entry_in (get pages q) (page_in (get blocks (q / g.p)) (q % g.p))
   unfolding entries_of
   get_held pages blocks q =
@@ -95,9 +95,9 @@ module _ (g : Geometry) where
   pub page_absent : (pages : Pages) (blocks : Blocks) (lba : ℕ) → get (entries_of g pages blocks) lba ≡ None → get pages lba ≡ None
   page_absent pages blocks lba absent = (none_in (get pages lba) (page_in (get blocks (lba / g.p)) (lba % g.p)) (sym (get_held pages blocks lba) ∙ absent)).0
 
-  -- ---- one log page more
+  -- ---- one mapped page more
 
-  module _ (pages pages' : Pages) (blocks : Blocks) (lba : ℕ) (x : LogPage) (is : pages' ≡ insert pages lba x) where
+  module _ (pages pages' : Pages) (blocks : Blocks) (lba : ℕ) (x : MappedPage) (is : pages' ≡ insert pages lba x) where
     page_there : (q : ℕ) → get pages' q ≡ cond (q == lba) (Some x) (get pages q)
     page_there q = ap (λ m. get m q) is ∙ get_insert pages lba x q
 
@@ -108,7 +108,7 @@ module _ (g : Geometry) where
         ∙ ap (λ o. cond (q == lba) (Some (in_log_block x.place x.dirty)) o) (sym (get_held pages blocks q))
         ∙ sym (get-after g (SetPage lba x.place x.dirty) (entries_of g pages blocks) q))
       where
-        choose : (b : Bool) (o : Option LogPage) (r : Option Entry) → entry_in (cond b (Some x) o) r ≡ cond b (Some (in_log_block x.place x.dirty)) (entry_in o r)
+        choose : (b : Bool) (o : Option MappedPage) (r : Option Entry) → entry_in (cond b (Some x) o) r ≡ cond b (Some (in_log_block x.place x.dirty)) (entry_in o r)
         choose true o r = refl
         choose false o r = refl
 
@@ -121,8 +121,8 @@ module _ (g : Geometry) where
     pub page_put_apart : get (entries_of g pages blocks) lba ≡ None → AreDisjoint g pages blocks → AreDisjoint g pages' blocks
     page_put_apart absent apart = page_apart (none_in (get pages lba) (page_in (get blocks (lba / g.p)) (lba % g.p)) (sym (get_held pages blocks lba) ∙ absent)).1 apart
 
-    -- the log page is clean
-    pub page_cleaned : (y : LogPage) → get pages lba ≡ Some y → x.place ≡ y.place → x.dirty ≡ false → entries_of g pages' blocks ≡ after g (Clean lba) (entries_of g pages blocks)
+    -- the mapped page is clean
+    pub page_cleaned : (y : MappedPage) → get pages lba ≡ Some y → x.place ≡ y.place → x.dirty ≡ false → entries_of g pages' blocks ≡ after g (Clean lba) (entries_of g pages blocks)
     page_cleaned y at place clean = page_put ∙ same_map nat_cmp_total nat_cmp-IsAntisymmetric (after g (SetPage lba x.place x.dirty) (entries_of g pages blocks)) (after g (Clean lba) (entries_of g pages blocks)) (λ q.
         get-after g (SetPage lba x.place x.dirty) (entries_of g pages blocks) q
         ∙ elim (cases_Bool (q == lba)) [
@@ -137,7 +137,7 @@ module _ (g : Geometry) where
         ]
         ∙ sym (get-after g (Clean lba) (entries_of g pages blocks) q))
 
-    pub page_cleaned_apart : (y : LogPage) → get pages lba ≡ Some y → AreDisjoint g pages blocks → AreDisjoint g pages' blocks
+    pub page_cleaned_apart : (y : MappedPage) → get pages lba ≡ Some y → AreDisjoint g pages blocks → AreDisjoint g pages' blocks
     page_cleaned_apart y at apart = page_apart (apart lba y at) apart
 
   -- ---- one data block more
@@ -330,7 +330,7 @@ module _ (g : Geometry) where
         ∙ ap (λ o. cond (q == lba) None o) (sym (get_held pages blocks q))
         ∙ sym (get-after g (Remove lba) (entries_of g pages blocks) q))
       where
-        both : (c : Bool) (o : Option LogPage) (r : Option Entry) → entry_in (cond c None o) (cond c None r) ≡ cond c None (entry_in o r)
+        both : (c : Bool) (o : Option MappedPage) (r : Option Entry) → entry_in (cond c None o) (cond c None r) ≡ cond c None (entry_in o r)
         both true o r = refl
         both false o r = refl
 
@@ -354,7 +354,7 @@ module _ (g : Geometry) where
         ∙ ap (λ o. cond (q / g.p == k) None o) (sym (get_held pages blocks q))
         ∙ sym (get-after g (RemoveGroup k) (entries_of g pages blocks) q))
       where
-        both : (c : Bool) (o : Option LogPage) (r : Option BlockPages) (i : ℕ) → entry_in (cond c None o) (page_in (cond c None r) i) ≡ cond c None (entry_in o (page_in r i))
+        both : (c : Bool) (o : Option MappedPage) (r : Option BlockPages) (i : ℕ) → entry_in (cond c None o) (page_in (cond c None r) i) ≡ cond c None (entry_in o (page_in r i))
         both true o r i = refl
         both false o r i = refl
 
@@ -392,14 +392,14 @@ module _ (g : Geometry) where
     mapped_is : (k i : ℕ) → i < g.p → is_chosen Mapped (get (entries_of g pages blocks) (k * g.p + i)) ≡ is_chosen Mapped (page_in (get blocks k) i)
     mapped_is k i low = ap (is_chosen Mapped) (at_page k i low) ∙ by_log (get pages (k * g.p + i)) refl
       where
-        by_log : (o : Option LogPage) → get pages (k * g.p + i) ≡ o → is_chosen Mapped (entry_in o (page_in (get blocks k) i)) ≡ is_chosen Mapped (page_in (get blocks k) i)
+        by_log : (o : Option MappedPage) → get pages (k * g.p + i) ≡ o → is_chosen Mapped (entry_in o (page_in (get blocks k) i)) ≡ is_chosen Mapped (page_in (get blocks k) i)
         by_log None at = refl
         by_log (Some x) at = sym (ap (is_chosen Mapped) (ap₂ (λ j n. page_in (get blocks j) n) (sym (div-mul-add k g.p i low)) (sym (mod-mul-add k g.p i low)) ∙ apart (k * g.p + i) x at))
 
     dirty_is : (k i : ℕ) → i < g.p → is_chosen MappedDirty (get (entries_of g pages blocks) (k * g.p + i)) ≡ is_chosen MappedDirty (page_in (get blocks k) i)
     dirty_is k i low = ap (is_chosen MappedDirty) (at_page k i low) ∙ by_log (get pages (k * g.p + i)) refl
       where
-        by_log : (o : Option LogPage) → get pages (k * g.p + i) ≡ o → is_chosen MappedDirty (entry_in o (page_in (get blocks k) i)) ≡ is_chosen MappedDirty (page_in (get blocks k) i)
+        by_log : (o : Option MappedPage) → get pages (k * g.p + i) ≡ o → is_chosen MappedDirty (entry_in o (page_in (get blocks k) i)) ≡ is_chosen MappedDirty (page_in (get blocks k) i)
         by_log None at = refl
         by_log (Some x) at = sym (ap (is_chosen MappedDirty) (ap₂ (λ j n. page_in (get blocks j) n) (sym (div-mul-add k g.p i low)) (sym (mod-mul-add k g.p i low)) ∙ apart (k * g.p + i) x at))
 
@@ -467,7 +467,7 @@ module _ (g : Geometry) where
         of_page a e true s = ap (λ (x : Entry). x.place.block) (sym (same_Some _ e s))
         of_page a e false s = none_some e s
 
-        by_log : (a : ℕ) (e : Entry) → a / g.p ≡ k → e.block_mapped ≡ true → (o : Option LogPage) → entry_in o (page_in (get blocks (a / g.p)) (a % g.p)) ≡ Some e → e.place.block ≡ b.block
+        by_log : (a : ℕ) (e : Entry) → a / g.p ≡ k → e.block_mapped ≡ true → (o : Option MappedPage) → entry_in o (page_in (get blocks (a / g.p)) (a % g.p)) ≡ Some e → e.place.block ≡ b.block
         by_log a e in_group mapped None s = of_page a e (has_bit b.present (a % g.p)) (sym (ap (λ o. page_in o (a % g.p)) (ap (get blocks) in_group ∙ at)) ∙ s)
         by_log a e in_group mapped (Some x) s = absurd (both_ways e.block_mapped (ap (λ (y : Entry). y.block_mapped) (sym (same_Some (in_log_block x.place x.dirty) e s))) mapped)
 
@@ -495,30 +495,30 @@ module _ (g : Geometry) where
 
   -- ---- how many records a checkpoint has
 
-  pub records_long : (m : Entries) (pages : PackedTable LogPage) (blocks : PackedTable BlockPages) → IsSoundTable pages → IsSoundTable blocks → length (records_of g m (items_of pages.slots) (items_of blocks.slots)) ≡ len_of blocks + len_of pages
+  pub records_long : (m : Entries) (pages : PackedTable MappedPage) (blocks : PackedTable BlockPages) → IsSoundTable pages → IsSoundTable blocks → length (records_of g m (items_of pages.slots) (items_of blocks.slots)) ≡ len_of blocks + len_of pages
   records_long m pages blocks sound sound' =
       length-append (map (λ (x : ℕ × BlockPages). set_group_of g m x.0) (items_of blocks.slots)) (map page_record (items_of pages.slots))
       ∙ ap₂ (λ x y. x + y)
       (length-map (items_of blocks.slots) (λ (x : ℕ × BlockPages). set_group_of g m x.0) ∙ sym (len_of-items blocks sound'.packed.once))
       (length-map (items_of pages.slots) page_record ∙ sym (len_of-items pages sound.packed.once))
 
-  -- ---- the log pages of a group
+  -- ---- the mapped pages of a group
 
   -- those before page i are gone
-  pub record PagesGone (group : ℕ) (old new : PackedTable LogPage) (i : ℕ) : Type 0 where
+  pub record PagesGone (group : ℕ) (old new : PackedTable MappedPage) (i : ℕ) : Type 0 where
     pub gone : (q : ℕ) → get (map_of new) q ≡ cond ((q / g.p == group) && nat_lt (q % g.p) i) None (get (map_of old) q)
     pub spare : new.spare ≡ old.spare
     pub buckets : buckets_of new ≡ buckets_of old
     pub sound : IsSoundTable new
 
-  pub none_gone : (group : ℕ) (old : PackedTable LogPage) → IsSoundTable old → PagesGone group old old 0
+  pub none_gone : (group : ℕ) (old : PackedTable MappedPage) → IsSoundTable old → PagesGone group old old 0
   none_gone group old sound = record { gone = λ q. sym (ap (λ c. cond c None (get (map_of old) q)) (ap (λ c. (q / g.p == group) && c) (le-ltb (q % g.p) 0 (omega arith)) ∙ never (q / g.p == group))); spare = refl; buckets = refl; sound = sound }
     where
       never : (c : Bool) → (c && false) ≡ false
       never true = refl
       never false = refl
 
-  pub one_gone : (group i : ℕ) (old now new : PackedTable LogPage) → i < g.p → PagesGone group old now i → map_of new ≡ remove (map_of now) (group * g.p + i) → new.spare ≡ now.spare → buckets_of new ≡ buckets_of now → IsSoundTable new → PagesGone group old new (i + 1)
+  pub one_gone : (group i : ℕ) (old now new : PackedTable MappedPage) → i < g.p → PagesGone group old now i → map_of new ≡ remove (map_of now) (group * g.p + i) → new.spare ≡ now.spare → buckets_of new ≡ buckets_of now → IsSoundTable new → PagesGone group old new (i + 1)
   one_gone group i old now new low so_far is spare buckets sound = record {
     gone = λ q.
         ap (λ m. get m q) is ∙ get_remove (map_of now) (group * g.p + i) q
@@ -535,14 +535,14 @@ module _ (g : Geometry) where
       one_more : (x n : ℕ) → nat_lt x (n + 1) ≡ (nat_lt x n || (x == n))
       one_more x n = grind (arith, nat_tests)
 
-      joined : (a e l l' : Bool) (o : Option LogPage) → l' ≡ (l || e) → cond (a && e) None (cond (a && l) None o) ≡ cond (a && l') None o
+      joined : (a e l l' : Bool) (o : Option MappedPage) → l' ≡ (l || e) → cond (a && e) None (cond (a && l) None o) ≡ cond (a && l') None o
       joined true true true l' o is' = sym (ap (λ c. cond c None o) is')
       joined true true false l' o is' = sym (ap (λ c. cond c None o) is')
       joined true false true l' o is' = sym (ap (λ c. cond c None o) is')
       joined true false false l' o is' = sym (ap (λ c. cond c None o) is')
       joined false e l l' o is' = refl
 
-  pub all_gone : (group : ℕ) (old new : PackedTable LogPage) → PagesGone group old new g.p → (q : ℕ) → get (map_of new) q ≡ cond (q / g.p == group) None (get (map_of old) q)
+  pub all_gone : (group : ℕ) (old new : PackedTable MappedPage) → PagesGone group old new g.p → (q : ℕ) → get (map_of new) q ≡ cond (q / g.p == group) None (get (map_of old) q)
   all_gone group old new so_far q = so_far.gone q ∙ ap (λ c. cond ((q / g.p == group) && c) None (get (map_of old) q)) (lt-ltb _ _ (mod_below q g.p some_pages)) ∙ ap (λ c. cond c None (get (map_of old) q)) (always (q / g.p == group))
     where
       always : (c : Bool) → (c && true) ≡ c

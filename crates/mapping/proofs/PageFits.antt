@@ -16,7 +16,7 @@ use Rattle.cache_model.proofs.CountLemmas.{count_le}
 use Rattle.mapping.specs.declared.index.LogCounts.{LogCounts}
 use Rattle.mapping.specs.declared.marks.Mark.TheVariants.{Dirty}
 use Rattle.mapping.specs.declared.seeking.Sought.TheVariants.{MappedBeside}
-use Rattle.mapping.specs.Index.{tally, is_log_page_in, LogsAre}
+use Rattle.mapping.specs.Index.{tally, is_mapped_in, LogsAre}
 use Rattle.mapping.specs.Seeking.{IsFoundIn, IsNotIn, IsTaken, MayHave, log_block}
 use Rattle.mapping.proofs.MarksLemmas.{ChangesGroup, may_have_fits}
 use Rattle.mapping.proofs.TallyLemmas.{not_there, others_there, tally_without, used_without, used_same, absent_same}
@@ -30,7 +30,7 @@ refused not = (λ t. absurd (false≢true t), λ p. absurd (not p))
 -- ---- log blocks beside an address
 
 module _ (g : Geometry) (m : Entries) (lba : ℕ) where
-  -- the address has a log page in this block, or it has one in another, or none
+  -- the address has a mapped page in this block, or it has one in another, or none
   pub own_page : (block : ℕ) → Some block ≡ log_block (get m lba) → (e : Entry) × (get m lba ≡ Some e) × (page_mapped e ≡ true) × (e.place.block ≡ block)
   own_page block is = by_entry (get m lba) refl is
     where
@@ -41,46 +41,46 @@ module _ (g : Geometry) (m : Entries) (lba : ℕ) where
         | inr f ↦ (e, at, ap not f, sym (same_Some block e.place.block (s ∙ ap (λ b. cond b None (Some e.place.block)) f)))
       ]
 
-  pub beside_own : (block : ℕ) → Some block ≡ log_block (get m lba) → tally (is_log_page_in block) m - 1 ≡ tally (is_log_page_in block) (remove m lba)
+  pub beside_own : (block : ℕ) → Some block ≡ log_block (get m lba) → tally (is_mapped_in block) m - 1 ≡ tally (is_mapped_in block) (remove m lba)
   beside_own block is =
       let x = own_page block is in
-      let there : is_log_page_in block x.0 ≡ true = and_from _ _ x.2 (eq-eqb _ _ x.3) in
-      let one : ◌≡◌ {A = ℕ} (cond (is_log_page_in block x.0) 1 0) 1 = ap (λ b. cond b 1 0) there in
-      let sum : tally (is_log_page_in block) (remove m lba) + cond (is_log_page_in block x.0) 1 0 ≡ tally (is_log_page_in block) m = tally_without (is_log_page_in block) m lba x.0 x.1 in
+      let there : is_mapped_in block x.0 ≡ true = and_from _ _ x.2 (eq-eqb _ _ x.3) in
+      let one : ◌≡◌ {A = ℕ} (cond (is_mapped_in block x.0) 1 0) 1 = ap (λ b. cond b 1 0) there in
+      let sum : tally (is_mapped_in block) (remove m lba) + cond (is_mapped_in block x.0) 1 0 ≡ tally (is_mapped_in block) m = tally_without (is_mapped_in block) m lba x.0 x.1 in
       omega (arith, one, sum)
 
-  pub beside_other : (block : ℕ) (own : Option ℕ) → own ≡ log_block (get m lba) → (own ≡ Some block → ⊥) → tally (is_log_page_in block) m ≡ tally (is_log_page_in block) (remove m lba)
+  pub beside_other : (block : ℕ) (own : Option ℕ) → own ≡ log_block (get m lba) → (own ≡ Some block → ⊥) → tally (is_mapped_in block) m ≡ tally (is_mapped_in block) (remove m lba)
   beside_other block own is other = by_entry (get m lba) refl is
     where
-      not_in : (e : Entry) → own ≡ log_block (Some e) → is_log_page_in block e ≡ false
+      not_in : (e : Entry) → own ≡ log_block (Some e) → is_mapped_in block e ≡ false
       not_in e s = elim (cases_Bool e.block_mapped) [
         | inl t ↦ ap (λ b. not b && (e.place.block == block)) t
         | inr f ↦ ap (λ b. not b && (e.place.block == block)) f ∙ ne_eqb e.place.block block (λ same. other (s ∙ ap (λ b. cond b None (Some e.place.block)) f ∙ ap Some same))
       ]
 
-      by_entry : (o : Option Entry) → get m lba ≡ o → own ≡ log_block o → tally (is_log_page_in block) m ≡ tally (is_log_page_in block) (remove m lba)
-      by_entry None at s = ap (tally (is_log_page_in block)) (sym (absent_same m lba at))
+      by_entry : (o : Option Entry) → get m lba ≡ o → own ≡ log_block o → tally (is_mapped_in block) m ≡ tally (is_mapped_in block) (remove m lba)
+      by_entry None at s = ap (tally (is_mapped_in block)) (sym (absent_same m lba at))
       by_entry (Some e) at s =
-          let nothing : ◌≡◌ {A = ℕ} (cond (is_log_page_in block e) 1 0) 0 = ap (λ b. cond b 1 0) (not_in e s) in
-          let sum : tally (is_log_page_in block) (remove m lba) + cond (is_log_page_in block e) 1 0 ≡ tally (is_log_page_in block) m = tally_without (is_log_page_in block) m lba e at in
+          let nothing : ◌≡◌ {A = ℕ} (cond (is_mapped_in block e) 1 0) 0 = ap (λ b. cond b 1 0) (not_in e s) in
+          let sum : tally (is_mapped_in block) (remove m lba) + cond (is_mapped_in block e) 1 0 ≡ tally (is_mapped_in block) m = tally_without (is_mapped_in block) m lba e at in
           omega (arith, nothing, sum)
 
   -- what the list counts for a block of the pool
-  pub count_read : (logs : LogCounts) (block first x : ℕ) → LogsAre g m logs → first ≡ first_pool g → first_pool g ≤ block → block < blocks g → x ≡ get_or logs.pages.items (block - first) x → x ≡ tally (is_log_page_in block) m
+  pub count_read : (logs : LogCounts) (block first x : ℕ) → LogsAre g m logs → first ≡ first_pool g → first_pool g ≤ block → block < blocks g → x ≡ get_or logs.pages.items (block - first) x → x ≡ tally (is_mapped_in block) m
   count_read logs block first x all is above below read =
       let low : block - first_pool g < g.c + g.l + 1 = omega (arith, pool_end) in
       let whole : first_pool g + (block - first_pool g) ≡ block = omega arith in
-      read ∙ ap (λ n. get_or logs.pages.items (block - n) x) is ∙ get_or_default logs.pages.items (block - first_pool g) x 0 (omega (arith, all.long, low)) ∙ all.pages (block - first_pool g) low ∙ ap (λ n. tally (is_log_page_in n) m) whole
+      read ∙ ap (λ n. get_or logs.pages.items (block - n) x) is ∙ get_or_default logs.pages.items (block - first_pool g) x 0 (omega (arith, all.long, low)) ∙ all.pages (block - first_pool g) low ∙ ap (λ n. tally (is_mapped_in n) m) whole
     where
       pool_end : blocks g ≡ first_pool g + (g.c + g.l + 1)
       pool_end = omega arith
 
-  pub own_counted : (block : ℕ) → Some block ≡ log_block (get m lba) → 1 ≤ tally (is_log_page_in block) m
+  pub own_counted : (block : ℕ) → Some block ≡ log_block (get m lba) → 1 ≤ tally (is_mapped_in block) m
   own_counted block is =
       let x = own_page block is in
-      let there : is_log_page_in block x.0 ≡ true = and_from _ _ x.2 (eq-eqb _ _ x.3) in
-      let one : ◌≡◌ {A = ℕ} (cond (is_log_page_in block x.0) 1 0) 1 = ap (λ b. cond b 1 0) there in
-      let sum : tally (is_log_page_in block) (remove m lba) + cond (is_log_page_in block x.0) 1 0 ≡ tally (is_log_page_in block) m = tally_without (is_log_page_in block) m lba x.0 x.1 in
+      let there : is_mapped_in block x.0 ≡ true = and_from _ _ x.2 (eq-eqb _ _ x.3) in
+      let one : ◌≡◌ {A = ℕ} (cond (is_mapped_in block x.0) 1 0) 1 = ap (λ b. cond b 1 0) there in
+      let sum : tally (is_mapped_in block) (remove m lba) + cond (is_mapped_in block x.0) 1 0 ≡ tally (is_mapped_in block) m = tally_without (is_mapped_in block) m lba x.0 x.1 in
       omega (arith, one, sum)
 
   -- how many blocks are used beside it
@@ -94,19 +94,19 @@ module _ (g : Geometry) (m : Entries) (lba : ℕ) where
         | inr f ↦ none_some e.place.block (s ∙ ap (λ b. cond b None (Some e.place.block)) f)
       ]
 
-  used_sum : (block : ℕ) → Some block ≡ log_block (get m lba) → length (blocks_with page_mapped (remove m lba)) + cond (tally (is_log_page_in block) (remove m lba) == 0) 1 0 ≡ length (blocks_with page_mapped m)
-  used_sum block is = let x = own_page block is in ap (λ n. length (blocks_with page_mapped (remove m lba)) + cond (tally (is_log_page_in n) (remove m lba) == 0) 1 0) (sym x.3) ∙ used_without m lba x.0 x.1 x.2
+  used_sum : (block : ℕ) → Some block ≡ log_block (get m lba) → length (blocks_with page_mapped (remove m lba)) + cond (tally (is_mapped_in block) (remove m lba) == 0) 1 0 ≡ length (blocks_with page_mapped m)
+  used_sum block is = let x = own_page block is in ap (λ n. length (blocks_with page_mapped (remove m lba)) + cond (tally (is_mapped_in n) (remove m lba) == 0) 1 0) (sym x.3) ∙ used_without m lba x.0 x.1 x.2
 
-  pub used_less : (block : ℕ) → Some block ≡ log_block (get m lba) → tally (is_log_page_in block) (remove m lba) ≡ 0 → length (blocks_with page_mapped m) ≡ length (blocks_with page_mapped (remove m lba)) + 1
+  pub used_less : (block : ℕ) → Some block ≡ log_block (get m lba) → tally (is_mapped_in block) (remove m lba) ≡ 0 → length (blocks_with page_mapped m) ≡ length (blocks_with page_mapped (remove m lba)) + 1
   used_less block is empty =
       let sum = used_sum block is in
-      let one : ◌≡◌ {A = ℕ} (cond (tally (is_log_page_in block) (remove m lba) == 0) 1 0) 1 = ap (λ b. cond b 1 0) (eq-eqb _ _ empty) in
+      let one : ◌≡◌ {A = ℕ} (cond (tally (is_mapped_in block) (remove m lba) == 0) 1 0) 1 = ap (λ b. cond b 1 0) (eq-eqb _ _ empty) in
       omega (arith, sum, one)
 
-  pub used_still : (block : ℕ) → Some block ≡ log_block (get m lba) → (tally (is_log_page_in block) (remove m lba) ≡ 0 → ⊥) → length (blocks_with page_mapped m) ≡ length (blocks_with page_mapped (remove m lba))
+  pub used_still : (block : ℕ) → Some block ≡ log_block (get m lba) → (tally (is_mapped_in block) (remove m lba) ≡ 0 → ⊥) → length (blocks_with page_mapped m) ≡ length (blocks_with page_mapped (remove m lba))
   used_still block is some =
       let sum = used_sum block is in
-      let nothing : ◌≡◌ {A = ℕ} (cond (tally (is_log_page_in block) (remove m lba) == 0) 1 0) 0 = ap (λ b. cond b 1 0) (ne_eqb _ _ some) in
+      let nothing : ◌≡◌ {A = ℕ} (cond (tally (is_mapped_in block) (remove m lba) == 0) 1 0) 0 = ap (λ b. cond b 1 0) (ne_eqb _ _ some) in
       omega (arith, sum, nothing)
 
 -- ---- a page
@@ -144,19 +144,19 @@ module _ (g : Geometry) (m : Entries) (is_map : IsMap g m) (lba : ℕ) (at : Pla
     | inr other ↦ others_there new lba q other ∙ page_other g m is_map lba at dirty q other ∙ sym (others_there m lba q other)
   ])
 
-  logs_sum : length (blocks_with page_mapped (remove m lba)) + cond (tally (is_log_page_in at.block) (remove m lba) == 0) 1 0 ≡ length (blocks_with page_mapped new)
-  logs_sum = ap (λ (n : Entries). length (blocks_with page_mapped n) + cond (tally (is_log_page_in at.block) n == 0) 1 0) (sym without_new) ∙ used_without new lba (in_log_block at dirty) (page_here g m is_map lba at dirty) refl
+  logs_sum : length (blocks_with page_mapped (remove m lba)) + cond (tally (is_mapped_in at.block) (remove m lba) == 0) 1 0 ≡ length (blocks_with page_mapped new)
+  logs_sum = ap (λ (n : Entries). length (blocks_with page_mapped n) + cond (tally (is_mapped_in at.block) n == 0) 1 0) (sym without_new) ∙ used_without new lba (in_log_block at dirty) (page_here g m is_map lba at dirty) refl
 
-  pub logs_more : tally (is_log_page_in at.block) (remove m lba) ≡ 0 → length (blocks_with page_mapped (remove m lba)) + 1 ≡ length (blocks_with page_mapped (after g (SetPage lba at dirty) m))
+  pub logs_more : tally (is_mapped_in at.block) (remove m lba) ≡ 0 → length (blocks_with page_mapped (remove m lba)) + 1 ≡ length (blocks_with page_mapped (after g (SetPage lba at dirty) m))
   logs_more empty =
       let sum = logs_sum in
-      let one : ◌≡◌ {A = ℕ} (cond (tally (is_log_page_in at.block) (remove m lba) == 0) 1 0) 1 = ap (λ b. cond b 1 0) (eq-eqb _ _ empty) in
+      let one : ◌≡◌ {A = ℕ} (cond (tally (is_mapped_in at.block) (remove m lba) == 0) 1 0) 1 = ap (λ b. cond b 1 0) (eq-eqb _ _ empty) in
       omega (arith, sum, one)
 
-  pub logs_same : (tally (is_log_page_in at.block) (remove m lba) ≡ 0 → ⊥) → length (blocks_with page_mapped (remove m lba)) ≡ length (blocks_with page_mapped (after g (SetPage lba at dirty) m))
+  pub logs_same : (tally (is_mapped_in at.block) (remove m lba) ≡ 0 → ⊥) → length (blocks_with page_mapped (remove m lba)) ≡ length (blocks_with page_mapped (after g (SetPage lba at dirty) m))
   logs_same some =
       let sum = logs_sum in
-      let nothing : ◌≡◌ {A = ℕ} (cond (tally (is_log_page_in at.block) (remove m lba) == 0) 1 0) 0 = ap (λ b. cond b 1 0) (ne_eqb _ _ some) in
+      let nothing : ◌≡◌ {A = ℕ} (cond (tally (is_mapped_in at.block) (remove m lba) == 0) 1 0) 0 = ap (λ b. cond b 1 0) (ne_eqb _ _ some) in
       omega (arith, sum, nothing)
 
   pub too_many_logs : (n : ℕ) → n ≡ length (blocks_with page_mapped (after g (SetPage lba at dirty) m)) → g.l < n → Fits g (SetPage lba at dirty) m → ⊥

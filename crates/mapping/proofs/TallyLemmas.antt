@@ -21,7 +21,7 @@ use Rattle.mapping.specs.Checkpoint.{IsCheckpointOf, set_group_of, set_page_of}
 use Rattle.mapping.specs.Numbers.{pool_pages, number_of}
 use Rattle.mapping.specs.declared.index.LogCounts.{LogCounts}
 use Rattle.mapping.specs.declared.index.Index.{Index}
-use Rattle.mapping.specs.Index.{tally, is_any, is_log_page_in, OwnersAre, LogsAre, IsIndex}
+use Rattle.mapping.specs.Index.{tally, is_any, is_mapped_in, OwnersAre, LogsAre, IsIndex}
 use Rattle.mapping.proofs.MarksLemmas.{same_bools, member_from, member_to}
 use Rattle.mapping.proofs.NumbersLemmas.{number_below, number_tells, pages_few}
 use Rattle.mapping.proofs.PoolLemmas.{few_entries}
@@ -180,18 +180,18 @@ without_map g m a is_map = less-map g (remove m a) m (record { entry = λ q e is
     taken true o e s = none_some e s
     taken false o e s = s
 
--- ---- the blocks that have log pages
+-- ---- the blocks that have mapped pages
 
-log_member : (m : Entries) (x : ℕ) → member x (numbers (λ x. x.1.place.block) page_mapped (entries m)) ≡ not (tally (is_log_page_in x) m == 0)
-log_member m x = same_bools (member x (numbers (λ x. x.1.place.block) page_mapped (entries m))) (not (tally (is_log_page_in x) m == 0))
+log_member : (m : Entries) (x : ℕ) → member x (numbers (λ x. x.1.place.block) page_mapped (entries m)) ≡ not (tally (is_mapped_in x) m == 0)
+log_member m x = same_bools (member x (numbers (λ x. x.1.place.block) page_mapped (entries m))) (not (tally (is_mapped_in x) m == 0))
     (λ mem.
     let y = member_to (λ x. x.1.place.block) page_mapped m x mem in
-    let some = some_counted (numbers (λ x. x.0) (is_log_page_in x) (entries m)) y.0.0 (member_from (λ x. x.0) (is_log_page_in x) m y.0.0 y.0.1 y.1 (and_from _ _ y.2 (eq-eqb _ _ y.3))) in
-    ap not (ne_eqb (tally (is_log_page_in x) m) 0 (λ e. absurd (omega arith))))
+    let some = some_counted (numbers (λ x. x.0) (is_mapped_in x) (entries m)) y.0.0 (member_from (λ x. x.0) (is_mapped_in x) m y.0.0 y.0.1 y.1 (and_from _ _ y.2 (eq-eqb _ _ y.3))) in
+    ap not (ne_eqb (tally (is_mapped_in x) m) 0 (λ e. absurd (omega arith))))
     (λ t.
-    let some : 0 < tally (is_log_page_in x) m = positive (tally (is_log_page_in x) m) t in
-    let n = counted_some (numbers (λ x. x.0) (is_log_page_in x) (entries m)) some in
-    let y = member_to (λ x. x.0) (is_log_page_in x) m n.0 n.1 in
+    let some : 0 < tally (is_mapped_in x) m = positive (tally (is_mapped_in x) m) t in
+    let n = counted_some (numbers (λ x. x.0) (is_mapped_in x) (entries m)) some in
+    let y = member_to (λ x. x.0) (is_mapped_in x) m n.0 n.1 in
     let p = and_parts (page_mapped y.0.1) (y.0.1.place.block == x) y.2 in
     ap (λ k. member k (numbers (λ x. x.1.place.block) page_mapped (entries m))) (sym (eqb-true _ _ p.1)) ∙ member_from (λ x. x.1.place.block) page_mapped m y.0.0 y.0.1 y.1 p.0)
   where
@@ -201,8 +201,8 @@ log_member m x = same_bools (member x (numbers (λ x. x.1.place.block) page_mapp
       | inr other ↦ omega arith
     ]
 
--- without a log page: its block may have been the only one it stood in
-pub used_without : (m : Entries) (a : ℕ) (e : Entry) → get m a ≡ Some e → page_mapped e ≡ true → length (blocks_with page_mapped (remove m a)) + cond (tally (is_log_page_in e.place.block) (remove m a) == 0) 1 0 ≡ length (blocks_with page_mapped m)
+-- without a mapped page: its block may have been the only one it stood in
+pub used_without : (m : Entries) (a : ℕ) (e : Entry) → get m a ≡ Some e → page_mapped e ≡ true → length (blocks_with page_mapped (remove m a)) + cond (tally (is_mapped_in e.place.block) (remove m a) == 0) 1 0 ≡ length (blocks_with page_mapped m)
 used_without m a e is mapped =
     let f : ℕ × Entry → ℕ = λ x. x.1.place.block in
     let x = e.place.block in
@@ -214,7 +214,7 @@ used_without m a e is mapped =
     let y = member_to f page_mapped (remove m a) n mem in
     ap (λ k. member k (numbers f page_mapped (entries m))) (sym y.3) ∙ member_from f page_mapped m y.0.0 y.0.1 (sym (others_there m a y.0.0 (λ s. none_some y.0.1 (sym (not_there m a) ∙ ap (get (remove m a)) (sym s) ∙ y.1))) ∙ y.1) y.2)) in
     let had : member x (numbers f page_mapped (entries m)) ≡ true = member_from f page_mapped m a e is mapped in
-    summed (member x (numbers f page_mapped (entries m))) (member x (numbers f page_mapped (entries (remove m a)))) (tally (is_log_page_in x) (remove m a) == 0) (length (blocks_with page_mapped (remove m a))) (length (blocks_with page_mapped m)) had (log_member (remove m a) x) beside
+    summed (member x (numbers f page_mapped (entries m))) (member x (numbers f page_mapped (entries (remove m a)))) (tally (is_mapped_in x) (remove m a) == 0) (length (blocks_with page_mapped (remove m a))) (length (blocks_with page_mapped m)) had (log_member (remove m a) x) beside
   where
     summed : (b c d : Bool) (n k : ℕ) → b ≡ true → c ≡ not d → n + cond b 1 0 ≡ k + cond c 1 0 → n + cond d 1 0 ≡ k
     summed true true true n k is is' sum = absurd (both_ways false refl (sym is'))
@@ -237,10 +237,10 @@ used_same m a e is mapped =
     ∙ member_from f page_mapped (remove m a) y.0.0 y.0.1 (others_there m a y.0.0
     (λ s. both_ways y.0.1.block_mapped (not-true y.0.1.block_mapped y.2) (ap (λ (z : Entry). z.block_mapped) (same_Some y.0.1 e (sym y.1 ∙ ap (get m) s ∙ is)) ∙ mapped)) ∙ y.1) y.2))
 
-log_tally_same : (m : Entries) (a x : ℕ) (e : Entry) → get m a ≡ Some e → is_log_page_in x e ≡ false → tally (is_log_page_in x) (remove m a) ≡ tally (is_log_page_in x) m
+log_tally_same : (m : Entries) (a x : ℕ) (e : Entry) → get m a ≡ Some e → is_mapped_in x e ≡ false → tally (is_mapped_in x) (remove m a) ≡ tally (is_mapped_in x) m
 log_tally_same m a x e is f =
-    let sum : tally (is_log_page_in x) (remove m a) + cond (is_log_page_in x e) 1 0 ≡ tally (is_log_page_in x) m = tally_without (is_log_page_in x) m a e is in
-    let none : ◌≡◌ {A = ℕ} (cond (is_log_page_in x e) 1 0) 0 = ap (λ b. cond b 1 0) f in
+    let sum : tally (is_mapped_in x) (remove m a) + cond (is_mapped_in x e) 1 0 ≡ tally (is_mapped_in x) m = tally_without (is_mapped_in x) m a e is in
+    let none : ◌≡◌ {A = ℕ} (cond (is_mapped_in x e) 1 0) 0 = ap (λ b. cond b 1 0) f in
     omega (arith, sum, none)
 
 -- one block less is used where its last page goes, and one more where its first comes
@@ -259,7 +259,7 @@ left_is n o l l' c c' e f h k = omega arith
 more_is : (n o l l' c c' : ℕ) → n ≡ o + c → o ≡ l' → l' + c' ≡ l → c ≡ c' → n ≡ l
 more_is n o l l' c c' e f h k = omega arith
 
--- ---- the counts of log pages
+-- ---- the counts of mapped pages
 
 module _ (g : Geometry) (m : Entries) (is_map : IsMap g m) (a : ℕ) (e : Entry) (is : get m a ≡ Some e) where
   b : ℕ
@@ -278,13 +278,13 @@ module _ (g : Geometry) (m : Entries) (is_map : IsMap g m) (a : ℕ) (e : Entry)
   whole : first_pool g + (e.place.block - first_pool g) ≡ e.place.block
   whole = let above = (is_map.in_pool a e is).above in omega arith
 
-  mapped_not : e.block_mapped ≡ true → (x : ℕ) → is_log_page_in x e ≡ false
+  mapped_not : e.block_mapped ≡ true → (x : ℕ) → is_mapped_in x e ≡ false
   mapped_not t x = ap (λ c. not c && (e.place.block == x)) t
 
-  log_is : page_mapped e ≡ true → is_log_page_in (first_pool g + (e.place.block - first_pool g)) e ≡ true
+  log_is : page_mapped e ≡ true → is_mapped_in (first_pool g + (e.place.block - first_pool g)) e ≡ true
   log_is t = and_from _ _ t (eq-eqb _ _ (sym whole))
 
-  log_not : (c : ℕ) → (c ≡ e.place.block - first_pool g → ⊥) → is_log_page_in (first_pool g + c) e ≡ false
+  log_not : (c : ℕ) → (c ≡ e.place.block - first_pool g → ⊥) → is_mapped_in (first_pool g + c) e ≡ false
   log_not c apart = never (page_mapped e) (e.place.block == first_pool g + c) (ne_eqb _ _ (λ s. apart (other s)))
     where
       never : (x y : Bool) → y ≡ false → (x && y) ≡ false
@@ -309,19 +309,19 @@ module _ (g : Geometry) (m : Entries) (is_map : IsMap g m) (a : ℕ) (e : Entry)
     used = old.used ∙ used_same m a e is t;
   }
 
-  one_page_more : page_mapped e ≡ true → tally (is_log_page_in (first_pool g + (e.place.block - first_pool g))) (remove m a) + 1 ≡ tally (is_log_page_in (first_pool g + (e.place.block - first_pool g))) m
-  one_page_more t = ap (λ c. tally (is_log_page_in (first_pool g + (e.place.block - first_pool g))) (remove m a) + cond c 1 0) (sym (log_is t)) ∙ tally_without (is_log_page_in (first_pool g + (e.place.block - first_pool g))) m a e is
+  one_page_more : page_mapped e ≡ true → tally (is_mapped_in (first_pool g + (e.place.block - first_pool g))) (remove m a) + 1 ≡ tally (is_mapped_in (first_pool g + (e.place.block - first_pool g))) m
+  one_page_more t = ap (λ c. tally (is_mapped_in (first_pool g + (e.place.block - first_pool g))) (remove m a) + cond c 1 0) (sym (log_is t)) ∙ tally_without (is_mapped_in (first_pool g + (e.place.block - first_pool g))) m a e is
 
   -- what its block counts
-  pub count_here : (logs : LogCounts) → page_mapped e ≡ true → LogsAre g m logs → get_or logs.pages.items (e.place.block - first_pool g) 0 ≡ tally (is_log_page_in (first_pool g + (e.place.block - first_pool g))) (remove m a) + 1
+  pub count_here : (logs : LogCounts) → page_mapped e ≡ true → LogsAre g m logs → get_or logs.pages.items (e.place.block - first_pool g) 0 ≡ tally (is_mapped_in (first_pool g + (e.place.block - first_pool g))) (remove m a) + 1
   count_here logs t old = old.pages (e.place.block - first_pool g) low ∙ sym (one_page_more t)
 
   pub count_few : (logs : LogCounts) → LogsAre g (remove m a) logs → get_or logs.pages.items (e.place.block - first_pool g) 0 ≤ 36928
-  count_few logs old = let few = tally_few g (is_log_page_in (first_pool g + (e.place.block - first_pool g))) (remove m a) (without_map g m a is_map) in let is = old.pages (e.place.block - first_pool g) low in omega arith
+  count_few logs old = let few = tally_few g (is_mapped_in (first_pool g + (e.place.block - first_pool g))) (remove m a) (without_map g m a is_map) in let is = old.pages (e.place.block - first_pool g) low in omega arith
 
   -- where its block has no other, it is used no more
-  pub used_here : page_mapped e ≡ true → length (blocks_with page_mapped (remove m a)) + cond (tally (is_log_page_in (first_pool g + (e.place.block - first_pool g))) (remove m a) == 0) 1 0 ≡ length (blocks_with page_mapped m)
-  used_here t = ap (λ x. length (blocks_with page_mapped (remove m a)) + cond (tally (is_log_page_in x) (remove m a) == 0) 1 0) whole ∙ used_without m a e is t
+  pub used_here : page_mapped e ≡ true → length (blocks_with page_mapped (remove m a)) + cond (tally (is_mapped_in (first_pool g + (e.place.block - first_pool g))) (remove m a) == 0) 1 0 ≡ length (blocks_with page_mapped m)
+  used_here t = ap (λ x. length (blocks_with page_mapped (remove m a)) + cond (tally (is_mapped_in x) (remove m a) == 0) 1 0) whole ∙ used_without m a e is t
 
   pub logs_without : (old new : LogCounts) → page_mapped e ≡ true → LogsAre g m old
       → new.pages.items ≡ set old.pages.items (e.place.block - first_pool g) (get_or old.pages.items (e.place.block - first_pool g) 0 - 1)
@@ -332,14 +332,14 @@ module _ (g : Geometry) (m : Entries) (is_map : IsMap g m) (a : ℕ) (e : Entry)
       | inl same ↦
           ap (λ k. get_or (set old.pages.items (e.place.block - first_pool g) (get_or old.pages.items (e.place.block - first_pool g) 0 - 1)) k 0) same
           ∙ get_or-set_same old.pages.items (e.place.block - first_pool g) _ 0 (omega (arith, all.long, low))
-          ∙ count_left ∙ ap (λ k. tally (is_log_page_in (first_pool g + k)) (remove m a)) (sym same)
+          ∙ count_left ∙ ap (λ k. tally (is_mapped_in (first_pool g + k)) (remove m a)) (sym same)
       | inr other ↦ get_or-set_other old.pages.items (e.place.block - first_pool g) c _ 0 other ∙ all.pages c within ∙ sym (log_tally_same m a (first_pool g + c) e is (log_not c other))
     ];
     used = left_is new.used old.used (length (blocks_with page_mapped m)) (length (blocks_with page_mapped (remove m a))) (cond (get_or old.pages.items (e.place.block - first_pool g) 0 - 1 == 0) 1 0)
-        (cond (tally (is_log_page_in (first_pool g + (e.place.block - first_pool g))) (remove m a) == 0) 1 0) used all.used (used_here t) (ap (λ k. cond (k == 0) 1 0) count_left);
+        (cond (tally (is_mapped_in (first_pool g + (e.place.block - first_pool g))) (remove m a) == 0) 1 0) used all.used (used_here t) (ap (λ k. cond (k == 0) 1 0) count_left);
   }
     where
-      count_left : get_or old.pages.items (e.place.block - first_pool g) 0 - 1 ≡ tally (is_log_page_in (first_pool g + (e.place.block - first_pool g))) (remove m a)
+      count_left : get_or old.pages.items (e.place.block - first_pool g) 0 - 1 ≡ tally (is_mapped_in (first_pool g + (e.place.block - first_pool g))) (remove m a)
       count_left = let here = count_here old t all in omega arith
 
   pub logs_with : (old new : LogCounts) → page_mapped e ≡ true → LogsAre g (remove m a) old
@@ -351,11 +351,11 @@ module _ (g : Geometry) (m : Entries) (is_map : IsMap g m) (a : ℕ) (e : Entry)
       | inl same ↦
           ap (λ k. get_or (set old.pages.items (e.place.block - first_pool g) (get_or old.pages.items (e.place.block - first_pool g) 0 + 1)) k 0) same
           ∙ get_or-set_same old.pages.items (e.place.block - first_pool g) _ 0 (omega (arith, all.long, low))
-          ∙ ap (λ k. k + 1) (all.pages (e.place.block - first_pool g) low) ∙ one_page_more t ∙ ap (λ k. tally (is_log_page_in (first_pool g + k)) m) (sym same)
+          ∙ ap (λ k. k + 1) (all.pages (e.place.block - first_pool g) low) ∙ one_page_more t ∙ ap (λ k. tally (is_mapped_in (first_pool g + k)) m) (sym same)
       | inr other ↦ get_or-set_other old.pages.items (e.place.block - first_pool g) c _ 0 other ∙ all.pages c within ∙ log_tally_same m a (first_pool g + c) e is (log_not c other)
     ];
     used = more_is new.used old.used (length (blocks_with page_mapped m)) (length (blocks_with page_mapped (remove m a))) (cond (get_or old.pages.items (e.place.block - first_pool g) 0 == 0) 1 0)
-        (cond (tally (is_log_page_in (first_pool g + (e.place.block - first_pool g))) (remove m a) == 0) 1 0) used all.used (used_here t)
+        (cond (tally (is_mapped_in (first_pool g + (e.place.block - first_pool g))) (remove m a) == 0) 1 0) used all.used (used_here t)
         (ap (λ k. cond (k == 0) 1 0) (all.pages (e.place.block - first_pool g) low));
   }
 
@@ -483,7 +483,7 @@ no_index g index nobody is_none owners logs used held dirty = record {
   };
   logs = record {
     long = ap length logs ∙ length-replicate (g.c + g.l + 1) 0;
-    pages = λ b within. ap (λ (l : List ℕ). get_or l b 0) logs ∙ zeros (g.c + g.l + 1) b ∙ sym (tally_none (is_log_page_in (first_pool g + b)));
+    pages = λ b within. ap (λ (l : List ℕ). get_or l b 0) logs ∙ zeros (g.c + g.l + 1) b ∙ sym (tally_none (is_mapped_in (first_pool g + b)));
     used = used ∙ sym (ap (λ (es : List (ℕ × Entry)). length (each_once (map (λ (x : ℕ × Entry). x.1.place.block) (filter (λ (x : ℕ × Entry). page_mapped x.1) es)))) no_entries-nil);
   };
   held = held ∙ sym (tally_none is_any);

@@ -2,12 +2,12 @@
 use Rattle.std.specs.Prelude.{Option, None, Some, List, ℕ, zero, suc, ◌+◌, Bool, if◌then◌else◌, ◌≡◌, true}
 use Rattle.cache_model.specs.declared.entry.Entry.{Entry}
 use Rattle.cache_model.specs.Records.{in_log_block}
-use Rattle.mapping.specs.declared.log_page.LogPage.{LogPage}
+use Rattle.mapping.specs.declared.mapped_page.MappedPage.{MappedPage}
 use Rattle.std.specs.FinMap.{is_sorted}
 use Rattle.std.specs.Ordering.{nat_cmp}
 
--- the entry of a log page, or else that of the data block
-abbrev pub entry_in : Option LogPage → Option Entry → Option Entry
+-- the entry of a mapped page, or else that of the data block
+abbrev pub entry_in : Option MappedPage → Option Entry → Option Entry
 entry_in None o = o
 entry_in (Some x) o = Some (in_log_block x.place x.dirty)
 

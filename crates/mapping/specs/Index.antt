@@ -1,4 +1,4 @@
--- What is kept beside the entries: whose each page of the pool is, how many log pages each erase block has, and counts.
+-- What is kept beside the entries: whose each page of the pool is, how many mapped pages each erase block has, and counts.
 use Rattle.std.specs.Prelude.{◌≡◌, ℕ, zero, suc, ◌+◌, ◌<◌, ◌==◌, ◌&&◌, Bool, true, List, map, filter, length, slice_index_or, Option, None, Some}
 use Rattle.std.specs.FinMap.{get, remove, entries}
 use Rattle.ft_base.specs.declared.geometry.Geometry.{Geometry}
@@ -18,8 +18,8 @@ abbrev pub is_any : Entry → Bool
 is_any e = true
 
 -- the entry stands in a log block, which is this one
-abbrev pub is_log_page_in : ℕ → Entry → Bool
-is_log_page_in block e = page_mapped e && (e.place.block == block)
+abbrev pub is_mapped_in : ℕ → Entry → Bool
+is_mapped_in block e = page_mapped e && (e.place.block == block)
 
 -- the list has the owner of each page of the pool
 pub record OwnersAre (g : Geometry) (m : Entries) (owners : List (Option ℕ)) : Type 0 where
@@ -27,10 +27,10 @@ pub record OwnersAre (g : Geometry) (m : Entries) (owners : List (Option ℕ)) :
   pub owner : (a : ℕ) (e : Entry) → get m a ≡ Some e → slice_index_or owners (number_of g e.place) None ≡ Some a
   pub owned : (i a : ℕ) → slice_index_or owners i None ≡ Some a → (e : Entry) × (get m a ≡ Some e) × (number_of g e.place ≡ i)
 
--- how many log pages each erase block of the pool has, and how many of these blocks have some
+-- how many mapped pages each erase block of the pool has, and how many of these blocks have some
 pub record LogsAre (g : Geometry) (m : Entries) (logs : LogCounts) : Type 0 where
   pub long : length logs.pages.items ≡ g.c + g.l + 1
-  pub pages : (b : ℕ) → b < g.c + g.l + 1 → slice_index_or logs.pages.items b 0 ≡ tally (is_log_page_in (first_pool g + b)) m
+  pub pages : (b : ℕ) → b < g.c + g.l + 1 → slice_index_or logs.pages.items b 0 ≡ tally (is_mapped_in (first_pool g + b)) m
   pub used : logs.used ≡ length (blocks_with page_mapped m)
 
 -- all of it is that of these entries

@@ -9,18 +9,18 @@ use Rattle.cache_model.specs.declared.entry.Entry.{Entry}
 use Rattle.cache_model.specs.Records.{Entries, no_entries, after, has_bit, page_of_group}
 use Rattle.block_map.specs.PageSets.{BlockPages, IsSoundBlock}
 use Rattle.sparse_map.specs.Packed.{PackedTable, map_of, buckets_of, IsSound}
-use Rattle.mapping.specs.declared.log_page.LogPage.{LogPage}
+use Rattle.mapping.specs.declared.mapped_page.MappedPage.{MappedPage}
 use Rattle.mapping.specs.Checkpoint.{set_group_of}
 
--- log pages by address, and data blocks by group
+-- mapped pages by address, and data blocks by group
 abbrev pub Pages : Type 0
-Pages = FinMap nat_cmp LogPage
+Pages = FinMap nat_cmp MappedPage
 
 abbrev pub Blocks : Type 0
 Blocks = FinMap nat_cmp BlockPages
 
 -- what sets them
-abbrev pub page_record : ℕ × LogPage → Record
+abbrev pub page_record : ℕ × MappedPage → Record
 page_record x = SetPage x.0 x.1.place x.1.dirty
 
 abbrev pub block_record : ℕ × BlockPages → Record
@@ -31,7 +31,7 @@ abbrev pub with_data_blocks : Geometry → List (ℕ × BlockPages) → Entries
 with_data_blocks g [] = no_entries
 with_data_blocks g (x ∷ xs) = after g (block_record x) (with_data_blocks g xs)
 
-abbrev pub with_logs : Geometry → List (ℕ × LogPage) → Entries → Entries
+abbrev pub with_logs : Geometry → List (ℕ × MappedPage) → Entries → Entries
 with_logs g [] m = m
 with_logs g (x ∷ xs) m = after g (page_record x) (with_logs g xs m)
 
@@ -48,12 +48,12 @@ pub record AreBlocks (g : Geometry) (blocks : Blocks) : Type 0 where
   pub sound : (k : ℕ) (b : BlockPages) → get blocks k ≡ Some b → IsSoundBlock b
   pub below : (k : ℕ) (b : BlockPages) → get blocks k ≡ Some b → (i : ℕ) → g.p ≤ i → has_bit b.present i ≡ false
 
--- no address has a log page and a page of a data block
+-- no address has a mapped page and a page of a data block
 abbrev pub AreDisjoint : Geometry → Pages → Blocks → Type 0
-AreDisjoint g pages blocks = (a : ℕ) (x : LogPage) → get pages a ≡ Some x → page_in (get blocks (a / g.p)) (a % g.p) ≡ None
+AreDisjoint g pages blocks = (a : ℕ) (x : MappedPage) → get pages a ≡ Some x → page_in (get blocks (a / g.p)) (a % g.p) ≡ None
 
 -- what two packed maps keep
-pub record IsPackedMap (g : Geometry) (pages : PackedTable LogPage) (blocks : PackedTable BlockPages) : Type 0 where
+pub record IsPackedMap (g : Geometry) (pages : PackedTable MappedPage) (blocks : PackedTable BlockPages) : Type 0 where
   pub pages_sound : IsSound pages
   pub blocks_sound : IsSound blocks
   pub are_blocks : AreBlocks g (map_of blocks)
@@ -62,7 +62,7 @@ pub record IsPackedMap (g : Geometry) (pages : PackedTable LogPage) (blocks : Pa
   pub few_blocks : buckets_of blocks ≤ 2 ^ 32
 
 -- the records of a checkpoint, in the order of the buckets
-abbrev pub records_of : Geometry → Entries → List (ℕ × LogPage) → List (ℕ × BlockPages) → List Record
+abbrev pub records_of : Geometry → Entries → List (ℕ × MappedPage) → List (ℕ × BlockPages) → List Record
 records_of g m pages blocks = map (λ x. set_group_of g m x.0) blocks ++ map page_record pages
 
 -- the blocks with page i of the group left out
@@ -71,7 +71,7 @@ pub record IsLeftOut (g : Geometry) (old new : Blocks) (group page : ℕ) : Type
   pub blocks : AreBlocks g old → AreBlocks g new
 
 -- what the layers within see: the entries, the room for new pages and new blocks, the records of a checkpoint,
--- and the buckets of the log pages and of the data blocks
+-- and the buckets of the mapped pages and of the data blocks
 pub record HeldValue : Type 0 where
   pub geometry : Geometry
   pub entries : Entries

@@ -6,7 +6,7 @@ ghost use Rattle.ft_base.specs.Layout.{first_pool, blocks};
 ghost use Rattle.cache_model.specs.Records.{after};
 ghost use Rattle.cache_model.specs.Entries.{in_pool, page_mapped, blocks_with, InPool, Fits};
 ghost use Rattle.mapping.specs.Counts.{dirty_group_count};
-ghost use Rattle.mapping.specs.Index.{IsIndexed, tally, is_log_page_in};
+ghost use Rattle.mapping.specs.Index.{IsIndexed, tally, is_mapped_in};
 ghost use Rattle.mapping.specs.Seeking.{log_block};
 
 use crate::held::Held;
@@ -32,12 +32,12 @@ fn own_log_block(held: &Held, lba: u64) -> Option<u32>
     }
 }
 
-/// How many log pages an erase block has beside that of the address that stands in block `own`.
+/// How many mapped pages an erase block has beside that of the address that stands in block `own`.
 fn count_beside(held: &Held, index: &Index, geometry: &Geometry, lba: u64, block: u32) -> u32
     requires above { first_pool geometry.now ≤ block }
     requires below { block < blocks geometry.now }
     requires indexed { IsIndexed geometry.now held.now.entries index.now }
-    ensures { result ≡ tally (is_log_page_in block) (remove held.now.entries lba) }
+    ensures { result ≡ tally (is_mapped_in block) (remove held.now.entries lba) }
 {
     let count = index.logs.pages[(block - geometry.first_pool()) as usize];
     match own_log_block(held, lba) {
@@ -46,7 +46,7 @@ fn count_beside(held: &Held, index: &Index, geometry: &Geometry, lba: u64, block
     }
 }
 
-/// How many blocks have log pages beside that of the address.
+/// How many blocks have mapped pages beside that of the address.
 fn count_used_beside(held: &Held, index: &Index, geometry: &Geometry, lba: u64) -> u32
     requires indexed { IsIndexed geometry.now held.now.entries index.now }
     ensures { result ≡ length (blocks_with page_mapped (remove held.now.entries lba)) }

@@ -13,7 +13,7 @@ ghost use Rattle.cache_model.specs.Buckets.{AreBucketsFor};
 ghost use Rattle.mapping.specs.Packed.{page_in, IsLeftOut};
 
 use crate::checkpoint::{offer_all_blocks, offer_all_pages};
-use crate::log_page::LogPage;
+use crate::mapped_page::MappedPage;
 use block_map::BlockAt;
 use cache_model::Entry;
 use ft_base::{Geometry, Place, Record};
@@ -25,7 +25,7 @@ use std::marker::Model;
 #[derive(Drop)]
 pub struct Held {
     geometry: Geometry,
-    pages: SparseMap<LogPage>,
+    pages: SparseMap<MappedPage>,
     blocks: SparseMap<BlockAt>,
 }
 
@@ -73,7 +73,7 @@ impl Held {
     pub fn entry(&self, lba: u64) -> Option<Entry>
         ensures { result ≡ map.get self.now.entries lba }
     {
-        match log_page(&self.pages, lba) {
+        match mapped_page(&self.pages, lba) {
             Some(page) => Some(Entry {
                 place: page.place,
                 dirty: page.dirty,
@@ -91,7 +91,7 @@ impl Held {
         block_at(&self.blocks, group)
     }
 
-    /// Makes room for so many new log pages.
+    /// Makes room for so many new mapped pages.
     pub fn reserve_pages(&mut self, pages: u32) -> Result<(), AllocError>
         requires { length (map.entries self.old.entries) + pages ≤ 2 ^ 30 }
         ensures geometry { self.new.geometry ≡ self.old.geometry }
@@ -119,7 +119,7 @@ impl Held {
         self.blocks.reserve(blocks)
     }
 
-    /// Puts in a log page of an address that has no entry.
+    /// Puts in a mapped page of an address that has no entry.
     pub fn put_page(&mut self, lba: u64, place: Place, dirty: bool)
         requires absent { map.get self.old.entries lba ≡ None }
         requires room { 1 ≤ self.old.spare_pages }
@@ -130,7 +130,7 @@ impl Held {
         ensures buckets { self.new.buckets ≡ self.old.buckets }
         ensures group_buckets { self.new.group_buckets ≡ self.old.group_buckets }
     {
-        let _ = self.pages.insert_ready(lba, LogPage { place, dirty });
+        let _ = self.pages.insert_ready(lba, MappedPage { place, dirty });
     }
 
     /// Puts in the data block of a group that has no entry.
@@ -179,9 +179,9 @@ impl Held {
         ensures group_buckets { self.new.group_buckets ≡ self.old.group_buckets }
     {
         let pages = self.geometry.p as u64;
-        match log_page(&self.pages, lba) {
+        match mapped_page(&self.pages, lba) {
             Some(page) => {
-                let clean = LogPage {
+                let clean = MappedPage {
                     place: page.place,
                     dirty: false,
                 };
@@ -211,7 +211,7 @@ impl Held {
         let _ = self.blocks.remove(group);
     }
 
-    /// The buckets of the log pages: none, or a power of two from 32 on, of which a quarter is free.
+    /// The buckets of the mapped pages: none, or a power of two from 32 on, of which a quarter is free.
     pub fn buckets(&self) -> u64
         ensures count { result ≡ self.now.buckets }
         ensures bound { AreBucketsFor self.now.entries result }
@@ -236,8 +236,8 @@ impl Held {
     }
 }
 
-/// The log page of an address.
-fn log_page(pages: &SparseMap<LogPage>, lba: u64) -> Option<LogPage>
+/// The mapped page of an address.
+fn mapped_page(pages: &SparseMap<MappedPage>, lba: u64) -> Option<MappedPage>
     ensures { result ≡ map.get (map_of pages.now) lba }
 {
     match pages.get(lba) {
@@ -298,8 +298,8 @@ fn take_out(geometry: &Geometry, blocks: &mut SparseMap<BlockAt>, group: u64, pa
     }
 }
 
-/// Takes out the log pages of a group.
-fn remove_pages(pages: &mut SparseMap<LogPage>, geometry: &Geometry, group: u64)
+/// Takes out the mapped pages of a group.
+fn remove_pages(pages: &mut SparseMap<MappedPage>, geometry: &Geometry, group: u64)
     requires group { group ≤ (geometry.now.size - 1) / geometry.now.p }
     requires sound { IsSound pages.old }
     ensures pages { (q : ℕ) → map.get (map_of pages.new) q ≡ (if q / geometry.now.p == group then None else map.get (map_of pages.old) q) }

@@ -1,5 +1,5 @@
 //! What is kept beside the entries, so that none of it is counted or looked for anew: whose each page of
-//! the pool is, how many log pages each erase block has, and how many entries there are.
+//! the pool is, how many mapped pages each erase block has, and how many entries there are.
 ghost use Rattle.std.specs.Prelude.{◌≡◌, Some, None, IfOk, slice_index_or, if◌then◌else◌};
 ghost use Rattle.std.specs.FinMap.{get, remove};
 ghost use Rattle.cache_model.specs.Records.{Entries, no_entries};
@@ -12,7 +12,7 @@ use cache_model::Entry;
 use ft_base::{Geometry, Place};
 use std::alloc::{AllocError, Global};
 
-/// How many log pages each erase block of the pool has, and how many of these blocks have some.
+/// How many mapped pages each erase block of the pool has, and how many of these blocks have some.
 #[derive(Drop)]
 pub struct LogCounts {
     /// By erase block, from the first one of the pool on.
@@ -26,7 +26,7 @@ pub struct LogCounts {
 pub struct Index {
     /// The address whose block each page of the pool has, by the page's number.
     pub owners: Vec<Option<u64>>,
-    /// The log pages of each erase block.
+    /// The mapped pages of each erase block.
     pub logs: LogCounts,
     /// How many addresses have an entry.
     pub held: u32,

@@ -35,7 +35,7 @@ pub fn step(held: &mut Held, change: &Record)
     }
 }
 
-/// The block of an address stands in this log page from now on.
+/// The block of an address stands in this mapped page from now on.
 fn set_page(held: &mut Held, lba: u64, place: Place, dirty: bool)
     requires { 1 ≤ held.old.spare_pages }
     ensures geometry { held.new.geometry ≡ held.old.geometry }

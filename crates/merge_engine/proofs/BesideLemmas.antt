@@ -30,7 +30,7 @@ use Rattle.merge_engine.specs.declared.parts.Parts.{Parts}
 use Rattle.block_pool.specs.Pool.{PoolValue}
 use Rattle.log_blocks.specs.Logs.{LogBlocksValue}
 use Rattle.log_blocks.specs.Logs as list
-use Rattle.merge_engine.specs.Agreement.{Agree, AreOfOne, IsOpenBlock, Lists, RolesAgree}
+use Rattle.merge_engine.specs.Agreement.{PartsAgree, AreOfOne, IsOpenBlock, Lists, RolesAgree}
 
 -- no page changed but some of the pool in which no entry of the map stands, nor one of what is loaded
 pub record ChangedBeside (g : Geometry) (m durable : Entries) (page page' : Place → Page) : Type 0 where
@@ -96,7 +96,7 @@ lists_as p q page list durable map_is geometry_is lists = record {
 
 -- ---- the parts over a flash that changed there
 
-module _ (parts : Parts) (old new : Contents) (agree : Agree parts old) (beside : ChangedBeside parts.geometry parts.map.entries agree.sound.current.durable old.flash.page new.flash.page) where
+module _ (parts : Parts) (old new : Contents) (agree : PartsAgree parts old) (beside : ChangedBeside parts.geometry parts.map.entries agree.sound.current.durable old.flash.page new.flash.page) where
   log_is : parts.log.geometry ≡ parts.geometry
   log_is = agree.sound.of_one.log
 
@@ -123,8 +123,8 @@ module _ (parts : Parts) (old new : Contents) (agree : Agree parts old) (beside 
 
   -- the parts agree, whatever is used for what, where the regions are as ready as before
   pub agree_beside : (pool : PoolValue) (logs : LogBlocksValue) → new.shape ≡ old.shape → ((b : ℕ) → b < first_pool parts.geometry → new.flash.next b ≡ old.flash.next b)
-      → AreOfOne (record parts { pool = pool; logs = logs }) → RolesAgree (record parts { pool = pool; logs = logs }) → list.AreSoundLogs logs → IsOpenBlock logs new.flash
-      → Agree (record parts { pool = pool; logs = logs }) new
+      → AreOfOne (record parts { pool = pool; log_blocks = logs }) → RolesAgree (record parts { pool = pool; log_blocks = logs }) → list.AreSoundLogs logs → IsOpenBlock logs new.flash
+      → PartsAgree (record parts { pool = pool; log_blocks = logs }) new
   agree_beside pool logs shape ready of_one roles sound opened =
       let s = agree.sound in
       let low : (at : Place) → at.block < first_pool parts.log.geometry → old.flash.page at ≡ new.flash.page at = subst (λ (g : Geometry). (at : Place) → at.block < first_pool g → old.flash.page at ≡ new.flash.page at) (sym log_is) beside.regions in
@@ -135,7 +135,7 @@ module _ (parts : Parts) (old new : Contents) (agree : Agree parts old) (beside 
           current = current_alike old.flash.page new.flash.page parts.log parts.map.entries s.current (subst (λ (g : Geometry). LoadsAlike g old.flash.page new.flash.page) (sym log_is) alike);
           whole = record { whole = λ a e is. ap is_whole (sym (beside.places a e is)) ∙ s.whole.whole a e is };
           roles = roles;
-          logs = sound;
+          log_blocks = sound;
           open_block = opened;
         };
         open_log = open_log_same parts.log old.flash new.flash (current_low parts.log old.flash.page parts.map.entries s.current) low (subst (λ (g : Geometry). (b : ℕ) → b < first_pool g → new.flash.next b ≡ old.flash.next b) (sym log_is) ready) agree.open_log;

@@ -91,7 +91,7 @@ module _ (g : Geometry) (group : ℕ) (m m' : Entries) (old new : PoolValue) (b 
 
 module _ (old : Parts) (map : MapValue) (log : LogValue) (pool : PoolValue) (group : ℕ) where
   pub roles_followed : IsMap old.geometry old.map.entries → IsMap old.geometry map.entries → FollowsGroup old.geometry group old.map.entries map.entries old.pool pool → ChangesOne old.geometry group old.map.entries map.entries
-      → ((a : ℕ) (e : Entry) → get map.entries a ≡ Some e → e.block_mapped ≡ false → IsInUse old.logs e.place.block) → RolesAgree old → RolesAgree (record old { map = map; log = log; pool = pool })
+      → ((a : ℕ) (e : Entry) → get map.entries a ≡ Some e → e.block_mapped ≡ false → IsInUse old.log_blocks e.place.block) → RolesAgree old → RolesAgree (record old { map = map; log = log; pool = pool })
   roles_followed is_map is_map' follows changes in_use roles =
       let g = old.geometry in
       let m = old.map.entries in

@@ -20,7 +20,7 @@ use Rattle.log_blocks.specs.Logs.{next_place}
 use Rattle.merge_engine.specs.declared.parts.Parts.{Parts}
 use Rattle.merge_engine.proofs.BesideLemmas.{held_same}
 use Rattle.merge_engine.proofs.RoleLemmas.{open_in_use}
-use Rattle.merge_engine.specs.Agreement.{ArePartsSound, Agree, Lists, IsListOn}
+use Rattle.merge_engine.specs.Agreement.{ArePartsSound, PartsAgree, Lists, IsListOn}
 
 -- ---- the pool is as before
 
@@ -41,10 +41,10 @@ pub stands_as_before : (g : Geometry) (page page' : Place → Page) (list : Cach
 stands_as_before g page page' list stays same stands = stands_by_pool g page page' stands.loaded list (load-map g page stands.loaded stands.loads) stays (same ∙ stands.loads) stands.held
 
 -- sound parts can be put on the flash
-pub can_checkpoint : (parts : Parts) (contents : Contents) → ArePartsSound parts contents → CanCheckpoint parts.marks parts.map parts.log contents
+pub can_checkpoint : (parts : Parts) (contents : Contents) → ArePartsSound parts contents → CanCheckpoint parts.checkpoints parts.map parts.log contents
 can_checkpoint parts contents sound = record {
   shape = subst (λ (h : Geometry). FitsOn h contents.shape) (sym sound.of_one.log) sound.shape;
-  own = sound.of_one.marks ∙ sym sound.of_one.log;
+  own = sound.of_one.checkpoints ∙ sym sound.of_one.log;
   map = sound.of_one.map ∙ sym sound.of_one.log;
   current = sound.current;
   whole = sound.whole;
@@ -52,9 +52,9 @@ can_checkpoint parts contents sound = record {
 
 -- ---- after a commit
 
-module _ (old : Parts) (log : LogValue) (marks : Geometry) (before now : Contents) (sound : ArePartsSound old before) (pool : PoolStays old.log.geometry before.flash.page now.flash.page) where
+module _ (old : Parts) (log : LogValue) (checkpoints : Geometry) (before now : Contents) (sound : ArePartsSound old before) (pool : PoolStays old.log.geometry before.flash.page now.flash.page) where
   abbrev pub committed : Parts
-  committed = record old { log = log; marks = marks }
+  committed = record old { log = log; checkpoints = checkpoints }
 
   own : old.log.geometry ≡ old.geometry
   own = sound.of_one.log
@@ -83,7 +83,7 @@ module _ (old : Parts) (log : LogValue) (marks : Geometry) (before now : Content
     stands = stands_by_pool old.geometry before.flash.page now.flash.page old.map.entries list is_map stays (subst (λ (h : Geometry). load h now.flash.page ≡ Ok old.map.entries) (own_log ∙ own) done.loads) lists.held;
   }
 
-  pub committed_agree : log.geometry ≡ old.log.geometry → marks ≡ old.marks → now.shape ≡ before.shape → PoolReadyStays old.log.geometry before.flash now.flash → IsCommitted now.flash log old.map.entries → Agree committed now
+  pub committed_agree : log.geometry ≡ old.log.geometry → checkpoints ≡ old.checkpoints → now.shape ≡ before.shape → PoolReadyStays old.log.geometry before.flash now.flash → IsCommitted now.flash log old.map.entries → PartsAgree committed now
   committed_agree own_log own_marks shape ready done = record {
     sound = record {
       of_one = record {
@@ -91,17 +91,17 @@ module _ (old : Parts) (log : LogValue) (marks : Geometry) (before now : Content
         log = own_log ∙ own;
         pool = sound.of_one.pool;
         victims = sound.of_one.victims;
-        logs = sound.of_one.logs;
-        marks = own_marks ∙ sound.of_one.marks;
+        log_blocks = sound.of_one.log_blocks;
+        checkpoints = own_marks ∙ sound.of_one.checkpoints;
       };
       shape = subst (λ (s : Shape). FitsOn old.geometry s) (sym shape) sound.shape;
       current = done.current;
       whole = record { whole = λ a e at. ap is_whole (sym (same a e at)) ∙ sound.whole.whole a e at };
       roles = record { data_blocks = sound.roles.data_blocks; log_blocks = sound.roles.log_blocks; in_pool = sound.roles.in_pool; page_mapped = sound.roles.page_mapped };
-      logs = sound.logs;
+      log_blocks = sound.log_blocks;
       open_block = λ room.
-          let block = (next_place old.logs).block in
-          let within = sound.roles.in_pool block (open_in_use old.logs sound.logs room) in
+          let block = (next_place old.log_blocks).block in
+          let within = sound.roles.in_pool block (open_in_use old.log_blocks sound.log_blocks room) in
           subst (λ (h : Geometry). PoolReadyStays h before.flash now.flash) own ready block within.0 ∙ sound.open_block room;
     };
     open_log = done.opened;

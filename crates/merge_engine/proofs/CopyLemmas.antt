@@ -30,7 +30,7 @@ use Rattle.mapping.specs.declared.bits.Choice.TheVariants.{Held}
 use Rattle.mapping.specs.Bits.{set_of, is_chosen, chosen_of}
 use Rattle.mapping.proofs.BitsLemmas.{set_below}
 use Rattle.merge_engine.specs.declared.parts.Parts.{Parts}
-use Rattle.merge_engine.specs.Agreement.{Agree, AreOfOne, Lists}
+use Rattle.merge_engine.specs.Agreement.{PartsAgree, AreOfOne, Lists}
 use Rattle.merge_engine.specs.Merges.{ReachesTo}
 use Rattle.merge_engine.specs.Steps.{IsCopyOf, filler_page}
 use Rattle.merge_engine.proofs.BesideLemmas.{ChangedBeside, leaves_beside, lists_beside, agree_beside}
@@ -41,7 +41,7 @@ use Rattle.merge_engine.proofs.RoleLemmas.{free_in_pool, free_not_in_use, open_i
 
 -- ---- the next page of a free erase block is programmed
 
-module _ (parts : Parts) (old new : Contents) (agree : Agree parts old) (at : Place) (block : Block) (spare : Spare) (free : IsFree parts.pool at.block) (ready : old.flash.next at.block ≡ Some at.page) (ahead : IsBlankAhead old) where
+module _ (parts : Parts) (old new : Contents) (agree : PartsAgree parts old) (at : Place) (block : Block) (spare : Spare) (free : IsFree parts.pool at.block) (ready : old.flash.next at.block ≡ Some at.page) (ahead : IsBlankAhead old) where
   in_pool : IsInPool parts.geometry at.block
   in_pool = free_in_pool parts agree.sound.of_one at.block free
 
@@ -54,14 +54,14 @@ module _ (parts : Parts) (old new : Contents) (agree : Agree parts old) (at : Pl
   pub lists_unheld : LeavesPage old.flash new.flash at block spare → (list durable : CacheList) → Lists parts old.flash.page list durable → Lists parts new.flash.page list durable
   lists_unheld leaves = lists_beside parts old new agree (beside leaves)
 
-  pub agree_unheld : LeavesPage old.flash new.flash at block spare → new.shape ≡ old.shape → new.flash ≡ after_program old.flash at block spare → Agree parts new
+  pub agree_unheld : LeavesPage old.flash new.flash at block spare → new.shape ≡ old.shape → new.flash ≡ after_program old.flash at block spare → PartsAgree parts new
   agree_unheld leaves shape ok =
       let others : (b : ℕ) → (at.block ≡ b → ⊥) → new.flash.next b ≡ old.flash.next b = λ b apart. ap (λ (f : Flash). f.next b) ok ∙ set_other old.flash.next at.block b (Some (at.page + 1)) apart in
       let above = in_pool.0 in
-      agree_beside parts old new agree (beside leaves) parts.pool parts.logs shape
+      agree_beside parts old new agree (beside leaves) parts.pool parts.log_blocks shape
       (λ b low. others b (λ same. absurd (omega (arith, same))))
-      agree.sound.of_one agree.sound.roles agree.sound.logs
-      (λ some. others (next_place parts.logs).block (λ same. free_not_in_use parts agree.sound.of_one agree.sound.roles at.block free (subst (λ b. IsInUse parts.logs b) (sym same) (open_in_use parts.logs agree.sound.logs some))) ∙ agree.sound.open_block some)
+      agree.sound.of_one agree.sound.roles agree.sound.log_blocks
+      (λ some. others (next_place parts.log_blocks).block (λ same. free_not_in_use parts agree.sound.of_one agree.sound.roles at.block free (subst (λ b. IsInUse parts.log_blocks b) (sym same) (open_in_use parts.log_blocks agree.sound.log_blocks some))) ∙ agree.sound.open_block some)
 
 -- ---- one page is copied
 
@@ -77,7 +77,7 @@ pub record IsReadable (contents : Contents) (at : Place) : Type 0 where
   pub page : at.page < contents.shape.pages
   pub whole : is_whole (contents.flash.page at) ≡ true
 
-pub readable : (parts : Parts) (contents : Contents) (lba : ℕ) (from : Place) (dirty : Bool) → Agree parts contents → Some (from, dirty) ≡ option_map place_and_mark (get parts.map.entries lba) → IsReadable contents from
+pub readable : (parts : Parts) (contents : Contents) (lba : ℕ) (from : Place) (dirty : Bool) → PartsAgree parts contents → Some (from, dirty) ≡ option_map place_and_mark (get parts.map.entries lba) → IsReadable contents from
 readable parts contents lba from dirty agree is =
     let s = agree.sound in
     let x = placed_entry (get parts.map.entries lba) from dirty is in
@@ -92,7 +92,7 @@ readable parts contents lba from dirty agree is =
 whole_apart : (page : Place → Page) (at to : Place) → is_whole (page at) ≡ true → page to ≡ Blank → at ≡ to → ⊥
 whole_apart page at to whole blank same = let both : is_whole Blank ≡ true = ap is_whole (sym blank) ∙ ap (λ q. is_whole (page q)) (sym same) ∙ whole in absurd (cc)
 
-pub copy_is : (parts : Parts) (old new : Contents) (agree : Agree parts old) (lba : ℕ) (from to : Place) (dirty : Bool) (block : Block) (spare : Spare) → old.flash.next to.block ≡ Some to.page → IsBlankAhead old → Some (from, dirty) ≡ option_map place_and_mark (get parts.map.entries lba)
+pub copy_is : (parts : Parts) (old new : Contents) (agree : PartsAgree parts old) (lba : ℕ) (from to : Place) (dirty : Bool) (block : Block) (spare : Spare) → old.flash.next to.block ≡ Some to.page → IsBlankAhead old → Some (from, dirty) ≡ option_map place_and_mark (get parts.map.entries lba)
     → old.flash.page from ≡ Whole block spare → new.flash ≡ after_program old.flash to block spare → (e : Entry) → get parts.map.entries lba ≡ Some e → IsCopyOf new.flash.page e.place to
 copy_is parts old new agree lba from to dirty block spare ready ahead is read ok e there =
     let x = placed_entry (get parts.map.entries lba) from dirty is in
@@ -112,7 +112,7 @@ pub record IsCopiedBelow (g : Geometry) (m : Entries) (group block n : ℕ) (pag
   pub each : (a : ℕ) (e : Entry) → get m a ≡ Some e → a / g.p ≡ group → a % g.p < n → IsCopyOf page e.place (record { block = block; page = a % g.p })
 
 -- one more page was copied, and no other one changed
-pub copied_more : (parts : Parts) (old : Contents) (new : Flash) (group block lba n : ℕ) (to : Place) → Agree parts old → IsBlankAhead old → lba ≡ group * parts.geometry.p + n → to ≡ record { block = block; page = n } → old.flash.next block ≡ Some n
+pub copied_more : (parts : Parts) (old : Contents) (new : Flash) (group block lba n : ℕ) (to : Place) → PartsAgree parts old → IsBlankAhead old → lba ≡ group * parts.geometry.p + n → to ≡ record { block = block; page = n } → old.flash.next block ≡ Some n
     → IsCopiedBelow parts.geometry parts.map.entries group block n old.flash.page
     → ((at : Place) → (at ≡ to → ⊥) → new.page at ≡ old.flash.page at)
     → ((e : Entry) → get parts.map.entries lba ≡ Some e → IsCopyOf new.page e.place to)
@@ -276,7 +276,8 @@ module _ (parts : Parts) (group held : ℕ) (of_one : AreOfOne parts) (is : held
   pub held_is_below : (a : ℕ) (e : Entry) → get parts.map.entries a ≡ Some e → a / parts.geometry.p ≡ group → a % parts.geometry.p < 64 - count_leading_zeros 64 held
   held_is_below = held_below parts.geometry parts.map.entries group held held_is
 
-pub is_page_of_group : (parts : Parts) (contents : Contents) (group held page : ℕ) → Agree parts contents → held ≡ chosen_of Held parts.map.geometry parts.map.entries group → page < 64 - count_leading_zeros 64 held → (page < parts.geometry.p) × (group * parts.geometry.p + page < parts.geometry.size)
+pub is_page_of_group : (parts : Parts) (contents : Contents) (group held page : ℕ) → PartsAgree parts contents → held ≡ chosen_of Held parts.map.geometry parts.map.entries group → page < 64 - count_leading_zeros 64 held
+    → (page < parts.geometry.p) × (group * parts.geometry.p + page < parts.geometry.size)
 is_page_of_group parts contents group held page agree is low =
     let of_one = agree.sound.of_one in
     page_below parts.geometry parts.map.entries group held (subst (λ (g : Geometry). held ≡ chosen_of Held g parts.map.entries group) of_one.map is) page

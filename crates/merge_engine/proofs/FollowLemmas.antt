@@ -33,7 +33,7 @@ module _ (parts : Parts) (is_map : IsMap parts.geometry parts.map.entries) (role
 
   -- the role is that of an erase block for the new entries
   abbrev pub SuitsRole : ℕ → Role → Type 0
-  SuitsRole b role = ((role ≡ Data) ↔ IsDataBlockOf m b) × ((role ≡ Log) ↔ IsInUse parts.logs b)
+  SuitsRole b role = ((role ≡ Data) ↔ IsDataBlockOf m b) × ((role ≡ Log) ↔ IsInUse parts.log_blocks b)
 
   module _ (b : ℕ) (in_pool : IsInPool parts.geometry b) (left : HasLeft b) where
     -- what stands in it now stood there before
@@ -85,7 +85,7 @@ module _ (parts : Parts) (is_map : IsMap parts.geometry parts.map.entries) (role
               | inr other ↦ as_kept (λ y. other (sym (is_map.own_block x.0 y.0 x.1 y.1 x.2 y.2 x.3 (y.5 ∙ sym x.4)).same_group ∙ y.3))
             ]
 
-  pub page_mapped_follow : (a : ℕ) (e : Entry) → get m a ≡ Some e → e.block_mapped ≡ false → IsInUse parts.logs e.place.block
+  pub page_mapped_follow : (a : ℕ) (e : Entry) → get m a ≡ Some e → e.block_mapped ≡ false → IsInUse parts.log_blocks e.place.block
   page_mapped_follow a e is f = elim (cases_eq (a / parts.geometry.p) group) [
     | inl same ↦ absurd (both_ways e.block_mapped f (mapped a e is same))
     | inr other ↦ roles.page_mapped a e (sym (others a other) ∙ is) f

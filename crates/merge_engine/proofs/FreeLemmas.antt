@@ -157,7 +157,7 @@ free_or_used pool from (suc n) = elim (free_or_used pool (suc from) n) [
       | inr apart ↦ rest b (omega (arith, apart)) (omega arith)
     ])
 
-pub free_block : (parts : Parts) → AreOfOne parts → IsMap parts.geometry parts.map.entries → RolesAgree parts → list.AreSoundLogs parts.logs → (b : ℕ) × IsFree parts.pool b
+pub free_block : (parts : Parts) → AreOfOne parts → IsMap parts.geometry parts.map.entries → RolesAgree parts → list.AreSoundLogs parts.log_blocks → (b : ℕ) × IsFree parts.pool b
 free_block parts of_one is_map roles sound =
     let g = parts.geometry in
     elim (free_or_used parts.pool (first_pool g) (g.c + g.l + 1)) [
@@ -171,16 +171,16 @@ free_block parts of_one is_map roles sound =
     blocks_are : (g : Geometry) (b : ℕ) → b < first_pool g + (g.c + g.l + 1) → b < blocks g
     blocks_are g b low = omega arith
 
-    of_two : (held : List ℕ) (n : ℕ) → (member n held ≡ true) ⊎ (list.is_in n parts.logs.used ≡ true) → (member n held || member n parts.logs.used) ≡ true
-    of_two held n (inl t) = or_left (member n held) (member n parts.logs.used) t
-    of_two held n (inr t) = or_right (member n held) (member n parts.logs.used) (member-used n parts.logs.used t)
+    of_two : (held : List ℕ) (n : ℕ) → (member n held ≡ true) ⊎ (list.is_in n parts.log_blocks.used ≡ true) → (member n held || member n parts.log_blocks.used) ≡ true
+    of_two held n (inl t) = or_left (member n held) (member n parts.log_blocks.used) t
+    of_two held n (inr t) = or_right (member n held) (member n parts.log_blocks.used) (member-used n parts.log_blocks.used t)
 
-    in_one : (n : ℕ) → IsInPool parts.geometry n → (role_of parts.pool n ≡ Data) ⊎ (role_of parts.pool n ≡ Log) → (member n (data_numbers parts.geometry parts.map.entries is_map) ≡ true) ⊎ (list.is_in n parts.logs.used ≡ true)
+    in_one : (n : ℕ) → IsInPool parts.geometry n → (role_of parts.pool n ≡ Data) ⊎ (role_of parts.pool n ≡ Log) → (member n (data_numbers parts.geometry parts.map.entries is_map) ≡ true) ⊎ (list.is_in n parts.log_blocks.used ≡ true)
     in_one n in_pool (inl is) = inl (data_number parts.geometry parts.map.entries is_map n ((roles.data_blocks n in_pool).0 is))
     in_one n in_pool (inr is) = inr ((roles.log_blocks n in_pool).0 is)
 
-    used_number : (n : ℕ) → IsInPool parts.geometry n → (role_of parts.pool n ≡ Data) ⊎ (role_of parts.pool n ≡ Log) → member n (data_numbers parts.geometry parts.map.entries is_map ++ parts.logs.used) ≡ true
-    used_number n in_pool is = member-append n (data_numbers parts.geometry parts.map.entries is_map) parts.logs.used ∙ of_two (data_numbers parts.geometry parts.map.entries is_map) n (in_one n in_pool is)
+    used_number : (n : ℕ) → IsInPool parts.geometry n → (role_of parts.pool n ≡ Data) ⊎ (role_of parts.pool n ≡ Log) → member n (data_numbers parts.geometry parts.map.entries is_map ++ parts.log_blocks.used) ≡ true
+    used_number n in_pool is = member-append n (data_numbers parts.geometry parts.map.entries is_map) parts.log_blocks.used ∙ of_two (data_numbers parts.geometry parts.map.entries is_map) n (in_one n in_pool is)
 
     too_many : ((b : ℕ) → first_pool parts.geometry ≤ b → b < first_pool parts.geometry + (parts.geometry.c + parts.geometry.l + 1) → (role_of parts.pool b ≡ Data) ⊎ (role_of parts.pool b ≡ Log)) → ⊥
     too_many used =
@@ -188,7 +188,7 @@ free_block parts of_one is_map roles sound =
         let held = data_numbers g parts.map.entries is_map in
         let count = g.c + g.l + 1 in
         let range : (n : ℕ) → member n (numbers_from (first_pool g) count) ≡ true → (first_pool g ≤ n) × (n < first_pool g + count) = member-numbers_from (first_pool g) count in
-        let within = each_once-le (numbers_from (first_pool g) count) (held ++ parts.logs.used) (λ n t. used_number n ((range n t).0, blocks_are g n (range n t).1) (used n (range n t).0 (range n t).1)) in
-        let few_logs : length parts.logs.used ≤ g.l = subst (λ (h : Geometry). length parts.logs.used ≤ h.l) of_one.logs sound.few in
+        let within = each_once-le (numbers_from (first_pool g) count) (held ++ parts.log_blocks.used) (λ n t. used_number n ((range n t).0, blocks_are g n (range n t).1) (used n (range n t).0 (range n t).1)) in
+        let few_logs : length parts.log_blocks.used ≤ g.l = subst (λ (h : Geometry). length parts.log_blocks.used ≤ h.l) of_one.log_blocks sound.few in
         let few_data = data_few g parts.map.entries is_map in
-        omega (arith, within, few_logs, few_data, length-numbers_from (first_pool g) count, each_once-append held parts.logs.used)
+        omega (arith, within, few_logs, few_data, length-numbers_from (first_pool g) count, each_once-append held parts.log_blocks.used)

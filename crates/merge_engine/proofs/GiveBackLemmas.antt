@@ -12,7 +12,7 @@ use Rattle.log_blocks.specs.Logs.{LogBlocksValue, IsInUse, is_in, is_open, relea
 use Rattle.log_blocks.specs.Logs as list
 use Rattle.log_blocks.proofs.LogsLemmas.{is_in-at, is_in-without, length-without}
 use Rattle.merge_engine.specs.declared.parts.Parts.{Parts}
-use Rattle.merge_engine.specs.Agreement.{Agree, AreOfOne, IsOpenBlock, RolesAgree}
+use Rattle.merge_engine.specs.Agreement.{PartsAgree, AreOfOne, IsOpenBlock, RolesAgree}
 use Rattle.merge_engine.specs.Steps.{CanBeginLog, HasUnheldLog}
 use Rattle.merge_engine.proofs.BesideLemmas.{same_beside, agree_beside}
 
@@ -40,7 +40,7 @@ open_still logs block flash opened = by_case (is_open logs block) refl
 
 module _ (parts : Parts) (block : ℕ) (in_pool : IsInPool parts.geometry block) (unheld : StandsNoneIn parts.map.entries block) (pool : PoolValue)
     (role : role_of pool block ≡ Free) (others : (b : ℕ) → IsInPool parts.geometry b → (b ≡ block → ⊥) → role_of pool b ≡ role_of parts.pool b) where
-  pub roles_given : RolesAgree parts → RolesAgree (record parts { pool = pool; logs = released block parts.logs })
+  pub roles_given : RolesAgree parts → RolesAgree (record parts { pool = pool; log_blocks = released block parts.log_blocks })
   roles_given roles = record {
     data_blocks = λ b here. elim (cases_Bool (b == block)) [
       | inl t ↦ let same = eqb-true b block t in (
@@ -52,57 +52,58 @@ module _ (parts : Parts) (block : ℕ) (in_pool : IsInPool parts.geometry block)
     log_blocks = λ b here. elim (cases_Bool (b == block)) [
       | inl t ↦ let same = eqb-true b block t in (
         (λ is. let both : Free ≡ Log = sym role ∙ ap (role_of pool) (sym same) ∙ is in cc),
-        (λ used. absurd (not_in_use parts.logs block (subst (λ n. IsInUse (released block parts.logs) n) same used))),
+        (λ used. absurd (not_in_use parts.log_blocks block (subst (λ n. IsInUse (released block parts.log_blocks) n) same used))),
       )
       | inr f ↦
           let iff = roles.log_blocks b here in
           let same = others b here (apart b f) in
-          ((λ is. still_in_use parts.logs block b (apart b f) (iff.0 (sym same ∙ is))), (λ used. same ∙ iff.1 (was_in_use parts.logs block b used)))
+          ((λ is. still_in_use parts.log_blocks block b (apart b f) (iff.0 (sym same ∙ is))), (λ used. same ∙ iff.1 (was_in_use parts.log_blocks block b used)))
     ];
-    in_pool = λ b used. roles.in_pool b (was_in_use parts.logs block b used);
-    page_mapped = λ a e is f. still_in_use parts.logs block e.place.block (unheld a e is) (roles.page_mapped a e is f);
+    in_pool = λ b used. roles.in_pool b (was_in_use parts.log_blocks block b used);
+    page_mapped = λ a e is f. still_in_use parts.log_blocks block e.place.block (unheld a e is) (roles.page_mapped a e is f);
   }
     where
       apart : (b : ℕ) → (b == block) ≡ false → b ≡ block → ⊥
       apart b f same = let both : true ≡ false = sym (same_number block) ∙ ap (λ n. n == block) (sym same) ∙ f in cc
 
-  pub agree_given : (contents : Contents) → Agree parts contents → AreOfOne (record parts { pool = pool; logs = released block parts.logs }) → list.AreSoundLogs (released block parts.logs) → Agree (record parts { pool = pool; logs = released block parts.logs }) contents
+  pub agree_given : (contents : Contents) → PartsAgree parts contents → AreOfOne (record parts { pool = pool; log_blocks = released block parts.log_blocks }) → list.AreSoundLogs (released block parts.log_blocks)
+      → PartsAgree (record parts { pool = pool; log_blocks = released block parts.log_blocks }) contents
   agree_given contents agree of_one sound =
-      agree_beside parts contents contents agree (same_beside parts.geometry parts.map.entries agree.sound.current.durable contents.flash.page contents.flash.page refl) pool (released block parts.logs) refl (λ b low. refl) of_one (roles_given agree.sound.roles) sound
-      (open_still parts.logs block contents.flash agree.sound.open_block)
+      agree_beside parts contents contents agree (same_beside parts.geometry parts.map.entries agree.sound.current.durable contents.flash.page contents.flash.page refl) pool (released block parts.log_blocks) refl (λ b low. refl) of_one (roles_given agree.sound.roles) sound
+      (open_still parts.log_blocks block contents.flash agree.sound.open_block)
 
 -- ---- log blocks given back, one after another
 
 -- only blocks of the pool went out of use
 pub record GaveBack (old new : Parts) : Type 0 where
-  pub cache : new ≡ record old { pool = new.pool; logs = new.logs }
+  pub cache : new ≡ record old { pool = new.pool; log_blocks = new.log_blocks }
   pub of_one : AreOfOne new
-  pub in_pool : (b : ℕ) → IsInUse new.logs b → IsInPool new.geometry b
-  pub agree : (contents : Contents) → Agree old contents → Agree new contents
+  pub in_pool : (b : ℕ) → IsInUse new.log_blocks b → IsInPool new.geometry b
+  pub agree : (contents : Contents) → PartsAgree old contents → PartsAgree new contents
 
-pub gave_back-more : (old mid new : Parts) (block : ℕ) → GaveBack old mid → new ≡ record mid { pool = new.pool; logs = released block mid.logs } → AreOfOne new → StandsNoneIn mid.map.entries block
-    → ((contents : Contents) → Agree mid contents → StandsNoneIn mid.map.entries block → Agree new contents) → GaveBack old new
+pub gave_back-more : (old mid new : Parts) (block : ℕ) → GaveBack old mid → new ≡ record mid { pool = new.pool; log_blocks = released block mid.log_blocks } → AreOfOne new → StandsNoneIn mid.map.entries block
+    → ((contents : Contents) → PartsAgree mid contents → StandsNoneIn mid.map.entries block → PartsAgree new contents) → GaveBack old new
 gave_back-more old mid new block gave is of_one unheld agree = record {
-  cache = is ∙ ap (λ (p : Parts). record p { pool = new.pool; logs = released block mid.logs }) gave.cache ∙ ap (λ (l : LogBlocksValue). record old { pool = new.pool; logs = l }) (sym (ap (λ (p : Parts). p.logs) is));
+  cache = is ∙ ap (λ (p : Parts). record p { pool = new.pool; log_blocks = released block mid.log_blocks }) gave.cache ∙ ap (λ (l : LogBlocksValue). record old { pool = new.pool; log_blocks = l }) (sym (ap (λ (p : Parts). p.log_blocks) is));
   of_one = of_one;
-  in_pool = λ b used. subst (λ (g : Geometry). IsInPool g b) (sym (ap (λ (p : Parts). p.geometry) is)) (gave.in_pool b (was_in_use mid.logs block b (subst (λ (l : LogBlocksValue). IsInUse l b) (ap (λ (p : Parts). p.logs) is) used)));
+  in_pool = λ b used. subst (λ (g : Geometry). IsInPool g b) (sym (ap (λ (p : Parts). p.geometry) is)) (gave.in_pool b (was_in_use mid.log_blocks block b (subst (λ (l : LogBlocksValue). IsInUse l b) (ap (λ (p : Parts). p.log_blocks) is) used)));
   agree = λ contents was. agree contents (gave.agree contents was) unheld;
 }
 
 -- each is one fewer
-pub one_fewer : (mid new : Parts) (block : ℕ) → new ≡ record mid { pool = new.pool; logs = released block mid.logs } → list.AreSoundLogs mid.logs → IsInUse mid.logs block → length new.logs.used + 1 ≡ length mid.logs.used
-one_fewer mid new block is sound used = ap (λ (p : Parts). length p.logs.used + 1) is ∙ length-without block mid.logs.used sound.distinct used
+pub one_fewer : (mid new : Parts) (block : ℕ) → new ≡ record mid { pool = new.pool; log_blocks = released block mid.log_blocks } → list.AreSoundLogs mid.log_blocks → IsInUse mid.log_blocks block → length new.log_blocks.used + 1 ≡ length mid.log_blocks.used
+one_fewer mid new block is sound used = ap (λ (p : Parts). length p.log_blocks.used + 1) is ∙ length-without block mid.log_blocks.used sound.distinct used
 
 -- fewer are in use; or all that were, and something stands in each of the first so many
 abbrev pub FewerOrHeld : Parts → Parts → ℕ → Type 0
-FewerOrHeld old new i = (length new.logs.used < length old.logs.used) ⊎ ((new.logs ≡ old.logs) × ((k b : ℕ) → k < i → slice_get old.logs.used k ≡ Some b → StandsNoneIn old.map.entries b → ⊥))
+FewerOrHeld old new i = (length new.log_blocks.used < length old.log_blocks.used) ⊎ ((new.log_blocks ≡ old.log_blocks) × ((k b : ℕ) → k < i → slice_get old.log_blocks.used k ≡ Some b → StandsNoneIn old.map.entries b → ⊥))
 
-pub fewer_given : (old mid new : Parts) (i : ℕ) → length new.logs.used + 1 ≡ length mid.logs.used → FewerOrHeld old mid i → FewerOrHeld old new i
+pub fewer_given : (old mid new : Parts) (i : ℕ) → length new.log_blocks.used + 1 ≡ length mid.log_blocks.used → FewerOrHeld old mid i → FewerOrHeld old new i
 fewer_given old mid new i one (inl less) = inl (omega arith)
 fewer_given old mid new i one (inr same) = let all = ap (λ (l : LogBlocksValue). length l.used) same.0 in inl (omega arith)
 
 -- something stands in the next one too
-pub fewer_passed : (old mid : Parts) (i block : ℕ) → mid.map ≡ old.map → Some block ≡ slice_get mid.logs.used i → (StandsNoneIn mid.map.entries block → ⊥) → FewerOrHeld old mid i → FewerOrHeld old mid (i + 1)
+pub fewer_passed : (old mid : Parts) (i block : ℕ) → mid.map ≡ old.map → Some block ≡ slice_get mid.log_blocks.used i → (StandsNoneIn mid.map.entries block → ⊥) → FewerOrHeld old mid i → FewerOrHeld old mid (i + 1)
 fewer_passed old mid i block map_is at held (inl less) = inl less
 fewer_passed old mid i block map_is at held (inr same) = inr (
   same.0,
@@ -110,7 +111,7 @@ fewer_passed old mid i block map_is at held (inr same) = inr (
     | inl before ↦ same.1 k b before is unheld
     | inr last ↦
         let number : k ≡ i = omega arith in
-        let both : Some b ≡ Some block = sym is ∙ ap (λ (l : LogBlocksValue). slice_get l.used k) (sym same.0) ∙ ap (slice_get mid.logs.used) number ∙ sym at in
+        let both : Some b ≡ Some block = sym is ∙ ap (λ (l : LogBlocksValue). slice_get l.used k) (sym same.0) ∙ ap (slice_get mid.log_blocks.used) number ∙ sym at in
         let one : b ≡ block = cc in
         held (subst (λ n. StandsNoneIn mid.map.entries n) one (subst (λ (m : MapValue). StandsNoneIn m.entries b) (sym map_is) unheld))
   ],
@@ -124,22 +125,22 @@ in_place (x ∷ xs) b t = elim (or_cases (b == x) (is_in b xs) t) [
   | inr later ↦ let at = in_place xs b later in (suc at.0, omega (arith, at.1), at.2)
 ]
 
-pub no_more_left : (old new : Parts) (i : ℕ) → FewerOrHeld old new i → length new.logs.used ≤ length old.logs.used
+pub no_more_left : (old new : Parts) (i : ℕ) → FewerOrHeld old new i → length new.log_blocks.used ≤ length old.log_blocks.used
 no_more_left old new i (inl less) = omega arith
 no_more_left old new i (inr same) = let all = ap (λ (l : LogBlocksValue). length l.used) same.0 in omega arith
 
 -- all were looked at
-pub fewer_left : (old new : Parts) (i : ℕ) → length new.logs.used ≤ i → FewerOrHeld old new i → HasUnheldLog old → length new.logs.used < length old.logs.used
+pub fewer_left : (old new : Parts) (i : ℕ) → length new.log_blocks.used ≤ i → FewerOrHeld old new i → HasUnheldLog old → length new.log_blocks.used < length old.log_blocks.used
 fewer_left old new i past (inl less) some = less
 fewer_left old new i past (inr same) some =
-    let at = in_place old.logs.used some.0 some.1 in
+    let at = in_place old.log_blocks.used some.0 some.1 in
     let low = at.1 in
     let all = ap (λ (l : LogBlocksValue). length l.used) same.0 in
     absurd (same.1 at.0 some.0 (omega arith) at.2 some.2)
 
 -- where one can be begun without a merge, fewer than L are left
-pub few_left : (old mid : Parts) → list.AreSoundLogs old.logs → old.logs.geometry ≡ old.geometry → mid.geometry ≡ old.geometry → length mid.logs.used ≤ length old.logs.used
-    → (HasUnheldLog old → length mid.logs.used < length old.logs.used) → CanBeginLog old → length mid.logs.used < mid.geometry.l
+pub few_left : (old mid : Parts) → list.AreSoundLogs old.log_blocks → old.log_blocks.geometry ≡ old.geometry → mid.geometry ≡ old.geometry → length mid.log_blocks.used ≤ length old.log_blocks.used
+    → (HasUnheldLog old → length mid.log_blocks.used < length old.log_blocks.used) → CanBeginLog old → length mid.log_blocks.used < mid.geometry.l
 few_left old mid sound own same no_more fewer (inl few) = let l = ap (λ (h : Geometry). h.l) same in omega arith
 few_left old mid sound own same no_more fewer (inr some) =
     let less = fewer some in

@@ -183,7 +183,8 @@ module _ (g : Geometry) (pool : PoolValue) (logs : LogBlocksValue) (block : ℕ)
   pub few_adopted : (m : Entries) → IsMap g m → RolesOf g m pool → IsInPool g block → role_of pool block ≡ Log → length logs.used < logs.geometry.l
   few_adopted m is_map roles in_pool is_log =
       let counted = map (λ (x : ℕ × Entry). x.1.place.block) (filter (λ (x : ℕ × Entry). page_mapped x.1) (entries m)) in
-      let most = no_more_than (logs.used ++ block ∷ []) counted (IsDistinct-push nat_eq_equiv logs.used block so_far.sound.distinct (false_from_ne_true (is_in block logs.used) not_adopted)) (λ n there. elim (or_cases (is_in n logs.used) (nat_eq n block) (sym (is_in-push n block logs.used) ∙ there)) [
+      let most = no_more_than (logs.used ++ block ∷ []) counted (IsDistinct-push nat_eq_equiv logs.used block so_far.sound.distinct (false_from_ne_true (is_in block logs.used) not_adopted))
+      (λ n there. elim (or_cases (is_in n logs.used) (nat_eq n block) (sym (is_in-push n block logs.used) ∙ there)) [
         | inl before ↦ let at = so_far.used n before in is_counted n at.0 at.1
         | inr here ↦ let same : n ≡ block = eqb-true n block here in is_counted n (subst (IsInPool g) (sym same) in_pool) (ap (role_of pool) same ∙ is_log)
       ]) in
@@ -219,7 +220,7 @@ adopted_none g pool logs block none first = subst (λ (l : LogBlocksValue). Adop
 
 -- ---- both
 
-pub roles_loaded : (parts : Parts) → IsMap parts.geometry parts.map.entries → RolesOf parts.geometry parts.map.entries parts.pool → AreInUse parts.geometry parts.pool parts.logs → RolesAgree parts
+pub roles_loaded : (parts : Parts) → IsMap parts.geometry parts.map.entries → RolesOf parts.geometry parts.map.entries parts.pool → AreInUse parts.geometry parts.pool parts.log_blocks → RolesAgree parts
 roles_loaded parts is_map roles in_use = record {
   data_blocks = roles.data_blocks;
   log_blocks = λ b in_pool. (λ is. (in_use b).1 (in_pool, is), λ used. ((in_use b).0 used).1);

@@ -10,21 +10,21 @@ use Rattle.log_blocks.specs.Logs.{LogBlocksValue}
 use Rattle.merge_engine.specs.declared.parts.Parts.{Parts}
 use Rattle.merge_engine.specs.Agreement.{Lists}
 use Rattle.merge_engine.specs.Merges.{FlashStandsForEither}
-use Rattle.merge_engine.specs.Steps.{CanBeginLog, HasLogRoom, KeepsList}
+use Rattle.merge_engine.specs.Steps.{CanBeginLog, HasLogBlock, KeepsList}
 use Rattle.merge_engine.proofs.BesideLemmas.{lists_as}
 
-pub can_begin : (parts : Parts) → (1 ≤ parts.logs.room → ⊥) → HasLogRoom parts → CanBeginLog parts
+pub can_begin : (parts : Parts) → (1 ≤ parts.log_blocks.room → ⊥) → HasLogBlock parts → CanBeginLog parts
 can_begin parts none (inl some) = absurd (none some)
 can_begin parts none (inr can) = can
 
 -- the list is the same once blocks were given back
-pub lists_made : (old mid : Parts) (before now : State) (list durable : CacheList) → mid ≡ record old { pool = mid.pool; logs = mid.logs } → now ≡ before → Lists old before.contents.flash.page list durable → Lists mid now.contents.flash.page list durable
+pub lists_made : (old mid : Parts) (before now : State) (list durable : CacheList) → mid ≡ record old { pool = mid.pool; log_blocks = mid.log_blocks } → now ≡ before → Lists old before.contents.flash.page list durable → Lists mid now.contents.flash.page list durable
 lists_made old mid before now list durable made same lists =
     lists_as old mid now.contents.flash.page list durable (ap (λ (p : Parts). p.map) made) (ap (λ (p : Parts). p.geometry) made) (subst (λ (s : State). Lists old s.contents.flash.page list durable) (sym same) lists)
 
 -- the block went out of use, and all else stays
-pub given_same : (old mid new : Parts) (logs : LogBlocksValue) → mid ≡ old → new ≡ record mid { pool = new.pool; logs = logs } → new ≡ record old { pool = new.pool; logs = new.logs }
-given_same old mid new logs same is = is ∙ ap (λ (p : Parts). record p { pool = new.pool; logs = logs }) same ∙ ap (λ (l : LogBlocksValue). record old { pool = new.pool; logs = l }) (sym (ap (λ (p : Parts). p.logs) is))
+pub given_same : (old mid new : Parts) (logs : LogBlocksValue) → mid ≡ old → new ≡ record mid { pool = new.pool; log_blocks = logs } → new ≡ record old { pool = new.pool; log_blocks = new.log_blocks }
+given_same old mid new logs same is = is ∙ ap (λ (p : Parts). record p { pool = new.pool; log_blocks = logs }) same ∙ ap (λ (l : LogBlocksValue). record old { pool = new.pool; log_blocks = l }) (sym (ap (λ (p : Parts). p.log_blocks) is))
 
 -- a step that changes no page of the lists comes after one that keeps the list
 module _ (log : LogValue) (mid : Parts) (page page' : Place → Page) (list durable : CacheList) (later : (l d : CacheList) → Lists mid page l d → Lists mid page' l d) where

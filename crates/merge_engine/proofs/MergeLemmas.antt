@@ -14,7 +14,7 @@ use Rattle.mapping.specs.Counts.{data_block_count}
 use Rattle.silent_evict.specs.Candidates.{IsCandidate, IsGroupHeld, IsVictim}
 use Rattle.silent_evict.proofs.GroupLemmas.{chosen_none, chosen_some}
 use Rattle.merge_engine.specs.declared.parts.Parts.{Parts}
-use Rattle.merge_engine.specs.Agreement.{Agree, Lists}
+use Rattle.merge_engine.specs.Agreement.{PartsAgree, Lists}
 use Rattle.merge_engine.specs.Merges.{HasBlockOrRoom, OthersStay, FlashStandsForEither, list_without}
 use Rattle.merge_engine.specs.Room.{GaveWay, GivesRoom, HasNoCandidate, LacksRoom, FlashStandsForGiven}
 use Rattle.merge_engine.specs.Steps.{IsMerged, OthersStayOrGo, PageMappedStay}
@@ -57,7 +57,7 @@ module _ (g h : Geometry) (m : Entries) (group : ℕ) (same : h ≡ g) where
 
 -- ---- a victim gives way, and then the group moves
 
-module _ (old : Parts) (contents : Contents) (agree : Agree old contents) (group : ℕ) (lacks : LacksRoom old.geometry old.map.entries group) (is_held : IsGroupHeld old.geometry old.map.entries group) where
+module _ (old : Parts) (contents : Contents) (agree : PartsAgree old contents) (group : ℕ) (lacks : LacksRoom old.geometry old.map.entries group) (is_held : IsGroupHeld old.geometry old.map.entries group) where
   pub victim_gave : (gone : ℕ) (list durable : CacheList) → IsVictim old.geometry old.map.entries gone → Lists old contents.flash.page list durable → GivesRoom old.geometry list (list_without old.geometry gone list)
   victim_gave gone list durable victim lists = other_gave old.geometry old.map.entries contents.flash.page list agree.sound.whole lists.held group gone lacks is_held victim
 
@@ -70,7 +70,7 @@ module _ (old : Parts) (contents : Contents) (agree : Agree old contents) (group
   pub group_way : (list durable : CacheList) → HasNoCandidate old.geometry old.map.entries → Lists old contents.flash.page list durable → GaveWay old.geometry old.map.entries group list (list_without old.geometry group list)
   group_way list durable none lists = itself_way old.geometry old.map.entries contents.flash.page list agree.sound.whole lists.held group lacks none
 
-pub stays_way : (old : Parts) (contents : Contents) (group : ℕ) (list durable : CacheList) → Agree old contents → HasBlockOrRoom old.geometry old.map.entries group → Lists old contents.flash.page list durable → GaveWay old.geometry old.map.entries group list list
+pub stays_way : (old : Parts) (contents : Contents) (group : ℕ) (list durable : CacheList) → PartsAgree old contents → HasBlockOrRoom old.geometry old.map.entries group → Lists old contents.flash.page list durable → GaveWay old.geometry old.map.entries group list list
 stays_way old contents group list durable agree room lists = none_way old.geometry old.map.entries contents.flash.page list agree.sound.whole lists.held group room
 
 -- ---- after the victim went

@@ -21,7 +21,7 @@ use Rattle.block_pool.specs.Pool.{PoolValue, IsFree, IsInPool, role_of}
 use Rattle.log_blocks.specs.Logs.{IsInUse, next_place}
 use Rattle.silent_evict.specs.Candidates.{IsGroupHeld}
 use Rattle.merge_engine.specs.declared.parts.Parts.{Parts}
-use Rattle.merge_engine.specs.Agreement.{Agree, IsOpenBlock, Lists, RolesAgree}
+use Rattle.merge_engine.specs.Agreement.{PartsAgree, IsOpenBlock, Lists, RolesAgree}
 use Rattle.merge_engine.specs.Merges.{HasBlockOrRoom, OthersStay, ReachesTo, FlashStandsForEither, move_counted, moved}
 use Rattle.merge_engine.specs.Room.{LacksRoom}
 use Rattle.merge_engine.specs.Steps.{HasFillers, IsCopied, IsFilledUp, IsMerged, filler_page}
@@ -36,7 +36,7 @@ pub lists_roles : (parts : Parts) (pool : PoolValue) (page : Place → Page) (li
 lists_roles parts pool page list durable lists = record { held = lists.held; stands = lists.stands }
 
 -- an erase block is taken, which stays free: the parts agree with the flash where it is erased
-module _ (parts : Parts) (old new : Contents) (agree : Agree parts old) (none : parts.log.buffered ≡ []) (block : ℕ) (free : IsFree parts.pool block)
+module _ (parts : Parts) (old new : Contents) (agree : PartsAgree parts old) (none : parts.log.buffered ≡ []) (block : ℕ) (free : IsFree parts.pool block)
     (pool : PoolValue) (same : pool.geometry ≡ parts.pool.geometry) (kept : (b : ℕ) → role_of pool b ≡ role_of parts.pool b)
     (shape : new.shape ≡ old.shape) (ok : new.flash ≡ after_erase old.flash block) where
   in_pool : IsInPool parts.geometry block
@@ -63,11 +63,11 @@ module _ (parts : Parts) (old new : Contents) (agree : Agree parts old) (none : 
         page_mapped = r.page_mapped;
       }
 
-  opened : IsOpenBlock parts.logs new.flash
-  opened = λ some. next_other (next_place parts.logs).block (λ is. free_not_in_use parts agree.sound.of_one agree.sound.roles block free (subst (λ n. IsInUse parts.logs n) (sym is) (open_in_use parts.logs agree.sound.logs some))) ∙ agree.sound.open_block some
+  opened : IsOpenBlock parts.log_blocks new.flash
+  opened = λ some. next_other (next_place parts.log_blocks).block (λ is. free_not_in_use parts agree.sound.of_one agree.sound.roles block free (subst (λ n. IsInUse parts.log_blocks n) (sym is) (open_in_use parts.log_blocks agree.sound.log_blocks some))) ∙ agree.sound.open_block some
 
-  pub agree_taken : Agree (record parts { pool = pool }) new
-  agree_taken = agree_beside parts old new agree beside pool parts.logs shape (λ b low. next_other b (λ is. let high = in_pool.0 in absurd (omega arith))) (of_one_roles parts pool same agree.sound.of_one) roles_taken agree.sound.logs opened
+  pub agree_taken : PartsAgree (record parts { pool = pool }) new
+  agree_taken = agree_beside parts old new agree beside pool parts.log_blocks shape (λ b low. next_other b (λ is. let high = in_pool.0 in absurd (omega arith))) (of_one_roles parts pool same agree.sound.of_one) roles_taken agree.sound.log_blocks opened
 
 -- ---- over parts that are known by equations
 

@@ -31,7 +31,7 @@ use Rattle.checkpoint.specs.Current.{IsCurrent, AreWhole, IsOpenLog}
 use Rattle.block_pool.specs.Pool.{PoolValue}
 use Rattle.log_blocks.specs.Logs.{IsInUse}
 use Rattle.merge_engine.specs.declared.parts.Parts.{Parts}
-use Rattle.merge_engine.specs.Agreement.{AreOfOne, RolesAgree, Agree, IsGroupBlock, Lists, IsListOn}
+use Rattle.merge_engine.specs.Agreement.{AreOfOne, RolesAgree, PartsAgree, IsGroupBlock, Lists, IsListOn}
 use Rattle.merge_engine.specs.Steps.{FollowsGroup, IsNewPage}
 use Rattle.merge_engine.proofs.ChangeLemmas.{ChangesOne, roles_followed}
 use Rattle.merge_engine.proofs.TakeLemmas.{agree_map}
@@ -72,7 +72,7 @@ module _ (old : Parts) (map : MapValue) (log : LogValue) (pool : PoolValue) (cha
   abbrev pub noted : Parts
   noted = record old { map = map; log = log; pool = pool }
 
-  pub agree_noted : AreOfOne noted → Fits old.geometry change old.map.entries → AreWhole contents.flash.page map.entries → RolesAgree noted → Agree old contents → Agree noted contents
+  pub agree_noted : AreOfOne noted → Fits old.geometry change old.map.entries → AreWhole contents.flash.page map.entries → RolesAgree noted → PartsAgree old contents → PartsAgree noted contents
   agree_noted of_one fit whole roles agree = record {
     sound = record {
       of_one = of_one;
@@ -80,7 +80,7 @@ module _ (old : Parts) (map : MapValue) (log : LogValue) (pool : PoolValue) (cha
       current = current_of contents.flash.page old.log log old.map.entries map.entries old.geometry change agree.sound.of_one.log log_is map_is fit agree.sound.current;
       whole = whole;
       roles = roles;
-      logs = agree.sound.logs;
+      log_blocks = agree.sound.log_blocks;
       open_block = agree.sound.open_block;
     };
     open_log = open_of contents.flash old.log log change log_is agree.open_log;
@@ -164,8 +164,8 @@ less_whole page new old less are = record { whole = λ a e at. let f = less.entr
 pub less_mapped : (new old : Entries) → IsLess new old → (a : ℕ) (e : Entry) → get new a ≡ Some e → e.block_mapped ≡ true → (f : Entry) × (get old a ≡ Some f) × (f.block_mapped ≡ true) × (f.place.block ≡ e.place.block)
 less_mapped new old less a e is is_mapped = let f = less.entry a e is in (f.0, f.1, sym f.2.1 ∙ is_mapped, ap (λ (p : Place). p.block) (sym f.2.0))
 
-pub less_in_use : (new old : Entries) (parts : Parts) → IsLess new old → ((a : ℕ) (e : Entry) → get old a ≡ Some e → e.block_mapped ≡ false → IsInUse parts.logs e.place.block) → (a : ℕ) (e : Entry) → get new a ≡ Some e → e.block_mapped ≡ false → IsInUse parts.logs e.place.block
-less_in_use new old parts less used a e is unmapped = let f = less.entry a e is in subst (λ (p : Place). IsInUse parts.logs p.block) (sym f.2.0) (used a f.0 f.1 (sym f.2.1 ∙ unmapped))
+pub less_in_use : (new old : Entries) (parts : Parts) → IsLess new old → ((a : ℕ) (e : Entry) → get old a ≡ Some e → e.block_mapped ≡ false → IsInUse parts.log_blocks e.place.block) → (a : ℕ) (e : Entry) → get new a ≡ Some e → e.block_mapped ≡ false → IsInUse parts.log_blocks e.place.block
+less_in_use new old parts less used a e is unmapped = let f = less.entry a e is in subst (λ (p : Place). IsInUse parts.log_blocks p.block) (sym f.2.0) (used a f.0 f.1 (sym f.2.1 ∙ unmapped))
 
 other_address : {A : Type 0} (g : Geometry) (lba a : ℕ) (x y : A) → (a / g.p ≡ lba / g.p → ⊥) → cond (a == lba) x y ≡ y
 other_address g lba a x y apart = by (a == lba) (λ t. apart (ap (λ n. n / g.p) (eqb-true a lba t)))
@@ -226,7 +226,7 @@ cleaned_follows g m lba group pool = record {
 module _ (old : Parts) (map : MapValue) (log : LogValue) (pool : PoolValue) (contents : Contents) where
   pub agree_placed : (lba : ℕ) (at : Place) (dirty : Bool) (block : Block) → AreOfOne (record old { map = map; log = log; pool = pool }) → Fits old.geometry (SetPage lba at dirty) old.map.entries
       → map.entries ≡ after old.geometry (SetPage lba at dirty) old.map.entries → log ≡ pushed (SetPage lba at dirty) old.log
-      → FollowsGroup old.geometry (lba / old.geometry.p) old.map.entries map.entries old.pool pool → IsNewPage old contents.flash.page at lba block → Agree old contents → Agree (record old { map = map; log = log; pool = pool }) contents
+      → FollowsGroup old.geometry (lba / old.geometry.p) old.map.entries map.entries old.pool pool → IsNewPage old contents.flash.page at lba block → PartsAgree old contents → PartsAgree (record old { map = map; log = log; pool = pool }) contents
   agree_placed lba at dirty block of_one fit map_is log_is follows new agree =
       let g = old.geometry in
       let m = old.map.entries in
@@ -235,13 +235,13 @@ module _ (old : Parts) (map : MapValue) (log : LogValue) (pool : PoolValue) (con
       agree_noted old map log pool change contents map_is log_is of_one fit
       (record { whole = each (λ (e : Entry). is_whole (contents.flash.page e.place) ≡ true) (ap is_whole new.whole) agree.sound.whole.whole })
       (roles_followed old map log pool (lba / g.p) (agree_map old contents agree) (subst (IsMap g) (sym map_is) fit.leaves) follows (subst (ChangesOne g (lba / g.p) m) (sym map_is) (placed_changes g m lba at dirty))
-      (each (λ (e : Entry). e.block_mapped ≡ false → IsInUse old.logs e.place.block) (λ _. new.in_use) agree.sound.roles.page_mapped) agree.sound.roles)
+      (each (λ (e : Entry). e.block_mapped ≡ false → IsInUse old.log_blocks e.place.block) (λ _. new.in_use) agree.sound.roles.page_mapped) agree.sound.roles)
       agree
 
   pub agree_less : (change : Record) (group : ℕ) → AreOfOne (record old { map = map; log = log; pool = pool }) → Fits old.geometry change old.map.entries
       → map.entries ≡ after old.geometry change old.map.entries → log ≡ pushed change old.log
       → FollowsGroup old.geometry group old.map.entries map.entries old.pool pool → IsLess (after old.geometry change old.map.entries) old.map.entries → ChangesOne old.geometry group old.map.entries (after old.geometry change old.map.entries)
-      → Agree old contents → Agree (record old { map = map; log = log; pool = pool }) contents
+      → PartsAgree old contents → PartsAgree (record old { map = map; log = log; pool = pool }) contents
   agree_less change group of_one fit map_is log_is follows less changes agree =
       let g = old.geometry in
       let m = old.map.entries in

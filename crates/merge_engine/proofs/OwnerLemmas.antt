@@ -15,7 +15,7 @@ use Rattle.merge_engine.specs.Steps.{IsMerged, IsUnowned, PageMappedStay}
 use Rattle.merge_engine.proofs.RoleLemmas.{log_page_mapped}
 
 -- once the group of its owner is merged, no entry stands at a page of a log block
-pub unowned_merged : (g : Geometry) (old : Entries) (new : Parts) (at : Place) (lba : ℕ) → IsMap g old → RolesAgree new → IsInUse new.logs at.block → Owns old at lba
+pub unowned_merged : (g : Geometry) (old : Entries) (new : Parts) (at : Place) (lba : ℕ) → IsMap g old → RolesAgree new → IsInUse new.log_blocks at.block → Owns old at lba
     → IsMerged g new.map.entries (lba / g.p) → PageMappedStay old new.map.entries → IsUnowned new.map.entries at
 unowned_merged g old new at lba is_map roles used owns merged stay a e is here = elim (stay a e is) [
   | inl was ↦
@@ -25,13 +25,13 @@ unowned_merged g old new at lba is_map roles used owns merged stay a e is here =
 ]
   where
     never : e.block_mapped ≡ true → ⊥
-    never = log_page_mapped new roles a e is (subst (λ (p : Place). IsInUse new.logs p.block) (sym here) used)
+    never = log_page_mapped new roles a e is (subst (λ (p : Place). IsInUse new.log_blocks p.block) (sym here) used)
 
 -- nor at a page at which none did
-pub unowned_still : (old : Entries) (new : Parts) (at : Place) → RolesAgree new → IsInUse new.logs at.block → PageMappedStay old new.map.entries → IsUnowned old at → IsUnowned new.map.entries at
+pub unowned_still : (old : Entries) (new : Parts) (at : Place) → RolesAgree new → IsInUse new.log_blocks at.block → PageMappedStay old new.map.entries → IsUnowned old at → IsUnowned new.map.entries at
 unowned_still old new at roles used stay none a e is here = elim (stay a e is) [
   | inl was ↦ none a e was here
-  | inr mapped ↦ log_page_mapped new roles a e is (subst (λ (p : Place). IsInUse new.logs p.block) (sym here) used) mapped
+  | inr mapped ↦ log_page_mapped new roles a e is (subst (λ (p : Place). IsInUse new.log_blocks p.block) (sym here) used) mapped
 ]
 
 -- no entry stands at the first pages of an erase block

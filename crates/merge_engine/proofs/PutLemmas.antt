@@ -28,7 +28,7 @@ use Rattle.block_pool.specs.declared.pool.Role.TheVariants.{Data, Log}
 use Rattle.log_blocks.specs.Logs.{IsInUse}
 use Rattle.silent_evict.specs.Candidates.{IsGroupHeld}
 use Rattle.merge_engine.specs.declared.parts.Parts.{Parts}
-use Rattle.merge_engine.specs.Agreement.{Agree, AreOfOne, IsDataBlockOf, RolesAgree, Lists}
+use Rattle.merge_engine.specs.Agreement.{PartsAgree, AreOfOne, IsDataBlockOf, RolesAgree, Lists}
 use Rattle.merge_engine.specs.Merges.{HasBlockOrRoom, OthersStay, move_record, moved, list_without}
 use Rattle.merge_engine.specs.Steps.{FollowsGroup, IsCopied, IsCopyOf}
 use Rattle.merge_engine.proofs.RoleLemmas.{free_in_pool, free_unheld, free_not_in_use}
@@ -44,8 +44,8 @@ abbrev pub noted : Parts → MapValue → Record → PoolValue → Parts
 noted parts map change pool = record parts { map = map; log = pushed change parts.log; pool = pool }
 
 -- a change that fits, over pages that are whole and with roles that agree
-pub agree_noted : (parts : Parts) (contents : Contents) (map : MapValue) (change : Record) (pool : PoolValue) → Agree parts contents → Fits parts.geometry change parts.map.entries → map.entries ≡ after parts.geometry change parts.map.entries
-    → AreOfOne (noted parts map change pool) → AreWhole contents.flash.page map.entries → RolesAgree (noted parts map change pool) → Agree (noted parts map change pool) contents
+pub agree_noted : (parts : Parts) (contents : Contents) (map : MapValue) (change : Record) (pool : PoolValue) → PartsAgree parts contents → Fits parts.geometry change parts.map.entries → map.entries ≡ after parts.geometry change parts.map.entries
+    → AreOfOne (noted parts map change pool) → AreWhole contents.flash.page map.entries → RolesAgree (noted parts map change pool) → PartsAgree (noted parts map change pool) contents
 agree_noted parts contents map change pool agree fit is one whole roles =
     let s = agree.sound in
     let log_is : parts.log.geometry ≡ parts.geometry = s.of_one.log in
@@ -57,7 +57,7 @@ agree_noted parts contents map change pool agree fit is one whole roles =
         current = subst (λ (n : Entries). IsCurrent contents.flash.page (pushed change parts.log) n) (ap (λ (g : Geometry). after g change parts.map.entries) log_is ∙ sym is) current;
         whole = whole;
         roles = roles;
-        logs = s.logs;
+        log_blocks = s.log_blocks;
         open_block = s.open_block;
       };
       open_log = record { before = agree.open_log.before; ready = agree.open_log.ready };
@@ -65,7 +65,7 @@ agree_noted parts contents map change pool agree fit is one whole roles =
 
 -- ---- a group that is dropped
 
-module _ (parts : Parts) (contents : Contents) (group : ℕ) (agree : Agree parts contents) (held : IsGroupHeld parts.geometry parts.map.entries group) where
+module _ (parts : Parts) (contents : Contents) (group : ℕ) (agree : PartsAgree parts contents) (held : IsGroupHeld parts.geometry parts.map.entries group) where
   is_map : IsMap parts.geometry parts.map.entries
   is_map = agree_map parts contents agree
 
@@ -95,7 +95,7 @@ module _ (parts : Parts) (contents : Contents) (group : ℕ) (agree : Agree part
           page_mapped = page_mapped_follow parts is_map r group map.entries pool others_stay all_mapped follows;
         }
 
-    pub agree_dropped : Agree (noted parts map (RemoveGroup group) pool) contents
+    pub agree_dropped : PartsAgree (noted parts map (RemoveGroup group) pool) contents
     agree_dropped = agree_noted parts contents map (RemoveGroup group) pool agree dropping_fits is one
         (record {
           whole = λ a e at. elim (cases_eq (a / parts.geometry.p) group) [
@@ -179,10 +179,10 @@ module _ (parts : Parts) (group block present dirty : ℕ) (one : AreOfOne parts
     data_here : (b : ℕ) → b ≡ block → (role_of pool' b ≡ Data) ↔ IsDataBlockOf map.entries b
     data_here b same = (λ r. subst (λ n. IsDataBlockOf map.entries n) (sym same) there, λ d. ap (role_of pool') same ∙ own)
 
-    log_here : (b : ℕ) → b ≡ block → (role_of pool' b ≡ Log) ↔ IsInUse parts.logs b
+    log_here : (b : ℕ) → b ≡ block → (role_of pool' b ≡ Log) ↔ IsInUse parts.log_blocks b
     log_here b same = (
       λ r. not_data_log (role_of pool' b) (ap (role_of pool') same ∙ own) r,
-      λ used. absurd (free_not_in_use parts one roles block free (subst (λ n. IsInUse parts.logs n) same used)),
+      λ used. absurd (free_not_in_use parts one roles block free (subst (λ n. IsInUse parts.log_blocks n) same used)),
     )
 
     roles_put : RolesAgree (noted parts map (SetGroup group block present dirty) pool')
@@ -205,7 +205,7 @@ module _ (parts : Parts) (group block present dirty : ℕ) (one : AreOfOne parts
       page_mapped = page_mapped_follow parts is_map roles group map.entries pool others mapped follows;
     }
 
-    pub agree_put : (contents : Contents) → IsCopied parts.geometry parts.map.entries group block contents.flash.page → Agree parts contents → Agree (noted parts map (SetGroup group block present dirty) pool') contents
+    pub agree_put : (contents : Contents) → IsCopied parts.geometry parts.map.entries group block contents.flash.page → PartsAgree parts contents → PartsAgree (noted parts map (SetGroup group block present dirty) pool') contents
     agree_put contents copied agree = agree_noted parts contents map (SetGroup group block present dirty) pool' agree putting_fits is one'
         (record {
           whole = λ a f at. elim (cases_eq (a / parts.geometry.p) group) [
@@ -244,13 +244,13 @@ same_geometry old new is = ap (λ (p : Parts). p.geometry) is
 
 -- other roles are of the same geometry
 pub of_one_roles : (parts : Parts) (pool : PoolValue) → pool.geometry ≡ parts.pool.geometry → AreOfOne parts → AreOfOne (record parts { pool = pool })
-of_one_roles parts pool same one = record { map = one.map; log = one.log; pool = same ∙ one.pool; victims = one.victims; logs = one.logs; marks = one.marks }
+of_one_roles parts pool same one = record { map = one.map; log = one.log; pool = same ∙ one.pool; victims = one.victims; log_blocks = one.log_blocks; checkpoints = one.checkpoints }
 
-module _ (old new : Parts) (contents : Contents) (group : ℕ) (agree : Agree old contents) (held : IsGroupHeld old.geometry old.map.entries group)
+module _ (old new : Parts) (contents : Contents) (group : ℕ) (agree : PartsAgree old contents) (held : IsGroupHeld old.geometry old.map.entries group)
     (is : new ≡ noted old new.map (RemoveGroup group) new.pool) (entries : new.map.entries ≡ dropped old.geometry old.map.entries group)
     (one : AreOfOne new) (follows : FollowsGroup old.geometry group old.map.entries new.map.entries old.pool new.pool) where
-  pub agree_without : Agree new contents
-  agree_without = subst (λ (p : Parts). Agree p contents) (sym is) (agree_dropped old contents group agree held new.map new.pool entries (subst (λ (p : Parts). AreOfOne p) is one) follows)
+  pub agree_without : PartsAgree new contents
+  agree_without = subst (λ (p : Parts). PartsAgree p contents) (sym is) (agree_dropped old contents group agree held new.map new.pool entries (subst (λ (p : Parts). AreOfOne p) is one) follows)
 
   pub lists_without : (list durable : CacheList) → Lists old contents.flash.page list durable → Lists new contents.flash.page (list_without old.geometry group list) durable
   lists_without list durable lists = subst (λ (p : Parts). Lists p contents.flash.page (list_without old.geometry group list) durable) (sym is) (lists_dropped old contents group agree held new.map new.pool entries (subst (λ (p : Parts). AreOfOne p) is one) follows list durable lists)
@@ -268,9 +268,9 @@ module _ (old new : Parts) (pool : PoolValue) (group block present dirty : ℕ) 
   of_one_put : AreOfOne (noted old new.map (SetGroup group block present dirty) pool)
   of_one_put = subst (λ (p : Parts). AreOfOne p) put_is (of_one_roles new pool same one')
 
-  pub agree_moved : (contents : Contents) → IsCopied old.geometry old.map.entries group block contents.flash.page → Agree old contents → Agree (record new { pool = pool }) contents
+  pub agree_moved : (contents : Contents) → IsCopied old.geometry old.map.entries group block contents.flash.page → PartsAgree old contents → PartsAgree (record new { pool = pool }) contents
   agree_moved contents copied agree =
-      subst (λ (p : Parts). Agree p contents) (sym put_is)
+      subst (λ (p : Parts). PartsAgree p contents) (sym put_is)
       (agree_put old group block present dirty one is_map roles held room free present_is dirty_is new.map new.pool pool entries of_one_put follows own rest contents copied agree)
 
   pub lists_moved : (contents : Contents) (list durable : CacheList) → IsCopied old.geometry old.map.entries group block contents.flash.page → Lists old contents.flash.page list durable → Lists (record new { pool = pool }) contents.flash.page list durable

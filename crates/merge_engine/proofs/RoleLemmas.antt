@@ -22,21 +22,21 @@ free_in_pool parts one b free = subst (λ (g : Geometry). IsInPool g b) one.pool
 pub free_unheld : (parts : Parts) → AreOfOne parts → RolesAgree parts → (b : ℕ) → IsFree parts.pool b → StandsNoneIn parts.map.entries b
 free_unheld parts one roles b free a e is here = elim (cases_Bool e.block_mapped) [
   | inl t ↦ let kind : role_of parts.pool b ≡ Data = (roles.data_blocks b in_pool).1 (a, e, is, t, here) in let both : Data ≡ Free = sym kind ∙ free.1 in cc
-  | inr f ↦ let log : role_of parts.pool b ≡ Log = (roles.log_blocks b in_pool).1 (subst (λ n. IsInUse parts.logs n) here (roles.page_mapped a e is f)) in let both : Log ≡ Free = sym log ∙ free.1 in cc
+  | inr f ↦ let log : role_of parts.pool b ≡ Log = (roles.log_blocks b in_pool).1 (subst (λ n. IsInUse parts.log_blocks n) here (roles.page_mapped a e is f)) in let both : Log ≡ Free = sym log ∙ free.1 in cc
 ]
   where
     in_pool : IsInPool parts.geometry b
     in_pool = free_in_pool parts one b free
 
 -- a free block is no log block
-pub free_not_in_use : (parts : Parts) → AreOfOne parts → RolesAgree parts → (b : ℕ) → IsFree parts.pool b → IsInUse parts.logs b → ⊥
+pub free_not_in_use : (parts : Parts) → AreOfOne parts → RolesAgree parts → (b : ℕ) → IsFree parts.pool b → IsInUse parts.log_blocks b → ⊥
 free_not_in_use parts one roles b free used =
     let log : role_of parts.pool b ≡ Log = (roles.log_blocks b (free_in_pool parts one b free)).1 used in
     let both : Log ≡ Free = sym log ∙ free.1 in
     cc
 
 -- what stands in a log block is page-mapped
-pub log_page_mapped : (parts : Parts) → RolesAgree parts → (a : ℕ) (e : Entry) → get parts.map.entries a ≡ Some e → IsInUse parts.logs e.place.block → e.block_mapped ≡ true → ⊥
+pub log_page_mapped : (parts : Parts) → RolesAgree parts → (a : ℕ) (e : Entry) → get parts.map.entries a ≡ Some e → IsInUse parts.log_blocks e.place.block → e.block_mapped ≡ true → ⊥
 log_page_mapped parts roles a e is used mapped =
     let in_pool = roles.in_pool e.place.block used in
     let kind : role_of parts.pool e.place.block ≡ Data = (roles.data_blocks e.place.block in_pool).1 (a, e, is, mapped, refl) in

@@ -77,17 +77,17 @@ fillers_switched g m n group block page order is a b e in_a none in_b there less
     absurd (cc)
 
 -- the log block is the one that holds the group in order
-pub is_switched : (old new : Parts) (group one block : ℕ) → CanSwitch old group one → CanSwitch old group block → new.logs ≡ released one old.logs → new.map.entries ≡ moved old.geometry old.map.entries group one → IsSwitched old new group block
+pub is_switched : (old new : Parts) (group one block : ℕ) → CanSwitch old group one → CanSwitch old group block → new.log_blocks ≡ released one old.log_blocks → new.map.entries ≡ moved old.geometry old.map.entries group one → IsSwitched old new group block
 is_switched old new group one block can also logs entries =
     let same = one_order old.geometry old.map.entries group one block can.in_order also.in_order in
-    subst (λ k. IsSwitched old new group k) same (record { logs = logs; entries = entries })
+    subst (λ k. IsSwitched old new group k) same (record { log_blocks = logs; entries = entries })
 
 -- the parts with the logs that they have
-pub with_logs : (old new : Parts) (logs : LogBlocksValue) → new ≡ record old { map = new.map; log = new.log; pool = new.pool; logs = logs } → new ≡ record old { map = new.map; log = new.log; pool = new.pool; logs = new.logs }
-with_logs old new logs is = is ∙ ap (λ (l : LogBlocksValue). record old { map = new.map; log = new.log; pool = new.pool; logs = l }) (sym (ap (λ (p : Parts). p.logs) is))
+pub with_logs : (old new : Parts) (logs : LogBlocksValue) → new ≡ record old { map = new.map; log = new.log; pool = new.pool; log_blocks = logs } → new ≡ record old { map = new.map; log = new.log; pool = new.pool; log_blocks = new.log_blocks }
+with_logs old new logs is = is ∙ ap (λ (l : LogBlocksValue). record old { map = new.map; log = new.log; pool = new.pool; log_blocks = l }) (sym (ap (λ (p : Parts). p.log_blocks) is))
 
 -- a log block that can become the data block once another group was dropped could before
-pub logs_after : (old mid : Parts) (group gone : ℕ) → mid.geometry ≡ old.geometry → mid.logs ≡ old.logs → mid.map.entries ≡ dropped old.geometry old.map.entries gone → (logs : LogBlocksValue) → LogsStayOrSwitch mid group logs → LogsStayOrSwitch old group logs
+pub logs_after : (old mid : Parts) (group gone : ℕ) → mid.geometry ≡ old.geometry → mid.log_blocks ≡ old.log_blocks → mid.map.entries ≡ dropped old.geometry old.map.entries gone → (logs : LogBlocksValue) → LogsStayOrSwitch mid group logs → LogsStayOrSwitch old group logs
 logs_after old mid group gone same logs_are is logs (inl stays) = inl (stays ∙ logs_are)
 logs_after old mid group gone same logs_are is logs (inr x) =
     let can : CanSwitch old group x.0 = record {
@@ -99,12 +99,12 @@ logs_after old mid group gone same logs_are is logs (inr x) =
 -- ---- the log block that is freed
 
 -- a group with a page in the log block can be switched to that block alone
-pub logs_of_owner : (old : Parts) (lba : ℕ) (at : Place) (logs : LogBlocksValue) → Owns old.map.entries at lba → LogsStayOrSwitch old (lba / old.geometry.p) logs → LogsStayOrLose at.block old.logs logs
+pub logs_of_owner : (old : Parts) (lba : ℕ) (at : Place) (logs : LogBlocksValue) → Owns old.map.entries at lba → LogsStayOrSwitch old (lba / old.geometry.p) logs → LogsStayOrLose at.block old.log_blocks logs
 logs_of_owner old lba at logs owns (inl stays) = inl stays
 logs_of_owner old lba at logs owns (inr x) =
     let here = own_page old.geometry old.map.entries (lba / old.geometry.p) x.0 x.1.in_order lba owns.0 owns.1 refl in
     let same : x.0 ≡ at.block = ap (λ (p : Place). p.block) (sym here ∙ owns.2) in
-    inr (subst (λ b. IsInUse old.logs b) same x.1.in_use, x.2 ∙ ap (λ b. released b old.logs) same)
+    inr (subst (λ b. IsInUse old.log_blocks b) same x.1.in_use, x.2 ∙ ap (λ b. released b old.log_blocks) same)
 
 module _ (block : ℕ) (old mid : LogBlocksValue) where
   -- a block that is out of the list is not put in again

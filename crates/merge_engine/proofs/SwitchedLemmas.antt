@@ -27,7 +27,7 @@ use Rattle.log_blocks.specs.Logs.{LogBlocksValue, IsInUse, released}
 use Rattle.log_blocks.specs.Logs as list
 use Rattle.silent_evict.specs.Candidates.{IsGroupHeld}
 use Rattle.merge_engine.specs.declared.parts.Parts.{Parts}
-use Rattle.merge_engine.specs.Agreement.{Agree, AreOfOne, IsDataBlockOf, RolesAgree, Lists}
+use Rattle.merge_engine.specs.Agreement.{PartsAgree, AreOfOne, IsDataBlockOf, RolesAgree, Lists}
 use Rattle.merge_engine.specs.Merges.{HasBlockOrRoom, OthersStay, move_record, moved}
 use Rattle.merge_engine.specs.Steps.{FollowsGroup}
 use Rattle.merge_engine.specs.Switch.{CanSwitch}
@@ -39,7 +39,7 @@ use Rattle.merge_engine.proofs.SwitchLemmas.{own_page, only_group}
 
 -- the parts with other entries, one record more, other roles, and one log block fewer
 abbrev pub switched_to : Parts → MapValue → Record → PoolValue → ℕ → Parts
-switched_to parts map change pool block = record parts { map = map; log = pushed change parts.log; pool = pool; logs = released block parts.logs }
+switched_to parts map change pool block = record parts { map = map; log = pushed change parts.log; pool = pool; log_blocks = released block parts.log_blocks }
 
 module _ (parts : Parts) (group block present dirty : ℕ) (one : AreOfOne parts) (is_map : IsMap parts.geometry parts.map.entries) (roles : RolesAgree parts)
     (is_held : IsGroupHeld parts.geometry parts.map.entries group) (room : HasBlockOrRoom parts.geometry parts.map.entries group) (switch : CanSwitch parts group block)
@@ -63,7 +63,7 @@ module _ (parts : Parts) (group block present dirty : ℕ) (one : AreOfOne parts
       (one' : AreOfOne (switched_to parts map (SetGroup group block present dirty) pool' block))
       (follows : FollowsGroup parts.geometry group parts.map.entries map.entries parts.pool pool)
       (own : role_of pool' block ≡ Data) (rest : (b : ℕ) → IsInPool pool.geometry b → (b ≡ block → ⊥) → role_of pool' b ≡ role_of pool b)
-      (sound : list.AreSoundLogs (released block parts.logs)) where
+      (sound : list.AreSoundLogs (released block parts.log_blocks)) where
     entries_are : map.entries ≡ moved parts.geometry parts.map.entries group block
     entries_are = switch_entries map.entries is
 
@@ -101,15 +101,15 @@ module _ (parts : Parts) (group block present dirty : ℕ) (one : AreOfOne parts
       log_blocks = λ b inside. elim (cases_eq b block) [
         | inl same ↦ (
           λ r. not_data_log (role_of pool' b) (ap (role_of pool') same ∙ own) r,
-          λ used. absurd (not_in_use parts.logs block (subst (λ n. IsInUse (released block parts.logs) n) same used)),
+          λ used. absurd (not_in_use parts.log_blocks block (subst (λ n. IsInUse (released block parts.log_blocks) n) same used)),
         )
         | inr other ↦
             let f = (role_follows parts is_map roles group map.entries pool others mapped follows b inside (left b other)).1 in
             let k = kept b inside other in
-            (λ r. still_in_use parts.logs block b other (f.0 (sym k ∙ r)), λ used. k ∙ f.1 (was_in_use parts.logs block b used))
+            (λ r. still_in_use parts.log_blocks block b other (f.0 (sym k ∙ r)), λ used. k ∙ f.1 (was_in_use parts.log_blocks block b used))
       ];
-      in_pool = λ b used. roles.in_pool b (was_in_use parts.logs block b used);
-      page_mapped = λ a e at f. still_in_use parts.logs block e.place.block (apart a e at f) (page_mapped_follow parts is_map roles group map.entries pool others mapped follows a e at f);
+      in_pool = λ b used. roles.in_pool b (was_in_use parts.log_blocks block b used);
+      page_mapped = λ a e at f. still_in_use parts.log_blocks block e.place.block (apart a e at f) (page_mapped_follow parts is_map roles group map.entries pool others mapped follows a e at f);
     }
       where
         apart : (a : ℕ) (e : Entry) → get map.entries a ≡ Some e → e.block_mapped ≡ false → e.place.block ≡ block → ⊥
@@ -118,7 +118,7 @@ module _ (parts : Parts) (group block present dirty : ℕ) (one : AreOfOne parts
           | inr other ↦ no_other a e (sym (others a other) ∙ at) other here
         ]
 
-    pub agree_switched : (contents : Contents) → Agree parts contents → Agree (switched_to parts map (SetGroup group block present dirty) pool' block) contents
+    pub agree_switched : (contents : Contents) → PartsAgree parts contents → PartsAgree (switched_to parts map (SetGroup group block present dirty) pool' block) contents
     agree_switched contents agree =
         let s = agree.sound in
         let log_is : parts.log.geometry ≡ parts.geometry = s.of_one.log in
@@ -139,8 +139,8 @@ module _ (parts : Parts) (group block present dirty : ℕ) (one : AreOfOne parts
               ];
             };
             roles = roles_switched;
-            logs = sound;
-            open_block = open_still parts.logs block contents.flash s.open_block;
+            log_blocks = sound;
+            open_block = open_still parts.log_blocks block contents.flash s.open_block;
           };
           open_log = record { before = agree.open_log.before; ready = agree.open_log.ready };
         }
@@ -164,16 +164,16 @@ module _ (parts : Parts) (group block present dirty : ℕ) (one : AreOfOne parts
 -- ---- the same of parts that are known by equations
 
 -- the record was noted, the log block is out of the list, and it has its role
-pub as_switched : (old noted : Parts) (change : Record) (pool : PoolValue) (logs : LogBlocksValue) (block : ℕ) → noted ≡ record old { map = noted.map; log = noted.log; pool = noted.pool } → noted.log ≡ pushed change old.log → logs ≡ released block noted.logs
-    → record noted { pool = pool; logs = logs } ≡ switched_to old noted.map change pool block
+pub as_switched : (old noted : Parts) (change : Record) (pool : PoolValue) (logs : LogBlocksValue) (block : ℕ) → noted ≡ record old { map = noted.map; log = noted.log; pool = noted.pool } → noted.log ≡ pushed change old.log → logs ≡ released block noted.log_blocks
+    → record noted { pool = pool; log_blocks = logs } ≡ switched_to old noted.map change pool block
 as_switched old noted change pool logs block is log out =
-    ap (λ (l : LogBlocksValue). record noted { pool = pool; logs = l }) (out ∙ ap (λ (p : Parts). released block p.logs) is)
-    ∙ ap (λ (p : Parts). record p { pool = pool; logs = released block old.logs }) is
-    ∙ ap (λ (l : LogValue). record old { map = noted.map; log = l; pool = pool; logs = released block old.logs }) log
+    ap (λ (l : LogBlocksValue). record noted { pool = pool; log_blocks = l }) (out ∙ ap (λ (p : Parts). released block p.log_blocks) is)
+    ∙ ap (λ (p : Parts). record p { pool = pool; log_blocks = released block old.log_blocks }) is
+    ∙ ap (λ (l : LogValue). record old { map = noted.map; log = l; pool = pool; log_blocks = released block old.log_blocks }) log
 
 -- they are of one geometry
-pub of_one_switched : (parts : Parts) (pool : PoolValue) (logs : LogBlocksValue) → pool.geometry ≡ parts.pool.geometry → logs.geometry ≡ parts.logs.geometry → AreOfOne parts → AreOfOne (record parts { pool = pool; logs = logs })
-of_one_switched parts pool logs same of_logs one = record { map = one.map; log = one.log; pool = same ∙ one.pool; victims = one.victims; logs = of_logs ∙ one.logs; marks = one.marks }
+pub of_one_switched : (parts : Parts) (pool : PoolValue) (logs : LogBlocksValue) → pool.geometry ≡ parts.pool.geometry → logs.geometry ≡ parts.log_blocks.geometry → AreOfOne parts → AreOfOne (record parts { pool = pool; log_blocks = logs })
+of_one_switched parts pool logs same of_logs one = record { map = one.map; log = one.log; pool = same ∙ one.pool; victims = one.victims; log_blocks = of_logs ∙ one.log_blocks; checkpoints = one.checkpoints }
 
 module _ (old noted : Parts) (pool : PoolValue) (logs : LogBlocksValue) (group block present dirty : ℕ) (one : AreOfOne old) (is_map : IsMap old.geometry old.map.entries) (roles : RolesAgree old)
     (is_held : IsGroupHeld old.geometry old.map.entries group) (room : HasBlockOrRoom old.geometry old.map.entries group) (switch : CanSwitch old group block)
@@ -181,23 +181,23 @@ module _ (old noted : Parts) (pool : PoolValue) (logs : LogBlocksValue) (group b
     (is : noted ≡ record old { map = noted.map; log = noted.log; pool = noted.pool }) (log : noted.log ≡ pushed (SetGroup group block present dirty) old.log)
     (entries : noted.map.entries ≡ after old.geometry (SetGroup group block present dirty) old.map.entries)
     (one' : AreOfOne noted) (follows : FollowsGroup old.geometry group old.map.entries noted.map.entries old.pool noted.pool)
-    (out : logs ≡ released block noted.logs) (sound : list.AreSoundLogs logs)
+    (out : logs ≡ released block noted.log_blocks) (sound : list.AreSoundLogs logs)
     (same : pool.geometry ≡ noted.pool.geometry) (own : role_of pool block ≡ Data) (rest : (b : ℕ) → IsInPool noted.pool.geometry b → (b ≡ block → ⊥) → role_of pool b ≡ role_of noted.pool b) where
-  switched_is : record noted { pool = pool; logs = logs } ≡ switched_to old noted.map (SetGroup group block present dirty) pool block
+  switched_is : record noted { pool = pool; log_blocks = logs } ≡ switched_to old noted.map (SetGroup group block present dirty) pool block
   switched_is = as_switched old noted (SetGroup group block present dirty) pool logs block is log out
 
   of_one_after : AreOfOne (switched_to old noted.map (SetGroup group block present dirty) pool block)
   of_one_after = subst (λ (p : Parts). AreOfOne p) switched_is (of_one_switched noted pool logs same (ap (λ (l : LogBlocksValue). l.geometry) out) one')
 
-  sound_after : list.AreSoundLogs (released block old.logs)
-  sound_after = subst (λ (l : LogBlocksValue). list.AreSoundLogs l) (out ∙ ap (λ (p : Parts). released block p.logs) is) sound
+  sound_after : list.AreSoundLogs (released block old.log_blocks)
+  sound_after = subst (λ (l : LogBlocksValue). list.AreSoundLogs l) (out ∙ ap (λ (p : Parts). released block p.log_blocks) is) sound
 
-  pub agree_switch : (contents : Contents) → Agree old contents → Agree (record noted { pool = pool; logs = logs }) contents
+  pub agree_switch : (contents : Contents) → PartsAgree old contents → PartsAgree (record noted { pool = pool; log_blocks = logs }) contents
   agree_switch contents agree =
-      subst (λ (p : Parts). Agree p contents) (sym switched_is)
+      subst (λ (p : Parts). PartsAgree p contents) (sym switched_is)
       (agree_switched old group block present dirty one is_map roles is_held room switch present_is dirty_is noted.map noted.pool pool entries of_one_after follows own rest sound_after contents agree)
 
-  pub lists_switch : (contents : Contents) (list durable : CacheList) → Lists old contents.flash.page list durable → Lists (record noted { pool = pool; logs = logs }) contents.flash.page list durable
+  pub lists_switch : (contents : Contents) (list durable : CacheList) → Lists old contents.flash.page list durable → Lists (record noted { pool = pool; log_blocks = logs }) contents.flash.page list durable
   lists_switch contents list durable lists =
       subst (λ (p : Parts). Lists p contents.flash.page list durable) (sym switched_is)
       (lists_switched old group block present dirty one is_map roles is_held room switch present_is dirty_is noted.map noted.pool pool entries of_one_after follows own rest sound_after contents list durable lists)

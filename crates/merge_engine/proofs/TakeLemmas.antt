@@ -15,19 +15,19 @@ use Rattle.block_pool.specs.Pool.{IsFree, IsInPool}
 use Rattle.log_blocks.specs.Logs.{block_begun, next_place}
 use Rattle.log_blocks.specs.Logs as list
 use Rattle.merge_engine.specs.declared.parts.Parts.{Parts}
-use Rattle.merge_engine.specs.Agreement.{Agree, AreOfOne, IsOpenBlock, Lists, RolesAgree}
+use Rattle.merge_engine.specs.Agreement.{PartsAgree, AreOfOne, IsOpenBlock, Lists, RolesAgree}
 use Rattle.merge_engine.proofs.BesideLemmas.{ChangedBeside, erased_beside, lists_beside, agree_beside, nothing_buffered}
 use Rattle.checkpoint.proofs.SealedLemmas.{current_map}
 use Rattle.merge_engine.proofs.RoleLemmas.{free_in_pool, free_unheld}
 use Rattle.merge_engine.proofs.FreeLemmas.{free_block}
 
 -- the entries are a map of this geometry
-pub agree_map : (parts : Parts) (contents : Contents) → Agree parts contents → IsMap parts.geometry parts.map.entries
+pub agree_map : (parts : Parts) (contents : Contents) → PartsAgree parts contents → IsMap parts.geometry parts.map.entries
 agree_map parts contents agree = subst (λ (g : Geometry). IsMap g parts.map.entries) agree.sound.of_one.log (current_map parts.log contents.flash.page parts.map.entries agree.sound.current)
 
 -- where the parts agree a block is free
-pub one_is_free : (parts : Parts) (contents : Contents) → Agree parts contents → (b : ℕ) × IsFree parts.pool b
-one_is_free parts contents agree = free_block parts agree.sound.of_one (agree_map parts contents agree) agree.sound.roles agree.sound.logs
+pub one_is_free : (parts : Parts) (contents : Contents) → PartsAgree parts contents → (b : ℕ) × IsFree parts.pool b
+one_is_free parts contents agree = free_block parts agree.sound.of_one (agree_map parts contents agree) agree.sound.roles agree.sound.log_blocks
 
 -- an erase leaves pages as they were, or blank in its block
 pub erased_pages : (old new : Flash) (block : ℕ) → new ≡ after_erase old block → PagesErased old new block
@@ -36,7 +36,7 @@ erased_pages old new block ok = subst (λ (f : Flash). PagesErased old f block) 
   | inr f ↦ inl (ap (λ b. cond b Blank (old.page at)) f)
 ])
 
-module _ (parts : Parts) (old new : Contents) (agree : Agree parts old) (none : parts.log.buffered ≡ []) (block : ℕ) (free : IsFree parts.pool block) (erased : PagesErased old.flash new.flash block) where
+module _ (parts : Parts) (old new : Contents) (agree : PartsAgree parts old) (none : parts.log.buffered ≡ []) (block : ℕ) (free : IsFree parts.pool block) (erased : PagesErased old.flash new.flash block) where
   in_pool : IsInPool parts.geometry block
   in_pool = free_in_pool parts agree.sound.of_one block free
 
@@ -52,17 +52,17 @@ module _ (parts : Parts) (old new : Contents) (agree : Agree parts old) (none : 
   lists_taken = lists_beside parts old new agree beside
 
   -- with the block begun as the open log block
-  pub agree_begun : (begins : Parts) → begins ≡ record parts { pool = begins.pool; logs = block_begun block parts.logs } → new.shape ≡ old.shape → new.flash ≡ after_erase old.flash block
-      → AreOfOne begins → RolesAgree begins → list.AreSoundLogs begins.logs → Agree begins new
+  pub agree_begun : (begins : Parts) → begins ≡ record parts { pool = begins.pool; log_blocks = block_begun block parts.log_blocks } → new.shape ≡ old.shape → new.flash ≡ after_erase old.flash block
+      → AreOfOne begins → RolesAgree begins → list.AreSoundLogs begins.log_blocks → PartsAgree begins new
   agree_begun begins is shape ok of_one roles sound =
-      subst (λ (p : Parts). Agree p new) (sym is)
-      (agree_beside parts old new agree beside begins.pool (block_begun block parts.logs) shape regions_ready
-      (subst (λ (p : Parts). AreOfOne p) is of_one) (subst (λ (p : Parts). RolesAgree p) is roles) (subst (λ (p : Parts). list.AreSoundLogs p.logs) is sound) opened)
+      subst (λ (p : Parts). PartsAgree p new) (sym is)
+      (agree_beside parts old new agree beside begins.pool (block_begun block parts.log_blocks) shape regions_ready
+      (subst (λ (p : Parts). AreOfOne p) is of_one) (subst (λ (p : Parts). RolesAgree p) is roles) (subst (λ (p : Parts). list.AreSoundLogs p.log_blocks) is sound) opened)
     where
       regions_ready : (b : ℕ) → b < first_pool parts.geometry → new.flash.next b ≡ old.flash.next b
       regions_ready = λ b low. ap (λ (f : Flash). f.next b) ok ∙ set_other old.flash.next block b (Some 0) (λ same. let high = in_pool.0 in absurd (omega arith))
 
-      opened : IsOpenBlock (block_begun block parts.logs) new.flash
+      opened : IsOpenBlock (block_begun block parts.log_blocks) new.flash
       opened = λ some.
-          let first : 0 ≡ (next_place (block_begun block parts.logs)).page = omega arith in
+          let first : 0 ≡ (next_place (block_begun block parts.log_blocks)).page = omega arith in
           ap (λ (f : Flash). f.next block) ok ∙ set_here old.flash.next block (Some 0) ∙ ap Some first

@@ -24,8 +24,8 @@ pub record AreOfOne (parts : Parts) : Type 0 where
   pub log : parts.log.geometry ≡ parts.geometry
   pub pool : parts.pool.geometry ≡ parts.geometry
   pub victims : parts.victims ≡ parts.geometry
-  pub logs : parts.logs.geometry ≡ parts.geometry
-  pub marks : parts.marks ≡ parts.geometry
+  pub log_blocks : parts.log_blocks.geometry ≡ parts.geometry
+  pub checkpoints : parts.checkpoints ≡ parts.geometry
 
 -- something stands in the erase block as in a data block
 abbrev pub IsDataBlockOf : Entries → ℕ → Type 0
@@ -39,9 +39,9 @@ IsGroupBlock g m group block = (a : ℕ) × (e : Entry) × (get m a ≡ Some e) 
 -- the roles of the pool are what the map and the log blocks use it for
 pub record RolesAgree (parts : Parts) : Type 0 where
   pub data_blocks : (b : ℕ) → IsInPool parts.geometry b → (role_of parts.pool b ≡ Data) ↔ IsDataBlockOf parts.map.entries b
-  pub log_blocks : (b : ℕ) → IsInPool parts.geometry b → (role_of parts.pool b ≡ Log) ↔ IsInUse parts.logs b
-  pub in_pool : (b : ℕ) → IsInUse parts.logs b → IsInPool parts.geometry b
-  pub page_mapped : (a : ℕ) (e : Entry) → get parts.map.entries a ≡ Some e → e.block_mapped ≡ false → IsInUse parts.logs e.place.block
+  pub log_blocks : (b : ℕ) → IsInPool parts.geometry b → (role_of parts.pool b ≡ Log) ↔ IsInUse parts.log_blocks b
+  pub in_pool : (b : ℕ) → IsInUse parts.log_blocks b → IsInPool parts.geometry b
+  pub page_mapped : (a : ℕ) (e : Entry) → get parts.map.entries a ≡ Some e → e.block_mapped ≡ false → IsInUse parts.log_blocks e.place.block
 
 -- where the open log block has a page left, that page is the next one of an erase block that is ready
 abbrev pub IsOpenBlock : LogBlocksValue → Flash → Type 0
@@ -54,11 +54,11 @@ pub record ArePartsSound (parts : Parts) (contents : Contents) : Type 0 where
   pub current : IsCurrent contents.flash.page parts.log parts.map.entries
   pub whole : AreWhole contents.flash.page parts.map.entries
   pub roles : RolesAgree parts
-  pub logs : list.AreSoundLogs parts.logs
-  pub open_block : IsOpenBlock parts.logs contents.flash
+  pub log_blocks : list.AreSoundLogs parts.log_blocks
+  pub open_block : IsOpenBlock parts.log_blocks contents.flash
 
 -- the parts agree with the flash
-pub record Agree (parts : Parts) (contents : Contents) : Type 0 where
+pub record PartsAgree (parts : Parts) (contents : Contents) : Type 0 where
   pub sound : ArePartsSound parts contents
   pub open_log : IsOpenLog contents.flash parts.log
 

@@ -13,7 +13,7 @@ use Rattle.cache_model.specs.CacheList.{CacheList}
 use Rattle.cache_model.specs.Records.{Entries, after}
 use Rattle.mapping.specs.MapValue.{MapValue, pages_taken, groups_taken}
 use Rattle.merge_engine.specs.declared.parts.Parts.{Parts}
-use Rattle.merge_engine.specs.Agreement.{Agree, Lists}
+use Rattle.merge_engine.specs.Agreement.{PartsAgree, Lists}
 use Rattle.merge_engine.specs.Merges.{FlashStandsForEither, ReachesTo, move_counted}
 use Rattle.merge_engine.specs.Room.{FlashStandsForGiven, GaveWay}
 use Rattle.merge_engine.specs.Steps.{GoesOn, HasFillers, IsMerged, KeepsList}
@@ -29,7 +29,7 @@ pub record CanNote (parts : Parts) (p n : ℕ) : Type 0 where
 
 -- the parts agree with the flash, the map has memory for so many more groups, and the buffer a place for one more record
 pub record CanGoOn (parts : Parts) (contents : Contents) (n : ℕ) : Type 0 where
-  pub agree : Agree parts contents
+  pub agree : PartsAgree parts contents
   pub groups : n ≤ parts.map.spare_groups
   pub room : length parts.log.buffered < page_records parts.log.geometry
 
@@ -52,12 +52,12 @@ pub record KeepsRoom (old new : MapValue) (n : ℕ) : Type 0 where
 
 -- on this flash the parts agree as they did, and the list is the same
 pub record StaysOn (old new : Parts) (contents : Contents) : Type 0 where
-  pub agree : Agree old contents → Agree new contents
+  pub agree : PartsAgree old contents → PartsAgree new contents
   pub lists : (list durable : CacheList) → Lists old contents.flash.page list durable → Lists new contents.flash.page list durable
 
 -- Ok, nothing is buffered any more, and the list stays; whatever is answered, the flash stands for it, or for the one that it stood for
 pub record CommitsList {T : Type 0} (old new : Parts) (before now : Contents) (result : Result T MediaError) : Type 0 where
-  pub agree : OnOk result (Agree new now)
+  pub agree : OnOk result (PartsAgree new now)
   pub nothing_waits : OnOk result (new.log.buffered ≡ [])
   pub lists : OnOk result ((list durable : CacheList) → Lists old before.flash.page list durable → Lists new now.flash.page list list)
   pub stands : (list durable : CacheList) → Lists old before.flash.page list durable
@@ -65,7 +65,7 @@ pub record CommitsList {T : Type 0} (old new : Parts) (before now : Contents) (r
 
 -- the same of a merge of the group, before which a clean group may have given way
 pub record MergesList {T : Type 0} (old new : Parts) (group : ℕ) (before now : Contents) (result : Result T MediaError) : Type 0 where
-  pub agree : OnOk result (Agree new now)
+  pub agree : OnOk result (PartsAgree new now)
   pub nothing_waits : OnOk result (new.log.buffered ≡ [])
   pub lists : OnOk result ((list durable : CacheList) → Lists old before.flash.page list durable
       → (v : CacheList) × GaveWay old.geometry old.map.entries group list v × Lists new now.flash.page v v)
@@ -75,7 +75,7 @@ pub record MergesList {T : Type 0} (old new : Parts) (group : ℕ) (before now :
 -- Ok, one more record may be buffered, and the list stays or gave room; whatever is answered, the flash stands for it, or for the
 -- one that it stood for
 pub record KeepsOrGives {T : Type 0} (old new : Parts) (before now : Contents) (result : Result T MediaError) : Type 0 where
-  pub agree : OnOk result (Agree new now)
+  pub agree : OnOk result (PartsAgree new now)
   pub room : OnOk result (length new.log.buffered < page_records new.log.geometry)
   pub lists : OnOk result ((list durable : CacheList) → Lists old before.flash.page list durable
       → GoesOn old.log new now.flash.page list durable)

@@ -33,9 +33,9 @@ abbrev pub HasNoCandidate : Geometry → Entries → Type 0
 HasNoCandidate g m = (group : ℕ) → IsCandidate g m group → ⊥
 
 -- which group gives way where this one is merged: none where there is room; else a victim, and the group itself where there is no victim
-abbrev pub IsGivenUp : Geometry → Entries → ℕ → Option ℕ → Type 0
-IsGivenUp g m group None = HasDataBlock g m group ⊎ (data_block_count g m < g.c)
-IsGivenUp g m group (Some gone) = LacksRoom g m group × (IsVictim g m gone ⊎ ((gone ≡ group) × HasNoCandidate g m))
+abbrev pub MakesWay : Geometry → Entries → ℕ → Option ℕ → Type 0
+MakesWay g m group None = HasDataBlock g m group ⊎ (data_block_count g m < g.c)
+MakesWay g m group (Some gone) = LacksRoom g m group × (IsVictim g m gone ⊎ ((gone ≡ group) × HasNoCandidate g m))
 
 abbrev pub is_group : Option ℕ → ℕ → Bool
 is_group None group = false
@@ -44,7 +44,7 @@ is_group (Some one) group = group == one
 -- v is s without the group that gives way
 pub record GaveWay (g : Geometry) (m : Entries) (group : ℕ) (s v : CacheList) : Type 0 where
   pub gone : Option ℕ
-  pub given_up : IsGivenUp g m group gone
+  pub given_up : MakesWay g m group gone
   pub stays : (a : ℕ) → get v a ≡ (if is_group gone (a / g.p) then None else get s a)
 
 -- the flash stands for the list without what was buffered, or for the list, which may have given room

@@ -39,7 +39,7 @@ KeepsList log parts page list durable =
 -- a page of a log block in use has the block of the address, and no entry stands there yet
 pub record IsNewPage (parts : Parts) (page : Place → Page) (at : Place) (lba : ℕ) (block : Block) : Type 0 where
   pub whole : page at ≡ Whole block (data_spare lba)
-  pub in_use : IsInUse parts.logs at.block
+  pub in_use : IsInUse parts.log_blocks at.block
   pub in_block : at.page < parts.geometry.p
   pub unused : (a : ℕ) (e : Entry) → get parts.map.entries a ≡ Some e → e.place ≡ at → ⊥
 
@@ -99,12 +99,12 @@ IsUnowned m at = (a : ℕ) (e : Entry) → get m a ≡ Some e → e.place ≡ at
 
 -- nothing stands in one of the log blocks in use
 abbrev pub HasUnheldLog : Parts → Type 0
-HasUnheldLog parts = (b : ℕ) × IsInUse parts.logs b × StandsNoneIn parts.map.entries b
+HasUnheldLog parts = (b : ℕ) × IsInUse parts.log_blocks b × StandsNoneIn parts.map.entries b
 
 -- a log block can be begun without a merge: fewer than L are in use, or nothing stands in one of them
 abbrev pub CanBeginLog : Parts → Type 0
-CanBeginLog parts = (length parts.logs.used < parts.geometry.l) ⊎ HasUnheldLog parts
+CanBeginLog parts = (length parts.log_blocks.used < parts.geometry.l) ⊎ HasUnheldLog parts
 
 -- a log block can be had without a merge: a page is left in the open one, or another can be begun
-abbrev pub HasLogRoom : Parts → Type 0
-HasLogRoom parts = (1 ≤ parts.logs.room) ⊎ CanBeginLog parts
+abbrev pub HasLogBlock : Parts → Type 0
+HasLogBlock parts = (1 ≤ parts.log_blocks.room) ⊎ CanBeginLog parts

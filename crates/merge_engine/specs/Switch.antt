@@ -17,7 +17,7 @@ IsInOrder g m group block = IsInOrderUpTo m (group * g.p) block g.p
 
 -- the erase block is a log block whose pages hold the group's addresses in order
 pub record CanSwitch (parts : Parts) (group block : ℕ) : Type 0 where
-  pub in_use : IsInUse parts.logs block
+  pub in_use : IsInUse parts.log_blocks block
   pub in_order : IsInOrder parts.geometry parts.map.entries group block
 
 -- no log block can become the group's data block as it is
@@ -26,12 +26,13 @@ CannotSwitch parts group = (block : ℕ) → CanSwitch parts group block → ⊥
 
 -- the log block became the group's data block: it is no log block any more, and all that stood in it stands there, marked as it was
 pub record IsSwitched (old new : Parts) (group block : ℕ) : Type 0 where
-  pub logs : new.logs ≡ released block old.logs
+  pub log_blocks : new.log_blocks ≡ released block old.log_blocks
   pub entries : new.map.entries ≡ moved old.geometry old.map.entries group block
 
 -- the log blocks stayed; or the one is out of the list that could become the group's data block
 abbrev pub LogsStayOrSwitch : Parts → ℕ → LogBlocksValue → Type 0
-LogsStayOrSwitch old group logs = (logs ≡ old.logs) ⊎ ((block : ℕ) × CanSwitch old group block × (logs ≡ released block old.logs))
+LogsStayOrSwitch old group logs = (logs ≡ old.log_blocks)
+    ⊎ ((block : ℕ) × CanSwitch old group block × (logs ≡ released block old.log_blocks))
 
 -- the log blocks stayed, or this one alone is out of the list
 abbrev pub LogsStayOrLose : ℕ → LogBlocksValue → LogBlocksValue → Type 0

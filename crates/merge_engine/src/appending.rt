@@ -7,8 +7,8 @@ ghost use Rattle.ft_media.specs.Drives.{OnlyDrives};
 ghost use Rattle.cache_model.specs.CacheList.{CacheList};
 ghost use Rattle.block_pool.specs.Pool.{IsFree, IsInPool};
 ghost use Rattle.log_blocks.specs.Logs.{IsInUse, AreSoundLogs, block_begun};
-ghost use Rattle.merge_engine.specs.Agreement.{Agree, AreOfOne, Lists, RolesAgree};
-ghost use Rattle.merge_engine.specs.Steps.{CanBeginLog, HasLogRoom, HasUnheldLog, IsNewPage};
+ghost use Rattle.merge_engine.specs.Agreement.{PartsAgree, AreOfOne, Lists, RolesAgree};
+ghost use Rattle.merge_engine.specs.Steps.{CanBeginLog, HasLogBlock, HasUnheldLog, IsNewPage};
 ghost use Rattle.merge_engine.specs.Kept.{CanGoOn, KeepsRoom, CommitsList, KeepsOrGives, NothingGivesWay};
 
 use crate::Parts;
@@ -33,11 +33,11 @@ pub fn append<M: Media>(
     ensures goes { KeepsOrGives cache.old cache.new (M.state media.old).contents (M.state media.new).contents result }
     ensures place { IfOk result (λ at. IsNewPage cache.new (M.state media.new).contents.flash.page at lba block.now) }
     // Where a log block can be had without a merge.
-    ensures no_merge { HasLogRoom cache.old
+    ensures no_merge { HasLogBlock cache.old
         → NothingGivesWay cache.old cache.new (M.state media.old).contents (M.state media.new).contents result }
     // Where the open log block has a page left: one program, no erase, and nothing gives way.
-    ensures one_program { OnOk result (1 ≤ cache.old.logs.room
-        → (cache.new ≡ record cache.old { logs = record cache.old.logs { room = cache.old.logs.room - 1 } })
+    ensures one_program { OnOk result (1 ≤ cache.old.log_blocks.room
+        → (cache.new ≡ record cache.old { log_blocks = record cache.old.log_blocks { room = cache.old.log_blocks.room - 1 } })
         × ((M.state media.new).counts ≡ program_counted (M.state media.old).counts)) }
     ensures rises { OnOk result (Rose (M.state media.old).counts.programs (M.state media.new).counts.programs) }
     ensures spends { OnOk result (Spends 1 (M.state media.old) (M.state media.new)) }
@@ -54,12 +54,13 @@ fn program_next<M: Media>(
     lba: u64,
     block: &Block,
 ) -> Result<Place, MediaError>
-    requires agree { Agree cache.old (M.state media.old).contents }
-    requires opened { 1 ≤ cache.old.logs.room }
-    ensures cache { OnOk result (cache.new ≡ record cache.old { logs = record cache.old.logs { room = cache.old.logs.room - 1 } }) }
+    requires agree { PartsAgree cache.old (M.state media.old).contents }
+    requires opened { 1 ≤ cache.old.log_blocks.room }
+    ensures cache { OnOk result (cache.new
+        ≡ record cache.old { log_blocks = record cache.old.log_blocks { room = cache.old.log_blocks.room - 1 } }) }
     ensures refused { OnErr result (cache.new ≡ cache.old) }
     ensures map { cache.new.map ≡ cache.old.map }
-    ensures agree { OnOk result (Agree cache.new (M.state media.new).contents) }
+    ensures agree { OnOk result (PartsAgree cache.new (M.state media.new).contents) }
     ensures place { IfOk result (λ at. IsNewPage cache.new (M.state media.new).contents.flash.page at lba block.now) }
     // Whatever is answered, no page that an entry names changed.
     ensures lists { (list durable : CacheList) → Lists cache.old (M.state media.old).contents.flash.page list durable
@@ -68,23 +69,23 @@ fn program_next<M: Media>(
     ensures spends { OnOk result (Spends 1 (M.state media.old) (M.state media.new)) }
     ensures drives { OnlyDrives (M.state media.old) (M.state media.new) result }
 {
-    cache.logs.append(media, lba, block)
+    cache.log_blocks.append(media, lba, block)
 }
 
 /// Opens a log block where none has a page left.
 fn open_if_closed<M: Media>(cache: &mut Parts, media: &mut M) -> Result<(), MediaError>
     requires can { CanGoOn cache.old (M.state media.old).contents cache.old.geometry.p }
-    ensures inside { 1 ≤ cache.old.logs.room → IsOk result × (cache.new ≡ cache.old) × (M.state media.new ≡ M.state media.old) }
+    ensures inside { 1 ≤ cache.old.log_blocks.room → IsOk result × (cache.new ≡ cache.old) × (M.state media.new ≡ M.state media.old) }
     ensures geometry { cache.new.geometry ≡ cache.old.geometry }
     ensures room { KeepsRoom cache.old.map cache.new.map cache.old.geometry.p }
-    ensures opened { OnOk result (1 ≤ cache.new.logs.room) }
+    ensures opened { OnOk result (1 ≤ cache.new.log_blocks.room) }
     ensures goes { KeepsOrGives cache.old cache.new (M.state media.old).contents (M.state media.new).contents result }
     // Where a log block can be had without a merge.
-    ensures no_merge { HasLogRoom cache.old
+    ensures no_merge { HasLogBlock cache.old
         → NothingGivesWay cache.old cache.new (M.state media.old).contents (M.state media.new).contents result }
     ensures drives { OnlyDrives (M.state media.old) (M.state media.new) result }
 {
-    if cache.logs.room() > 0 {
+    if cache.log_blocks.room() > 0 {
         return Ok(());
     }
     make_room(cache, media)?;
@@ -93,11 +94,11 @@ fn open_if_closed<M: Media>(cache: &mut Parts, media: &mut M) -> Result<(), Medi
 
 /// Commits what is buffered, and takes an erase block as the open log block.
 fn commit_and_take<M: Media>(cache: &mut Parts, media: &mut M) -> Result<(), MediaError>
-    requires agree { Agree cache.old (M.state media.old).contents }
-    requires few { length cache.old.logs.used < cache.old.geometry.l }
+    requires agree { PartsAgree cache.old (M.state media.old).contents }
+    requires few { length cache.old.log_blocks.used < cache.old.geometry.l }
     ensures geometry { cache.new.geometry ≡ cache.old.geometry }
     ensures map { cache.new.map ≡ cache.old.map }
-    ensures opened { OnOk result (1 ≤ cache.new.logs.room) }
+    ensures opened { OnOk result (1 ≤ cache.new.log_blocks.room) }
     ensures kept { CommitsList cache.old cache.new (M.state media.old).contents (M.state media.new).contents result }
     ensures drives { OnlyDrives (M.state media.old) (M.state media.new) result }
 {
@@ -109,12 +110,12 @@ fn commit_and_take<M: Media>(cache: &mut Parts, media: &mut M) -> Result<(), Med
 
 /// Takes an erase block as the open log block.
 fn take_log_block<M: Media>(cache: &mut Parts, media: &mut M) -> Result<(), MediaError>
-    requires agree { Agree cache.old (M.state media.old).contents }
+    requires agree { PartsAgree cache.old (M.state media.old).contents }
     requires nothing { cache.old.log.buffered ≡ [] }
-    requires few { length cache.old.logs.used < cache.old.geometry.l }
-    ensures cache { cache.new ≡ record cache.old { pool = cache.new.pool; logs = cache.new.logs } }
-    ensures opened { OnOk result (cache.new.logs.room ≡ cache.old.geometry.p) }
-    ensures agree { OnOk result (Agree cache.new (M.state media.new).contents) }
+    requires few { length cache.old.log_blocks.used < cache.old.geometry.l }
+    ensures cache { cache.new ≡ record cache.old { pool = cache.new.pool; log_blocks = cache.new.log_blocks } }
+    ensures opened { OnOk result (cache.new.log_blocks.room ≡ cache.old.geometry.p) }
+    ensures agree { OnOk result (PartsAgree cache.new (M.state media.new).contents) }
     // Whatever is answered, no page that an entry names changed.
     ensures lists { (list durable : CacheList) → Lists cache.old (M.state media.old).contents.flash.page list durable
         → Lists cache.old (M.state media.new).contents.flash.page list durable }
@@ -131,14 +132,14 @@ fn begin_log_block(cache: &mut Parts, block: u32)
     requires of_one { AreOfOne cache.old }
     requires roles { RolesAgree cache.old }
     requires free { IsFree cache.old.pool block }
-    requires few { length cache.old.logs.used < cache.old.geometry.l }
-    ensures cache { cache.new ≡ record cache.old { pool = cache.new.pool; logs = block_begun block cache.old.logs } }
+    requires few { length cache.old.log_blocks.used < cache.old.geometry.l }
+    ensures cache { cache.new ≡ record cache.old { pool = cache.new.pool; log_blocks = block_begun block cache.old.log_blocks } }
     ensures of_one { AreOfOne cache.new }
     ensures roles { RolesAgree cache.new }
-    ensures sound { AreSoundLogs cache.new.logs }
+    ensures sound { AreSoundLogs cache.new.log_blocks }
 {
     cache.pool.set_role(block, Role::Log);
-    cache.logs.begin(block);
+    cache.log_blocks.begin(block);
 }
 
 /// Makes room for one more log block: those that nothing stands in are free, and where L are still in
@@ -147,14 +148,15 @@ fn make_room<M: Media>(cache: &mut Parts, media: &mut M) -> Result<(), MediaErro
     requires can { CanGoOn cache.old (M.state media.old).contents cache.old.geometry.p }
     ensures geometry { cache.new.geometry ≡ cache.old.geometry }
     ensures room { KeepsRoom cache.old.map cache.new.map cache.old.geometry.p }
-    ensures few { OnOk result (length cache.new.logs.used < cache.new.geometry.l) }
+    ensures few { OnOk result (length cache.new.log_blocks.used < cache.new.geometry.l) }
     ensures goes { KeepsOrGives cache.old cache.new (M.state media.old).contents (M.state media.new).contents result }
-    ensures no_merge { CanBeginLog cache.old → IsOk result × (cache.new ≡ record cache.old { pool = cache.new.pool; logs = cache.new.logs })
+    ensures no_merge { CanBeginLog cache.old → IsOk result
+        × (cache.new ≡ record cache.old { pool = cache.new.pool; log_blocks = cache.new.log_blocks })
         × (M.state media.new ≡ M.state media.old) }
     ensures drives { OnlyDrives (M.state media.old) (M.state media.new) result }
 {
     free_unheld(cache);
-    if cache.logs.used() < cache.geometry.l {
+    if cache.log_blocks.used() < cache.geometry.l {
         return Ok(());
     }
     free_log_block(cache, media)
@@ -163,15 +165,15 @@ fn make_room<M: Media>(cache: &mut Parts, media: &mut M) -> Result<(), MediaErro
 /// Takes every log block that nothing stands in out of use.
 fn free_unheld(cache: &mut Parts)
     requires of_one { AreOfOne cache.old }
-    requires in_pool { (b : ℕ) → IsInUse cache.old.logs b → IsInPool cache.old.geometry b }
-    ensures cache { cache.new ≡ record cache.old { pool = cache.new.pool; logs = cache.new.logs } }
-    ensures no_more { length cache.new.logs.used ≤ length cache.old.logs.used }
-    ensures fewer { HasUnheldLog cache.old → length cache.new.logs.used < length cache.old.logs.used }
-    ensures agree { (contents : Contents) → Agree cache.old contents → Agree cache.new contents }
+    requires in_pool { (b : ℕ) → IsInUse cache.old.log_blocks b → IsInPool cache.old.geometry b }
+    ensures cache { cache.new ≡ record cache.old { pool = cache.new.pool; log_blocks = cache.new.log_blocks } }
+    ensures no_more { length cache.new.log_blocks.used ≤ length cache.old.log_blocks.used }
+    ensures fewer { HasUnheldLog cache.old → length cache.new.log_blocks.used < length cache.old.log_blocks.used }
+    ensures agree { (contents : Contents) → PartsAgree cache.old contents → PartsAgree cache.new contents }
 {
     let mut i = 0;
-    while i < cache.logs.used() {
-        let block = cache.logs.nth(i);
+    while i < cache.log_blocks.used() {
+        let block = cache.log_blocks.nth(i);
         if cache.map.stands_none_in(block) {
             give_back(cache, block);
         } else {

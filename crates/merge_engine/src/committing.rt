@@ -5,7 +5,7 @@ ghost use Rattle.ft_media.specs.Passes.{Spends};
 ghost use Rattle.ft_media.specs.Media.{program_counted};
 ghost use Rattle.ft_media.specs.Drives.{OnlyDrives};
 ghost use Rattle.checkpoint.specs.Current.{PoolStays, PoolReadyStays, LoadsOneOf, log_committed, log_checkpointed};
-ghost use Rattle.merge_engine.specs.Agreement.{Agree, ArePartsSound};
+ghost use Rattle.merge_engine.specs.Agreement.{PartsAgree, ArePartsSound};
 ghost use Rattle.merge_engine.specs.Kept.{CommitsList};
 
 use crate::Parts;
@@ -14,7 +14,7 @@ use ft_media::{Media, MediaError};
 /// Puts all that is buffered on the flash: with one log page, or with a checkpoint where the log has no
 /// page left. Where nothing is buffered it does nothing. It takes no memory.
 pub fn commit<M: Media>(cache: &mut Parts, media: &mut M) -> Result<(), MediaError>
-    requires agree { Agree cache.old (M.state media.old).contents }
+    requires agree { PartsAgree cache.old (M.state media.old).contents }
     ensures cache { cache.new ≡ record cache.old { log = cache.new.log } }
     ensures nothing { cache.old.log.buffered ≡ [] → IsOk result × (cache.new ≡ cache.old) × (M.state media.new ≡ M.state media.old) }
     ensures log { OnOk result (cache.new.log ≡ log_committed cache.old.log) }
@@ -30,7 +30,7 @@ pub fn commit<M: Media>(cache: &mut Parts, media: &mut M) -> Result<(), MediaErr
     ensures spends { OnOk result (cache.old.log.buffered ≢ [] → Spends 1 (M.state media.old) (M.state media.new)) }
     ensures drives { OnlyDrives (M.state media.old) (M.state media.new) result }
 {
-    cache.marks.commit(media, &cache.map, &mut cache.log)
+    cache.checkpoints.commit(media, &cache.map, &mut cache.log)
 }
 
 /// Makes a checkpoint of the whole map, with all that is buffered. The log need not have been open. It
@@ -48,5 +48,7 @@ pub fn make_checkpoint<M: Media>(cache: &mut Parts, media: &mut M) -> Result<(),
     ensures spends { OnOk result (Spends 1 (M.state media.old) (M.state media.new)) }
     ensures drives { OnlyDrives (M.state media.old) (M.state media.new) result }
 {
-    cache.marks.checkpoint(media, &cache.map, &mut cache.log)
+    cache
+        .checkpoints
+        .checkpoint(media, &cache.map, &mut cache.log)
 }

@@ -11,7 +11,7 @@ ghost use Rattle.cache_model.specs.CacheList.{CacheList};
 ghost use Rattle.cache_model.specs.Loading.{is_whole};
 ghost use Rattle.checkpoint.specs.Counts.{programs_counted};
 ghost use Rattle.block_pool.specs.Pool.{IsFree};
-ghost use Rattle.merge_engine.specs.Agreement.{Agree, Lists};
+ghost use Rattle.merge_engine.specs.Agreement.{PartsAgree, Lists};
 ghost use Rattle.merge_engine.specs.Merges.{ReachesTo};
 ghost use Rattle.merge_engine.specs.Steps.{IsCopied, IsCopyOf, IsFilledUp, filler_page};
 
@@ -29,11 +29,11 @@ pub(crate) fn copy_group<M: Media>(
     group: u64,
     block: u32,
 ) -> Result<(), MediaError>
-    requires agree { Agree cache.now (M.state media.old).contents }
+    requires agree { PartsAgree cache.now (M.state media.old).contents }
     requires nothing { cache.now.log.buffered ≡ [] }
     requires free { IsFree cache.now.pool block }
     requires erased { (M.state media.old).contents.flash.next block ≡ Some 0 }
-    ensures agree { OnOk result (Agree cache.now (M.state media.new).contents) }
+    ensures agree { OnOk result (PartsAgree cache.now (M.state media.new).contents) }
     // Whatever is answered, and wherever power went off: no page that an entry names changed.
     ensures lists { (list durable : CacheList) → Lists cache.now (M.state media.old).contents.flash.page list durable
         → Lists cache.now (M.state media.new).contents.flash.page list durable }
@@ -71,11 +71,11 @@ fn copy_page<M: Media>(
     zeros: &Block,
 ) -> Result<(), MediaError>
     requires zeros { zeros.now ≡ contents.zero_block }
-    requires agree { Agree cache.now (M.state media.old).contents }
+    requires agree { PartsAgree cache.now (M.state media.old).contents }
     requires free { IsFree cache.now.pool to.block }
     requires ready { (M.state media.old).contents.flash.next to.block ≡ Some to.page }
     requires page { to.page < cache.now.geometry.p }
-    ensures agree { OnOk result (Agree cache.now (M.state media.new).contents) }
+    ensures agree { OnOk result (PartsAgree cache.now (M.state media.new).contents) }
     ensures lists { (list durable : CacheList) → Lists cache.now (M.state media.old).contents.flash.page list durable
         → Lists cache.now (M.state media.new).contents.flash.page list durable }
     ensures copied { OnOk result ((e : Entry) → get cache.now.map.entries lba ≡ Some e
@@ -104,13 +104,13 @@ fn program_unheld<M: Media>(
     block: &Block,
     spare: &Spare,
 ) -> Result<(), MediaError>
-    requires agree { Agree cache.now (M.state media.old).contents }
+    requires agree { PartsAgree cache.now (M.state media.old).contents }
     requires free { IsFree cache.now.pool at.block }
     requires ready { (M.state media.old).contents.flash.next at.block ≡ Some at.page }
     requires page { at.page < cache.now.geometry.p }
     ensures programmed { OnOk result ((M.state media.new).contents.flash ≡ after_program
         (M.state media.old).contents.flash at block.now spare.now) }
-    ensures agree { OnOk result (Agree cache.now (M.state media.new).contents) }
+    ensures agree { OnOk result (PartsAgree cache.now (M.state media.new).contents) }
     ensures lists { (list durable : CacheList) → Lists cache.now (M.state media.old).contents.flash.page list durable
         → Lists cache.now (M.state media.new).contents.flash.page list durable }
     ensures counts { OnOk result ((M.state media.new).counts ≡ program_counted (M.state media.old).counts) }

@@ -4,7 +4,7 @@ ghost use Rattle.ft_media.specs.Drives.{OnlyDrives};
 ghost use Rattle.mapping.specs.Numbers.{StandsNoneIn};
 ghost use Rattle.block_pool.specs.Pool.{IsInPool};
 ghost use Rattle.log_blocks.specs.Logs.{IsInUse, released};
-ghost use Rattle.merge_engine.specs.Agreement.{Agree, AreOfOne, RolesAgree};
+ghost use Rattle.merge_engine.specs.Agreement.{PartsAgree, AreOfOne, RolesAgree};
 ghost use Rattle.merge_engine.specs.Steps.{IsUnowned, PageMappedStay};
 ghost use Rattle.merge_engine.specs.Switch.{LogsStayOrLose};
 ghost use Rattle.merge_engine.specs.Kept.{CanGoOn, KeepsRoom, KeepsOrGives};
@@ -20,20 +20,20 @@ use ft_media::{Media, MediaError};
 /// nothing stands in it no call of the media is made. It takes no memory.
 pub fn free_log_block<M: Media>(cache: &mut Parts, media: &mut M) -> Result<(), MediaError>
     requires can { CanGoOn cache.old (M.state media.old).contents cache.old.geometry.p }
-    requires used { 1 ≤ length cache.old.logs.used }
+    requires used { 1 ≤ length cache.old.log_blocks.used }
     ensures geometry { cache.new.geometry ≡ cache.old.geometry }
-    ensures logs { OnOk result ((oldest : ℕ) → slice_get cache.old.logs.used 0 ≡ Some oldest
-        → cache.new.logs ≡ released oldest cache.old.logs) }
+    ensures log_blocks { OnOk result ((oldest : ℕ) → slice_get cache.old.log_blocks.used 0 ≡ Some oldest
+        → cache.new.log_blocks ≡ released oldest cache.old.log_blocks) }
     // Whatever is answered, there is no log block that wasn't one.
-    ensures used { (b : ℕ) → IsInUse cache.new.logs b → IsInUse cache.old.logs b }
-    ensures unheld { (oldest : ℕ) → slice_get cache.old.logs.used 0 ≡ Some oldest → StandsNoneIn cache.old.map.entries oldest
-        → IsOk result × (cache.new ≡ record cache.old { pool = cache.new.pool; logs = cache.new.logs })
+    ensures used { (b : ℕ) → IsInUse cache.new.log_blocks b → IsInUse cache.old.log_blocks b }
+    ensures unheld { (oldest : ℕ) → slice_get cache.old.log_blocks.used 0 ≡ Some oldest → StandsNoneIn cache.old.map.entries oldest
+        → IsOk result × (cache.new ≡ record cache.old { pool = cache.new.pool; log_blocks = cache.new.log_blocks })
         × (M.state media.new ≡ M.state media.old) }
     ensures room { KeepsRoom cache.old.map cache.new.map cache.old.geometry.p }
     ensures goes { KeepsOrGives cache.old cache.new (M.state media.old).contents (M.state media.new).contents result }
     ensures drives { OnlyDrives (M.state media.old) (M.state media.new) result }
 {
-    let Some(block) = cache.logs.oldest() else {
+    let Some(block) = cache.log_blocks.oldest() else {
         return Ok(());
     };
     merge_owners(cache, media, block)?;
@@ -44,14 +44,14 @@ pub fn free_log_block<M: Media>(cache: &mut Parts, media: &mut M) -> Result<(), 
 /// Merges each group with a page in a log block, in the order of the pages, as long as it is a log block.
 fn merge_owners<M: Media>(cache: &mut Parts, media: &mut M, block: u32) -> Result<(), MediaError>
     requires can { CanGoOn cache.old (M.state media.old).contents cache.old.geometry.p }
-    requires in_use { IsInUse cache.old.logs block }
+    requires in_use { IsInUse cache.old.log_blocks block }
     ensures geometry { cache.new.geometry ≡ cache.old.geometry }
     ensures nothing { StandsNoneIn cache.old.map.entries block → IsOk result × (cache.new ≡ cache.old)
         × (M.state media.new ≡ M.state media.old) }
-    ensures logs { LogsStayOrLose block cache.old.logs cache.new.logs }
+    ensures log_blocks { LogsStayOrLose block cache.old.log_blocks cache.new.log_blocks }
     ensures room { KeepsRoom cache.old.map cache.new.map cache.old.geometry.p }
     ensures goes { KeepsOrGives cache.old cache.new (M.state media.old).contents (M.state media.new).contents result }
-    ensures unheld { OnOk result (IsInUse cache.new.logs block → StandsNoneIn cache.new.map.entries block) }
+    ensures unheld { OnOk result (IsInUse cache.new.log_blocks block → StandsNoneIn cache.new.map.entries block) }
     ensures drives { OnlyDrives (M.state media.old) (M.state media.new) result }
 {
     for page in 0..cache.geometry.p {
@@ -67,10 +67,10 @@ fn merge_owner<M: Media>(cache: &mut Parts, media: &mut M, at: Place) -> Result<
     requires in_pool { IsInPool cache.old.geometry at.block }
     ensures geometry { cache.new.geometry ≡ cache.old.geometry }
     ensures nothing { IsUnowned cache.old.map.entries at → IsOk result × (cache.new ≡ cache.old) × (M.state media.new ≡ M.state media.old) }
-    ensures logs { LogsStayOrLose at.block cache.old.logs cache.new.logs }
+    ensures log_blocks { LogsStayOrLose at.block cache.old.log_blocks cache.new.log_blocks }
     ensures room { KeepsRoom cache.old.map cache.new.map 1 }
     ensures goes { KeepsOrGives cache.old cache.new (M.state media.old).contents (M.state media.new).contents result }
-    ensures unowned { OnOk result (IsInUse cache.new.logs at.block → IsUnowned cache.new.map.entries at) }
+    ensures unowned { OnOk result (IsInUse cache.new.log_blocks at.block → IsUnowned cache.new.map.entries at) }
     ensures page_mapped { OnOk result (PageMappedStay cache.old.map.entries cache.new.map.entries) }
     ensures drives { OnlyDrives (M.state media.old) (M.state media.new) result }
 {
@@ -88,11 +88,12 @@ fn give_back_used(cache: &mut Parts, block: u32)
     requires of_one { AreOfOne cache.old }
     requires in_pool { IsInPool cache.old.geometry block }
     requires roles { RolesAgree cache.old }
-    ensures cache { cache.new ≡ record cache.old { pool = cache.new.pool; logs = cache.new.logs } }
-    ensures used { IsInUse cache.old.logs block → cache.new.logs ≡ released block cache.old.logs }
-    ensures switched { (IsInUse cache.old.logs block → ⊥) → cache.new.logs ≡ cache.old.logs }
-    ensures agree { (contents : Contents) → Agree cache.old contents → (IsInUse cache.old.logs block → StandsNoneIn cache.old.map.entries block)
-        → Agree cache.new contents }
+    ensures cache { cache.new ≡ record cache.old { pool = cache.new.pool; log_blocks = cache.new.log_blocks } }
+    ensures used { IsInUse cache.old.log_blocks block → cache.new.log_blocks ≡ released block cache.old.log_blocks }
+    ensures switched { (IsInUse cache.old.log_blocks block → ⊥) → cache.new.log_blocks ≡ cache.old.log_blocks }
+    ensures agree { (contents : Contents) → PartsAgree cache.old contents
+        → (IsInUse cache.old.log_blocks block → StandsNoneIn cache.old.map.entries block)
+        → PartsAgree cache.new contents }
 {
     if cache.pool.role(block) == Role::Log {
         give_back(cache, block);
@@ -103,11 +104,12 @@ fn give_back_used(cache: &mut Parts, block: u32)
 pub(crate) fn give_back(cache: &mut Parts, block: u32)
     requires of_one { AreOfOne cache.old }
     requires in_pool { IsInPool cache.old.geometry block }
-    requires in_use { IsInUse cache.old.logs block }
-    ensures cache { cache.new ≡ record cache.old { pool = cache.new.pool; logs = released block cache.old.logs } }
+    requires in_use { IsInUse cache.old.log_blocks block }
+    ensures cache { cache.new ≡ record cache.old { pool = cache.new.pool; log_blocks = released block cache.old.log_blocks } }
     ensures of_one { AreOfOne cache.new }
-    ensures agree { (contents : Contents) → Agree cache.old contents → StandsNoneIn cache.old.map.entries block → Agree cache.new contents }
+    ensures agree { (contents : Contents) → PartsAgree cache.old contents → StandsNoneIn cache.old.map.entries block
+        → PartsAgree cache.new contents }
 {
-    cache.logs.release(block);
+    cache.log_blocks.release(block);
     cache.pool.set_role(block, Role::Free);
 }

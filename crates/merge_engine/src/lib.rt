@@ -29,5 +29,5 @@ pub use committing::{commit, make_checkpoint};
 pub use freeing::free_log_block;
 pub use loading::loaded;
 pub use merging::merge_group;
-pub use noting::{put_clean, put_out, put_page};
+pub use noting::{note_clean, put_out, put_page};
 pub use parts::Parts;

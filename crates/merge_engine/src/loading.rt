@@ -41,7 +41,7 @@ pub fn loaded(
       buffered = [];
     }) }
     ensures roles { IfOk result (λ parts. RolesAgree parts) }
-    ensures logs { IfOk result (λ parts. AreFoundLogs parts.logs) }
+    ensures log_blocks { IfOk result (λ parts. AreFoundLogs parts.log_blocks) }
 {
     let mut parts = unused(alloc, geometry, map, region, era)?;
     set_roles(&mut parts);
@@ -71,21 +71,22 @@ fn unused(
       buffered = [];
     }) }
     ensures free { IfOk result (λ parts. (b : ℕ) → IsInPool geometry.now b → IsFree parts.pool b) }
-    ensures logs { IfOk result (λ parts. parts.logs ≡ record { geometry = geometry.now; used = []; open_block = None; room = 0 }) }
+    ensures log_blocks { IfOk result (λ parts. parts.log_blocks
+        ≡ record { geometry = geometry.now; used = []; open_block = None; room = 0 }) }
 {
     let log = OpLog::new(alloc, geometry, region, era)?;
     let pool = Pool::new(alloc, geometry)?;
     let victims = Victims::new(alloc, geometry)?;
-    let logs = LogBlocks::new(alloc, geometry)?;
-    let marks = Checkpoints::new(alloc, geometry)?;
+    let log_blocks = LogBlocks::new(alloc, geometry)?;
+    let checkpoints = Checkpoints::new(alloc, geometry)?;
     Ok(Parts {
         geometry: *geometry,
         map,
         log,
         pool,
         victims,
-        logs,
-        marks,
+        log_blocks,
+        checkpoints,
     })
 }
 
@@ -140,15 +141,15 @@ fn adopt_log_blocks(parts: &mut Parts)
     requires of_one { AreOfOne parts.old }
     requires map { IsMap parts.old.geometry parts.old.map.entries }
     requires roles { RolesOf parts.old.geometry parts.old.map.entries parts.old.pool }
-    requires none { parts.old.logs ≡ record { geometry = parts.old.geometry; used = []; open_block = None; room = 0 } }
-    ensures parts { parts.new ≡ record parts.old { logs = parts.new.logs } }
+    requires none { parts.old.log_blocks ≡ record { geometry = parts.old.geometry; used = []; open_block = None; room = 0 } }
+    ensures parts { parts.new ≡ record parts.old { log_blocks = parts.new.log_blocks } }
     ensures of_one { AreOfOne parts.new }
-    ensures in_use { AreInUse parts.old.geometry parts.old.pool parts.new.logs }
-    ensures logs { AreFoundLogs parts.new.logs }
+    ensures in_use { AreInUse parts.old.geometry parts.old.pool parts.new.log_blocks }
+    ensures log_blocks { AreFoundLogs parts.new.log_blocks }
 {
     for block in parts.geometry.first_pool()..parts.geometry.blocks() {
         if parts.pool.role(block) == Role::Log {
-            parts.logs.adopt(block);
+            parts.log_blocks.adopt(block);
         }
     }
 }

@@ -9,7 +9,7 @@ ghost use Rattle.cache_model.specs.Entries.{IsMap};
 ghost use Rattle.checkpoint.specs.Counts.{programs_counted};
 ghost use Rattle.block_pool.specs.Pool.{IsFree};
 ghost use Rattle.silent_evict.specs.Candidates.{IsGroupHeld};
-ghost use Rattle.merge_engine.specs.Agreement.{Agree, AreOfOne, Lists, RolesAgree};
+ghost use Rattle.merge_engine.specs.Agreement.{PartsAgree, AreOfOne, Lists, RolesAgree};
 ghost use Rattle.merge_engine.specs.Merges.{HasBlockOrRoom, OthersStay, ReachesTo, FlashStandsForEither, list_without, move_counted, move_record};
 ghost use Rattle.merge_engine.specs.Steps.{IsCopied, IsFilledUp, OthersStayOrGo, PageMappedStay};
 ghost use Rattle.merge_engine.specs.Switch.{LogsStayOrSwitch};
@@ -33,7 +33,7 @@ pub fn merge_group<M: Media>(cache: &mut Parts, media: &mut M, group: u64) -> Re
     requires held { IsGroupHeld cache.old.geometry cache.old.map.entries group }
     ensures geometry { cache.new.geometry ≡ cache.old.geometry }
     // Whatever is answered.
-    ensures logs { LogsStayOrSwitch cache.old group cache.new.logs }
+    ensures log_blocks { LogsStayOrSwitch cache.old group cache.new.log_blocks }
     ensures room { KeepsRoom cache.old.map cache.new.map 1 }
     ensures merges { MergesList cache.old cache.new group (M.state media.old).contents (M.state media.new).contents result }
     ensures gathered { OnOk result (IsGathered cache.old.geometry cache.new.map.entries group (M.state media.new).contents.flash.page) }
@@ -63,7 +63,7 @@ fn drop_group<M: Media>(cache: &mut Parts, media: &mut M, group: u64) -> Result<
     requires held { IsGroupHeld cache.old.geometry cache.old.map.entries group }
     ensures cache { cache.new ≡ record cache.old { map = cache.new.map; log = cache.new.log; pool = cache.new.pool } }
     ensures map { IsNoted cache.old.geometry (RemoveGroup group) cache.old.map cache.new.map }
-    ensures agree { OnOk result (Agree cache.new (M.state media.new).contents) }
+    ensures agree { OnOk result (PartsAgree cache.new (M.state media.new).contents) }
     ensures nothing_waits { OnOk result (cache.new.log.buffered ≡ []) }
     ensures lists { OnOk result ((list durable : CacheList) → Lists cache.old (M.state media.old).contents.flash.page list durable
         → Lists cache.new (M.state media.new).contents.flash.page (list_without cache.old.geometry group list)
@@ -88,9 +88,9 @@ fn move_group<M: Media>(cache: &mut Parts, media: &mut M, group: u64) -> Result<
       map = cache.new.map;
       log = cache.new.log;
       pool = cache.new.pool;
-      logs = cache.new.logs;
+      log_blocks = cache.new.log_blocks;
     } }
-    ensures logs { LogsStayOrSwitch cache.old group cache.new.logs }
+    ensures log_blocks { LogsStayOrSwitch cache.old group cache.new.log_blocks }
     ensures room { KeepsRoom cache.old.map cache.new.map 1 }
     ensures kept { CommitsList cache.old cache.new (M.state media.old).contents (M.state media.new).contents result }
     ensures gathered { OnOk result (IsGathered cache.old.geometry cache.new.map.entries group (M.state media.new).contents.flash.page) }
@@ -106,7 +106,7 @@ fn move_group<M: Media>(cache: &mut Parts, media: &mut M, group: u64) -> Result<
 
 /// Copies a group into an erase block that is taken, makes that its data block, and commits that.
 fn gather_group<M: Media>(cache: &mut Parts, media: &mut M, group: u64) -> Result<(), MediaError>
-    requires agree { Agree cache.old (M.state media.old).contents }
+    requires agree { PartsAgree cache.old (M.state media.old).contents }
     requires held { IsGroupHeld cache.old.geometry cache.old.map.entries group }
     requires block { HasBlockOrRoom cache.old.geometry cache.old.map.entries group }
     requires groups { 1 ≤ cache.old.map.spare_groups }
@@ -130,10 +130,10 @@ fn gather_group<M: Media>(cache: &mut Parts, media: &mut M, group: u64) -> Resul
 
 /// Copies a group into an erase block that is taken, and says which. Nothing stands in it yet.
 fn copy_out<M: Media>(cache: &mut Parts, media: &mut M, group: u64) -> Result<u32, MediaError>
-    requires agree { Agree cache.old (M.state media.old).contents }
+    requires agree { PartsAgree cache.old (M.state media.old).contents }
     requires nothing { cache.old.log.buffered ≡ [] }
     ensures cache { cache.new ≡ record cache.old { pool = cache.new.pool } }
-    ensures agree { OnOk result (Agree cache.new (M.state media.new).contents) }
+    ensures agree { OnOk result (PartsAgree cache.new (M.state media.new).contents) }
     // Whatever is answered, and wherever power went off: no page that an entry names changed.
     ensures lists { (list durable : CacheList) → Lists cache.old (M.state media.old).contents.flash.page list durable
         → Lists cache.new (M.state media.new).contents.flash.page list durable }

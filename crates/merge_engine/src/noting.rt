@@ -13,7 +13,7 @@ ghost use Rattle.cache_model.specs.Spelling.{may_stand_in};
 ghost use Rattle.cache_model.specs.declared.format.PageKind.TheVariants.{Log as log_page};
 ghost use Rattle.mapping.specs.MapValue.{pages_taken, groups_taken};
 ghost use Rattle.op_log.specs.Log.{pushed};
-ghost use Rattle.merge_engine.specs.Agreement.{Agree, Lists, RolesAgree, AreOfOne};
+ghost use Rattle.merge_engine.specs.Agreement.{PartsAgree, Lists, RolesAgree, AreOfOne};
 ghost use Rattle.merge_engine.specs.Steps.{FollowsGroup, IsNewPage};
 ghost use Rattle.merge_engine.specs.Kept.{CanNote, IsNoted};
 
@@ -31,8 +31,8 @@ pub fn put_page(cache: &mut Parts, lba: u64, place: Place, dirty: bool)
     ensures cache { cache.new ≡ record cache.old { map = cache.new.map; log = cache.new.log; pool = cache.new.pool } }
     ensures map { IsNoted cache.old.geometry (SetPage lba place dirty) cache.old.map cache.new.map }
     ensures log { cache.new.log ≡ pushed (SetPage lba place dirty) cache.old.log }
-    ensures agree { (contents : Contents) (block : Block) → Agree cache.old contents
-        → IsNewPage cache.old contents.flash.page place lba block → Agree cache.new contents }
+    ensures agree { (contents : Contents) (block : Block) → PartsAgree cache.old contents
+        → IsNewPage cache.old contents.flash.page place lba block → PartsAgree cache.new contents }
     ensures lists { (contents : Contents) (block : Block) (list durable : CacheList)
         → IsNewPage cache.old contents.flash.page place lba block
         → Lists cache.old contents.flash.page list durable
@@ -55,7 +55,7 @@ pub fn put_out(cache: &mut Parts, lba: u64)
       records = cache.new.map.records;
     } }
     ensures log { cache.new.log ≡ pushed (Remove lba) cache.old.log }
-    ensures agree { (contents : Contents) → Agree cache.old contents → Agree cache.new contents }
+    ensures agree { (contents : Contents) → PartsAgree cache.old contents → PartsAgree cache.new contents }
     ensures lists { (contents : Contents) (list durable : CacheList) → Lists cache.old contents.flash.page list durable
         → Lists cache.new contents.flash.page (evicted lba list) durable }
 {
@@ -64,7 +64,7 @@ pub fn put_out(cache: &mut Parts, lba: u64)
 }
 
 /// Marks an address clean.
-pub fn put_clean(cache: &mut Parts, lba: u64)
+pub fn note_clean(cache: &mut Parts, lba: u64)
     requires of_one { AreOfOne cache.old }
     requires fits { Fits cache.old.geometry (Clean lba) cache.old.map.entries }
     requires room { length cache.old.log.buffered < page_records cache.old.log.geometry }
@@ -74,7 +74,7 @@ pub fn put_clean(cache: &mut Parts, lba: u64)
       records = cache.new.map.records;
     } }
     ensures log { cache.new.log ≡ pushed (Clean lba) cache.old.log }
-    ensures agree { (contents : Contents) → Agree cache.old contents → Agree cache.new contents }
+    ensures agree { (contents : Contents) → PartsAgree cache.old contents → PartsAgree cache.new contents }
     ensures lists { (contents : Contents) (list durable : CacheList) → Lists cache.old contents.flash.page list durable
         → Lists cache.new contents.flash.page (made_clean lba list) durable }
 {

@@ -20,7 +20,7 @@ pub struct Parts {
     /// Which clean group gives way.
     pub victims: Victims,
     /// The log blocks, and the open one.
-    pub logs: LogBlocks,
+    pub log_blocks: LogBlocks,
     /// The checkpoints of the map.
-    pub marks: Checkpoints,
+    pub checkpoints: Checkpoints,
 }

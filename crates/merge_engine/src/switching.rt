@@ -81,7 +81,7 @@ pub(crate) fn switch_group<M: Media>(
       map = cache.new.map;
       log = cache.new.log;
       pool = cache.new.pool;
-      logs = released block cache.old.logs;
+      log_blocks = released block cache.old.log_blocks;
     } }
     ensures map { IsNoted cache.old.geometry (move_record cache.old.geometry cache.old.map.entries group block) cache.old.map
         cache.new.map }
@@ -107,7 +107,7 @@ fn switch_block(cache: &mut Parts, group: u64, block: u32)
       map = cache.new.map;
       log = cache.new.log;
       pool = cache.new.pool;
-      logs = released block cache.old.logs;
+      log_blocks = released block cache.old.log_blocks;
     } }
     ensures map { IsNoted cache.old.geometry (move_record cache.old.geometry cache.old.map.entries group block) cache.old.map
         cache.new.map }
@@ -122,6 +122,6 @@ fn switch_block(cache: &mut Parts, group: u64, block: u32)
         dirty: cache.map.dirty_bits(group),
     };
     note(cache, &change, group);
-    cache.logs.release(block);
+    cache.log_blocks.release(block);
     cache.pool.set_role(block, Role::Data);
 }

@@ -21,7 +21,7 @@ use Rattle.cache_model.proofs.CountLemmas.{member, same_number}
 use Rattle.cache_model.proofs.UndoLemmas.{undone_at, undo_inserted, undo_cleaned, get_marked}
 use Rattle.mapping.proofs.CountsLemmas.{member_push}
 use Rattle.merge_engine.specs.declared.parts.Parts.{Parts}
-use Rattle.merge_engine.specs.Agreement.{Agree, Lists}
+use Rattle.merge_engine.specs.Agreement.{PartsAgree, Lists}
 use Rattle.ssc.specs.declared.cache.Ssc.{Ssc}
 use Rattle.ssc.specs.CacheState.{HasMemory, Holds, entries_of, geometry_of, may_wait, waiting_as, waiting, pending}
 use Rattle.ssc.specs.Commands.{PendsWith}
@@ -105,7 +105,7 @@ waits_push g g' q own s s' never same clean few waits =
 
 -- its parts agree with the flash, and the memory of a write is there where it is said to be
 pub record IsSettled (c : Ssc) (contents : Contents) : Type 0 where
-  pub agree : Agree c.parts contents
+  pub agree : PartsAgree c.parts contents
   pub memory : c.ready ≡ true → HasMemory c.parts
 
 -- a step that changes the log alone leaves the memory

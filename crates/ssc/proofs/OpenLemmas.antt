@@ -88,7 +88,7 @@ module _ (g : Geometry) (old mid : Contents) (loaded : Loaded) (parts : Parts) (
     current = loaded_current g old.flash.page loaded parts.log parts.map.entries is entries_is as_is.log;
     whole = record { whole = λ a e at. entry_whole g old.flash.page parts.map.entries (is.loads ∙ ap Ok (sym entries_is)) a e at };
     roles = as_is.roles;
-    logs = as_is.logs;
+    log_blocks = as_is.log_blocks;
     open_block = λ some. absurd (omega (arith, some, as_is.closed));
   })
 

@@ -16,7 +16,7 @@ use Rattle.mapping.proofs.FittingLemmas.{page_cases, page_fits}
 use Rattle.log_blocks.specs.Logs.{IsInUse}
 use Rattle.log_blocks.specs.Logs as list
 use Rattle.merge_engine.specs.declared.parts.Parts.{Parts}
-use Rattle.merge_engine.specs.Agreement.{Agree}
+use Rattle.merge_engine.specs.Agreement.{PartsAgree}
 use Rattle.merge_engine.specs.Steps.{IsNewPage, HasRoomFor}
 use Rattle.merge_engine.proofs.FreeLemmas.{member-used}
 use Rattle.merge_engine.proofs.TakeLemmas.{agree_map}
@@ -33,7 +33,7 @@ once_most (n ∷ ns) = by (member n ns) (once_most ns)
     by true rest = omega arith
     by false rest = omega arith
 
-module _ (parts : Parts) (contents : Contents) (agree : Agree parts contents) (page : Place → Page) (at : Place) (lba : ℕ) (block : Block) (fresh : IsNewPage parts page at lba block) (dirty : Bool) where
+module _ (parts : Parts) (contents : Contents) (agree : PartsAgree parts contents) (page : Place → Page) (at : Place) (lba : ℕ) (block : Block) (fresh : IsNewPage parts page at lba block) (dirty : Bool) where
   abbrev g : Geometry
   g = parts.geometry
 
@@ -50,19 +50,19 @@ module _ (parts : Parts) (contents : Contents) (agree : Agree parts contents) (p
   in_pool = let pool = agree.sound.roles.in_pool at.block fresh.in_use in record { above = pool.0; below = pool.1; page = fresh.in_block }
 
   -- what is page-mapped stands in log blocks that are in use, and of these there are at most L
-  in_log_blocks : (a : ℕ) (e : Entry) → get new a ≡ Some e → page_mapped e ≡ true → IsInUse parts.logs e.place.block
+  in_log_blocks : (a : ℕ) (e : Entry) → get new a ≡ Some e → page_mapped e ≡ true → IsInUse parts.log_blocks e.place.block
   in_log_blocks a e is t = elim (page_cases g m is_map lba at dirty a e is) [
-    | inl p ↦ subst (λ (x : Entry). IsInUse parts.logs x.place.block) (sym p.1) fresh.in_use
+    | inl p ↦ subst (λ (x : Entry). IsInUse parts.log_blocks x.place.block) (sym p.1) fresh.in_use
     | inr p ↦ agree.sound.roles.page_mapped a e p.1 (not-true e.block_mapped t)
   ]
 
   logs : length (blocks_with page_mapped new) ≤ g.l
   logs =
-      let within = each_once-le (numbers (λ (x : ℕ × Entry). x.1.place.block) page_mapped (entries new)) parts.logs.used (λ n mem.
+      let within = each_once-le (numbers (λ (x : ℕ × Entry). x.1.place.block) page_mapped (entries new)) parts.log_blocks.used (λ n mem.
       let x = member_to (λ (x : ℕ × Entry). x.1.place.block) page_mapped new n mem in
-      member-used n parts.logs.used (subst (λ k. IsInUse parts.logs k) x.3 (in_log_blocks x.0.0 x.0.1 x.1 x.2))) in
-      let most = once_most parts.logs.used in
-      let few : length parts.logs.used ≤ g.l = subst (λ (h : Geometry). length parts.logs.used ≤ h.l) agree.sound.of_one.logs agree.sound.logs.few in
+      member-used n parts.log_blocks.used (subst (λ k. IsInUse parts.log_blocks k) x.3 (in_log_blocks x.0.0 x.0.1 x.1 x.2))) in
+      let most = once_most parts.log_blocks.used in
+      let few : length parts.log_blocks.used ≤ g.l = subst (λ (h : Geometry). length parts.log_blocks.used ≤ h.l) agree.sound.of_one.log_blocks agree.sound.log_blocks.few in
       omega arith
 
   groups : (dirty ≡ true → HasRoomFor g m lba) → length (groups_with g (λ e. e.dirty) new) ≤ g.c
@@ -91,7 +91,7 @@ module _ (parts : Parts) (contents : Contents) (agree : Agree parts contents) (p
     pool = in_pool;
     apart = λ b f is other. (
       λ same. fresh.unused b f is same,
-      λ mapped same. log_page_mapped parts agree.sound.roles b f is (subst (λ n. IsInUse parts.logs n) (sym same) fresh.in_use) mapped,
+      λ mapped same. log_page_mapped parts agree.sound.roles b f is (subst (λ n. IsInUse parts.log_blocks n) (sym same) fresh.in_use) mapped,
     );
     log_blocks = logs;
     dirty_groups = groups may;

@@ -10,14 +10,14 @@ use Rattle.cache_model.specs.CacheList.{CacheList}
 use Rattle.cache_model.proofs.CountLemmas.{remove_fits, clean_fits}
 use Rattle.op_log.specs.Log.{LogValue, pushed}
 use Rattle.merge_engine.specs.declared.parts.Parts.{Parts}
-use Rattle.merge_engine.specs.Agreement.{Agree, Lists}
+use Rattle.merge_engine.specs.Agreement.{PartsAgree, Lists}
 use Rattle.merge_engine.proofs.TakeLemmas.{agree_map}
 use Rattle.ssc.specs.Steps.{ListsAfter}
 
-pub removed_fits : (parts : Parts) (contents : Contents) (lba : ℕ) → Agree parts contents → lba < parts.geometry.size → Fits parts.geometry (Remove lba) parts.map.entries
+pub removed_fits : (parts : Parts) (contents : Contents) (lba : ℕ) → PartsAgree parts contents → lba < parts.geometry.size → Fits parts.geometry (Remove lba) parts.map.entries
 removed_fits parts contents lba agree low = remove_fits parts.geometry lba parts.map.entries (agree_map parts contents agree) low
 
-pub cleaned_fits : (parts : Parts) (contents : Contents) (lba : ℕ) → Agree parts contents → lba < parts.geometry.size → Fits parts.geometry (Clean lba) parts.map.entries
+pub cleaned_fits : (parts : Parts) (contents : Contents) (lba : ℕ) → PartsAgree parts contents → lba < parts.geometry.size → Fits parts.geometry (Clean lba) parts.map.entries
 cleaned_fits parts contents lba agree low = clean_fits parts.geometry lba parts.map.entries (agree_map parts contents agree) low
 
 -- a change that was buffered waits, or is committed with all

@@ -21,8 +21,8 @@ use Rattle.cache_model.specs.CacheList.{CacheList, Held}
 use Rattle.mapping.specs.Numbers.{StandsNoneIn}
 use Rattle.op_log.specs.Log.{LogValue}
 use Rattle.merge_engine.specs.declared.parts.Parts.{Parts}
-use Rattle.merge_engine.specs.Agreement.{Agree, Lists}
-use Rattle.merge_engine.specs.Steps.{HasLogRoom, HasRoomFor, dirty_groups_with}
+use Rattle.merge_engine.specs.Agreement.{PartsAgree, Lists}
+use Rattle.merge_engine.specs.Steps.{HasLogBlock, HasRoomFor, dirty_groups_with}
 use Rattle.merge_engine.proofs.RoomLemmas.{gave_vanish}
 use Rattle.ssc.specs.declared.cache.Ssc.{Ssc}
 use Rattle.ssc.specs.declared.error.SscError.{SscError}
@@ -90,11 +90,11 @@ written_from parts new contents s a step same x = record {
   holds = x.2;
 }
 
-pub inside_from : (parts : Parts) (new : Ssc) (contents : Contents) (s : CacheList) (step : CacheList → CacheList) → HasLogRoom parts → HoldsLeft parts new contents s step → Holds new contents (step s)
+pub inside_from : (parts : Parts) (new : Ssc) (contents : Contents) (s : CacheList) (step : CacheList → CacheList) → HasLogBlock parts → HoldsLeft parts new contents s step → Holds new contents (step s)
 inside_from parts new contents s step room x = subst (λ (v : CacheList). Holds new contents (step v)) (x.1.inside room) x.2
 
 -- the memory of the next write is yet to be taken
-pub settled_unready : (new : Ssc) (contents : Contents) → new.ready ≡ false → Agree new.parts contents → IsSettled new contents
+pub settled_unready : (new : Ssc) (contents : Contents) → new.ready ≡ false → PartsAgree new.parts contents → IsSettled new contents
 settled_unready new contents unready agree = record { agree = agree; memory = λ t. absurd (false≢true (sym unready ∙ t)) }
 
 -- all is committed
@@ -174,14 +174,14 @@ log_left old r is left =
     let pages : log_pages r.parts.geometry ≡ log_pages old.parts.geometry = ap (λ (p : Parts). log_pages p.geometry) is in
     omega arith
 
-pub room_left : (old r : Ssc) → r.parts ≡ record old.parts { map = r.parts.map } → 1 ≤ open_room old → 1 ≤ r.parts.logs.room
-room_left old r is room = let same : r.parts.logs.room ≡ old.parts.logs.room = ap (λ (p : Parts). p.logs.room) is in omega arith
+pub room_left : (old r : Ssc) → r.parts ≡ record old.parts { map = r.parts.map } → 1 ≤ open_room old → 1 ≤ r.parts.log_blocks.room
+room_left old r is room = let same : r.parts.log_blocks.room ≡ old.parts.log_blocks.room = ap (λ (p : Parts). p.log_blocks.room) is in omega arith
 
 -- a log block can be had without a merge as before
-pub log_room_left : (old r : Ssc) → r.parts ≡ record old.parts { map = r.parts.map } → entries_of r ≡ entries_of old → HasLogRoom old.parts → HasLogRoom r.parts
-log_room_left old r is same room = subst (λ (p : Parts). HasLogRoom p) (sym is) (by room)
+pub log_room_left : (old r : Ssc) → r.parts ≡ record old.parts { map = r.parts.map } → entries_of r ≡ entries_of old → HasLogBlock old.parts → HasLogBlock r.parts
+log_room_left old r is same room = subst (λ (p : Parts). HasLogBlock p) (sym is) (by room)
   where
-    by : HasLogRoom old.parts → HasLogRoom (record old.parts { map = r.parts.map })
+    by : HasLogBlock old.parts → HasLogBlock (record old.parts { map = r.parts.map })
     by (inl some) = inl some
     by (inr (inl few)) = inr (inl few)
     by (inr (inr one)) = inr (inr (one.0, one.1, subst (λ (m : Entries). StandsNoneIn m one.0) (sym same) one.2))

@@ -23,9 +23,9 @@ use Rattle.cache_model.proofs.CountLemmas.{member, each_once-le}
 use Rattle.checkpoint.specs.Current.{AreWhole}
 use Rattle.op_log.specs.Log.{LogValue, pushed}
 use Rattle.merge_engine.specs.declared.parts.Parts.{Parts}
-use Rattle.merge_engine.specs.Agreement.{Agree, IsListOn, Lists}
+use Rattle.merge_engine.specs.Agreement.{PartsAgree, IsListOn, Lists}
 use Rattle.merge_engine.specs.Room.{GivesRoom, FlashStandsForGiven}
-use Rattle.merge_engine.specs.Steps.{GoesOn, HasLogRoom, HasRoomFor}
+use Rattle.merge_engine.specs.Steps.{GoesOn, HasLogBlock, HasRoomFor}
 use Rattle.mapping.specs.MapValue.{MapValue}
 use Rattle.ssc.specs.Commands.{FlashStandsForOne, AsUndone, AsBefore, AsAfter}
 use Rattle.ssc.specs.Steps.{IsPushed, LeftOf, ListsAfter, ListsWritten, PutsBlock, FlashStandsForEither, FlashStandsForStep}
@@ -102,7 +102,7 @@ module _ (g : Geometry) (page page' : Place → Page) (m m' : Entries) (list v :
 -- ---- after a block was appended
 
 -- a cache that agrees with the flash has a list, and another without what is buffered
-lists_some : (parts : Parts) (contents : Contents) → Agree parts contents → (list : CacheList) × (durable : CacheList) × Lists parts contents.flash.page list durable
+lists_some : (parts : Parts) (contents : Contents) → PartsAgree parts contents → (list : CacheList) × (durable : CacheList) × Lists parts contents.flash.page list durable
 lists_some parts contents agree =
     let page = contents.flash.page in
     let list = list_some page parts.map.entries agree.sound.whole.whole in
@@ -110,7 +110,7 @@ lists_some parts contents agree =
     let durable = stands_some page parts.log.geometry current.durable current.loads in
     (list.0, durable.0, record { held = list.1; stands = subst (λ (g : Geometry). FlashStandsFor g page durable.0) agree.sound.of_one.log durable.1 })
 
-module _ (old mid : Parts) (contents contents' : Contents) (agree : Agree old contents) (agree' : Agree mid contents') (is : mid.geometry ≡ old.geometry) where
+module _ (old mid : Parts) (contents contents' : Contents) (agree : PartsAgree old contents) (agree' : PartsAgree mid contents') (is : mid.geometry ≡ old.geometry) where
   abbrev GoesOnAll : Type 0
   GoesOnAll = (list durable : CacheList) → Lists old contents.flash.page list durable → GoesOn old.log mid contents'.flash.page list durable
 
@@ -123,7 +123,7 @@ module _ (old mid : Parts) (contents contents' : Contents) (agree : Agree old co
       by list durable lists (inr gone) = room_stays old.geometry contents.flash.page contents'.flash.page old.map.entries mid.map.entries list gone.1.0 agree.sound.whole agree'.sound.whole lists.held gone.1.2.held (subst (λ (g : Geometry). GivesRoom g list gone.1.0) is gone.1.1) lba room
 
   -- what is left of the list
-  left_after : (HasLogRoom old → mid.map.entries ≡ old.map.entries) → (list durable v : CacheList) → Lists old contents.flash.page list durable → GivesRoom mid.geometry list v → IsListOn contents'.flash.page mid.map.entries v → LeftOf old list v
+  left_after : (HasLogBlock old → mid.map.entries ≡ old.map.entries) → (list durable v : CacheList) → Lists old contents.flash.page list durable → GivesRoom mid.geometry list v → IsListOn contents'.flash.page mid.map.entries v → LeftOf old list v
   left_after inside list durable v lists gives on =
       let given = subst (λ (g : Geometry). GivesRoom g list v) is gives in
       record {
@@ -132,7 +132,7 @@ module _ (old mid : Parts) (contents contents' : Contents) (agree : Agree old co
       }
 
   -- and then put at an address
-  module _ (new : Parts) (lba : ℕ) (at : Place) (block : Held) (inside : HasLogRoom old → mid.map.entries ≡ old.map.entries) (log : new.log ≡ pushed (SetPage lba at block.dirty) mid.log)
+  module _ (new : Parts) (lba : ℕ) (at : Place) (block : Held) (inside : HasLogBlock old → mid.map.entries ≡ old.map.entries) (log : new.log ≡ pushed (SetPage lba at block.dirty) mid.log)
       (put : (list durable : CacheList) → Lists mid contents'.flash.page list durable → Lists new contents'.flash.page (insert list lba block) durable) where
     pub puts_block : GoesOnAll → (list durable : CacheList) → Lists old contents.flash.page list durable → PutsBlock old lba block new contents'.flash.page durable list
     puts_block goes list durable lists = (at, by (goes list durable lists))
@@ -142,12 +142,12 @@ module _ (old mid : Parts) (contents contents' : Contents) (agree : Agree old co
         by (inr gone) = inr (gone.1.0, left_after inside list durable gone.1.0 lists gone.1.1 gone.1.2.held, inr (inl (ap (λ (l : LogValue). l.buffered) log ∙ ap (λ (l : List Record). l ++ SetPage lba at block.dirty ∷ []) gone.0, put gone.1.0 gone.1.0 gone.1.2)))
 
 -- where a log block can be had without a merge
-pub inside_entries : (old mid : Parts) → (HasLogRoom old → mid.map ≡ old.map) → HasLogRoom old → mid.map.entries ≡ old.map.entries
+pub inside_entries : (old mid : Parts) → (HasLogBlock old → mid.map ≡ old.map) → HasLogBlock old → mid.map.entries ≡ old.map.entries
 inside_entries old mid stays room = ap (λ (m : MapValue). m.entries) (stays room)
 
 -- where the open log block had a page left
 
-pub inside_pushed : (old mid new : Parts) (lba : ℕ) (at : Place) (dirty : Bool) → mid ≡ record old { logs = record old.logs { room = old.logs.room - 1 } } → new.log ≡ pushed (SetPage lba at dirty) mid.log → IsPushed old lba dirty new
+pub inside_pushed : (old mid new : Parts) (lba : ℕ) (at : Place) (dirty : Bool) → mid ≡ record old { log_blocks = record old.log_blocks { room = old.log_blocks.room - 1 } } → new.log ≡ pushed (SetPage lba at dirty) mid.log → IsPushed old lba dirty new
 inside_pushed old mid new lba at dirty is log = (at, log ∙ ap (λ (p : Parts). pushed (SetPage lba at dirty) p.log) is)
 
 pub push_some : {A : Type 0} (xs : List A) (x : A) → xs ++ x ∷ [] ≡ [] → ⊥
@@ -232,7 +232,7 @@ module _ (old mid : Parts) (page page' : Place → Page) (lba : ℕ) (block : He
   kept_left buffered own (inr (inl k)) = before_or_after (either (step list) list k.1)
   kept_left buffered own (inr (inr k)) = AsAfter (twice (step list) (either (step list) (step list) k.1))
 
-  pub kept_then : HasLogRoom old → PutsBlock old lba block mid page durable list → FlashStandsForOne old.geometry page' durable list (step list)
+  pub kept_then : HasLogBlock old → PutsBlock old lba block mid page durable list → FlashStandsForOne old.geometry page' durable list (step list)
   kept_then room (at, inl (inl k)) = undone_or_after (either (step list) durable k.1)
   kept_then room (at, inl (inr (inl k))) = before_or_after (either (step list) list k.1)
   kept_then room (at, inl (inr (inr k))) = AsAfter (twice (step list) (either (step list) (step list) k.1))

@@ -10,7 +10,7 @@ use Rattle.cache_model.specs.Records.{Entries}
 use Rattle.cache_model.specs.Cache.{Buffered, Inserted, Cleaned, MayWait, undo}
 use Rattle.cache_model.specs.CacheList.{CacheList}
 use Rattle.merge_engine.specs.declared.parts.Parts.{Parts}
-use Rattle.merge_engine.specs.Agreement.{Agree, Lists}
+use Rattle.merge_engine.specs.Agreement.{PartsAgree, Lists}
 use Rattle.ssc.specs.declared.cache.Ssc.{Ssc}
 
 abbrev pub geometry_of : Ssc → Geometry
@@ -45,7 +45,7 @@ pending c = waiting c.parts.log.buffered
 
 -- the pages of the open log block that are left
 abbrev pub open_room : Ssc → ℕ
-open_room c = c.parts.logs.room
+open_room c = c.parts.log_blocks.room
 
 -- the log pages that are left before a checkpoint
 abbrev pub log_room : Ssc → ℕ
@@ -60,7 +60,7 @@ pub record HasMemory (parts : Parts) : Type 0 where
 
 -- between two commands: the cache has left the flash so, and holds this list; without what is buffered, the flash stands for it
 pub record Holds (c : Ssc) (contents : Contents) (s : CacheList) : Type 0 where
-  pub agree : Agree c.parts contents
+  pub agree : PartsAgree c.parts contents
   pub lists : Lists c.parts contents.flash.page s (undo (pending c) s)
   pub kinds : IsTrue (list_all may_wait c.parts.log.buffered)
   pub waits : MayWait (geometry_of c) (pending c) s

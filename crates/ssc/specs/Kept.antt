@@ -11,7 +11,7 @@ use Rattle.ft_media.specs.Passes.{Spends}
 use Rattle.ft_media.specs.Media.{program_counted}
 use Rattle.cache_model.specs.Cache.{Inserted}
 use Rattle.cache_model.specs.CacheList.{CacheList}
-use Rattle.merge_engine.specs.Steps.{HasLogRoom}
+use Rattle.merge_engine.specs.Steps.{HasLogBlock}
 use Rattle.ssc.specs.declared.cache.Ssc.{Ssc}
 use Rattle.ssc.specs.declared.error.SscError.{SscError}
 use Rattle.ssc.specs.declared.error.SscError.TheVariants.{Full, OutOfMemory}
@@ -48,8 +48,8 @@ pub record RefusesWrite {T : Type 0} (old new : Ssc) (before after : State) (res
 pub record KeepsInRoom {T : Type 0} (old new : Ssc) (before after : State) (step : CacheList → CacheList)
     (result : Result T SscError) : Type 0 where
   pub inside : OnOk result (1 ≤ open_room old → (s : CacheList) → Holds old before.contents s → Holds new after.contents (step s))
-  pub kept : OnOk result (HasLogRoom old.parts → (s : CacheList) → Holds old before.contents s → Holds new after.contents (step s))
-  pub kept_images : HasLogRoom old.parts → (s : CacheList) → Holds old before.contents s → ImagesOf old after.contents s (step s)
+  pub kept : OnOk result (HasLogBlock old.parts → (s : CacheList) → Holds old before.contents s → Holds new after.contents (step s))
+  pub kept_images : HasLogBlock old.parts → (s : CacheList) → Holds old before.contents s → ImagesOf old after.contents s (step s)
 
 -- a dirty write spends two device writes at least; it programs just two pages where the open log block and the log have room
 pub record CostsDirty {T : Type 0} (old : Ssc) (before after : State) (result : Result T SscError) : Type 0 where

@@ -17,9 +17,9 @@ use Rattle.op_log.specs.Log.{pushed}
 use Rattle.log_blocks.specs.Logs as list
 use Rattle.recovery.specs.declared.loading.Loaded.{Loaded}
 use Rattle.merge_engine.specs.declared.parts.Parts.{Parts}
-use Rattle.merge_engine.specs.Agreement.{Agree, AreOfOne, Lists, RolesAgree}
+use Rattle.merge_engine.specs.Agreement.{PartsAgree, AreOfOne, Lists, RolesAgree}
 use Rattle.merge_engine.specs.Room.{GivesRoom}
-use Rattle.merge_engine.specs.Steps.{HasLogRoom}
+use Rattle.merge_engine.specs.Steps.{HasLogBlock}
 pub use Rattle.merge_engine.specs.Merges.{FlashStandsForEither}
 use Rattle.ssc.specs.Commands.{FlashStandsForOne}
 
@@ -34,7 +34,7 @@ ListsAfter buffered own parts page durable before list =
 -- v is the list; or the list that gave room, where no log block could be had without a merge
 pub record LeftOf (old : Parts) (list v : CacheList) : Type 0 where
   pub gives : GivesRoom old.geometry list v
-  pub inside : HasLogRoom old → v ≡ list
+  pub inside : HasLogBlock old → v ≡ list
 
 -- a step was buffered or committed: on the list of before, or on what is left of it once all was committed
 abbrev pub ListsWritten : Parts → Record → Parts → (Place → Page) → CacheList → CacheList → (CacheList → CacheList) → Type 0
@@ -58,7 +58,7 @@ FlashStandsForStep g page durable list step = FlashStandsFor g page durable
 
 -- a step at an address may be made: the flash is as the parts left it, and their log takes one more record
 pub record MayStep (parts : Parts) (contents : Contents) (a : ℕ) : Type 0 where
-  pub agree : Agree parts contents
+  pub agree : PartsAgree parts contents
   pub lba : a < parts.geometry.size
   pub few : length parts.log.buffered < page_records parts.log.geometry
 
@@ -67,11 +67,11 @@ pub record LeavesPut (old : Parts) (before after : Place → Page) (lba : ℕ) (
   pub stands : (list durable : CacheList) → Lists old before list durable
       → FlashStandsForStep old.geometry after durable list (λ s. insert s lba block)
   -- where a log block can be had without a merge nothing gives way
-  pub kept : HasLogRoom old → (list durable : CacheList) → Lists old before list durable
+  pub kept : HasLogBlock old → (list durable : CacheList) → Lists old before list durable
       → FlashStandsForOne old.geometry after durable list (insert list lba block)
 
 -- the count of programs tells of a new one, and so many device writes were spent at least
-pub record Programs (n : ℕ) (before after : State) : Type 0 where
+pub record ProgramsPages (n : ℕ) (before after : State) : Type 0 where
   pub count : Rose before.counts.programs after.counts.programs
   pub spends : Spends n before after
 
@@ -83,5 +83,5 @@ pub record IsLoadedAs (g : Geometry) (loaded : Loaded) (parts : Parts) : Type 0 
   pub map : parts.map ≡ loaded.map
   pub log : parts.log ≡ record { geometry = g; region = loaded.region; era = loaded.era; next = 0; buffered = [] }
   pub roles : RolesAgree parts
-  pub logs : list.AreSoundLogs parts.logs
-  pub closed : parts.logs.room ≡ 0
+  pub log_blocks : list.AreSoundLogs parts.log_blocks
+  pub closed : parts.log_blocks.room ≡ 0

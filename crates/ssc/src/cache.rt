@@ -58,7 +58,7 @@ impl Ssc {
         self.parts.map.held()
     }
 
-    /// The buckets of the map of log pages: none, or a power of two from 32 on, of which at least a
+    /// The buckets of the map of page-mapped addresses: none, or a power of two from 32 on, of which at least a
     /// quarter is free.
     pub fn buckets(&self) -> u64
         ensures count { result ≡ self.now.parts.map.buckets }
@@ -85,7 +85,7 @@ impl Ssc {
     pub fn open_room(&self) -> u32
         ensures { result ≡ open_room self.now }
     {
-        self.parts.logs.room()
+        self.parts.log_blocks.room()
     }
 
     /// Takes the memory of the next write: for its page, and for the groups that it may merge. Refused,

@@ -8,12 +8,12 @@ ghost use Rattle.ft_media.specs.Media.{program_counted};
 ghost use Rattle.cache_model.specs.Cache.{Inserted, Cleaned, written_dirty, written_clean, evicted, made_clean, dirty_between, written_block};
 ghost use Rattle.cache_model.specs.CacheList.{CacheList};
 ghost use Rattle.cache_model.specs.declared.entry.Entry.{Entry};
-ghost use Rattle.merge_engine.specs.Agreement.{Agree, Lists};
+ghost use Rattle.merge_engine.specs.Agreement.{PartsAgree, Lists};
 ghost use Rattle.ssc.specs.Errors.{ssc_failed, ssc_lost};
 ghost use Rattle.ssc.specs.CacheState.{HasMemory, Holds, IsUp, entries_of, geometry_of, log_room, open_room, pending};
 ghost use Rattle.ssc.specs.Kept.{CostsClean, CostsDirty, KeepsInRoom, RefusesWrite, RunsCommand, RunsInPlace};
 ghost use Rattle.ssc.specs.Own.{KeepsOwn};
-ghost use Rattle.ssc.specs.Steps.{IsPushed, LeavesPut, MayStep, Programs, PutsBlock};
+ghost use Rattle.ssc.specs.Steps.{IsPushed, LeavesPut, MayStep, ProgramsPages, PutsBlock};
 ghost use Rattle.ssc.specs.Commands.{ImagesOf, ImagesOfWrite, FullExactly, HoldsWritten, PendsWith, IsDirtyIn, IsHeldIn, ReadOf, UnlessFound};
 
 use crate::error::of_media;
@@ -114,7 +114,7 @@ impl Ssc {
         requires memory { HasMemory self.old.parts }
         ensures cache { self.new ≡ record self.old { parts = self.new.parts } }
         ensures geometry { geometry_of self.new ≡ geometry_of self.old }
-        ensures agree { OnOk result (Agree self.new.parts (M.state media.new).contents) }
+        ensures agree { OnOk result (PartsAgree self.new.parts (M.state media.new).contents) }
         ensures few { OnOk result (length self.new.parts.log.buffered < page_records self.new.parts.log.geometry) }
         ensures lists { OnOk result ((list durable : CacheList) → Lists self.old.parts (M.state media.old).contents.flash.page list durable
             → PutsBlock self.old.parts lba (written_block lba block.now false) self.new.parts (M.state media.new).contents.flash.page
@@ -126,7 +126,7 @@ impl Ssc {
             → length self.old.parts.log.buffered + 2 ≤ page_records self.old.parts.log.geometry
             → IsPushed self.old.parts lba false self.new.parts
             × ((M.state media.new).counts ≡ program_counted (M.state media.old).counts)) }
-        ensures programs { OnOk result (Programs 1 (M.state media.old) (M.state media.new)) }
+        ensures programs { OnOk result (ProgramsPages 1 (M.state media.old) (M.state media.new)) }
         ensures drives { OnlyDrives (M.state media.old) (M.state media.new) result }
     {
         if self.is_held(lba) {

@@ -7,18 +7,18 @@ ghost use Rattle.ft_media.specs.Media.{program_counted};
 ghost use Rattle.cache_model.specs.CacheList.{CacheList};
 ghost use Rattle.cache_model.specs.Cache.{evicted, written_block, made_clean};
 ghost use Rattle.cache_model.specs.declared.entry.Entry.{Entry};
-ghost use Rattle.merge_engine.specs.Agreement.{Agree, Lists};
+ghost use Rattle.merge_engine.specs.Agreement.{PartsAgree, Lists};
 ghost use Rattle.merge_engine.specs.Room.{FlashStandsForGiven};
-ghost use Rattle.merge_engine.specs.Steps.{HasLogRoom, HasRoomFor, dirty_groups_with};
+ghost use Rattle.merge_engine.specs.Steps.{HasLogBlock, HasRoomFor, dirty_groups_with};
 ghost use Rattle.ssc.specs.Errors as errors;
 ghost use Rattle.ssc.specs.CacheState.{HasMemory, entries_of, geometry_of};
-ghost use Rattle.ssc.specs.Steps.{IsPushed, LeavesPut, LeftOf, ListsAfter, MayStep, Programs, PutsBlock, FlashStandsForEither};
+ghost use Rattle.ssc.specs.Steps.{IsPushed, LeavesPut, LeftOf, ListsAfter, MayStep, ProgramsPages, PutsBlock, FlashStandsForEither};
 
 use crate::error::of_media;
 use crate::{Ssc, SscError};
 use ft_base::Block;
 use ft_media::{Media, MediaError};
-use merge_engine::{Parts, append, commit, put_clean, put_out, put_page};
+use merge_engine::{Parts, append, commit, note_clean, put_out, put_page};
 
 // What the commands do once nothing refuses them.
 impl Ssc {
@@ -74,16 +74,16 @@ pub(crate) fn write_committed<M: Media>(
     requires memory { HasMemory parts.old }
     requires dirty { dirty ≡ true → HasRoomFor parts.old.geometry parts.old.map.entries lba }
     ensures geometry { parts.new.geometry ≡ parts.old.geometry }
-    ensures agree { OnOk result (Agree parts.new (M.state media.new).contents) }
+    ensures agree { OnOk result (PartsAgree parts.new (M.state media.new).contents) }
     ensures nothing_waits { OnOk result (parts.new.log.buffered ≡ []) }
     ensures lists { OnOk result ((list durable : CacheList) → Lists parts.old (M.state media.old).contents.flash.page list durable
         → (v : CacheList) × LeftOf parts.old list v × Lists parts.new (M.state media.new).contents.flash.page
         (insert v lba (written_block lba block.now dirty)) (insert v lba (written_block lba block.now dirty))) }
     ensures leaves { LeavesPut parts.old (M.state media.old).contents.flash.page (M.state media.new).contents.flash.page lba
         (written_block lba block.now dirty) }
-    ensures two_programs { OnOk result (1 ≤ parts.old.logs.room → parts.old.log.next < log_pages parts.old.geometry
+    ensures two_programs { OnOk result (1 ≤ parts.old.log_blocks.room → parts.old.log.next < log_pages parts.old.geometry
         → (M.state media.new).counts ≡ program_counted (program_counted (M.state media.old).counts)) }
-    ensures programs { OnOk result (Programs 2 (M.state media.old) (M.state media.new)) }
+    ensures programs { OnOk result (ProgramsPages 2 (M.state media.old) (M.state media.new)) }
     ensures drives { OnlyDrives (M.state media.old) (M.state media.new) result }
 {
     write_page(parts, media, lba, block, dirty)?;
@@ -100,15 +100,16 @@ pub(crate) fn write_buffered<M: Media>(
     requires may { MayStep parts.old (M.state media.old).contents lba }
     requires memory { HasMemory parts.old }
     ensures geometry { parts.new.geometry ≡ parts.old.geometry }
-    ensures agree { OnOk result (Agree parts.new (M.state media.new).contents) }
+    ensures agree { OnOk result (PartsAgree parts.new (M.state media.new).contents) }
     ensures few { OnOk result (length parts.new.log.buffered < page_records parts.new.log.geometry) }
     ensures lists { OnOk result ((list durable : CacheList) → Lists parts.old (M.state media.old).contents.flash.page list durable
         → PutsBlock parts.old lba (written_block lba block.now false) parts.new (M.state media.new).contents.flash.page durable list) }
     ensures leaves { LeavesPut parts.old (M.state media.old).contents.flash.page (M.state media.new).contents.flash.page lba
         (written_block lba block.now false) }
-    ensures one_program { OnOk result (1 ≤ parts.old.logs.room → length parts.old.log.buffered + 2 ≤ page_records parts.old.log.geometry
+    ensures one_program { OnOk result (1 ≤ parts.old.log_blocks.room
+        → length parts.old.log.buffered + 2 ≤ page_records parts.old.log.geometry
         → IsPushed parts.old lba false parts.new × ((M.state media.new).counts ≡ program_counted (M.state media.old).counts)) }
-    ensures programs { OnOk result (Programs 1 (M.state media.old) (M.state media.new)) }
+    ensures programs { OnOk result (ProgramsPages 1 (M.state media.old) (M.state media.new)) }
     ensures drives { OnlyDrives (M.state media.old) (M.state media.new) result }
 {
     write_page(parts, media, lba, block, false)?;
@@ -127,19 +128,19 @@ fn write_page<M: Media>(
     requires memory { HasMemory parts.old }
     requires dirty { dirty ≡ true → HasRoomFor parts.old.geometry parts.old.map.entries lba }
     ensures geometry { parts.new.geometry ≡ parts.old.geometry }
-    ensures agree { OnOk result (Agree parts.new (M.state media.new).contents) }
+    ensures agree { OnOk result (PartsAgree parts.new (M.state media.new).contents) }
     ensures waits { OnOk result (parts.new.log.buffered ≢ []) }
     ensures lists { OnOk result ((list durable : CacheList) → Lists parts.old (M.state media.old).contents.flash.page list durable
         → PutsBlock parts.old lba (written_block lba block.now dirty) parts.new (M.state media.new).contents.flash.page durable list) }
     ensures stands { (list durable : CacheList) → Lists parts.old (M.state media.old).contents.flash.page list durable
         → FlashStandsForGiven parts.old.geometry (M.state media.new).contents.flash.page durable list }
-    ensures list_stands { HasLogRoom parts.old → (list durable : CacheList)
+    ensures list_stands { HasLogBlock parts.old → (list durable : CacheList)
         → Lists parts.old (M.state media.old).contents.flash.page list durable
         → FlashStandsForEither parts.old.geometry (M.state media.new).contents.flash.page durable list }
     // Where the open log block has a page left: one program, and all that was buffered is.
-    ensures one_program { OnOk result (1 ≤ parts.old.logs.room → IsPushed parts.old lba dirty parts.new
+    ensures one_program { OnOk result (1 ≤ parts.old.log_blocks.room → IsPushed parts.old lba dirty parts.new
         × ((M.state media.new).counts ≡ program_counted (M.state media.old).counts)) }
-    ensures programs { OnOk result (Programs 1 (M.state media.old) (M.state media.new)) }
+    ensures programs { OnOk result (ProgramsPages 1 (M.state media.old) (M.state media.new)) }
     ensures drives { OnlyDrives (M.state media.old) (M.state media.new) result }
 {
     // The page first: a log page may name whole pages alone.
@@ -157,7 +158,7 @@ pub(crate) fn take_out<M: Media>(
     requires may { MayStep parts.old (M.state media.old).contents lba }
     ensures geometry { parts.new.geometry ≡ parts.old.geometry }
     ensures reserved { HasMemory parts.old → HasMemory parts.new }
-    ensures agree { OnOk result (Agree parts.new (M.state media.new).contents) }
+    ensures agree { OnOk result (PartsAgree parts.new (M.state media.new).contents) }
     ensures nothing_waits { OnOk result (parts.new.log.buffered ≡ []) }
     ensures lists { OnOk result ((list durable : CacheList) → Lists parts.old (M.state media.old).contents.flash.page list durable
         → Lists parts.new (M.state media.new).contents.flash.page (evicted lba list) (evicted lba list)) }
@@ -181,7 +182,7 @@ pub(crate) fn mark_clean<M: Media>(
     requires may { MayStep parts.old (M.state media.old).contents lba }
     ensures geometry { parts.new.geometry ≡ parts.old.geometry }
     ensures reserved { HasMemory parts.old → HasMemory parts.new }
-    ensures agree { OnOk result (Agree parts.new (M.state media.new).contents) }
+    ensures agree { OnOk result (PartsAgree parts.new (M.state media.new).contents) }
     ensures room { OnOk result (length parts.new.log.buffered < page_records parts.new.log.geometry) }
     ensures lists { OnOk result ((list durable : CacheList) → Lists parts.old (M.state media.old).contents.flash.page list durable
         → ListsAfter parts.old.log.buffered (Clean lba) parts.new (M.state media.new).contents.flash.page durable list
@@ -192,16 +193,16 @@ pub(crate) fn mark_clean<M: Media>(
     ensures no_write { length parts.old.log.buffered + 2 ≤ page_records parts.old.log.geometry → M.state media.new ≡ M.state media.old }
     ensures drives { OnlyDrives (M.state media.old) (M.state media.new) result }
 {
-    put_clean(parts, lba);
+    note_clean(parts, lba);
     commit_if_full(parts, media)
 }
 
 /// Commits where no more may be buffered.
 fn commit_if_full<M: Media>(parts: &mut Parts, media: &mut M) -> Result<(), MediaError>
-    requires agree { Agree parts.old (M.state media.old).contents }
+    requires agree { PartsAgree parts.old (M.state media.old).contents }
     ensures cache { parts.new ≡ record parts.old { log = parts.new.log } }
     ensures few { OnOk result (length parts.new.log.buffered < page_records parts.new.log.geometry) }
-    ensures agree { OnOk result (Agree parts.new (M.state media.new).contents) }
+    ensures agree { OnOk result (PartsAgree parts.new (M.state media.new).contents) }
     ensures lists { OnOk result ((list durable : CacheList) → Lists parts.old (M.state media.old).contents.flash.page list durable
         → ((parts.new.log ≡ parts.old.log) × Lists parts.new (M.state media.new).contents.flash.page list durable)
         ⊎ ((parts.new.log.buffered ≡ []) × Lists parts.new (M.state media.new).contents.flash.page list list)) }

@@ -71,7 +71,8 @@ impl<'a, I: Source, O: Sink> Script for StreamScript<'a, I, O> {
           ++ (O.state v.sink.now).lent;
     } };
 
-    ghost came = { λ s b e v. CameStream v.reader (I.state v.source.now) (O.state v.sink.now) s b e × Holds256 v.digest.hasher (told_bytes e) };
+    ghost came = { λ s b e v. CameStream v.reader (I.state v.source.now) (O.state v.sink.now) s b e
+        × Holds256 v.digest.hasher (told_bytes e) };
 
     ghost broke = { λ s b e event v. BrokeStream b (O.state v.sink.now) e event };
 

@@ -6,4 +6,4 @@ use Rattle.cache_rows.proofs.parts.parts_on.Goals as goal
 pub returns-in-Ok : goal.returns-in-Ok
 returns-in-Ok c =
     formatted_agree c.in-Ok.parts (state_of c.args.rig.now).contents c.args.geometry.now c.in-Ok.ensures.of_one c.in-Ok.ensures.geometry c.requires.shape (search rules) c.in-Ok.ensures.log c.requires.begins c.in-Ok.ensures.roles
-    c.in-Ok.ensures.logs.sound c.in-Ok.ensures.logs.closed
+    c.in-Ok.ensures.log_blocks.sound c.in-Ok.ensures.log_blocks.closed

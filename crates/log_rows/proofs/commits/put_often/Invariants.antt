@@ -9,7 +9,7 @@ invariant-puts g l = record {
   shape : FitsOn l.cache.log.geometry (g.R.Media.state l.rig).contents.shape;
   geometry : l.cache.geometry ≡ l.cache.log.geometry;
   map : l.cache.map.geometry ≡ l.cache.log.geometry;
-  marks : l.cache.marks ≡ l.cache.log.geometry;
+  checkpoints : l.cache.checkpoints ≡ l.cache.log.geometry;
   committed : IsCommitted (g.R.Media.state l.rig).contents.flash l.cache.log l.cache.map.entries;
   whole : AreWhole (g.R.Media.state l.rig).contents.flash.page l.cache.map.entries;
 }

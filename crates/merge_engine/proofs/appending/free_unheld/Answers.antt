@@ -6,7 +6,7 @@ use Rattle.merge_engine.proofs.appending.free_unheld.Goals as goal
 pub loop-i-smaller-then-stands_none_in : goal.loop-i-smaller-then-stands_none_in
 loop-i-smaller-then-stands_none_in c =
     let fewer = one_fewer c.loop-i.cache c.give_back.new.cache c.nth-block.result c.give_back.ensures.cache c.used.ensures.sound c.nth-block.ensures.in_use in
-    less (length c.give_back.new.cache.logs.used) (length c.loop-i.cache.logs.used) c.loop-i.i fewer (omega (arith, c.used.ensures.used))
+    less (length c.give_back.new.cache.log_blocks.used) (length c.loop-i.cache.log_blocks.used) c.loop-i.i fewer (omega (arith, c.used.ensures.used))
   where
     less : (new old i : ℕ) → new + 1 ≡ old → i < old → new - i < old - i
     less new old i is low = omega arith

@@ -10,4 +10,4 @@ invariant-loop-i l = record {
 }
 
 abbrev pub decreases-loop-i : goal.decreases-loop-i
-decreases-loop-i l = length l.cache.logs.used - l.i
+decreases-loop-i l = length l.cache.log_blocks.used - l.i

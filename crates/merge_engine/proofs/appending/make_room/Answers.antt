@@ -14,8 +14,8 @@ returns-clause-few g c = on_ok_from c.free_log_block.result (λ v is.
     let mid = c.free_unheld.new.cache in
     let new = c.free_log_block.new.cache in
     let agree = c.free_unheld.ensures.agree (g.M.Media.state c.args.media.now).contents c.requires.can.agree in
-    let low = room_after mid.logs new.logs c.used.ensures.sound (omega (arith, c.used.ensures.used, c.if-used-cache.false, mid.geometry.in_range.l_low)) (ok_at c.free_log_block.result v is c.free_log_block.ensures.logs) in
-    let first = ap (λ (h : Geometry). h.l) agree.sound.of_one.logs in
+    let low = room_after mid.log_blocks new.log_blocks c.used.ensures.sound (omega (arith, c.used.ensures.used, c.if-used-cache.false, mid.geometry.in_range.l_low)) (ok_at c.free_log_block.result v is c.free_log_block.ensures.log_blocks) in
+    let first = ap (λ (h : Geometry). h.l) agree.sound.of_one.log_blocks in
     let then = ap (λ (h : Geometry). h.l) c.free_log_block.ensures.geometry in
     omega arith)
 
@@ -42,5 +42,5 @@ returns-clause-no_merge g c = λ can.
     let old = c.args.cache.now in
     let mid = c.free_unheld.new.cache in
     let s = c.requires.can.agree.sound in
-    let few = few_left old mid s.logs s.of_one.logs (ap (λ (p : Parts). p.geometry) c.free_unheld.ensures.cache) c.free_unheld.ensures.no_more c.free_unheld.ensures.fewer can in
+    let few = few_left old mid s.log_blocks s.of_one.log_blocks (ap (λ (p : Parts). p.geometry) c.free_unheld.ensures.cache) c.free_unheld.ensures.no_more c.free_unheld.ensures.fewer can in
     absurd (omega (arith, c.used.ensures.used, c.if-used-cache.false))

@@ -1,7 +1,7 @@
 use Rattle.std.proofs.Common.{◌≡◌, Some, false}
 use Rattle.ft_media.specs.Drives.{DrivesFlash}
 use Rattle.cache_model.specs.CacheList.{CacheList}
-use Rattle.merge_engine.specs.Agreement.{Agree, Lists}
+use Rattle.merge_engine.specs.Agreement.{PartsAgree, Lists}
 use Rattle.checkpoint.specs.Counts.{programs_counted}
 use Rattle.merge_engine.proofs.CopyLemmas.{IsCopiedBelow, IsFilledBelow}
 use Rattle.merge_engine.proofs.copying.copy_group.Given as goal
@@ -11,7 +11,7 @@ invariant-loop-page g l =
     let old = g.M.Media.state l.fn.media in
     let now = g.M.Media.state l.media in
     record {
-      agree : Agree l.cache now.contents;
+      agree : PartsAgree l.cache now.contents;
       lists : (list durable : CacheList) → Lists l.cache old.contents.flash.page list durable → Lists l.cache now.contents.flash.page list durable;
       next : now.contents.flash.next l.block ≡ Some l.page;
       copied : IsCopiedBelow l.cache.geometry l.cache.map.entries l.group l.block l.page now.contents.flash.page;

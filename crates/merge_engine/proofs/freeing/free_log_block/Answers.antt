@@ -24,20 +24,20 @@ returns-clause-unheld g c = λ oldest is unheld.
     let was = c.merge_owners.ensures.nothing (subst (λ n. StandsNoneIn c.args.cache.now.map.entries n) one unheld) in
     (refl, given_same c.args.cache.now c.merge_owners.new.cache c.give_back_used.new.cache _ was.1 c.give_back_used.ensures.cache, was.2)
 
-pub returns-clause-logs : goal.returns-clause-logs
-returns-clause-logs g c = λ oldest is.
+pub returns-clause-log_blocks : goal.returns-clause-log_blocks
+returns-clause-log_blocks g c = λ oldest is.
     let same : Some c.in-Some.block ≡ Some oldest = c.in-Some.ensures.oldest ∙ is in
     let one : c.in-Some.block ≡ oldest = cc in
-    subst (λ b. c.give_back_used.new.cache.logs ≡ released b c.args.cache.now.logs) one
-    (lost_at_last c.in-Some.block c.args.cache.now.logs c.merge_owners.new.cache.logs c.give_back_used.new.cache.logs c.merge_owners.ensures.logs c.in-Some.ensures.in_use c.give_back_used.ensures.used c.give_back_used.ensures.switched)
+    subst (λ b. c.give_back_used.new.cache.log_blocks ≡ released b c.args.cache.now.log_blocks) one
+    (lost_at_last c.in-Some.block c.args.cache.now.log_blocks c.merge_owners.new.cache.log_blocks c.give_back_used.new.cache.log_blocks c.merge_owners.ensures.log_blocks c.in-Some.ensures.in_use c.give_back_used.ensures.used c.give_back_used.ensures.switched)
 
 pub returns-in_err-merge_owners-clause-used : goal.returns-in_err-merge_owners-clause-used
-returns-in_err-merge_owners-clause-used g c = used_before c.in-Some.block c.args.cache.now.logs c.merge_owners.new.cache.logs c.merge_owners.ensures.logs
+returns-in_err-merge_owners-clause-used g c = used_before c.in-Some.block c.args.cache.now.log_blocks c.merge_owners.new.cache.log_blocks c.merge_owners.ensures.log_blocks
 
 pub returns-clause-used : goal.returns-clause-used
 returns-clause-used g c = λ b used.
-    let is = lost_at_last c.in-Some.block c.args.cache.now.logs c.merge_owners.new.cache.logs c.give_back_used.new.cache.logs c.merge_owners.ensures.logs c.in-Some.ensures.in_use c.give_back_used.ensures.used c.give_back_used.ensures.switched in
-    was_in_use c.args.cache.now.logs c.in-Some.block b (subst (λ (l : LogBlocksValue). IsInUse l b) is used)
+    let is = lost_at_last c.in-Some.block c.args.cache.now.log_blocks c.merge_owners.new.cache.log_blocks c.give_back_used.new.cache.log_blocks c.merge_owners.ensures.log_blocks c.in-Some.ensures.in_use c.give_back_used.ensures.used c.give_back_used.ensures.switched in
+    was_in_use c.args.cache.now.log_blocks c.in-Some.block b (subst (λ (l : LogBlocksValue). IsInUse l b) is used)
 
 pub returns-clause-goes : goal.returns-clause-goes
 returns-clause-goes g c = record {

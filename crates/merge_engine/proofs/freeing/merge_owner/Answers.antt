@@ -18,8 +18,8 @@ returns-in-Some-clause-unowned g c = on_ok_from c.merge_group.result (Î» v is. Î
     (ok_at c.merge_group.result v is e.merges.agree).sound.roles used
     c.in-Some.ensures.owner (ok_at c.merge_group.result v is e.gathered).merged (ok_at c.merge_group.result v is e.page_mapped))
 
-pub returns-in-Some-clause-logs : goal.returns-in-Some-clause-logs
-returns-in-Some-clause-logs g c = logs_of_owner c.args.cache.now c.in-Some.lba c.args.at c.merge_group.new.cache.logs c.in-Some.ensures.owner c.merge_group.ensures.logs
+pub returns-in-Some-clause-log_blocks : goal.returns-in-Some-clause-log_blocks
+returns-in-Some-clause-log_blocks g c = logs_of_owner c.args.cache.now c.in-Some.lba c.args.at c.merge_group.new.cache.log_blocks c.in-Some.ensures.owner c.merge_group.ensures.log_blocks
 
 pub returns-in-Some-clause-goes : goal.returns-in-Some-clause-goes
 returns-in-Some-clause-goes g c = record {

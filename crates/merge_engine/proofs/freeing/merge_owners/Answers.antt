@@ -27,10 +27,10 @@ loop-page-preserved g c =
     let l = c.loop-page in
     let k = l.invariant in
     let e = c.in_ok-merge_owner.ensures in
-    let logs = lose_then c.args.block c.args.cache.now.logs l.cache.logs c.merge_owner.new.cache.logs k.logs c.merge_owner.ensures.logs in
+    let logs = lose_then c.args.block c.args.cache.now.log_blocks l.cache.log_blocks c.merge_owner.new.cache.log_blocks k.log_blocks c.merge_owner.ensures.log_blocks in
     record {
       geometry = c.merge_owner.ensures.geometry ∙ k.geometry;
-      logs = logs;
+      log_blocks = logs;
       pages = c.merge_owner.ensures.room.pages ∙ k.pages;
       groups = let first = k.groups in let then = c.merge_owner.ensures.room.groups in omega arith;
       agree = e.goes.agree;
@@ -38,7 +38,7 @@ loop-page-preserved g c =
       nothing = λ unheld. let was = k.nothing unheld in let now = c.merge_owner.ensures.nothing (unowned_in c.args.cache.now l.cache c.args.block l.page was.0 unheld) in (now.1 ∙ was.0, now.2 ∙ was.1);
       unowned = λ used. none_before-more c.merge_owner.new.cache.map.entries c.args.block l.page
           (λ page low. unowned_still l.cache.map.entries c.merge_owner.new.cache (record { block = c.args.block; page = page }) e.goes.agree.sound.roles used e.page_mapped
-          (k.unowned (used_before c.args.block l.cache.logs c.merge_owner.new.cache.logs c.merge_owner.ensures.logs c.args.block used) page low))
+          (k.unowned (used_before c.args.block l.cache.log_blocks c.merge_owner.new.cache.log_blocks c.merge_owner.ensures.log_blocks c.args.block used) page low))
           (e.unowned used);
       lists = λ list durable lists. goes_then c.args.cache.now.log l.cache (g.M.Media.state l.media).contents.flash.page c.args.cache.now.geometry k.geometry list durable c.merge_owner.new.cache (g.M.Media.state c.merge_owner.new.media).contents.flash.page
           (c.merge_owner.ensures.geometry ∙ k.geometry) (k.lists list durable lists) e.goes.lists;
@@ -71,5 +71,5 @@ returns-in_err-merge_owner-clause-nothing g c = λ unheld.
     let both : false ≡ true = now.0 in
     absurd (cc)
 
-pub returns-in_err-merge_owner-clause-logs : goal.returns-in_err-merge_owner-clause-logs
-returns-in_err-merge_owner-clause-logs g c = lose_then c.args.block c.args.cache.now.logs c.loop-page.cache.logs c.merge_owner.new.cache.logs c.loop-page.invariant.logs c.merge_owner.ensures.logs
+pub returns-in_err-merge_owner-clause-log_blocks : goal.returns-in_err-merge_owner-clause-log_blocks
+returns-in_err-merge_owner-clause-log_blocks g c = lose_then c.args.block c.args.cache.now.log_blocks c.loop-page.cache.log_blocks c.merge_owner.new.cache.log_blocks c.loop-page.invariant.log_blocks c.merge_owner.ensures.log_blocks

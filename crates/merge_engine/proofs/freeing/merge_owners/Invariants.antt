@@ -2,7 +2,7 @@ use Rattle.std.proofs.Common.{◌≡◌, ◌≤◌, ◌<◌, ◌+◌, false, len
 use Rattle.ft_media.specs.Drives.{DrivesFlash}
 use Rattle.cache_model.specs.CacheList.{CacheList}
 use Rattle.mapping.specs.Numbers.{StandsNoneIn}
-use Rattle.merge_engine.specs.Agreement.{Agree, Lists}
+use Rattle.merge_engine.specs.Agreement.{PartsAgree, Lists}
 use Rattle.merge_engine.specs.Steps.{GoesOn}
 use Rattle.log_blocks.specs.Logs.{IsInUse}
 use Rattle.merge_engine.specs.Switch.{LogsStayOrLose}
@@ -15,13 +15,13 @@ invariant-loop-page g l =
     let now = g.M.Media.state l.media in
     record {
       geometry : l.cache.geometry ≡ l.fn.cache.geometry;
-      logs : LogsStayOrLose l.block l.fn.cache.logs l.cache.logs;
+      log_blocks : LogsStayOrLose l.block l.fn.cache.log_blocks l.cache.log_blocks;
       pages : l.cache.map.spare_pages ≡ l.fn.cache.map.spare_pages;
       groups : l.fn.cache.map.spare_groups ≤ l.cache.map.spare_groups + l.page;
-      agree : Agree l.cache now.contents;
+      agree : PartsAgree l.cache now.contents;
       room : length l.cache.log.buffered < 127;
       nothing : StandsNoneIn l.fn.cache.map.entries l.block → (l.cache ≡ l.fn.cache) × (now ≡ old);
-      unowned : IsInUse l.cache.logs l.block → NoneBefore l.cache.map.entries l.block l.page;
+      unowned : IsInUse l.cache.log_blocks l.block → NoneBefore l.cache.map.entries l.block l.page;
       lists : (list durable : CacheList) → Lists l.fn.cache old.contents.flash.page list durable → GoesOn l.fn.cache.log l.cache now.contents.flash.page list durable;
       drives : DrivesFlash old now false false;
     }

@@ -6,8 +6,8 @@ use Rattle.merge_engine.proofs.loading.adopt_log_blocks.Given as goal
 -- the list of log blocks alone changed, and it has those so far, in the order of their numbers
 abbrev pub invariant-loop-block : goal.invariant-loop-block
 invariant-loop-block l = record {
-  parts : l.parts ≡ record l.initial.parts { logs = l.parts.logs };
-  adopted : AdoptedBelow l.initial.parts.geometry l.initial.parts.pool l.parts.logs l.block;
-  ascending : AreAscending l.parts.logs.used;
-  none_open : l.parts.logs.open_block ≡ None;
+  parts : l.parts ≡ record l.initial.parts { log_blocks = l.parts.log_blocks };
+  adopted : AdoptedBelow l.initial.parts.geometry l.initial.parts.pool l.parts.log_blocks l.block;
+  ascending : AreAscending l.parts.log_blocks.used;
+  none_open : l.parts.log_blocks.open_block ≡ None;
 }

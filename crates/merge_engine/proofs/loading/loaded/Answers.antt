@@ -17,7 +17,7 @@ returns-clause-roles c =
     let first = c.in_ok-parts.parts in
     let used = c.set_roles.new.parts in
     let parts = c.adopt_log_blocks.new.parts in
-    let made : parts ≡ record first { pool = used.pool; logs = parts.logs } = c.adopt_log_blocks.ensures.parts ∙ ap (λ (p : Parts). record p { logs = parts.logs }) c.set_roles.ensures.parts in
+    let made : parts ≡ record first { pool = used.pool; log_blocks = parts.log_blocks } = c.adopt_log_blocks.ensures.parts ∙ ap (λ (p : Parts). record p { log_blocks = parts.log_blocks }) c.set_roles.ensures.parts in
     let is_map : IsMap first.geometry first.map.entries = subst (λ (g : Geometry). IsMap g first.map.entries) (sym c.in_ok-parts.ensures.geometry) (subst (λ (m : MapValue). IsMap c.args.geometry.now m.entries) (sym c.in_ok-parts.ensures.map) c.requires.map) in
-    let in_use : AreInUse first.geometry used.pool parts.logs = subst (λ (p : Parts). AreInUse p.geometry used.pool parts.logs) c.set_roles.ensures.parts c.adopt_log_blocks.ensures.in_use in
-    subst RolesAgree (sym made) (roles_loaded (record first { pool = used.pool; logs = parts.logs }) is_map c.set_roles.ensures.roles in_use)
+    let in_use : AreInUse first.geometry used.pool parts.log_blocks = subst (λ (p : Parts). AreInUse p.geometry used.pool parts.log_blocks) c.set_roles.ensures.parts c.adopt_log_blocks.ensures.in_use in
+    subst RolesAgree (sym made) (roles_loaded (record first { pool = used.pool; log_blocks = parts.log_blocks }) is_map c.set_roles.ensures.roles in_use)

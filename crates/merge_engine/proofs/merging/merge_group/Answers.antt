@@ -165,13 +165,13 @@ returns-in-None-clause-costs g c = let lacks = lacks_room c.args.cache.now.geome
     c.data_blocks.result c.is_some-own.ensures c.if-own.false c.block_of.ensures.none c.data_blocks.ensures.count c.data_blocks.ensures.most c.if-data_blocks-cache.false in
     on_ok_from c.drop_group-in-None.result (λ v is. λ room. absurd (room_not_lacked c.args.cache.now.geometry c.args.cache.now.map.entries c.args.group lacks room))
 
-pub returns-in_ok-drop_group-in-Some-clause-logs : goal.returns-in_ok-drop_group-in-Some-clause-logs
-returns-in_ok-drop_group-in-Some-clause-logs g c =
+pub returns-in_ok-drop_group-in-Some-clause-log_blocks : goal.returns-in_ok-drop_group-in-Some-clause-log_blocks
+returns-in_ok-drop_group-in-Some-clause-log_blocks g c =
     let is = c.drop_group.ensures.cache in
-    logs_after c.args.cache.now c.drop_group.new.cache c.args.group c.in-Some.victim (ap (λ (p : Parts). p.geometry) is) (ap (λ (p : Parts). p.logs) is) c.drop_group.ensures.map.entries c.move_group-in-Some.new.cache.logs c.move_group-in-Some.ensures.logs
+    logs_after c.args.cache.now c.drop_group.new.cache c.args.group c.in-Some.victim (ap (λ (p : Parts). p.geometry) is) (ap (λ (p : Parts). p.log_blocks) is) c.drop_group.ensures.map.entries c.move_group-in-Some.new.cache.log_blocks c.move_group-in-Some.ensures.log_blocks
 
-pub returns-in_err-drop_group-in-Some-clause-logs : goal.returns-in_err-drop_group-in-Some-clause-logs
-returns-in_err-drop_group-in-Some-clause-logs g c = inl (ap (λ (p : Parts). p.logs) c.drop_group.ensures.cache)
+pub returns-in_err-drop_group-in-Some-clause-log_blocks : goal.returns-in_err-drop_group-in-Some-clause-log_blocks
+returns-in_err-drop_group-in-Some-clause-log_blocks g c = inl (ap (λ (p : Parts). p.log_blocks) c.drop_group.ensures.cache)
 
-pub returns-in-None-clause-logs : goal.returns-in-None-clause-logs
-returns-in-None-clause-logs g c = inl (ap (λ (p : Parts). p.logs) c.drop_group-in-None.ensures.cache)
+pub returns-in-None-clause-log_blocks : goal.returns-in-None-clause-log_blocks
+returns-in-None-clause-log_blocks g c = inl (ap (λ (p : Parts). p.log_blocks) c.drop_group-in-None.ensures.cache)

@@ -13,13 +13,13 @@ pub returns-in-Some-clause-cache : goal.returns-in-Some-clause-cache
 returns-in-Some-clause-cache g c = with_logs c.args.cache.now c.switch_group.new.cache _ c.switch_group.ensures.cache
 
 pub returns-in-None-clause-cache : goal.returns-in-None-clause-cache
-returns-in-None-clause-cache g c = with_logs c.args.cache.now c.gather_group.new.cache c.args.cache.now.logs c.gather_group.ensures.cache
+returns-in-None-clause-cache g c = with_logs c.args.cache.now c.gather_group.new.cache c.args.cache.now.log_blocks c.gather_group.ensures.cache
 
-pub returns-in-Some-clause-logs : goal.returns-in-Some-clause-logs
-returns-in-Some-clause-logs g c = inr (c.in-Some.block, c.in-Some.ensures.some, ap (λ (p : Parts). p.logs) c.switch_group.ensures.cache)
+pub returns-in-Some-clause-log_blocks : goal.returns-in-Some-clause-log_blocks
+returns-in-Some-clause-log_blocks g c = inr (c.in-Some.block, c.in-Some.ensures.some, ap (λ (p : Parts). p.log_blocks) c.switch_group.ensures.cache)
 
-pub returns-in-None-clause-logs : goal.returns-in-None-clause-logs
-returns-in-None-clause-logs g c = inl (ap (λ (p : Parts). p.logs) c.gather_group.ensures.cache)
+pub returns-in-None-clause-log_blocks : goal.returns-in-None-clause-log_blocks
+returns-in-None-clause-log_blocks g c = inl (ap (λ (p : Parts). p.log_blocks) c.gather_group.ensures.cache)
 
 pub returns-in-Some-clause-gathered : goal.returns-in-Some-clause-gathered
 returns-in-Some-clause-gathered g c = on_ok_from c.switch_group.result (λ v is. record {
@@ -35,7 +35,7 @@ returns-in-Some-clause-others g c = on_ok_from c.switch_group.result (λ v is.
 pub returns-in-Some-clause-costs : goal.returns-in-Some-clause-costs
 returns-in-Some-clause-costs g c = on_ok_from c.switch_group.result (λ v is. record {
   switched = λ block can.
-      is_switched c.args.cache.now c.switch_group.new.cache c.args.group c.in-Some.block block c.in-Some.ensures.some can (ap (λ (p : Parts). p.logs) c.switch_group.ensures.cache) c.switch_group.ensures.map.entries;
+      is_switched c.args.cache.now c.switch_group.new.cache c.args.group c.in-Some.block block c.in-Some.ensures.some can (ap (λ (p : Parts). p.log_blocks) c.switch_group.ensures.cache) c.switch_group.ensures.map.entries;
   one_program = λ block can low. ok_at c.switch_group.result v is c.switch_group.ensures.one_program low;
   counts = λ cannot. absurd (cannot c.in-Some.block c.in-Some.ensures.some);
 })

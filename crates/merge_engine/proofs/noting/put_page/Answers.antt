@@ -4,7 +4,7 @@ use Rattle.ft_base.specs.declared.record.Record.TheVariants.{SetPage}
 use Rattle.cache_model.specs.Cache.{written_block}
 use Rattle.std.specs.FinMap.{insert}
 use Rattle.merge_engine.specs.declared.parts.Parts.{Parts}
-use Rattle.merge_engine.specs.Agreement.{Agree, Lists, AreOfOne}
+use Rattle.merge_engine.specs.Agreement.{PartsAgree, Lists, AreOfOne}
 use Rattle.merge_engine.proofs.NoteLemmas.{agree_placed, lists_noted, placed_held, sound_page}
 use Rattle.merge_engine.proofs.noting.put_page.Goals as goal
 
@@ -18,7 +18,7 @@ pub returns-clause-agree : goal.returns-clause-agree
 returns-clause-agree c = λ contents block agree page.
     let old = c.args.cache.now in
     let new = c.note.new.cache in
-    subst (λ (p : Parts). Agree p contents) (sym c.note.ensures.cache)
+    subst (λ (p : Parts). PartsAgree p contents) (sym c.note.ensures.cache)
     (agree_placed old new.map new.log new.pool contents c.args.lba c.args.place c.args.dirty block (subst AreOfOne c.note.ensures.cache c.note.ensures.of_one) c.requires.fits c.note.ensures.map.entries c.note.ensures.log c.note.ensures.roles page agree)
 
 pub returns-clause-lists : goal.returns-clause-lists

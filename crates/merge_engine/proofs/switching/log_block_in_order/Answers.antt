@@ -9,7 +9,7 @@ use Rattle.merge_engine.proofs.switching.log_block_in_order.Goals as goal
 pub returns-then-ne-clause-none : goal.returns-then-ne-clause-none
 returns-then-ne-clause-none c = λ block can.
     let same = block_is c.args.cache.now c.args.group block can c.in-Some.at c.in-Some.field-0-1 c.in-Some.ensures.place in
-    let used = subst (λ b. IsInUse c.args.cache.now.logs b) (sym same) can.in_use in
+    let used = subst (λ b. IsInUse c.args.cache.now.log_blocks b) (sym same) can.in_use in
     let in_pool = c.requires.roles.in_pool c.in-Some.at.block used in
     let is_log : c.role.result ≡ Log = c.role.ensures ∙ (c.requires.roles.log_blocks c.in-Some.at.block in_pool).1 used in
     let never : c.role.result ≡ Log → ⊥ = search rules in

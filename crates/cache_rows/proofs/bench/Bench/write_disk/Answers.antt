@@ -12,7 +12,7 @@ holds_beside c a b s k =
     let sound = k.agree.sound in
     record {
       agree = record {
-        sound = record { of_one = sound.of_one; shape = sound.shape; current = sound.current; whole = sound.whole; roles = sound.roles; logs = sound.logs; open_block = sound.open_block };
+        sound = record { of_one = sound.of_one; shape = sound.shape; current = sound.current; whole = sound.whole; roles = sound.roles; log_blocks = sound.log_blocks; open_block = sound.open_block };
         open_log = k.agree.open_log;
       };
       lists = k.lists;

@@ -93,6 +93,6 @@ returns-in-Ok-clause-opened g c = record {
   nothing_waits = search rules;
   log = ap (λ (l : LogValue). l.next) c.in-Ok.ensures.log;
   empty_log = full_room c.make_checkpoint.new.cache c.args.geometry.now (ap (λ (p : Parts). p.geometry) c.make_checkpoint.ensures.cache ∙ c.in_ok-parts.ensures.geometry) (ap (λ (l : LogValue). l.next) c.in-Ok.ensures.log);
-  closed = ap (λ (p : Parts). p.logs.room) c.make_checkpoint.ensures.cache ∙ c.in_ok-parts.ensures.closed;
+  closed = ap (λ (p : Parts). p.log_blocks.room) c.make_checkpoint.ensures.cache ∙ c.in_ok-parts.ensures.closed;
   up = refl;
 }
