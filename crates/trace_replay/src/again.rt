@@ -2,12 +2,12 @@
 ghost use Rattle.std.specs.Prelude.{◌≡◌, ◌≢◌, ◌≤◌, ◌<◌, ◌∷◌, [], true, false, OnOk, OnErr, IfOk, IfErr};
 ghost use Rattle.ft_base.specs.Contents.{set};
 ghost use Rattle.ft_base.specs.PlainDisk.{PlainDisk};
-ghost use Rattle.ft_base.specs.declared.told.Ack.TheVariants as ack;
 ghost use Rattle.ft_volume.specs.declared.volume.VolumeError.TheVariants as volume_error;
 ghost use Rattle.ft_media.specs.Rig.{powered};
 ghost use Rattle.ft_volume.specs.Volume.{StandForEither, StandForOne};
 ghost use Rattle.ft_volume.specs.Standing.{StandFor};
 ghost use Rattle.trace_model.specs.Run.{stopped};
+ghost use Rattle.trace_replay.specs.MayRun.{CanCall};
 ghost use Rattle.trace_replay.specs.Said.{ended_of};
 ghost use Rattle.trace_replay.specs.Saying.{SaysSo};
 ghost use Rattle.trace_replay.specs.Spends.{SpendsSteps};
@@ -52,9 +52,7 @@ pub(crate) fn read_once<P: Script, R: Rig, V: Volume<R>>(
     lba: u64,
     block: &mut Block,
 ) -> Result<bool, Ended>
-    requires owns { V.owns volume.old (R.state rig.old).contents }
-    requires on { (R.state rig.old).power.on ≡ true }
-    requires ack { (V.state volume.old).told.ack ≡ ack.Write }
+    requires can { CanCall (V.owns volume.old) (V.state volume.old).told (R.state rig.old) }
     requires within { lba < (V.state volume.old).told.geometry.size }
     ensures owns { V.owns volume.new (R.state rig.new).contents }
     ensures told { (V.state volume.new).told ≡ (V.state volume.old).told }
@@ -82,9 +80,7 @@ pub(crate) fn write_once<P: Script, R: Rig, V: Volume<R>>(
     lba: u64,
     block: &Block,
 ) -> Result<bool, Ended>
-    requires owns { V.owns volume.old (R.state rig.old).contents }
-    requires on { (R.state rig.old).power.on ≡ true }
-    requires ack { (V.state volume.old).told.ack ≡ ack.Write }
+    requires can { CanCall (V.owns volume.old) (V.state volume.old).told (R.state rig.old) }
     requires within { lba < (V.state volume.old).told.geometry.size }
     ensures owns { V.owns volume.new (R.state rig.new).contents }
     ensures told { (V.state volume.new).told ≡ (V.state volume.old).told }
@@ -114,9 +110,7 @@ pub(crate) fn flush_once<P: Script, R: Rig, V: Volume<R>>(
     rig: &mut R,
     volume: &mut V,
 ) -> Result<bool, Ended>
-    requires owns { V.owns volume.old (R.state rig.old).contents }
-    requires on { (R.state rig.old).power.on ≡ true }
-    requires ack { (V.state volume.old).told.ack ≡ ack.Write }
+    requires can { CanCall (V.owns volume.old) (V.state volume.old).told (R.state rig.old) }
     ensures owns { V.owns volume.new (R.state rig.new).contents }
     ensures told { (V.state volume.new).told ≡ (V.state volume.old).told }
     ensures kept { Keeps (V.stands (V.state volume.old).told) (V.stands (V.state volume.new).told) (R.state rig.old).contents
@@ -140,9 +134,7 @@ pub(crate) fn idle_once<P: Script, R: Rig, V: Volume<R>>(
     rig: &mut R,
     volume: &mut V,
 ) -> Result<u64, Ended>
-    requires owns { V.owns volume.old (R.state rig.old).contents }
-    requires on { (R.state rig.old).power.on ≡ true }
-    requires ack { (V.state volume.old).told.ack ≡ ack.Write }
+    requires can { CanCall (V.owns volume.old) (V.state volume.old).told (R.state rig.old) }
     ensures owns { V.owns volume.new (R.state rig.new).contents }
     ensures told { (V.state volume.new).told ≡ (V.state volume.old).told }
     ensures kept { Keeps (V.stands (V.state volume.old).told) (V.stands (V.state volume.new).told) (R.state rig.old).contents
@@ -170,9 +162,7 @@ pub(crate) fn read_through<P: Script, R: Rig, V: Volume<R>>(
     lba: u64,
     block: &mut Block,
 ) -> Result<u64, Ended>
-    requires owns { V.owns volume.old (R.state rig.old).contents }
-    requires on { (R.state rig.old).power.on ≡ true }
-    requires ack { (V.state volume.old).told.ack ≡ ack.Write }
+    requires can { CanCall (V.owns volume.old) (V.state volume.old).told (R.state rig.old) }
     requires within { lba < (V.state volume.old).told.geometry.size }
     ensures owns { V.owns volume.new (R.state rig.new).contents }
     ensures told { (V.state volume.new).told ≡ (V.state volume.old).told }
@@ -201,9 +191,7 @@ pub(crate) fn flush_through<P: Script, R: Rig, V: Volume<R>>(
     rig: &mut R,
     volume: &mut V,
 ) -> Result<u64, Ended>
-    requires owns { V.owns volume.old (R.state rig.old).contents }
-    requires on { (R.state rig.old).power.on ≡ true }
-    requires ack { (V.state volume.old).told.ack ≡ ack.Write }
+    requires can { CanCall (V.owns volume.old) (V.state volume.old).told (R.state rig.old) }
     ensures owns { V.owns volume.new (R.state rig.new).contents }
     ensures told { (V.state volume.new).told ≡ (V.state volume.old).told }
     ensures kept { Keeps (V.stands (V.state volume.old).told) (V.stands (V.state volume.new).told) (R.state rig.old).contents

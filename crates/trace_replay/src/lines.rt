@@ -1,5 +1,5 @@
 //! Each kind of line, run.
-ghost use Rattle.std.specs.Prelude.{◌≡◌, ◌≤◌, true, IfOk, IfErr};
+ghost use Rattle.std.specs.Prelude.{◌≡◌, ◌≤◌, IfOk, IfErr};
 ghost use Rattle.ft_base.specs.PlainDisk.{PlainDisk};
 ghost use Rattle.ft_base.specs.declared.told.Ack.TheVariants as ack;
 ghost use Rattle.ft_volume.specs.Standing.{StandFor};
@@ -9,7 +9,7 @@ ghost use Rattle.trace_model.specs.Run.{after_line, answers_of};
 ghost use Rattle.trace_model.specs.SoFar.{as_ran};
 ghost use Rattle.trace_replay.specs.Ends.{EndsWithin, RunsLine, StandForPart};
 ghost use Rattle.trace_replay.specs.Events.{Says};
-ghost use Rattle.trace_replay.specs.MayRun.{MayRun};
+ghost use Rattle.trace_replay.specs.MayRun.{CanCall, MayRun};
 ghost use Rattle.trace_replay.specs.Spends.{SpendsLine};
 ghost use Rattle.trace_replay.specs.Went.{KeepsFrame, Keeps};
 
@@ -30,9 +30,7 @@ pub(crate) fn run_flush<P: Script, R: Rig, V: Volume<R>>(
     rig: &mut R,
     volume: &mut V,
 ) -> Result<Became, Ended>
-    requires owns { V.owns volume.old (R.state rig.old).contents }
-    requires on { (R.state rig.old).power.on ≡ true }
-    requires ack { (V.state volume.old).told.ack ≡ ack.Write }
+    requires can { CanCall (V.owns volume.old) (V.state volume.old).told (R.state rig.old) }
     ensures owns { V.owns volume.new (R.state rig.new).contents }
     ensures told { (V.state volume.new).told ≡ (V.state volume.old).told }
     ensures kept { Keeps (V.stands (V.state volume.old).told) (V.stands (V.state volume.new).told) (R.state rig.old).contents
@@ -56,9 +54,7 @@ pub(crate) fn run_idle<P: Script, R: Rig, V: Volume<R>>(
     rig: &mut R,
     volume: &mut V,
 ) -> Result<Became, Ended>
-    requires owns { V.owns volume.old (R.state rig.old).contents }
-    requires on { (R.state rig.old).power.on ≡ true }
-    requires ack { (V.state volume.old).told.ack ≡ ack.Write }
+    requires can { CanCall (V.owns volume.old) (V.state volume.old).told (R.state rig.old) }
     ensures owns { V.owns volume.new (R.state rig.new).contents }
     ensures told { (V.state volume.new).told ≡ (V.state volume.old).told }
     ensures once { IfOk result (λ b. b.cuts ≤ 1) }

@@ -1,14 +1,13 @@
 //! Reads, each again after a cut.
-ghost use Rattle.std.specs.Prelude.{◌≡◌, ◌+◌, ◌≤◌, true, OnOk, IfOk, IfErr};
+ghost use Rattle.std.specs.Prelude.{◌≡◌, ◌+◌, ◌≤◌, OnOk, IfOk, IfErr};
 ghost use Rattle.ft_base.specs.PlainDisk.{PlainDisk};
-ghost use Rattle.ft_base.specs.declared.told.Ack.TheVariants as ack;
 ghost use Rattle.ft_volume.specs.Standing.{StandFor};
 ghost use Rattle.trace_model.specs.declared.line.Line.TheVariants as line_kind;
 ghost use Rattle.trace_model.specs.Run.{answers_of, read_backs};
 ghost use Rattle.trace_model.specs.SoFar.{as_ran};
 ghost use Rattle.trace_replay.specs.Ends.{EndsWithin, RunsLine};
 ghost use Rattle.trace_replay.specs.Events.{Says};
-ghost use Rattle.trace_replay.specs.MayRun.{MayRun};
+ghost use Rattle.trace_replay.specs.MayRun.{CanCall, MayRun};
 ghost use Rattle.trace_replay.specs.Spends.{SpendsSteps, SpendsLine, touches_of};
 ghost use Rattle.trace_replay.specs.Went.{KeepsFrame, Keeps, Went};
 
@@ -30,9 +29,7 @@ pub(crate) fn read_blocks<P: Script, R: Rig, V: Volume<R>>(
     count: u64,
     scratch: &mut Scratch,
 ) -> Result<u64, Ended>
-    requires owns { V.owns volume.old (R.state rig.old).contents }
-    requires on { (R.state rig.old).power.on ≡ true }
-    requires ack { (V.state volume.old).told.ack ≡ ack.Write }
+    requires can { CanCall (V.owns volume.old) (V.state volume.old).told (R.state rig.old) }
     requires within { lba + count ≤ (V.state volume.old).told.geometry.size }
     ensures owns { V.owns volume.new (R.state rig.new).contents }
     ensures told { (V.state volume.new).told ≡ (V.state volume.old).told }

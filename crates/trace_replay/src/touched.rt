@@ -1,12 +1,12 @@
 //! The end of a run: what was touched is read, and told to the script.
-ghost use Rattle.std.specs.Prelude.{◌≡◌, ◌<◌, ◌++◌, ◌∷◌, [], true, length, All, IfOk, IfErr};
+ghost use Rattle.std.specs.Prelude.{◌≡◌, ◌<◌, ◌++◌, ◌∷◌, [], length, All, IfOk, IfErr};
 ghost use Rattle.ft_base.specs.PlainDisk.{PlainDisk};
-ghost use Rattle.ft_base.specs.declared.told.Ack.TheVariants as ack;
 ghost use Rattle.ft_volume.specs.Standing.{StandFor};
 ghost use Rattle.trace_model.specs.declared.answer.Answer.{Answer};
 ghost use Rattle.trace_model.specs.declared.answer.Answer.TheVariants as answer;
 ghost use Rattle.trace_model.specs.Run.{digest_of, stopped};
 ghost use Rattle.trace_replay.specs.Ends.{EndsEnd, SaysThrough};
+ghost use Rattle.trace_replay.specs.MayRun.{CanCall};
 ghost use Rattle.trace_replay.specs.Said.{Cuts};
 ghost use Rattle.trace_replay.specs.Saying.{SaysTouched};
 ghost use Rattle.trace_replay.specs.Spends.{SpendsSteps, touches_each};
@@ -28,9 +28,7 @@ pub(crate) fn tell_touched<P: Script, R: Rig, V: Volume<R>>(
     touched: &BTreeSet<u64>,
     block: &mut Block,
 ) -> Result<u64, Ended>
-    requires owns { V.owns volume.old (R.state rig.old).contents }
-    requires on { (R.state rig.old).power.on ≡ true }
-    requires ack { (V.state volume.old).told.ack ≡ ack.Write }
+    requires can { CanCall (V.owns volume.old) (V.state volume.old).told (R.state rig.old) }
     requires within { All (λ a. a < (V.state volume.old).told.geometry.size) touched.now.keys }
     ensures owns { V.owns volume.new (R.state rig.new).contents }
     ensures told { (V.state volume.new).told ≡ (V.state volume.old).told }
@@ -65,9 +63,7 @@ pub(crate) fn say_end<P: Script, R: Rig, V: Volume<R>>(
     volume: &mut V,
     tally: &Tally,
 ) -> Result<u64, Ended>
-    requires owns { V.owns volume.old (R.state rig.old).contents }
-    requires on { (R.state rig.old).power.on ≡ true }
-    requires ack { (V.state volume.old).told.ack ≡ ack.Write }
+    requires can { CanCall (V.owns volume.old) (V.state volume.old).told (R.state rig.old) }
     requires within { All (λ a. a < (V.state volume.old).told.geometry.size) tally.now.touched.keys }
     ensures owns { V.owns volume.new (R.state rig.new).contents }
     ensures told { (V.state volume.new).told ≡ (V.state volume.old).told }

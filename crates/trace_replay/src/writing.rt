@@ -9,7 +9,7 @@ ghost use Rattle.trace_model.specs.Run.{after_blocks, after_line, answers_of};
 ghost use Rattle.trace_model.specs.SoFar.{as_ran};
 ghost use Rattle.trace_replay.specs.Ends.{EndsWithin, IsKept, RunsLine, StandForFront, StandForPart};
 ghost use Rattle.trace_replay.specs.Events.{Says};
-ghost use Rattle.trace_replay.specs.MayRun.{MayWrite};
+ghost use Rattle.trace_replay.specs.MayRun.{CanCall, MayWrite};
 ghost use Rattle.trace_replay.specs.Saying.{count_unless};
 ghost use Rattle.trace_replay.specs.Spends.{SpendsSteps, SpendsLine, puts_of};
 ghost use Rattle.trace_replay.specs.Went.{KeepsFrame, Keeps, Went, cut_if};
@@ -39,9 +39,7 @@ pub(crate) fn write_blocks<P: Script, R: Rig, V: Volume<R>>(
     request: Request,
     block: &mut Block,
 ) -> Result<bool, Ended>
-    requires owns { V.owns volume.old (R.state rig.old).contents }
-    requires on { (R.state rig.old).power.on ≡ true }
-    requires ack { (V.state volume.old).told.ack ≡ ack.Write }
+    requires can { CanCall (V.owns volume.old) (V.state volume.old).told (R.state rig.old) }
     requires within { request.lba + request.count ≤ (V.state volume.old).told.geometry.size }
     ensures owns { V.owns volume.new (R.state rig.new).contents }
     ensures told { (V.state volume.new).told ≡ (V.state volume.old).told }
@@ -80,9 +78,7 @@ pub(crate) fn kept_once<P: Script, R: Rig, V: Volume<R>>(
     request: Request,
     scratch: &mut Scratch,
 ) -> Result<Option<u64>, Ended>
-    requires owns { V.owns volume.old (R.state rig.old).contents }
-    requires on { (R.state rig.old).power.on ≡ true }
-    requires ack { (V.state volume.old).told.ack ≡ ack.Write }
+    requires can { CanCall (V.owns volume.old) (V.state volume.old).told (R.state rig.old) }
     requires within { request.lba + request.count ≤ (V.state volume.old).told.geometry.size }
     ensures owns { V.owns volume.new (R.state rig.new).contents }
     ensures told { (V.state volume.new).told ≡ (V.state volume.old).told }
@@ -117,9 +113,7 @@ pub(crate) fn kept_blocks<P: Script, R: Rig, V: Volume<R>>(
     request: Request,
     scratch: &mut Scratch,
 ) -> Result<Became, Ended>
-    requires owns { V.owns volume.old (R.state rig.old).contents }
-    requires on { (R.state rig.old).power.on ≡ true }
-    requires ack { (V.state volume.old).told.ack ≡ ack.Write }
+    requires can { CanCall (V.owns volume.old) (V.state volume.old).told (R.state rig.old) }
     requires within { request.lba + request.count ≤ (V.state volume.old).told.geometry.size }
     ensures owns { V.owns volume.new (R.state rig.new).contents }
     ensures told { (V.state volume.new).told ≡ (V.state volume.old).told }

@@ -11,7 +11,7 @@ use Rattle.trace_replay.proofs.again.flush_once.Goals as goal
 pub returns-in_err-go_on-in-Err-clause-went : goal.returns-in_err-go_on-in-Err-clause-went
 returns-in_err-go_on-in-Err-clause-went g c =
     let went = went_call g.P.Script.state g.P.Script.came g.P.Script.broke g.P.Script.knows _ c.in-Err.error c.args.script.now _ (g.R.Media.state c.args.rig.now) (g.R.Media.state c.flush.new.rig) _
-    (was_call _ _ _ _ c.in-Err.error c.requires.on c.in-Err.ensures.goes)
+    (was_call _ _ _ _ c.in-Err.error c.requires.can.on c.in-Err.ensures.goes)
     (λ is. c.in-Err.ensures.within (ap refused is))
     (λ lost. let said = c.in_err-go_on-in-Err.ensures.said lost in (c.go_on.ensures.powered lost, said.goes, said.ended))
     c.go_on.ensures.same c.in_err-go_on-in-Err.ensures.ended in
@@ -20,25 +20,25 @@ returns-in_err-go_on-in-Err-clause-went g c =
 pub returns-in_err-go_on-in-Err-clause-kept : goal.returns-in_err-go_on-in-Err-clause-kept
 returns-in_err-go_on-in-Err-clause-kept g c = λ d stood.
     subst (λ (k : Contents). StandFor (g.V.Volume.stands (g.V.Volume.state c.flush.new.self).told) k d) (still_contents c.in-Err.error _ _ c.go_on.ensures.powered c.go_on.ensures.same)
-    ((one_call g.V.Volume.stands (Flushes) (g.V.Volume.state c.args.volume.now) (g.V.Volume.state c.flush.new.self) _ _ _ d (g.met.V.Volume.write_owes_nothing c.args.volume.now _ c.requires.owns)
-    (g.met.V.Volume.write_owes_nothing c.flush.new.self _ c.flush.ensures.owns) c.requires.ack c.flush.ensures.goes.told c.in-Err.ensures.disk stood).kept refl)
+    ((one_call g.V.Volume.stands (Flushes) (g.V.Volume.state c.args.volume.now) (g.V.Volume.state c.flush.new.self) _ _ _ d (g.met.V.Volume.write_owes_nothing c.args.volume.now _ c.requires.can.owns)
+    (g.met.V.Volume.write_owes_nothing c.flush.new.self _ c.flush.ensures.owns) c.requires.can.ack c.flush.ensures.goes.told c.in-Err.ensures.disk stood).kept refl)
 
 pub returns-in_ok-go_on-in-Err-clause-kept : goal.returns-in_ok-go_on-in-Err-clause-kept
 returns-in_ok-go_on-in-Err-clause-kept g c = λ d stood.
     subst (λ (k : Contents). StandFor (g.V.Volume.stands (g.V.Volume.state c.flush.new.self).told) k d) (still_contents c.in-Err.error _ _ c.go_on.ensures.powered c.go_on.ensures.same)
-    ((one_call g.V.Volume.stands (Flushes) (g.V.Volume.state c.args.volume.now) (g.V.Volume.state c.flush.new.self) _ _ _ d (g.met.V.Volume.write_owes_nothing c.args.volume.now _ c.requires.owns)
-    (g.met.V.Volume.write_owes_nothing c.flush.new.self _ c.flush.ensures.owns) c.requires.ack c.flush.ensures.goes.told c.in-Err.ensures.disk stood).kept refl)
+    ((one_call g.V.Volume.stands (Flushes) (g.V.Volume.state c.args.volume.now) (g.V.Volume.state c.flush.new.self) _ _ _ d (g.met.V.Volume.write_owes_nothing c.args.volume.now _ c.requires.can.owns)
+    (g.met.V.Volume.write_owes_nothing c.flush.new.self _ c.flush.ensures.owns) c.requires.can.ack c.flush.ensures.goes.told c.in-Err.ensures.disk stood).kept refl)
 
 pub returns-in-Ok-clause-kept : goal.returns-in-Ok-clause-kept
 returns-in-Ok-clause-kept g c = λ d stood. (one_call g.V.Volume.stands (Flushes) (g.V.Volume.state c.args.volume.now) (g.V.Volume.state c.flush.new.self) _ _ _ d
-    (g.met.V.Volume.write_owes_nothing c.args.volume.now _ c.requires.owns) (g.met.V.Volume.write_owes_nothing c.flush.new.self _ c.flush.ensures.owns)
-    c.requires.ack c.flush.ensures.goes.told c.in-Ok.ensures.disk stood).kept refl
+    (g.met.V.Volume.write_owes_nothing c.args.volume.now _ c.requires.can.owns) (g.met.V.Volume.write_owes_nothing c.flush.new.self _ c.flush.ensures.owns)
+    c.requires.can.ack c.flush.ensures.goes.told c.in-Ok.ensures.disk stood).kept refl
 
 pub returns-in_err-go_on-in-Err-clause-spends : goal.returns-in_err-go_on-in-Err-clause-spends
 returns-in_err-go_on-in-Err-clause-spends g c =
     spends_ends [] _ _ _ _ c.from_residual.result _ c.from_residual.ensures.1
     (λ quiet. call_most (Unit {0}) g.V.Volume.loads Flushes (g.V.Volume.state c.args.volume.now) (g.V.Volume.state c.flush.new.self) (g.R.Media.state c.args.rig.now) (g.R.Media.state c.flush.new.rig)
-    c.in-Err.error _ quiet (g.met.V.Volume.can_be_loaded c.args.volume.now _ c.requires.owns) c.in-Err.ensures.costs c.in-Err.ensures.goes c.go_on.ensures.same)
+    c.in-Err.error _ quiet (g.met.V.Volume.can_be_loaded c.args.volume.now _ c.requires.can.owns) c.in-Err.ensures.costs c.in-Err.ensures.goes c.go_on.ensures.same)
 
 pub returns-in_ok-go_on-in-Err-clause-spends : goal.returns-in_ok-go_on-in-Err-clause-spends
 returns-in_ok-go_on-in-Err-clause-spends g c = record {
@@ -49,6 +49,6 @@ returns-in_ok-go_on-in-Err-clause-spends g c = record {
 pub returns-in-Ok-clause-spends : goal.returns-in-Ok-clause-spends
 returns-in-Ok-clause-spends g c = record {
   done = λ quiet. call_spent (Unit {0}) g.V.Volume.loads Flushes (g.V.Volume.state c.args.volume.now) (g.V.Volume.state c.flush.new.self) (g.R.Media.state c.args.rig.now)
-      (g.R.Media.state c.flush.new.rig) tt quiet (g.met.V.Volume.can_be_loaded c.args.volume.now _ c.requires.owns) c.in-Ok.ensures.costs c.in-Ok.ensures.goes;
+      (g.R.Media.state c.flush.new.rig) tt quiet (g.met.V.Volume.can_be_loaded c.args.volume.now _ c.requires.can.owns) c.in-Ok.ensures.costs c.in-Ok.ensures.goes;
   ended = tt;
 }

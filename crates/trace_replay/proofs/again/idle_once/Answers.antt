@@ -13,7 +13,7 @@ use Rattle.trace_replay.proofs.again.idle_once.Goals as goal
 pub returns-in_err-go_on-in-Err-clause-went : goal.returns-in_err-go_on-in-Err-clause-went
 returns-in_err-go_on-in-Err-clause-went g c =
     let went = went_call g.P.Script.state g.P.Script.came g.P.Script.broke g.P.Script.knows _ c.in-Err.error c.args.script.now _ (g.R.Media.state c.args.rig.now) (g.R.Media.state c.idle.new.rig) _
-    (was_call _ _ _ _ c.in-Err.error c.requires.on c.in-Err.ensures.goes)
+    (was_call _ _ _ _ c.in-Err.error c.requires.can.on c.in-Err.ensures.goes)
     (λ is. c.in-Err.ensures.within (ap Err is))
     (λ lost. let said = c.in_err-go_on-in-Err.ensures.said lost in (c.go_on.ensures.powered lost, said.goes, said.ended))
     c.go_on.ensures.same c.in_err-go_on-in-Err.ensures.ended in
@@ -22,7 +22,7 @@ returns-in_err-go_on-in-Err-clause-went g c =
 pub returns-in_err-go_on-in-Err-clause-ended : goal.returns-in_err-go_on-in-Err-clause-ended
 returns-in_err-go_on-in-Err-clause-ended g c =
     let went = went_call g.P.Script.state g.P.Script.came g.P.Script.broke g.P.Script.knows _ c.in-Err.error c.args.script.now _ (g.R.Media.state c.args.rig.now) (g.R.Media.state c.idle.new.rig) _
-    (was_call _ _ _ _ c.in-Err.error c.requires.on c.in-Err.ensures.goes)
+    (was_call _ _ _ _ c.in-Err.error c.requires.can.on c.in-Err.ensures.goes)
     (λ is. c.in-Err.ensures.within (ap Err is))
     (λ lost. let said = c.in_err-go_on-in-Err.ensures.said lost in (c.go_on.ensures.powered lost, said.goes, said.ended))
     c.go_on.ensures.same c.in_err-go_on-in-Err.ensures.ended in
@@ -31,25 +31,25 @@ returns-in_err-go_on-in-Err-clause-ended g c =
 pub returns-in_err-go_on-in-Err-clause-kept : goal.returns-in_err-go_on-in-Err-clause-kept
 returns-in_err-go_on-in-Err-clause-kept g c = λ d stood.
     subst (λ (k : Contents). StandFor (g.V.Volume.stands (g.V.Volume.state c.idle.new.self).told) k d) (still_contents c.in-Err.error _ _ c.go_on.ensures.powered c.go_on.ensures.same)
-    ((one_call g.V.Volume.stands (Idles) (g.V.Volume.state c.args.volume.now) (g.V.Volume.state c.idle.new.self) _ _ _ d (g.met.V.Volume.write_owes_nothing c.args.volume.now _ c.requires.owns)
-    (g.met.V.Volume.write_owes_nothing c.idle.new.self _ c.idle.ensures.owns) c.requires.ack c.idle.ensures.goes.told c.in-Err.ensures.disk stood).kept refl)
+    ((one_call g.V.Volume.stands (Idles) (g.V.Volume.state c.args.volume.now) (g.V.Volume.state c.idle.new.self) _ _ _ d (g.met.V.Volume.write_owes_nothing c.args.volume.now _ c.requires.can.owns)
+    (g.met.V.Volume.write_owes_nothing c.idle.new.self _ c.idle.ensures.owns) c.requires.can.ack c.idle.ensures.goes.told c.in-Err.ensures.disk stood).kept refl)
 
 pub returns-in_ok-go_on-in-Err-clause-kept : goal.returns-in_ok-go_on-in-Err-clause-kept
 returns-in_ok-go_on-in-Err-clause-kept g c = λ d stood.
     subst (λ (k : Contents). StandFor (g.V.Volume.stands (g.V.Volume.state c.idle.new.self).told) k d) (still_contents c.in-Err.error _ _ c.go_on.ensures.powered c.go_on.ensures.same)
-    ((one_call g.V.Volume.stands (Idles) (g.V.Volume.state c.args.volume.now) (g.V.Volume.state c.idle.new.self) _ _ _ d (g.met.V.Volume.write_owes_nothing c.args.volume.now _ c.requires.owns)
-    (g.met.V.Volume.write_owes_nothing c.idle.new.self _ c.idle.ensures.owns) c.requires.ack c.idle.ensures.goes.told c.in-Err.ensures.disk stood).kept refl)
+    ((one_call g.V.Volume.stands (Idles) (g.V.Volume.state c.args.volume.now) (g.V.Volume.state c.idle.new.self) _ _ _ d (g.met.V.Volume.write_owes_nothing c.args.volume.now _ c.requires.can.owns)
+    (g.met.V.Volume.write_owes_nothing c.idle.new.self _ c.idle.ensures.owns) c.requires.can.ack c.idle.ensures.goes.told c.in-Err.ensures.disk stood).kept refl)
 
 pub returns-in-Ok-clause-kept : goal.returns-in-Ok-clause-kept
 returns-in-Ok-clause-kept g c = λ d stood. (one_call g.V.Volume.stands (Idles) (g.V.Volume.state c.args.volume.now) (g.V.Volume.state c.idle.new.self) _ _ _ d
-    (g.met.V.Volume.write_owes_nothing c.args.volume.now _ c.requires.owns) (g.met.V.Volume.write_owes_nothing c.idle.new.self _ c.idle.ensures.owns)
-    c.requires.ack c.idle.ensures.goes.told c.in-Ok.ensures.disk stood).kept refl
+    (g.met.V.Volume.write_owes_nothing c.args.volume.now _ c.requires.can.owns) (g.met.V.Volume.write_owes_nothing c.idle.new.self _ c.idle.ensures.owns)
+    c.requires.can.ack c.idle.ensures.goes.told c.in-Ok.ensures.disk stood).kept refl
 
 pub returns-in_err-go_on-in-Err-clause-spends : goal.returns-in_err-go_on-in-Err-clause-spends
 returns-in_err-go_on-in-Err-clause-spends g c =
     spends_ends (Rests ∷ []) _ _ _ _ c.from_residual.result _ c.from_residual.ensures.1
     (λ quiet. call_most Idled g.V.Volume.loads Idles (g.V.Volume.state c.args.volume.now) (g.V.Volume.state c.idle.new.self) (g.R.Media.state c.args.rig.now) (g.R.Media.state c.idle.new.rig)
-    c.in-Err.error _ quiet (g.met.V.Volume.can_be_loaded c.args.volume.now _ c.requires.owns) c.in-Err.ensures.costs c.in-Err.ensures.goes c.go_on.ensures.same)
+    c.in-Err.error _ quiet (g.met.V.Volume.can_be_loaded c.args.volume.now _ c.requires.can.owns) c.in-Err.ensures.costs c.in-Err.ensures.goes c.go_on.ensures.same)
 
 pub returns-in_ok-go_on-in-Err-clause-spends : goal.returns-in_ok-go_on-in-Err-clause-spends
 returns-in_ok-go_on-in-Err-clause-spends g c = record {
@@ -60,6 +60,6 @@ returns-in_ok-go_on-in-Err-clause-spends g c = record {
 pub returns-in-Ok-clause-spends : goal.returns-in-Ok-clause-spends
 returns-in-Ok-clause-spends g c = record {
   done = λ quiet. call_spent Idled g.V.Volume.loads Idles (g.V.Volume.state c.args.volume.now) (g.V.Volume.state c.idle.new.self) (g.R.Media.state c.args.rig.now) (g.R.Media.state c.idle.new.rig)
-      c.in-Ok._idled quiet (g.met.V.Volume.can_be_loaded c.args.volume.now _ c.requires.owns) c.in-Ok.ensures.costs c.in-Ok.ensures.goes;
+      c.in-Ok._idled quiet (g.met.V.Volume.can_be_loaded c.args.volume.now _ c.requires.can.owns) c.in-Ok.ensures.costs c.in-Ok.ensures.goes;
   ended = tt;
 }

@@ -12,7 +12,7 @@ use Rattle.trace_replay.proofs.again.write_once.Goals as goal
 pub returns-in_err-go_on-in-Err-clause-went : goal.returns-in_err-go_on-in-Err-clause-went
 returns-in_err-go_on-in-Err-clause-went g c =
     let went = went_call g.P.Script.state g.P.Script.came g.P.Script.broke g.P.Script.knows _ c.in-Err.error c.args.script.now _ (g.R.Media.state c.args.rig.now) (g.R.Media.state c.write.new.rig) _
-    (was_call _ _ _ _ c.in-Err.error c.requires.on c.in-Err.ensures.goes)
+    (was_call _ _ _ _ c.in-Err.error c.requires.can.on c.in-Err.ensures.goes)
     (λ is. let over = c.in-Err.ensures.outside.0 (ap refused is) in absurd (omega (arith, over, c.requires.within)))
     (λ lost. let said = c.in_err-go_on-in-Err.ensures.said lost in (c.go_on.ensures.powered lost, said.goes, said.ended))
     c.go_on.ensures.same c.in_err-go_on-in-Err.ensures.ended in
@@ -22,38 +22,38 @@ pub returns-in_err-go_on-in-Err-clause-images : goal.returns-in_err-go_on-in-Err
 returns-in_err-go_on-in-Err-clause-images g c = λ d stood.
     subst (λ (k : Contents). StandForEither (g.V.Volume.stands (g.V.Volume.state c.write.new.self).told) k d (set d c.args.lba c.args.block.now)) (still_contents c.in-Err.error _ _ c.go_on.ensures.powered c.go_on.ensures.same)
     (one_call g.V.Volume.stands (Writes c.args.lba c.args.block.now) (g.V.Volume.state c.args.volume.now) (g.V.Volume.state c.write.new.self) _ _ _ d
-    (g.met.V.Volume.write_owes_nothing c.args.volume.now _ c.requires.owns) (g.met.V.Volume.write_owes_nothing c.write.new.self _ c.write.ensures.owns)
-    c.requires.ack c.write.ensures.goes.told c.in-Err.ensures.disk stood).images
+    (g.met.V.Volume.write_owes_nothing c.args.volume.now _ c.requires.can.owns) (g.met.V.Volume.write_owes_nothing c.write.new.self _ c.write.ensures.owns)
+    c.requires.can.ack c.write.ensures.goes.told c.in-Err.ensures.disk stood).images
 
 pub returns-in_ok-go_on-in-Err-clause-images : goal.returns-in_ok-go_on-in-Err-clause-images
 returns-in_ok-go_on-in-Err-clause-images g c = λ d stood.
     subst (λ (k : Contents). StandForEither (g.V.Volume.stands (g.V.Volume.state c.write.new.self).told) k d (set d c.args.lba c.args.block.now)) (still_contents c.in-Err.error _ _ c.go_on.ensures.powered c.go_on.ensures.same)
     (one_call g.V.Volume.stands (Writes c.args.lba c.args.block.now) (g.V.Volume.state c.args.volume.now) (g.V.Volume.state c.write.new.self) _ _ _ d
-    (g.met.V.Volume.write_owes_nothing c.args.volume.now _ c.requires.owns) (g.met.V.Volume.write_owes_nothing c.write.new.self _ c.write.ensures.owns)
-    c.requires.ack c.write.ensures.goes.told c.in-Err.ensures.disk stood).images
+    (g.met.V.Volume.write_owes_nothing c.args.volume.now _ c.requires.can.owns) (g.met.V.Volume.write_owes_nothing c.write.new.self _ c.write.ensures.owns)
+    c.requires.can.ack c.write.ensures.goes.told c.in-Err.ensures.disk stood).images
 
 pub returns-in_ok-go_on-in-Err-clause-one : goal.returns-in_ok-go_on-in-Err-clause-one
 returns-in_ok-go_on-in-Err-clause-one g c = λ _ d stood.
     subst (λ (k : Contents). StandForOne (g.V.Volume.stands (g.V.Volume.state c.write.new.self).told) k d (set d c.args.lba c.args.block.now)) (still_contents c.in-Err.error _ _ c.go_on.ensures.powered c.go_on.ensures.same)
     ((one_call g.V.Volume.stands (Writes c.args.lba c.args.block.now) (g.V.Volume.state c.args.volume.now) (g.V.Volume.state c.write.new.self) _ _ _ d
-    (g.met.V.Volume.write_owes_nothing c.args.volume.now _ c.requires.owns) (g.met.V.Volume.write_owes_nothing c.write.new.self _ c.write.ensures.owns)
-    c.requires.ack c.write.ensures.goes.told c.in-Err.ensures.disk stood).one (ap Err c.in_ok-go_on-in-Err.ensures.lost))
+    (g.met.V.Volume.write_owes_nothing c.args.volume.now _ c.requires.can.owns) (g.met.V.Volume.write_owes_nothing c.write.new.self _ c.write.ensures.owns)
+    c.requires.can.ack c.write.ensures.goes.told c.in-Err.ensures.disk stood).one (ap Err c.in_ok-go_on-in-Err.ensures.lost))
 
 pub returns-in-Ok-clause-done : goal.returns-in-Ok-clause-done
 returns-in-Ok-clause-done g c = λ _ d stood. (one_call g.V.Volume.stands (Writes c.args.lba c.args.block.now) (g.V.Volume.state c.args.volume.now) (g.V.Volume.state c.write.new.self) _ _ _ d
-    (g.met.V.Volume.write_owes_nothing c.args.volume.now _ c.requires.owns) (g.met.V.Volume.write_owes_nothing c.write.new.self _ c.write.ensures.owns)
-    c.requires.ack c.write.ensures.goes.told c.in-Ok.ensures.disk stood).done
+    (g.met.V.Volume.write_owes_nothing c.args.volume.now _ c.requires.can.owns) (g.met.V.Volume.write_owes_nothing c.write.new.self _ c.write.ensures.owns)
+    c.requires.can.ack c.write.ensures.goes.told c.in-Ok.ensures.disk stood).done
 
 pub returns-in-Ok-clause-images : goal.returns-in-Ok-clause-images
 returns-in-Ok-clause-images g c = λ d stood. (one_call g.V.Volume.stands (Writes c.args.lba c.args.block.now) (g.V.Volume.state c.args.volume.now) (g.V.Volume.state c.write.new.self) _ _ _ d
-    (g.met.V.Volume.write_owes_nothing c.args.volume.now _ c.requires.owns) (g.met.V.Volume.write_owes_nothing c.write.new.self _ c.write.ensures.owns)
-    c.requires.ack c.write.ensures.goes.told c.in-Ok.ensures.disk stood).images
+    (g.met.V.Volume.write_owes_nothing c.args.volume.now _ c.requires.can.owns) (g.met.V.Volume.write_owes_nothing c.write.new.self _ c.write.ensures.owns)
+    c.requires.can.ack c.write.ensures.goes.told c.in-Ok.ensures.disk stood).images
 
 pub returns-in_err-go_on-in-Err-clause-spends : goal.returns-in_err-go_on-in-Err-clause-spends
 returns-in_err-go_on-in-Err-clause-spends g c =
     spends_ends (Puts c.args.lba ∷ []) _ _ _ _ c.from_residual.result _ c.from_residual.ensures.1
     (λ quiet. call_most (Unit {0}) g.V.Volume.loads (Writes c.args.lba c.args.block.now) (g.V.Volume.state c.args.volume.now) (g.V.Volume.state c.write.new.self) (g.R.Media.state c.args.rig.now)
-    (g.R.Media.state c.write.new.rig) c.in-Err.error _ quiet (g.met.V.Volume.can_be_loaded c.args.volume.now _ c.requires.owns) c.in-Err.ensures.costs c.in-Err.ensures.goes c.go_on.ensures.same)
+    (g.R.Media.state c.write.new.rig) c.in-Err.error _ quiet (g.met.V.Volume.can_be_loaded c.args.volume.now _ c.requires.can.owns) c.in-Err.ensures.costs c.in-Err.ensures.goes c.go_on.ensures.same)
 
 pub returns-in_ok-go_on-in-Err-clause-spends : goal.returns-in_ok-go_on-in-Err-clause-spends
 returns-in_ok-go_on-in-Err-clause-spends g c = record {
@@ -65,6 +65,6 @@ returns-in_ok-go_on-in-Err-clause-spends g c = record {
 pub returns-in-Ok-clause-spends : goal.returns-in-Ok-clause-spends
 returns-in-Ok-clause-spends g c = record {
   done = λ quiet. call_spent (Unit {0}) g.V.Volume.loads (Writes c.args.lba c.args.block.now) (g.V.Volume.state c.args.volume.now) (g.V.Volume.state c.write.new.self) (g.R.Media.state c.args.rig.now)
-      (g.R.Media.state c.write.new.rig) tt quiet (g.met.V.Volume.can_be_loaded c.args.volume.now _ c.requires.owns) c.in-Ok.ensures.costs c.in-Ok.ensures.goes;
+      (g.R.Media.state c.write.new.rig) tt quiet (g.met.V.Volume.can_be_loaded c.args.volume.now _ c.requires.can.owns) c.in-Ok.ensures.costs c.in-Ok.ensures.goes;
   ended = tt;
 }

@@ -14,11 +14,11 @@ pub loop-address-init : goal.loop-address-init
 loop-address-init g c =
     let few = c.armed-armed.ensures.few in
     let armed = c.armed-armed.ensures.armed in
-    let went = went_none g.P.Script.state g.P.Script.came g.P.Script.broke g.P.Script.knows c.args.script.now _ c.requires.on in
+    let went = went_none g.P.Script.state g.P.Script.came g.P.Script.broke g.P.Script.knows c.args.script.now _ c.requires.can.on in
     record {
-      owns = c.requires.owns;
+      owns = c.requires.can.owns;
       told = refl;
-      ack = c.requires.ack;
+      ack = c.requires.can.ack;
       kept = λ d stood. stood;
       said = ([], search rules, (λ d stood. touched_none g.P.Script.came c.args.script.now d), λ quiet. spent_none _ _ quiet);
       cuts = went.cut;

@@ -10,11 +10,11 @@ again-init g c =
     let few = c.armed-armed.ensures.few in
     let armed = c.armed-armed.ensures.armed in
     record {
-      owns = c.requires.owns;
+      owns = c.requires.can.owns;
       told = refl;
-      ack = c.requires.ack;
+      ack = c.requires.can.ack;
       kept = λ d stood. stood;
-      went = went_none g.P.Script.state g.P.Script.came g.P.Script.broke g.P.Script.knows _ _ c.requires.on;
+      went = went_none g.P.Script.state g.P.Script.came g.P.Script.broke g.P.Script.knows _ _ c.requires.can.on;
       few = omega arith;
     }
 

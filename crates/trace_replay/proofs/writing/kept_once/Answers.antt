@@ -9,12 +9,12 @@ use Rattle.trace_replay.proofs.writing.kept_once.Goals as goal
 
 pub loop-i-init : goal.loop-i-init
 loop-i-init g c = record {
-  owns = c.requires.owns;
+  owns = c.requires.can.owns;
   told = refl;
-  ack = c.requires.ack;
+  ack = c.requires.can.ack;
   kept = λ d stood. stood;
   found = λ d stood k less. absurd (omega arith);
-  went = went_none g.P.Script.state g.P.Script.came g.P.Script.broke g.P.Script.knows _ _ c.requires.on;
+  went = went_none g.P.Script.state g.P.Script.came g.P.Script.broke g.P.Script.knows _ _ c.requires.can.on;
 }
 
 pub loop-i-preserved : goal.loop-i-preserved

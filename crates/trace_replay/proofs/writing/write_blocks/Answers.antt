@@ -10,11 +10,11 @@ use Rattle.trace_replay.proofs.writing.write_blocks.Goals as goal
 
 pub loop-i-init : goal.loop-i-init
 loop-i-init g c = record {
-  owns = c.requires.owns;
+  owns = c.requires.can.owns;
   told = refl;
-  ack = c.requires.ack;
+  ack = c.requires.can.ack;
   disk = λ d stood. stood;
-  went = went_none g.P.Script.state g.P.Script.came g.P.Script.broke g.P.Script.knows _ _ c.requires.on;
+  went = went_none g.P.Script.state g.P.Script.came g.P.Script.broke g.P.Script.knows _ _ c.requires.can.on;
   spent = λ quiet. spent_none _ _ quiet;
 }
 
