@@ -1,14 +1,14 @@
 //! A report of what is in the cache, asked for again after each cut, and its text.
-ghost use Rattle.std.specs.Prelude.{◌≡◌, ◌≢◌, ◌⊎◌, ◌<◌, ℕ, length, take, true, OnOk, OnErr, IfOk, IfErr, IfSome, IsErrOf};
+ghost use Rattle.std.specs.Prelude.{◌≡◌, ◌≢◌, ◌⊎◌, ◌<◌, ℕ, length, take, OnOk, OnErr, IfOk, IfErr, IfSome, IsErrOf};
 ghost use Rattle.std.specs.Io.KnownBytes.{Appends};
 ghost use Rattle.std.specs.Option.{OnSome};
 ghost use Rattle.std.specs.String.{string_bytes};
 ghost use Rattle.ft_base.specs.Count.{Rose};
-ghost use Rattle.ft_base.specs.declared.told.Ack.TheVariants as ack;
 ghost use Rattle.ft_media.specs.Fitted.{KeepsReady};
 ghost use Rattle.ft_media.specs.Rig.{powered};
 ghost use Rattle.ft_volume.specs.declared.volume.VolumeError.TheVariants as volume_error;
 ghost use Rattle.trace_replay.specs.Causes.{EndHasCauseUntraced};
+ghost use Rattle.trace_replay.specs.MayRun.{CanCall};
 ghost use Rattle.trace_replay.specs.Said.{ended_of};
 ghost use Rattle.trace_replay.specs.Went.{Keeps};
 ghost use Rattle.flashtier_cli.specs.Inspected.{Asks, IsReportOf, Prints, PrintsFront, PrintsReport, cuts_by, report_text};
@@ -39,9 +39,7 @@ fn power_again<R: Rig>(rig: &mut R, error: VolumeError) -> Result<(), Ended>
 
 /// Asks a volume for its report. Where a stop cut that, it gives none, and power is on again.
 fn report_once<R: Rig, V: Volume<R>>(rig: &mut R, volume: &mut V) -> Result<Option<Report>, Ended>
-    requires owns { V.owns volume.old (R.state rig.old).contents }
-    requires on { (R.state rig.old).power.on ≡ true }
-    requires ack { (V.state volume.old).told.ack ≡ ack.Write }
+    requires can { CanCall (V.owns volume.old) (V.state volume.old).told (R.state rig.old) }
     ensures owns { V.owns volume.new (R.state rig.new).contents }
     ensures told { (V.state volume.new).told ≡ (V.state volume.old).told }
     ensures kept { Keeps (V.stands (V.state volume.old).told) (V.stands (V.state volume.new).told) (R.state rig.old).contents
@@ -68,9 +66,7 @@ pub(crate) fn report_through<R: Rig, V: Volume<R>>(
     rig: &mut R,
     volume: &mut V,
 ) -> Result<Report, Ended>
-    requires owns { V.owns volume.old (R.state rig.old).contents }
-    requires on { (R.state rig.old).power.on ≡ true }
-    requires ack { (V.state volume.old).told.ack ≡ ack.Write }
+    requires can { CanCall (V.owns volume.old) (V.state volume.old).told (R.state rig.old) }
     ensures owns { V.owns volume.new (R.state rig.new).contents }
     ensures told { (V.state volume.new).told ≡ (V.state volume.old).told }
     ensures kept { Keeps (V.stands (V.state volume.old).told) (V.stands (V.state volume.new).told) (R.state rig.old).contents
@@ -132,9 +128,7 @@ pub(crate) fn tell_report<O: Sink, R: Rig, V: Volume<R>>(
     rig: &mut R,
     volume: &mut V,
 ) -> Result<(), Ended>
-    requires owns { V.owns volume.old (R.state rig.old).contents }
-    requires on { (R.state rig.old).power.on ≡ true }
-    requires ack { (V.state volume.old).told.ack ≡ ack.Write }
+    requires can { CanCall (V.owns volume.old) (V.state volume.old).told (R.state rig.old) }
     ensures told { (V.state volume.new).told ≡ (V.state volume.old).told }
     ensures kept { Keeps (V.stands (V.state volume.old).told) (V.stands (V.state volume.new).told) (R.state rig.old).contents
         (R.state rig.new).contents }

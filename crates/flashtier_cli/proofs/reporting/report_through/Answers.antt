@@ -15,7 +15,7 @@ err_as : {A B : Type 0} (e x : Ended) → IsErrOf {T = A} (Err e) x → IsErrOf 
 err_as e x is = let same : e ≡ x = cc in ap Err same
 
 pub again-init : goal.again-init
-again-init g c = record { owns = c.requires.owns; told = refl; ack = c.requires.ack; kept = λ d stood. stood; asks = (0, asks_none _ c.requires.on, λ none. refl) }
+again-init g c = record { owns = c.requires.can.owns; told = refl; ack = c.requires.can.ack; kept = λ d stood. stood; asks = (0, asks_none _ c.requires.can.on, λ none. refl) }
 
 pub again-preserved : goal.again-preserved
 again-preserved g c =
