@@ -9,7 +9,7 @@ ghost use Rattle.trace_model.specs.Run.{after_blocks, after_line, answers_of};
 ghost use Rattle.trace_model.specs.SoFar.{as_ran};
 ghost use Rattle.trace_replay.specs.Ends.{EndsWithin, IsKept, RunsLine, StandForFront, StandForPart};
 ghost use Rattle.trace_replay.specs.Events.{Says};
-ghost use Rattle.trace_replay.specs.MayRun.{CanCall, MayWrite};
+ghost use Rattle.trace_replay.specs.MayRun.{CanCall, MayWriteBlocks};
 ghost use Rattle.trace_replay.specs.Saying.{count_unless};
 ghost use Rattle.trace_replay.specs.Spends.{SpendsSteps, SpendsLine, puts_of};
 ghost use Rattle.trace_replay.specs.Went.{KeepsFrame, Keeps, Went, cut_if};
@@ -144,7 +144,7 @@ pub(crate) fn run_write<P: Script, R: Rig, V: Volume<R>>(
     scratch: &mut Scratch,
 ) -> Result<Became, Ended>
     requires owns { V.owns volume.old (R.state rig.old).contents }
-    requires may_write { MayWrite request.lba request.count (V.state volume.old).told (R.state rig.old) }
+    requires may_write { MayWriteBlocks request.lba request.count (V.state volume.old).told (R.state rig.old) }
     ensures owns { V.owns volume.new (R.state rig.new).contents }
     ensures told { (V.state volume.new).told ≡ (V.state volume.old).told }
     ensures fits { IfOk result (λ b. (d : PlainDisk) → StandFor (V.stands (V.state volume.old).told) (R.state rig.old).contents d
