@@ -6,7 +6,7 @@ use Rattle.ft_base.specs.declared.geometry.Geometry.{Geometry}
 use Rattle.ft_base.specs.Layout.{first_pool}
 use Rattle.block_pool.specs.declared.pool.Pool.TheInside.{Inside}
 use Rattle.block_pool.specs.declared.pool.PoolBlock.{PoolBlock}
-use Rattle.block_pool.specs.Pool.{IsInPool, PoolValue, block_of, unused}
+use Rattle.block_pool.specs.Pool.{IsInPool, PoolValue, pool_block, unused}
 
 -- these are the fields of the pool
 pub record AreFieldsOf (pool : PoolValue) (fields : Inside) : Type 0 where
@@ -34,20 +34,20 @@ module _ (pool : PoolValue) (fields : Inside) (are : AreFieldsOf pool fields) (b
       omega (arith, are.first, here.0)
 
   -- what is read at the block's place
-  pub block_of-read : (found : PoolBlock) → found ≡ get_or fields.blocks.items (place fields block) found → found ≡ block_of pool block
-  unfolding block_of
-  block_of-read found is =
+  pub pool_block-read : (found : PoolBlock) → found ≡ get_or fields.blocks.items (place fields block) found → found ≡ pool_block pool block
+  unfolding pool_block
+  pool_block-read found is =
       rw (← are.value, ← are.first) (get_or_read fields.blocks.items (place fields block) found place_below is unused)
 
   -- the block after a write at its place
-  pub block_of-with_same : (entry : PoolBlock) → block_of (with_entry fields block entry) block ≡ entry
-  unfolding block_of
-  block_of-with_same entry = rw (← are.first) (get_or-set_same fields.blocks.items (place fields block) entry unused place_below)
+  pub pool_block-with_same : (entry : PoolBlock) → pool_block (with_entry fields block entry) block ≡ entry
+  unfolding pool_block
+  pool_block-with_same entry = rw (← are.first) (get_or-set_same fields.blocks.items (place fields block) entry unused place_below)
 
   -- each part of which the entry has what it was stays, of every block
-  pub part-with : {A : Type 0} (part : PoolBlock → A) (entry : PoolBlock) → part entry ≡ part (block_of pool block)
-      → (other : ℕ) → part (block_of (with_entry fields block entry) other) ≡ part (block_of pool other)
-  unfolding block_of
+  pub part-with : {A : Type 0} (part : PoolBlock → A) (entry : PoolBlock) → part entry ≡ part (pool_block pool block)
+      → (other : ℕ) → part (pool_block (with_entry fields block entry) other) ≡ part (pool_block pool other)
+  unfolding pool_block
   part-with part entry same other =
       let was = rw (← are.value, ← are.first) at same in
       elim (cases_eq (place fields other) (place fields block)) [
@@ -58,20 +58,20 @@ module _ (pool : PoolValue) (fields : Inside) (are : AreFieldsOf pool fields) (b
       ]
 
 -- another block of the pool after a write
-pub block_of-with_other : (pool : PoolValue) (fields : Inside) → AreFieldsOf pool fields → (block other : ℕ) (entry : PoolBlock)
-    → IsInPool pool.geometry block → IsInPool pool.geometry other → other ≢ block → block_of (with_entry fields block entry) other ≡ block_of pool other
-unfolding block_of
-block_of-with_other pool fields are block other entry in_pool other_in_pool apart =
+pub pool_block-with_other : (pool : PoolValue) (fields : Inside) → AreFieldsOf pool fields → (block other : ℕ) (entry : PoolBlock)
+    → IsInPool pool.geometry block → IsInPool pool.geometry other → other ≢ block → pool_block (with_entry fields block entry) other ≡ pool_block pool other
+unfolding pool_block
+pool_block-with_other pool fields are block other entry in_pool other_in_pool apart =
     let low = first_low pool fields are block in_pool in
     let other_low = first_low pool fields are other other_in_pool in
     let places : place fields other ≢ place fields block = λ same. apart (omega (arith, same, low, other_low)) in
     rw (← are.value, ← are.first) (get_or-set_other fields.blocks.items (place fields block) (place fields other) entry unused places)
 
 -- each block of a new pool
-pub block_of-replicate : (g : Geometry) (blocks : List PoolBlock) (count block : ℕ) → blocks ≡ replicate count unused
-    → block_of (record { geometry = g; blocks = blocks }) block ≡ unused
-unfolding block_of
-block_of-replicate g blocks count block are =
+pub pool_block-replicate : (g : Geometry) (blocks : List PoolBlock) (count block : ℕ) → blocks ≡ replicate count unused
+    → pool_block (record { geometry = g; blocks = blocks }) block ≡ unused
+unfolding pool_block
+pool_block-replicate g blocks count block are =
     rw are (elim (cases_lt (block - first_pool g) count) [
       | inl within ↦ get_or-replicate count (block - first_pool g) unused unused within
       | inr past ↦ get_or_past (replicate count unused) (block - first_pool g) unused (omega (arith, length-replicate count unused))

@@ -23,16 +23,16 @@ abbrev pub unused : PoolBlock
 unused = record { role = Free; erases = 0 }
 
 -- what the pool knows of its block of this number
-unfoldable pub block_of : PoolValue → ℕ → PoolBlock
-block_of pool block = slice_index_or pool.blocks (block - layout.first_pool pool.geometry) unused
+unfoldable pub pool_block : PoolValue → ℕ → PoolBlock
+pool_block pool block = slice_index_or pool.blocks (block - layout.first_pool pool.geometry) unused
 
 -- what the block is used for
 abbrev pub role_of : PoolValue → ℕ → Role
-role_of pool block = (block_of pool block).role
+role_of pool block = (pool_block pool block).role
 
 -- how often the block was erased since opening
 abbrev pub erases_of : PoolValue → ℕ → ℕ
-erases_of pool block = (block_of pool block).erases
+erases_of pool block = (pool_block pool block).erases
 
 -- a block of the pool that is used for nothing
 abbrev pub IsFree : PoolValue → ℕ → Type 0

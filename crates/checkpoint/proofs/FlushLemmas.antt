@@ -12,7 +12,7 @@ use Rattle.ft_base.proofs.Images.{set_other}
 use Rattle.cache_model.specs.declared.format.Header.{Header}
 use Rattle.cache_model.specs.declared.format.PageKind.TheVariants.{Log}
 use Rattle.cache_model.specs.Records.{Entries}
-use Rattle.cache_model.specs.Loading.{Complete, ◌>>=◌, pages_from, checkpoint_in, chosen, checkpoint_region, log_region, checkpoint_of, entries_of, wanted, load, header_at, is_whole}
+use Rattle.cache_model.specs.Loading.{Complete, ◌>>=◌, pages_from, checkpoint_in, chosen, checkpoint_region, log_region, checkpoint_of, replayed_entries, wanted, load, header_at, is_whole}
 use Rattle.cache_model.specs.Loading.Refusal.{NotFormatted}
 use Rattle.cache_model.specs.Laws.{ArePages}
 use Rattle.cache_model.proofs.Alike.{LogEnds}
@@ -138,7 +138,7 @@ module _ (log : LogValue) (m : Entries) (old new : Flash) (current : IsCurrent o
       let durable = current.durable in
       let map = load-map log.geometry old.page durable current.loads in
       load_from log.geometry new.page durable
-      (ap (entries_of log.geometry) torn ∙ log_torn log.geometry old.page checkpoint_now log.next ends room Torn refl ∙ (loaded_is log.geometry old.page durable current.loads).0)
+      (ap (replayed_entries log.geometry) torn ∙ log_torn log.geometry old.page checkpoint_now log.next ends room Torn refl ∙ (loaded_is log.geometry old.page durable current.loads).0)
       (λ a e at. ap is_whole (pool_page Torn torn e.place (map.in_pool a e at).above) ∙ entry_whole log.geometry old.page durable current.loads a e at)
       ∙ sym current.loads
 
@@ -147,7 +147,7 @@ module _ (log : LogValue) (m : Entries) (old new : Flash) (current : IsCurrent o
       let is = appended.is_page in
       let map = current_map log old.page m current in
       load_from log.geometry new.page m
-      (ap (entries_of log.geometry) appended.pages ∙ log_appended log.geometry old.page checkpoint_now log.next ends room appended.page is.header log.buffered current.durable m
+      (ap (replayed_entries log.geometry) appended.pages ∙ log_appended log.geometry old.page checkpoint_now log.next ends room appended.page is.header log.buffered current.durable m
       (subst (λ e. header_at Log e log.next appended.page ≡ Some is.header) (sym current.era) is.head) is.records
       (loaded_is log.geometry old.page current.durable current.loads).0 current.buffered)
       (λ a e at. ap is_whole (pool_page appended.page appended.pages e.place (map.in_pool a e at).above) ∙ whole.whole a e at)

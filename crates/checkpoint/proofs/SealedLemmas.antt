@@ -16,7 +16,7 @@ use Rattle.cache_model.specs.declared.entry.Entry.{Entry}
 use Rattle.cache_model.specs.declared.format.PageKind.TheVariants.{Map}
 use Rattle.cache_model.specs.Records.{Entries, after, no_entries}
 use Rattle.cache_model.specs.Entries.{IsMap, fits}
-use Rattle.cache_model.specs.Loading.{Complete, complete, ◌>>=◌, pages_from, checkpoint_in, chosen, checkpoint_region, newest, checkpoint_of, entries_of, is_wanted, wanted, load, after_all, after_pages, is_whole, all_whole}
+use Rattle.cache_model.specs.Loading.{Complete, complete, ◌>>=◌, pages_from, checkpoint_in, chosen, checkpoint_region, newest, checkpoint_of, replayed_entries, is_wanted, wanted, load, after_all, after_pages, is_whole, all_whole}
 use Rattle.cache_model.specs.Loading.Refusal.{NotFormatted, OtherGeometry, Damaged}
 use Rattle.cache_model.specs.Laws.{AreMaps, IsCheckpoint}
 use Rattle.cache_model.proofs.CountLemmas.{same_number}
@@ -93,7 +93,7 @@ all_whole-from page [] x all = refl
 all_whole-from page (e ∷ es) x all = ap (λ b. cond b (all_whole page es x) (Err (Damaged e.1.place))) all.0 ∙ all_whole-from page es x all.1
 
 -- entries that are found are loaded where each has a whole page
-pub load_from : (g : Geometry) (page : Place → Page) (m : Entries) → entries_of g page ≡ Ok m → ((a : ℕ) (e : Entry) → get m a ≡ Some e → is_whole (page e.place) ≡ true) → load g page ≡ Ok m
+pub load_from : (g : Geometry) (page : Place → Page) (m : Entries) → replayed_entries g page ≡ Ok m → ((a : ℕ) (e : Entry) → get m a ≡ Some e → is_whole (page e.place) ≡ true) → load g page ≡ Ok m
 unfolding load
 load_from g page m is whole = ap (λ r. r >>= λ m. all_whole page (entries m) m) is ∙ all_whole-from page (entries m) m (all_entries m (λ a e. is_whole (page e.place) ≡ true) whole)
 
@@ -142,7 +142,7 @@ module _ (g : Geometry) (region era : ℕ) (m : Entries) (records : List Record)
         ap (λ o. ok_or o NotFormatted >>= wanted g) counts
         ∙ ap (λ b. cond b (Ok (region, sealed_checkpoint)) (Err (OtherGeometry (seal_of g)))) (own_numbers g)
 
-    sealed_found : entries_of g new ≡ Ok m
+    sealed_found : replayed_entries g new ≡ Ok m
     sealed_found = sealed_entries g new (region, sealed_checkpoint) m sealed_of
         (ap (λ qs. after_pages g Map era (checkpoint_at g region) 0 qs no_entries) (take-pages new (checkpoint_at g region) 0 pages (checkpoint_pages g) (omega (arith, within)))
         ∙ maps_applied g era records new (checkpoint_at g region) 0 pages no_entries m (λ j from high. sealed.maps j (omega arith)) enough (rebuilt g m is_map records listed))

@@ -8,7 +8,7 @@ use Rattle.ft_base.specs.declared.block.Page.TheVariants.{Blank, Torn}
 use Rattle.ft_base.specs.Layout.{k, first_pool, checkpoint_at, log_at, checkpoint_pages, log_pages}
 use Rattle.cache_model.specs.Records.{Entries}
 use Rattle.cache_model.specs.Entries.{IsMap}
-use Rattle.cache_model.specs.Loading.{Complete, pages_from, checkpoint_in, checkpoint_region, log_region, checkpoint_of, entries_of, replayed, load}
+use Rattle.cache_model.specs.Loading.{Complete, pages_from, checkpoint_in, checkpoint_region, log_region, checkpoint_of, replayed_entries, replayed, load}
 use Rattle.cache_model.specs.Laws.{IsLost, AllLost, IsMapOrLost}
 use Rattle.cache_model.proofs.RegionLemmas.{lost_checkpoint, maps_alone}
 use Rattle.cache_model.proofs.LoadLemmas.{pages_from-same, bind_ok, newest_is, newest_below, load_same}
@@ -60,7 +60,7 @@ unsealed_was g region old new (inr bare) d is = absurd (bare_incomplete g region
 
 -- ---- loading
 
-entries-map : (g : Geometry) (page : Place → Page) (m : Entries) → entries_of g page ≡ Ok m → IsMap g m
+entries-map : (g : Geometry) (page : Place → Page) (m : Entries) → replayed_entries g page ≡ Ok m → IsMap g m
 entries-map g page m is =
     let b = bind_ok (checkpoint_of g page) (replayed g page) m is in
     replayed-map g page b.0 m b.2

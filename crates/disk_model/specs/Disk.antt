@@ -11,8 +11,8 @@ abbrev pub size_of : MemDisk → ℕ
 size_of disk = disk.size
 
 -- for each address the values since the last flush
-abbrev pub disk_of : MemDisk → ℕ → Values
-disk_of disk = store_values disk.store
+abbrev pub disk_lists : MemDisk → ℕ → Values
+disk_lists disk = store_values disk.store
 
 -- its calls, and those that failed
 abbrev pub calls_of : MemDisk → Calls

@@ -29,12 +29,12 @@ impl MemDisk {
     ghost use Rattle.ft_media.specs.Rig.{after_cut};
     ghost use Rattle.ft_media.specs.Fitted.{new_contents};
     ghost use Rattle.device_calls.specs.Calls.{calls_made, fault_count, failing_numbers, is_listed, ending_of, bumped_if_done, CountsRead, CountsWrite};
-    ghost use Rattle.disk_model.specs.Disk.{size_of, disk_of, calls_of, reads_done, writes_done, flushes_done, SameNumbers};
+    ghost use Rattle.disk_model.specs.Disk.{size_of, disk_lists, calls_of, reads_done, writes_done, flushes_done, SameNumbers};
     ghost use Rattle.disk_model.specs.Steps.{write_left, flush_left, TakesMemory};
 
     /// A disk without a block. The calls with these numbers will fail, from 1.
     pub fn new(alloc: Global, failing: Vec<u64>) -> MemDisk
-        ensures disk { disk_of result ≡ (new_contents 0 0 0).disk }
+        ensures disk { disk_lists result ≡ (new_contents 0 0 0).disk }
         ensures size { size_of result ≡ 0 }
         ensures failing { failing_numbers (calls_of result) ≡ failing.items }
         ensures made { calls_made (calls_of result) ≡ 0 }
@@ -55,7 +55,7 @@ impl MemDisk {
 
     /// Makes the disk anew, with zero in each block. Counts stay.
     pub fn fit(&mut self, alloc: Global, size: u64)
-        ensures disk { disk_of self.new ≡ (new_contents 0 0 0).disk }
+        ensures disk { disk_lists self.new ≡ (new_contents 0 0 0).disk }
         ensures size { size_of self.new ≡ size }
         ensures numbers { SameNumbers self.old self.new }
     {
@@ -74,9 +74,9 @@ impl MemDisk {
     pub fn read(&mut self, lba: u64, block: &mut Block) -> Result<(), MediaError>
         ensures failed { IsErr result ↔ (is_listed (calls_of self.old) ≡ true) }
         ensures error { IfErr result (λ error. error ≡ MediaError.Failed) }
-        ensures found { OnOk result (block.new ≡ (disk_of self.old lba).newest) }
+        ensures found { OnOk result (block.new ≡ (disk_lists self.old lba).newest) }
         ensures buffer { OnErr result (block.new ≡ block.old) }
-        ensures disk { disk_of self.new ≡ disk_of self.old }
+        ensures disk { disk_lists self.new ≡ disk_lists self.old }
         ensures size { size_of self.new ≡ size_of self.old }
         ensures calls { CountsRead (is_listed (calls_of self.old)) (calls_of self.old) (calls_of self.new) }
         ensures reads { reads_done self.new ≡
@@ -96,14 +96,14 @@ impl MemDisk {
     /// and the call isn't counted.
     pub fn write(&mut self, lba: u64, block: &Block, current: Current) -> Result<Ending, AllocError>
         ensures ending { IfOk result (λ ending. ending ≡ ending_of current (is_listed (calls_of self.old))) }
-        ensures disk { IfOk result (λ ending. disk_of self.new ≡ write_left ending (disk_of self.old) lba block.now) }
+        ensures disk { IfOk result (λ ending. disk_lists self.new ≡ write_left ending (disk_lists self.old) lba block.now) }
         ensures size { size_of self.new ≡ size_of self.old }
         ensures calls { IfOk result (λ ending. CountsWrite ending (calls_of self.old) (calls_of self.new)) }
         ensures writes { IfOk result (λ ending. writes_done self.new ≡ bumped_if_done ending (writes_done self.old)) }
         ensures reads { reads_done self.new ≡ reads_done self.old }
         ensures flushes { flushes_done self.new ≡ flushes_done self.old }
         ensures memory { OnErr result (TakesMemory (ending_of current (is_listed (calls_of self.old)))) }
-        ensures refused { OnErr result (disk_of self.new ≡ disk_of self.old) }
+        ensures refused { OnErr result (disk_lists self.new ≡ disk_lists self.old) }
         ensures uncounted { OnErr result (SameNumbers self.old self.new) }
     {
         let ending = self.calls.next_ending(current);
@@ -126,7 +126,7 @@ impl MemDisk {
     /// Flushes every newest value. It costs in proportion to the writes since the last flush.
     pub fn flush(&mut self, current: Current) -> Ending
         ensures ending { result ≡ ending_of current (is_listed (calls_of self.old)) }
-        ensures disk { disk_of self.new ≡ flush_left result (disk_of self.old) }
+        ensures disk { disk_lists self.new ≡ flush_left result (disk_lists self.old) }
         ensures size { size_of self.new ≡ size_of self.old }
         ensures calls { CountsWrite result (calls_of self.old) (calls_of self.new) }
         ensures flushes { flushes_done self.new ≡ bumped_if_done result (flushes_done self.old) }
@@ -148,7 +148,7 @@ impl MemDisk {
 
     /// Power went off while the disk was not written.
     pub fn settle(&mut self, outcome: Outcome)
-        ensures disk { disk_of self.new ≡ after_cut outcome (disk_of self.old) }
+        ensures disk { disk_lists self.new ≡ after_cut outcome (disk_lists self.old) }
         ensures size { size_of self.new ≡ size_of self.old }
         ensures numbers { SameNumbers self.old self.new }
     {

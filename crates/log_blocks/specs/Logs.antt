@@ -61,10 +61,10 @@ abbrev pub next_page : LogBlocksValue → ℕ
 next_page logs = logs.geometry.p - logs.room
 
 -- where that page lies
-abbrev pub next_place : LogBlocksValue → Place
-next_place logs = record { block = unwrap_or logs.open_block 0; page = next_page logs }
+abbrev pub append_place : LogBlocksValue → Place
+append_place logs = record { block = unwrap_or logs.open_block 0; page = next_page logs }
 
 -- the page that was next is answered, and the open block has one page less left
 pub record TakesNext (old new : LogBlocksValue) (at : Place) : Type 0 where
-  pub place : at ≡ next_place old
+  pub place : at ≡ append_place old
   pub logs : new ≡ record old { room = old.room - 1 }

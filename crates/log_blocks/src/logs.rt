@@ -4,7 +4,7 @@ ghost use Rattle.ft_base.specs.Contents.{set};
 ghost use Rattle.ft_media.specs.Media.{LeavesPage, after_program, if_ok, program_counted};
 ghost use Rattle.ft_media.specs.Passes.{Spends};
 ghost use Rattle.ft_media.specs.Drives.{OnlyDrives};
-ghost use Rattle.log_blocks.specs.Logs.{IsInUse, AreSoundLogs, TakesNext, without_block, block_begun, adopted, released, next_place};
+ghost use Rattle.log_blocks.specs.Logs.{IsInUse, AreSoundLogs, TakesNext, without_block, block_begun, adopted, released, append_place};
 ghost use Rattle.cache_model.specs.Spelling.{data_spare};
 
 use cache_model::SpareKind;
@@ -133,22 +133,22 @@ impl LogBlocks {
     ) -> Result<Place, MediaError>
         requires room { 1 ≤ self.old.room }
         requires shape { (M.state media.old).contents.shape.pages ≡ self.old.geometry.p }
-        requires ready { (M.state media.old).contents.flash.next (next_place self.old).block ≡ Some (next_place self.old).page }
+        requires ready { (M.state media.old).contents.flash.next (append_place self.old).block ≡ Some (append_place self.old).page }
         ensures taken { IfOk result (TakesNext self.old self.new) }
         ensures programmed { OnOk result ((M.state media.new).contents.flash ≡ after_program (M.state media.old).contents.flash
-            (next_place self.old) block.now (data_spare lba)) }
+            (append_place self.old) block.now (data_spare lba)) }
         ensures refused { OnErr result (self.new ≡ self.old) }
         // Whatever is answered, and wherever power went off, no other page changes.
-        ensures page { LeavesPage (M.state media.old).contents.flash (M.state media.new).contents.flash (next_place self.old) block.now
+        ensures page { LeavesPage (M.state media.old).contents.flash (M.state media.new).contents.flash (append_place self.old) block.now
             (data_spare lba) }
         ensures not_ready { IsErrOf result MediaError.Failed
-            → (M.state media.new).contents.flash.next ≡ set (M.state media.old).contents.flash.next (next_place self.old).block None }
+            → (M.state media.new).contents.flash.next ≡ set (M.state media.old).contents.flash.next (append_place self.old).block None }
         ensures sound { AreSoundLogs self.new }
         ensures counts { (M.state media.new).counts ≡ if_ok result (program_counted (M.state media.old).counts) (M.state media.old).counts }
         ensures spends { OnOk result (Spends 1 (M.state media.old) (M.state media.new)) }
         ensures drives { OnlyDrives (M.state media.old) (M.state media.new) result }
     {
-        let at = self.next_place();
+        let at = self.append_place();
         let spare = write_spare(SpareKind::Page, 0, lba);
         media.program(at, block, &spare)?;
         self.room -= 1;
@@ -156,9 +156,9 @@ impl LogBlocks {
     }
 
     /// The page of the open block to program next.
-    fn next_place(&self) -> Place
+    fn append_place(&self) -> Place
         requires { 1 ≤ self.now.room }
-        ensures place { result ≡ next_place self.now }
+        ensures place { result ≡ append_place self.now }
         ensures page { result.page < self.now.geometry.p }
     {
         // Pages are left only where a block is open.

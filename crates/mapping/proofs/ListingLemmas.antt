@@ -26,7 +26,7 @@ use Rattle.mapping.specs.declared.mapped_page.MappedPage.{MappedPage}
 use Rattle.mapping.specs.Checkpoint.{set_group_of, set_page_of, IsCheckpointOf}
 use Rattle.mapping.specs.Bits.{IsDataBlock}
 use Rattle.mapping.specs.Counts.{page_mapped_count, data_block_count}
-use Rattle.mapping.specs.Packed.{HeldValue, page_record, block_record, entries_of, page_in, IsPackedMap, records_of}
+use Rattle.mapping.specs.Packed.{HeldValue, page_record, block_record, packed_entries, page_in, IsPackedMap, records_of}
 use Rattle.mapping.proofs.Words.{entry_in}
 use Rattle.cache_model.specs.Buckets.{AreBucketsFor}
 use Rattle.mapping.proofs.MarksLemmas.{same_bools, member_from, member_to}
@@ -122,11 +122,11 @@ some_page set p some below = elim (search_page set p) [
 -- ---- the listing
 
 module _ (g : Geometry) (pages : PackedTable MappedPage) (blocks : PackedTable BlockPages) (packed : IsPackedMap g pages blocks) where
-  at : (a : ℕ) → get (entries_of g (map_of pages) (map_of blocks)) a ≡ entry_in (get (map_of pages) a) (page_in (get (map_of blocks) (a / g.p)) (a % g.p))
+  at : (a : ℕ) → get (packed_entries g (map_of pages) (map_of blocks)) a ≡ entry_in (get (map_of pages) a) (page_in (get (map_of blocks) (a / g.p)) (a % g.p))
   at a = get_held g (map_of pages) (map_of blocks) a
 
   -- a page of a data block is an entry
-  block_entry : (k i : ℕ) (b : BlockPages) → get (map_of blocks) k ≡ Some b → i < g.p → has_bit b.present i ≡ true → (e : Entry) × (get (entries_of g (map_of pages) (map_of blocks)) (k * g.p + i) ≡ Some e) × (e.block_mapped ≡ true)
+  block_entry : (k i : ℕ) (b : BlockPages) → get (map_of blocks) k ≡ Some b → i < g.p → has_bit b.present i ≡ true → (e : Entry) × (get (packed_entries g (map_of pages) (map_of blocks)) (k * g.p + i) ≡ Some e) × (e.block_mapped ≡ true)
   block_entry k i b is low t = by_log (get (map_of pages) (k * g.p + i)) refl
     where
       entry : Entry
@@ -135,12 +135,12 @@ module _ (g : Geometry) (pages : PackedTable MappedPage) (blocks : PackedTable B
       here : page_in (get (map_of blocks) ((k * g.p + i) / g.p)) ((k * g.p + i) % g.p) ≡ Some (record { place = record { block = b.block; page = i }; dirty = has_bit b.dirty i; block_mapped = true })
       here = ap₂ (λ j n. page_in (get (map_of blocks) j) n) (div-mul-add k g.p i low) (mod-mul-add k g.p i low) ∙ ap (λ o. page_in o i) is ∙ ap (λ c. then_some c (record { place = record { block = b.block; page = i }; dirty = has_bit b.dirty i; block_mapped = true })) t
 
-      by_log : (o : Option MappedPage) → get (map_of pages) (k * g.p + i) ≡ o → (e : Entry) × (get (entries_of g (map_of pages) (map_of blocks)) (k * g.p + i) ≡ Some e) × (e.block_mapped ≡ true)
+      by_log : (o : Option MappedPage) → get (map_of pages) (k * g.p + i) ≡ o → (e : Entry) × (get (packed_entries g (map_of pages) (map_of blocks)) (k * g.p + i) ≡ Some e) × (e.block_mapped ≡ true)
       by_log None none = (record { place = record { block = b.block; page = i }; dirty = has_bit b.dirty i; block_mapped = true }, at (k * g.p + i) ∙ ap₂ entry_in none here, refl)
       by_log (Some x) some = none_some (record { place = record { block = b.block; page = i }; dirty = has_bit b.dirty i; block_mapped = true }) (sym (packed.apart (k * g.p + i) x some) ∙ here)
 
   -- an entry of a data block has its data block
-  mapped_block : (a : ℕ) (e : Entry) → get (entries_of g (map_of pages) (map_of blocks)) a ≡ Some e → e.block_mapped ≡ true → (b : BlockPages) × (get (map_of blocks) (a / g.p) ≡ Some b)
+  mapped_block : (a : ℕ) (e : Entry) → get (packed_entries g (map_of pages) (map_of blocks)) a ≡ Some e → e.block_mapped ≡ true → (b : BlockPages) × (get (map_of blocks) (a / g.p) ≡ Some b)
   mapped_block a e is mapped = by_log (get (map_of pages) a) (sym (at a) ∙ is)
     where
       by_block : (o : Option BlockPages) → get (map_of blocks) (a / g.p) ≡ o → page_in o (a % g.p) ≡ Some e → (b : BlockPages) × (get (map_of blocks) (a / g.p) ≡ Some b)
@@ -152,7 +152,7 @@ module _ (g : Geometry) (pages : PackedTable MappedPage) (blocks : PackedTable B
       by_log (Some x) s = absurd (both_ways e.block_mapped (ap (λ (f : Entry). f.block_mapped) (sym (same_Some (in_log_block x.place x.dirty) e s))) mapped)
 
   -- an entry of a log block has its mapped page
-  mapped_page : (a : ℕ) (e : Entry) → get (entries_of g (map_of pages) (map_of blocks)) a ≡ Some e → page_mapped e ≡ true → (x : MappedPage) × (get (map_of pages) a ≡ Some x)
+  mapped_page : (a : ℕ) (e : Entry) → get (packed_entries g (map_of pages) (map_of blocks)) a ≡ Some e → page_mapped e ≡ true → (x : MappedPage) × (get (map_of pages) a ≡ Some x)
   mapped_page a e is mapped = by_log (get (map_of pages) a) refl (sym (at a) ∙ is)
     where
       of_page : (b : Option BlockPages) → page_in b (a % g.p) ≡ Some e → e.block_mapped ≡ true
@@ -167,41 +167,41 @@ module _ (g : Geometry) (pages : PackedTable MappedPage) (blocks : PackedTable B
       by_log None none s = absurd (both_ways (page_mapped e) (ap not (of_page (get (map_of blocks) (a / g.p)) s)) mapped)
       by_log (Some x) some s = (x, some)
 
-  page_entry : (a : ℕ) (x : MappedPage) → get (map_of pages) a ≡ Some x → get (entries_of g (map_of pages) (map_of blocks)) a ≡ Some (in_log_block x.place x.dirty)
+  page_entry : (a : ℕ) (x : MappedPage) → get (map_of pages) a ≡ Some x → get (packed_entries g (map_of pages) (map_of blocks)) a ≡ Some (in_log_block x.place x.dirty)
   page_entry a x is = at a ∙ ap (λ o. entry_in o (page_in (get (map_of blocks) (a / g.p)) (a % g.p))) is
 
-  group_there : (k : ℕ) → member k (map (λ (x : ℕ × BlockPages). x.0) (items_of blocks.slots)) ≡ true → (a : ℕ) × (e : Entry) × (get (entries_of g (map_of pages) (map_of blocks)) a ≡ Some e) × (e.block_mapped ≡ true) × (a / g.p ≡ k)
+  group_there : (k : ℕ) → member k (map (λ (x : ℕ × BlockPages). x.0) (items_of blocks.slots)) ≡ true → (a : ℕ) × (e : Entry) × (get (packed_entries g (map_of pages) (map_of blocks)) a ≡ Some e) × (e.block_mapped ≡ true) × (a / g.p ≡ k)
   group_there k mem =
       let b = there_key blocks packed.blocks_sound k mem in
       let i = some_page b.0.present g.p (packed.are_blocks.sound k b.0 b.1).some (packed.are_blocks.below k b.0 b.1) in
       let e = block_entry k i.0 b.0 b.1 i.1 i.2 in
       (k * g.p + i.0, e.0, e.1, e.2, div-mul-add k g.p i.0 i.1)
 
-  there_group : (a : ℕ) (e : Entry) → get (entries_of g (map_of pages) (map_of blocks)) a ≡ Some e → e.block_mapped ≡ true → member (a / g.p) (map (λ (x : ℕ × BlockPages). x.0) (items_of blocks.slots)) ≡ true
+  there_group : (a : ℕ) (e : Entry) → get (packed_entries g (map_of pages) (map_of blocks)) a ≡ Some e → e.block_mapped ≡ true → member (a / g.p) (map (λ (x : ℕ × BlockPages). x.0) (items_of blocks.slots)) ≡ true
   there_group a e is mapped = let b = mapped_block a e is mapped in key_there blocks packed.blocks_sound (a / g.p) b.0 b.1
 
-  groups_count : length (items_of blocks.slots) ≡ length (groups_with g (λ e. e.block_mapped) (entries_of g (map_of pages) (map_of blocks)))
+  groups_count : length (items_of blocks.slots) ≡ length (groups_with g (λ e. e.block_mapped) (packed_entries g (map_of pages) (map_of blocks)))
   groups_count =
       let f : ℕ × Entry → ℕ = λ x. x.0 / g.p in
       let t : Entry → Bool = λ e. e.block_mapped in
       sym (keys_once blocks packed.blocks_sound)
-      ∙ each_once-same (map (λ (x : ℕ × BlockPages). x.0) (items_of blocks.slots)) (numbers f t (entries (entries_of g (map_of pages) (map_of blocks)))) (λ n. same_bools _ _
-      (λ mem. let x = group_there n mem in ap (λ k. member k (numbers f t (entries (entries_of g (map_of pages) (map_of blocks))))) (sym x.4) ∙ member_from f t (entries_of g (map_of pages) (map_of blocks)) x.0 x.1 x.2 x.3)
-      (λ mem. let x = member_to f t (entries_of g (map_of pages) (map_of blocks)) n mem in ap (λ k. member k (map (λ (x : ℕ × BlockPages). x.0) (items_of blocks.slots))) (sym x.3) ∙ there_group x.0.0 x.0.1 x.1 x.2))
+      ∙ each_once-same (map (λ (x : ℕ × BlockPages). x.0) (items_of blocks.slots)) (numbers f t (entries (packed_entries g (map_of pages) (map_of blocks)))) (λ n. same_bools _ _
+      (λ mem. let x = group_there n mem in ap (λ k. member k (numbers f t (entries (packed_entries g (map_of pages) (map_of blocks))))) (sym x.4) ∙ member_from f t (packed_entries g (map_of pages) (map_of blocks)) x.0 x.1 x.2 x.3)
+      (λ mem. let x = member_to f t (packed_entries g (map_of pages) (map_of blocks)) n mem in ap (λ k. member k (map (λ (x : ℕ × BlockPages). x.0) (items_of blocks.slots))) (sym x.3) ∙ there_group x.0.0 x.0.1 x.1 x.2))
 
-  pages_count : length (items_of pages.slots) ≡ length (filter (λ x. page_mapped x.1) (entries (entries_of g (map_of pages) (map_of blocks))))
+  pages_count : length (items_of pages.slots) ≡ length (filter (λ x. page_mapped x.1) (entries (packed_entries g (map_of pages) (map_of blocks))))
   pages_count =
       sym (keys_once pages packed.pages_sound)
-      ∙ each_once-same (map (λ (x : ℕ × MappedPage). x.0) (items_of pages.slots)) (numbers (λ x. x.0) page_mapped (entries (entries_of g (map_of pages) (map_of blocks)))) (λ n. same_bools _ _
-      (λ mem. let x = there_key pages packed.pages_sound n mem in member_from (λ x. x.0) page_mapped (entries_of g (map_of pages) (map_of blocks)) n (in_log_block x.0.place x.0.dirty) (page_entry n x.0 x.1) refl)
+      ∙ each_once-same (map (λ (x : ℕ × MappedPage). x.0) (items_of pages.slots)) (numbers (λ x. x.0) page_mapped (entries (packed_entries g (map_of pages) (map_of blocks)))) (λ n. same_bools _ _
+      (λ mem. let x = there_key pages packed.pages_sound n mem in member_from (λ x. x.0) page_mapped (packed_entries g (map_of pages) (map_of blocks)) n (in_log_block x.0.place x.0.dirty) (page_entry n x.0 x.1) refl)
       (λ mem.
-      let x = member_to (λ x. x.0) page_mapped (entries_of g (map_of pages) (map_of blocks)) n mem in
+      let x = member_to (λ x. x.0) page_mapped (packed_entries g (map_of pages) (map_of blocks)) n mem in
       let y = mapped_page x.0.0 x.0.1 x.1 x.2 in
       ap (λ k. member k (map (λ (x : ℕ × MappedPage). x.0) (items_of pages.slots))) (sym x.3) ∙ key_there pages packed.pages_sound x.0.0 y.0 y.1))
-      ∙ tally_is page_mapped (entries_of g (map_of pages) (map_of blocks))
+      ∙ tally_is page_mapped (packed_entries g (map_of pages) (map_of blocks))
 
   items_entries : (xs : List (ℕ × MappedPage)) → AllByRecursion (λ (x : ℕ × MappedPage). get (map_of pages) x.0 ≡ Some x.1) xs
-      → AllByRecursion (λ (x : ℕ × Entry). (get (entries_of g (map_of pages) (map_of blocks)) x.0 ≡ Some x.1) × (page_mapped x.1 ≡ true))
+      → AllByRecursion (λ (x : ℕ × Entry). (get (packed_entries g (map_of pages) (map_of blocks)) x.0 ≡ Some x.1) × (page_mapped x.1 ≡ true))
       (map (λ (x : ℕ × MappedPage). (x.0, in_log_block x.1.place x.1.dirty)) xs)
   items_entries [] all = tt
   items_entries (x ∷ xs) all = ((page_entry x.0 x.1 all.0, refl), items_entries xs all.1)
@@ -218,11 +218,11 @@ module _ (g : Geometry) (pages : PackedTable MappedPage) (blocks : PackedTable B
   groups_as f [] = refl
   groups_as f (x ∷ xs) = ap (λ (l : List Record). f x.0 ∷ l) (groups_as f xs)
 
-  pub listed : IsCheckpointOf g (entries_of g (map_of pages) (map_of blocks)) (records_of g (entries_of g (map_of pages) (map_of blocks)) (items_of pages.slots) (items_of blocks.slots))
+  pub listed : IsCheckpointOf g (packed_entries g (map_of pages) (map_of blocks)) (records_of g (packed_entries g (map_of pages) (map_of blocks)) (items_of pages.slots) (items_of blocks.slots))
   listed = record {
     groups = map (λ (x : ℕ × BlockPages). x.0) (items_of blocks.slots);
     pages = map (λ (x : ℕ × MappedPage). (x.0, in_log_block x.1.place x.1.dirty)) (items_of pages.slots);
-    are = ap₂ (λ x y. x ++ y) (groups_as (set_group_of g (entries_of g (map_of pages) (map_of blocks))) (items_of blocks.slots)) (pages_as (items_of pages.slots));
+    are = ap₂ (λ x y. x ++ y) (groups_as (set_group_of g (packed_entries g (map_of pages) (map_of blocks))) (items_of blocks.slots)) (pages_as (items_of pages.slots));
     of_groups = record { each = group_there; all = there_group; once = length-map (items_of blocks.slots) (λ (x : ℕ × BlockPages). x.0) ∙ groups_count };
     of_pages = record {
       each = items_entries (items_of pages.slots) (all_items pages packed.pages_sound (λ k v. get (map_of pages) k ≡ Some v) (λ k v is. is));
@@ -232,9 +232,9 @@ module _ (g : Geometry) (pages : PackedTable MappedPage) (blocks : PackedTable B
   }
 
   -- the data blocks and then the mapped pages, as they are offered
-  pub records_as : map block_record (items_of blocks.slots) ++ map page_record (items_of pages.slots) ≡ records_of g (entries_of g (map_of pages) (map_of blocks)) (items_of pages.slots) (items_of blocks.slots)
-  records_as = ap (λ (l : List Record). l ++ map page_record (items_of pages.slots)) (sym (blocks_as g (entries_of g (map_of pages) (map_of blocks)) (items_of blocks.slots)
-      (all_items blocks packed.blocks_sound (λ k b. IsDataBlock g (entries_of g (map_of pages) (map_of blocks)) k b) (λ k b is. data_block_is g (map_of pages) (map_of blocks) packed.are_blocks packed.apart k b is))))
+  pub records_as : map block_record (items_of blocks.slots) ++ map page_record (items_of pages.slots) ≡ records_of g (packed_entries g (map_of pages) (map_of blocks)) (items_of pages.slots) (items_of blocks.slots)
+  records_as = ap (λ (l : List Record). l ++ map page_record (items_of pages.slots)) (sym (blocks_as g (packed_entries g (map_of pages) (map_of blocks)) (items_of blocks.slots)
+      (all_items blocks packed.blocks_sound (λ k b. IsDataBlock g (packed_entries g (map_of pages) (map_of blocks)) k b) (λ k b is. data_block_is g (map_of pages) (map_of blocks) packed.are_blocks packed.apart k b is))))
 
   -- ---- how many there are
 
@@ -242,27 +242,27 @@ module _ (g : Geometry) (pages : PackedTable MappedPage) (blocks : PackedTable B
   filter_few t [] = omega arith
   filter_few t (x ∷ es) = let few = filter_few t es in elim (t x) as (λ b. length (cond b (x ∷ filter t es) (filter t es)) ≤ suc (length es)) [ true ↦ omega (arith, few) | false ↦ omega (arith, few) ]
 
-  pub few_log_pages : len_of pages ≤ length (entries (entries_of g (map_of pages) (map_of blocks)))
+  pub few_log_pages : len_of pages ≤ length (entries (packed_entries g (map_of pages) (map_of blocks)))
   few_log_pages =
-      let few = filter_few (λ x. page_mapped x.1) (entries (entries_of g (map_of pages) (map_of blocks))) in
+      let few = filter_few (λ x. page_mapped x.1) (entries (packed_entries g (map_of pages) (map_of blocks))) in
       let long = len_of-items pages packed.pages_sound.packed.once in
       omega (arith, few, long, pages_count)
 
-  pub few_data_blocks : len_of blocks ≤ length (entries (entries_of g (map_of pages) (map_of blocks)))
+  pub few_data_blocks : len_of blocks ≤ length (entries (packed_entries g (map_of pages) (map_of blocks)))
   few_data_blocks =
-      let once = once_few (numbers (λ x. x.0 / g.p) (λ e. e.block_mapped) (entries (entries_of g (map_of pages) (map_of blocks)))) in
-      let keys = length-map (filter (λ (x : ℕ × Entry). x.1.block_mapped) (entries (entries_of g (map_of pages) (map_of blocks)))) (λ (x : ℕ × Entry). x.0 / g.p) in
-      let few = filter_few (λ x. x.1.block_mapped) (entries (entries_of g (map_of pages) (map_of blocks))) in
+      let once = once_few (numbers (λ x. x.0 / g.p) (λ e. e.block_mapped) (entries (packed_entries g (map_of pages) (map_of blocks)))) in
+      let keys = length-map (filter (λ (x : ℕ × Entry). x.1.block_mapped) (entries (packed_entries g (map_of pages) (map_of blocks)))) (λ (x : ℕ × Entry). x.0 / g.p) in
+      let few = filter_few (λ x. x.1.block_mapped) (entries (packed_entries g (map_of pages) (map_of blocks))) in
       let long = len_of-items blocks packed.blocks_sound.packed.once in
       omega (arith, few, long, keys, once, groups_count)
 
-  pub log_pages_are : len_of pages ≡ page_mapped_count (entries_of g (map_of pages) (map_of blocks))
+  pub log_pages_are : len_of pages ≡ page_mapped_count (packed_entries g (map_of pages) (map_of blocks))
   log_pages_are = len_of-items pages packed.pages_sound.packed.once ∙ pages_count
 
-  pub data_blocks_are : len_of blocks ≡ data_block_count g (entries_of g (map_of pages) (map_of blocks))
+  pub data_blocks_are : len_of blocks ≡ data_block_count g (packed_entries g (map_of pages) (map_of blocks))
   data_blocks_are = len_of-items blocks packed.blocks_sound.packed.once ∙ groups_count
 
-  pub buckets_bound : AreBucketsFor (entries_of g (map_of pages) (map_of blocks)) (buckets_of pages)
+  pub buckets_bound : AreBucketsFor (packed_entries g (map_of pages) (map_of blocks)) (buckets_of pages)
   buckets_bound = record {
     room = let room = packed.pages_sound.room in let long = len_of-items pages packed.pages_sound.packed.once in omega (arith, room, long, pages_count);
     power = packed.pages_sound.buckets;
@@ -316,10 +316,10 @@ doubled_or_same (Err e) need narrow wide few old doubled same = omega (arith, sa
 abbrev pub held_of : Geometry → PackedTable MappedPage → PackedTable BlockPages → HeldValue
 held_of g pages blocks = record {
   geometry = g;
-  entries = entries_of g (map_of pages) (map_of blocks);
+  entries = packed_entries g (map_of pages) (map_of blocks);
   spare_pages = pages.spare;
   spare_blocks = blocks.spare;
-  records = records_of g (entries_of g (map_of pages) (map_of blocks)) (items_of pages.slots) (items_of blocks.slots);
+  records = records_of g (packed_entries g (map_of pages) (map_of blocks)) (items_of pages.slots) (items_of blocks.slots);
   buckets = buckets_of pages;
   group_buckets = buckets_of blocks;
 }
@@ -328,10 +328,10 @@ pub pages_refused : {T E : Type 0} (r : Result T E) (g : Geometry) (pages new : 
 pages_refused (Ok x) g pages new blocks same slots spare = tt
 pages_refused (Err e) g pages new blocks same slots spare = λ t. record {
   geometry = g;
-  entries = entries_of g (same t) (map_of blocks);
+  entries = packed_entries g (same t) (map_of blocks);
   spare_pages = spare t;
   spare_blocks = blocks.spare;
-  records = records_of g (entries_of g (same t) (map_of blocks)) (items_of (slots t)) (items_of blocks.slots);
+  records = records_of g (packed_entries g (same t) (map_of blocks)) (items_of (slots t)) (items_of blocks.slots);
   buckets = length (slots t);
   group_buckets = buckets_of blocks;
 }
@@ -340,10 +340,10 @@ pub blocks_refused : {T E : Type 0} (r : Result T E) (g : Geometry) (pages : Pac
 blocks_refused (Ok x) g pages blocks new same slots spare = tt
 blocks_refused (Err e) g pages blocks new same slots spare = λ t. record {
   geometry = g;
-  entries = entries_of g (map_of pages) (same t);
+  entries = packed_entries g (map_of pages) (same t);
   spare_pages = pages.spare;
   spare_blocks = spare t;
-  records = records_of g (entries_of g (map_of pages) (same t)) (items_of pages.slots) (items_of (slots t));
+  records = records_of g (packed_entries g (map_of pages) (same t)) (items_of pages.slots) (items_of (slots t));
   buckets = buckets_of pages;
   group_buckets = length (slots t);
 }

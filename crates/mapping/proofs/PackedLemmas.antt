@@ -25,7 +25,7 @@ use Rattle.mapping.specs.Bits.{is_chosen, chosen_of, IsDataBlock}
 use Rattle.sparse_map.specs.Slots.{items_of}
 use Rattle.sparse_map.specs.Packed.{PackedTable, map_of, len_of, buckets_of, IsSound as IsSoundTable}
 use Rattle.sparse_map.proofs.MapLemmas.{len_of-items}
-use Rattle.mapping.specs.Packed.{records_of, Pages, Blocks, page_record, block_record, with_data_blocks, with_logs, entries_of, page_in, AreBlocks, AreDisjoint, IsLeftOut}
+use Rattle.mapping.specs.Packed.{records_of, Pages, Blocks, page_record, block_record, with_data_blocks, with_logs, packed_entries, page_in, AreBlocks, AreDisjoint, IsLeftOut}
 use Rattle.mapping.proofs.Words.{entry_in}
 use Rattle.mapping.proofs.BitsLemmas.{bit_of_set, set_of_none}
 use Rattle.mapping.proofs.SeekingLemmas.{none_some}
@@ -77,22 +77,22 @@ module _ (g : Geometry) where
       ]
 
   -- the entry of the mapped page, or else that of the data block of the group
-  pub get_held : (pages : Pages) (blocks : Blocks) (q : ℕ) → get (entries_of g pages blocks) q ≡ entry_in (get pages q) (page_in (get blocks (q / g.p)) (q % g.p))
-  unfolding entries_of
+  pub get_held : (pages : Pages) (blocks : Blocks) (q : ℕ) → get (packed_entries g pages blocks) q ≡ entry_in (get pages q) (page_in (get blocks (q / g.p)) (q % g.p))
+  unfolding packed_entries
   get_held pages blocks q =
       get_log_list (entries pages) (with_data_blocks g (entries blocks)) q
       ∙ ap (entry_in (find nat_cmp q (entries pages))) (get_block_list (entries blocks) q)
       ∙ ap₂ (λ x y. entry_in x (page_in y (q % g.p))) (sym (get-entries pages q)) (sym (get-entries blocks (q / g.p)))
 
-  same_held : (pages : Pages) (blocks : Blocks) (m : Entries) → ((q : ℕ) → entry_in (get pages q) (page_in (get blocks (q / g.p)) (q % g.p)) ≡ get m q) → entries_of g pages blocks ≡ m
-  same_held pages blocks m same = same_map nat_cmp_total nat_cmp-IsAntisymmetric (entries_of g pages blocks) m (λ q. get_held pages blocks q ∙ same q)
+  same_held : (pages : Pages) (blocks : Blocks) (m : Entries) → ((q : ℕ) → entry_in (get pages q) (page_in (get blocks (q / g.p)) (q % g.p)) ≡ get m q) → packed_entries g pages blocks ≡ m
+  same_held pages blocks m same = same_map nat_cmp_total nat_cmp-IsAntisymmetric (packed_entries g pages blocks) m (λ q. get_held pages blocks q ∙ same q)
 
   -- ---- nothing is held
 
-  pub nothing_held : (pages : Pages) (blocks : Blocks) → ((q : ℕ) → get pages q ≡ None) → ((k : ℕ) → get blocks k ≡ None) → entries_of g pages blocks ≡ no_entries
+  pub nothing_held : (pages : Pages) (blocks : Blocks) → ((q : ℕ) → get pages q ≡ None) → ((k : ℕ) → get blocks k ≡ None) → packed_entries g pages blocks ≡ no_entries
   nothing_held pages blocks none none' = same_held pages blocks no_entries (λ q. ap₂ (λ x y. entry_in x (page_in y (q % g.p))) (none q) (none' (q / g.p)) ∙ sym (get-empty nat_cmp q))
 
-  pub page_absent : (pages : Pages) (blocks : Blocks) (lba : ℕ) → get (entries_of g pages blocks) lba ≡ None → get pages lba ≡ None
+  pub page_absent : (pages : Pages) (blocks : Blocks) (lba : ℕ) → get (packed_entries g pages blocks) lba ≡ None → get pages lba ≡ None
   page_absent pages blocks lba absent = (none_in (get pages lba) (page_in (get blocks (lba / g.p)) (lba % g.p)) (sym (get_held pages blocks lba) ∙ absent)).0
 
   -- ---- one mapped page more
@@ -101,12 +101,12 @@ module _ (g : Geometry) where
     page_there : (q : ℕ) → get pages' q ≡ cond (q == lba) (Some x) (get pages q)
     page_there q = ap (λ m. get m q) is ∙ get_insert pages lba x q
 
-    pub page_put : entries_of g pages' blocks ≡ after g (SetPage lba x.place x.dirty) (entries_of g pages blocks)
-    page_put = same_held pages' blocks (after g (SetPage lba x.place x.dirty) (entries_of g pages blocks)) (λ q.
+    pub page_put : packed_entries g pages' blocks ≡ after g (SetPage lba x.place x.dirty) (packed_entries g pages blocks)
+    page_put = same_held pages' blocks (after g (SetPage lba x.place x.dirty) (packed_entries g pages blocks)) (λ q.
         ap (λ o. entry_in o (page_in (get blocks (q / g.p)) (q % g.p))) (page_there q)
         ∙ choose (q == lba) (get pages q) (page_in (get blocks (q / g.p)) (q % g.p))
         ∙ ap (λ o. cond (q == lba) (Some (in_log_block x.place x.dirty)) o) (sym (get_held pages blocks q))
-        ∙ sym (get-after g (SetPage lba x.place x.dirty) (entries_of g pages blocks) q))
+        ∙ sym (get-after g (SetPage lba x.place x.dirty) (packed_entries g pages blocks) q))
       where
         choose : (b : Bool) (o : Option MappedPage) (r : Option Entry) → entry_in (cond b (Some x) o) r ≡ cond b (Some (in_log_block x.place x.dirty)) (entry_in o r)
         choose true o r = refl
@@ -118,56 +118,56 @@ module _ (g : Geometry) where
       | inr other ↦ apart a y (sym (page_there a ∙ ap (λ b. cond b (Some x) (get pages a)) (ne_eqb a lba other)) ∙ at)
     ]
 
-    pub page_put_apart : get (entries_of g pages blocks) lba ≡ None → AreDisjoint g pages blocks → AreDisjoint g pages' blocks
+    pub page_put_apart : get (packed_entries g pages blocks) lba ≡ None → AreDisjoint g pages blocks → AreDisjoint g pages' blocks
     page_put_apart absent apart = page_apart (none_in (get pages lba) (page_in (get blocks (lba / g.p)) (lba % g.p)) (sym (get_held pages blocks lba) ∙ absent)).1 apart
 
     -- the mapped page is clean
-    pub page_cleaned : (y : MappedPage) → get pages lba ≡ Some y → x.place ≡ y.place → x.dirty ≡ false → entries_of g pages' blocks ≡ after g (Clean lba) (entries_of g pages blocks)
-    page_cleaned y at place clean = page_put ∙ same_map nat_cmp_total nat_cmp-IsAntisymmetric (after g (SetPage lba x.place x.dirty) (entries_of g pages blocks)) (after g (Clean lba) (entries_of g pages blocks)) (λ q.
-        get-after g (SetPage lba x.place x.dirty) (entries_of g pages blocks) q
+    pub page_cleaned : (y : MappedPage) → get pages lba ≡ Some y → x.place ≡ y.place → x.dirty ≡ false → packed_entries g pages' blocks ≡ after g (Clean lba) (packed_entries g pages blocks)
+    page_cleaned y at place clean = page_put ∙ same_map nat_cmp_total nat_cmp-IsAntisymmetric (after g (SetPage lba x.place x.dirty) (packed_entries g pages blocks)) (after g (Clean lba) (packed_entries g pages blocks)) (λ q.
+        get-after g (SetPage lba x.place x.dirty) (packed_entries g pages blocks) q
         ∙ elim (cases_Bool (q == lba)) [
           | inl t ↦
-              let here : get (entries_of g pages blocks) q ≡ Some (in_log_block y.place y.dirty) = ap (get (entries_of g pages blocks)) (eqb-true _ _ t) ∙ get_held pages blocks lba ∙ ap (λ o. entry_in o (page_in (get blocks (lba / g.p)) (lba % g.p))) at in
-              ap (λ b. cond b (Some (in_log_block x.place x.dirty)) (get (entries_of g pages blocks) q)) t
+              let here : get (packed_entries g pages blocks) q ≡ Some (in_log_block y.place y.dirty) = ap (get (packed_entries g pages blocks)) (eqb-true _ _ t) ∙ get_held pages blocks lba ∙ ap (λ o. entry_in o (page_in (get blocks (lba / g.p)) (lba % g.p))) at in
+              ap (λ b. cond b (Some (in_log_block x.place x.dirty)) (get (packed_entries g pages blocks) q)) t
               ∙ ap₂ (λ p d. Some (in_log_block p d)) place clean ∙ sym (ap (option_map cleaned) here)
-              ∙ sym (ap (λ b. cond b (option_map cleaned (get (entries_of g pages blocks) q)) (get (entries_of g pages blocks) q)) t)
+              ∙ sym (ap (λ b. cond b (option_map cleaned (get (packed_entries g pages blocks) q)) (get (packed_entries g pages blocks) q)) t)
           | inr f ↦
-              ap (λ b. cond b (Some (in_log_block x.place x.dirty)) (get (entries_of g pages blocks) q)) f
-              ∙ sym (ap (λ b. cond b (option_map cleaned (get (entries_of g pages blocks) q)) (get (entries_of g pages blocks) q)) f)
+              ap (λ b. cond b (Some (in_log_block x.place x.dirty)) (get (packed_entries g pages blocks) q)) f
+              ∙ sym (ap (λ b. cond b (option_map cleaned (get (packed_entries g pages blocks) q)) (get (packed_entries g pages blocks) q)) f)
         ]
-        ∙ sym (get-after g (Clean lba) (entries_of g pages blocks) q))
+        ∙ sym (get-after g (Clean lba) (packed_entries g pages blocks) q))
 
     pub page_cleaned_apart : (y : MappedPage) → get pages lba ≡ Some y → AreDisjoint g pages blocks → AreDisjoint g pages' blocks
     page_cleaned_apart y at apart = page_apart (apart lba y at) apart
 
   -- ---- one data block more
 
-  free_group : (pages : Pages) (blocks : Blocks) (k : ℕ) → ((i : ℕ) → i < g.p → get (entries_of g pages blocks) (k * g.p + i) ≡ None) → (q : ℕ) → q / g.p ≡ k → get pages q ≡ None
+  free_group : (pages : Pages) (blocks : Blocks) (k : ℕ) → ((i : ℕ) → i < g.p → get (packed_entries g pages blocks) (k * g.p + i) ≡ None) → (q : ℕ) → q / g.p ≡ k → get pages q ≡ None
   free_group pages blocks k free q in_group =
       let whole : k * g.p + q % g.p ≡ q = ap (λ n. n * g.p + q % g.p) (sym in_group) ∙ div-add-mod' q g.p in
-      let here : get (entries_of g pages blocks) q ≡ None = ap (get (entries_of g pages blocks)) (sym whole) ∙ free (q % g.p) (mod_below q g.p some_pages) in
+      let here : get (packed_entries g pages blocks) q ≡ None = ap (get (packed_entries g pages blocks)) (sym whole) ∙ free (q % g.p) (mod_below q g.p some_pages) in
       (none_in (get pages q) (page_in (get blocks (q / g.p)) (q % g.p)) (sym (get_held pages blocks q) ∙ here)).0
 
   module _ (pages : Pages) (blocks blocks' : Blocks) (k : ℕ) (b : BlockPages) (is : blocks' ≡ insert blocks k b) where
     block_there : (j : ℕ) → get blocks' j ≡ cond (j == k) (Some b) (get blocks j)
     block_there j = ap (λ m. get m j) is ∙ get_insert blocks k b j
 
-    pub block_put : ((i : ℕ) → i < g.p → get (entries_of g pages blocks) (k * g.p + i) ≡ None) → entries_of g pages blocks' ≡ after g (SetGroup k b.block b.present b.dirty) (entries_of g pages blocks)
-    block_put free = same_held pages blocks' (after g (SetGroup k b.block b.present b.dirty) (entries_of g pages blocks)) (λ q.
+    pub block_put : ((i : ℕ) → i < g.p → get (packed_entries g pages blocks) (k * g.p + i) ≡ None) → packed_entries g pages blocks' ≡ after g (SetGroup k b.block b.present b.dirty) (packed_entries g pages blocks)
+    block_put free = same_held pages blocks' (after g (SetGroup k b.block b.present b.dirty) (packed_entries g pages blocks)) (λ q.
         ap (λ o. entry_in (get pages q) (page_in o (q % g.p))) (block_there (q / g.p))
         ∙ elim (cases_Bool (q / g.p == k)) [
           | inl t ↦
               ap (λ c. entry_in (get pages q) (page_in (cond c (Some b) (get blocks (q / g.p))) (q % g.p))) t
               ∙ ap (λ o. entry_in o (page_of_group b.block b.present b.dirty (q % g.p))) (free_group pages blocks k free q (eqb-true _ _ t))
-              ∙ sym (ap (λ c. cond c (page_of_group b.block b.present b.dirty (q % g.p)) (get (entries_of g pages blocks) q)) t)
+              ∙ sym (ap (λ c. cond c (page_of_group b.block b.present b.dirty (q % g.p)) (get (packed_entries g pages blocks) q)) t)
           | inr f ↦
               ap (λ c. entry_in (get pages q) (page_in (cond c (Some b) (get blocks (q / g.p))) (q % g.p))) f
               ∙ sym (get_held pages blocks q)
-              ∙ sym (ap (λ c. cond c (page_of_group b.block b.present b.dirty (q % g.p)) (get (entries_of g pages blocks) q)) f)
+              ∙ sym (ap (λ c. cond c (page_of_group b.block b.present b.dirty (q % g.p)) (get (packed_entries g pages blocks) q)) f)
         ]
-        ∙ sym (get-after g (SetGroup k b.block b.present b.dirty) (entries_of g pages blocks) q))
+        ∙ sym (get-after g (SetGroup k b.block b.present b.dirty) (packed_entries g pages blocks) q))
 
-    pub block_put_apart : ((i : ℕ) → i < g.p → get (entries_of g pages blocks) (k * g.p + i) ≡ None) → AreDisjoint g pages blocks → AreDisjoint g pages blocks'
+    pub block_put_apart : ((i : ℕ) → i < g.p → get (packed_entries g pages blocks) (k * g.p + i) ≡ None) → AreDisjoint g pages blocks → AreDisjoint g pages blocks'
     block_put_apart free apart a x at = elim (cases_eq (a / g.p) k) [
       | inl same ↦ none_some x (sym (free_group pages blocks k free a same) ∙ at)
       | inr other ↦ ap (λ o. page_in o (a % g.p)) (block_there (a / g.p) ∙ ap (λ c. cond c (Some b) (get blocks (a / g.p))) (ne_eqb (a / g.p) k other)) ∙ apart a x at
@@ -256,12 +256,12 @@ module _ (g : Geometry) where
             ∙ sym (clean_of (has_bit a.present i) (record { place = record { block = a.block; page = i }; dirty = has_bit a.dirty i; block_mapped = true }))
         cleaned_in i false is' = λ t. then_some (has_bit (present t) i) (record { place = record { block = block t; page = i }; dirty = (dirty i ∙ ap (λ c. has_bit a.dirty i && not c) is' ∙ kept (has_bit a.dirty i)) t; block_mapped = true })
 
-    pub block_cleaned : (a : BlockPages) (lba : ℕ) → k ≡ lba / g.p → get pages lba ≡ None → get blocks k ≡ Some a → b.block ≡ a.block → b.present ≡ a.present → IsLeftWithout a.dirty (lba % g.p) b.dirty → entries_of g pages blocks' ≡ after g (Clean lba) (entries_of g pages blocks)
-    block_cleaned a lba group none at block present dirty = same_held pages blocks' (after g (Clean lba) (entries_of g pages blocks)) (λ q.
+    pub block_cleaned : (a : BlockPages) (lba : ℕ) → k ≡ lba / g.p → get pages lba ≡ None → get blocks k ≡ Some a → b.block ≡ a.block → b.present ≡ a.present → IsLeftWithout a.dirty (lba % g.p) b.dirty → packed_entries g pages blocks' ≡ after g (Clean lba) (packed_entries g pages blocks)
+    block_cleaned a lba group none at block present dirty = same_held pages blocks' (after g (Clean lba) (packed_entries g pages blocks)) (λ q.
         ap (entry_in (get pages q)) (clean_page a lba group at block present dirty q)
         ∙ at_address q (q == lba) refl
         ∙ ap (λ o. cond (q == lba) (option_map cleaned o) o) (sym (get_held pages blocks q))
-        ∙ sym (get-after g (Clean lba) (entries_of g pages blocks) q))
+        ∙ sym (get-after g (Clean lba) (packed_entries g pages blocks) q))
       where
         at_address : (q : ℕ) (c : Bool) → (q == lba) ≡ c → entry_in (get pages q)
             (cond c (option_map cleaned (page_in (get blocks (q / g.p)) (q % g.p))) (page_in (get blocks (q / g.p)) (q % g.p))) ≡ cond c
@@ -323,12 +323,12 @@ module _ (g : Geometry) where
     block_gone : (q : ℕ) → page_in (get blocks' (q / g.p)) (q % g.p) ≡ cond (q == lba) None (page_in (get blocks (q / g.p)) (q % g.p))
     block_gone q = left.others (q / g.p) (q % g.p) ∙ ap (λ c. cond c None (page_in (get blocks (q / g.p)) (q % g.p))) (sym (is_address g.p q lba))
 
-    pub removed : entries_of g pages' blocks' ≡ after g (Remove lba) (entries_of g pages blocks)
-    removed = same_held pages' blocks' (after g (Remove lba) (entries_of g pages blocks)) (λ q.
+    pub removed : packed_entries g pages' blocks' ≡ after g (Remove lba) (packed_entries g pages blocks)
+    removed = same_held pages' blocks' (after g (Remove lba) (packed_entries g pages blocks)) (λ q.
         ap₂ entry_in (page_gone q) (block_gone q)
         ∙ both (q == lba) (get pages q) (page_in (get blocks (q / g.p)) (q % g.p))
         ∙ ap (λ o. cond (q == lba) None o) (sym (get_held pages blocks q))
-        ∙ sym (get-after g (Remove lba) (entries_of g pages blocks) q))
+        ∙ sym (get-after g (Remove lba) (packed_entries g pages blocks) q))
       where
         both : (c : Bool) (o : Option MappedPage) (r : Option Entry) → entry_in (cond c None o) (cond c None r) ≡ cond c None (entry_in o r)
         both true o r = refl
@@ -347,12 +347,12 @@ module _ (g : Geometry) where
     block_less : (j : ℕ) → get blocks' j ≡ cond (j == k) None (get blocks j)
     block_less j = ap (λ m. get m j) is ∙ get_remove blocks k j
 
-    pub group_removed : entries_of g pages' blocks' ≡ after g (RemoveGroup k) (entries_of g pages blocks)
-    group_removed = same_held pages' blocks' (after g (RemoveGroup k) (entries_of g pages blocks)) (λ q.
+    pub group_removed : packed_entries g pages' blocks' ≡ after g (RemoveGroup k) (packed_entries g pages blocks)
+    group_removed = same_held pages' blocks' (after g (RemoveGroup k) (packed_entries g pages blocks)) (λ q.
         ap₂ (λ x y. entry_in x (page_in y (q % g.p))) (gone q) (block_less (q / g.p))
         ∙ both (q / g.p == k) (get pages q) (get blocks (q / g.p)) (q % g.p)
         ∙ ap (λ o. cond (q / g.p == k) None o) (sym (get_held pages blocks q))
-        ∙ sym (get-after g (RemoveGroup k) (entries_of g pages blocks) q))
+        ∙ sym (get-after g (RemoveGroup k) (packed_entries g pages blocks) q))
       where
         both : (c : Bool) (o : Option MappedPage) (r : Option BlockPages) (i : ℕ) → entry_in (cond c None o) (page_in (cond c None r) i) ≡ cond c None (entry_in o (page_in r i))
         both true o r i = refl
@@ -370,33 +370,33 @@ module _ (g : Geometry) where
 
   -- ---- no entry to be cleaned
 
-  pub clean_nothing : (pages : Pages) (blocks : Blocks) (lba : ℕ) → get pages lba ≡ None → get blocks (lba / g.p) ≡ None → entries_of g pages blocks ≡ after g (Clean lba) (entries_of g pages blocks)
-  clean_nothing pages blocks lba none none' = same_map nat_cmp_total nat_cmp-IsAntisymmetric (entries_of g pages blocks) (after g (Clean lba) (entries_of g pages blocks)) (λ q.
-      sym (get-after g (Clean lba) (entries_of g pages blocks) q ∙ elim (cases_Bool (q == lba)) [
+  pub clean_nothing : (pages : Pages) (blocks : Blocks) (lba : ℕ) → get pages lba ≡ None → get blocks (lba / g.p) ≡ None → packed_entries g pages blocks ≡ after g (Clean lba) (packed_entries g pages blocks)
+  clean_nothing pages blocks lba none none' = same_map nat_cmp_total nat_cmp-IsAntisymmetric (packed_entries g pages blocks) (after g (Clean lba) (packed_entries g pages blocks)) (λ q.
+      sym (get-after g (Clean lba) (packed_entries g pages blocks) q ∙ elim (cases_Bool (q == lba)) [
         | inl t ↦
-            let here : get (entries_of g pages blocks) q ≡ None = ap (get (entries_of g pages blocks)) (eqb-true _ _ t) ∙ get_held pages blocks lba ∙ ap₂ (λ x y. entry_in x (page_in y (lba % g.p))) none none' in
-            ap (λ b. cond b (option_map cleaned (get (entries_of g pages blocks) q)) (get (entries_of g pages blocks) q)) t ∙ ap (option_map cleaned) here ∙ sym here
-        | inr f ↦ ap (λ b. cond b (option_map cleaned (get (entries_of g pages blocks) q)) (get (entries_of g pages blocks) q)) f
+            let here : get (packed_entries g pages blocks) q ≡ None = ap (get (packed_entries g pages blocks)) (eqb-true _ _ t) ∙ get_held pages blocks lba ∙ ap₂ (λ x y. entry_in x (page_in y (lba % g.p))) none none' in
+            ap (λ b. cond b (option_map cleaned (get (packed_entries g pages blocks) q)) (get (packed_entries g pages blocks) q)) t ∙ ap (option_map cleaned) here ∙ sym here
+        | inr f ↦ ap (λ b. cond b (option_map cleaned (get (packed_entries g pages blocks) q)) (get (packed_entries g pages blocks) q)) f
       ]))
 
   -- ---- the data block of a group
 
   module _ (pages : Pages) (blocks : Blocks) (all : AreBlocks g blocks) (apart : AreDisjoint g pages blocks) where
     abbrev held : Entries
-    held = entries_of g pages blocks
+    held = packed_entries g pages blocks
 
-    at_page : (k i : ℕ) → i < g.p → get (entries_of g pages blocks) (k * g.p + i) ≡ entry_in (get pages (k * g.p + i)) (page_in (get blocks k) i)
+    at_page : (k i : ℕ) → i < g.p → get (packed_entries g pages blocks) (k * g.p + i) ≡ entry_in (get pages (k * g.p + i)) (page_in (get blocks k) i)
     at_page k i low = get_held pages blocks (k * g.p + i) ∙ ap₂ (λ j n. entry_in (get pages (k * g.p + i)) (page_in (get blocks j) n)) (div-mul-add k g.p i low) (mod-mul-add k g.p i low)
 
     -- a page of a group is in its data block exactly where the block has it
-    mapped_is : (k i : ℕ) → i < g.p → is_chosen Mapped (get (entries_of g pages blocks) (k * g.p + i)) ≡ is_chosen Mapped (page_in (get blocks k) i)
+    mapped_is : (k i : ℕ) → i < g.p → is_chosen Mapped (get (packed_entries g pages blocks) (k * g.p + i)) ≡ is_chosen Mapped (page_in (get blocks k) i)
     mapped_is k i low = ap (is_chosen Mapped) (at_page k i low) ∙ by_log (get pages (k * g.p + i)) refl
       where
         by_log : (o : Option MappedPage) → get pages (k * g.p + i) ≡ o → is_chosen Mapped (entry_in o (page_in (get blocks k) i)) ≡ is_chosen Mapped (page_in (get blocks k) i)
         by_log None at = refl
         by_log (Some x) at = sym (ap (is_chosen Mapped) (ap₂ (λ j n. page_in (get blocks j) n) (sym (div-mul-add k g.p i low)) (sym (mod-mul-add k g.p i low)) ∙ apart (k * g.p + i) x at))
 
-    dirty_is : (k i : ℕ) → i < g.p → is_chosen MappedDirty (get (entries_of g pages blocks) (k * g.p + i)) ≡ is_chosen MappedDirty (page_in (get blocks k) i)
+    dirty_is : (k i : ℕ) → i < g.p → is_chosen MappedDirty (get (packed_entries g pages blocks) (k * g.p + i)) ≡ is_chosen MappedDirty (page_in (get blocks k) i)
     dirty_is k i low = ap (is_chosen MappedDirty) (at_page k i low) ∙ by_log (get pages (k * g.p + i)) refl
       where
         by_log : (o : Option MappedPage) → get pages (k * g.p + i) ≡ o → is_chosen MappedDirty (entry_in o (page_in (get blocks k) i)) ≡ is_chosen MappedDirty (page_in (get blocks k) i)
@@ -421,23 +421,23 @@ module _ (g : Geometry) where
     is_past : (i : ℕ) → nat_lt i g.p ≡ false → g.p ≤ i
     is_past i f = ltb-false i g.p f
 
-    present_is : (k : ℕ) (b : BlockPages) → get blocks k ≡ Some b → b.present ≡ chosen_of Mapped g (entries_of g pages blocks) k
-    present_is k b at = same_from_bits b.present (chosen_of Mapped g (entries_of g pages blocks) k)
-        (λ i. bit_is b.present (chosen_of Mapped g (entries_of g pages blocks) k) i
-        (sym (bit_of_set (λ n. is_chosen Mapped (get (entries_of g pages blocks) (k * g.p + n))) g.p i ∙ by_place i (nat_lt i g.p) refl)))
+    present_is : (k : ℕ) (b : BlockPages) → get blocks k ≡ Some b → b.present ≡ chosen_of Mapped g (packed_entries g pages blocks) k
+    present_is k b at = same_from_bits b.present (chosen_of Mapped g (packed_entries g pages blocks) k)
+        (λ i. bit_is b.present (chosen_of Mapped g (packed_entries g pages blocks) k) i
+        (sym (bit_of_set (λ n. is_chosen Mapped (get (packed_entries g pages blocks) (k * g.p + n))) g.p i ∙ by_place i (nat_lt i g.p) refl)))
       where
         shown : (i : ℕ) (c : Bool) → is_chosen Mapped (then_some c (record { place = record { block = b.block; page = i }; dirty = has_bit b.dirty i; block_mapped = true })) ≡ c
         shown i true = refl
         shown i false = refl
 
-        by_place : (i : ℕ) (c : Bool) → nat_lt i g.p ≡ c → (c && is_chosen Mapped (get (entries_of g pages blocks) (k * g.p + i))) ≡ has_bit b.present i
+        by_place : (i : ℕ) (c : Bool) → nat_lt i g.p ≡ c → (c && is_chosen Mapped (get (packed_entries g pages blocks) (k * g.p + i))) ≡ has_bit b.present i
         by_place i true low = mapped_is k i (is_low i low) ∙ ap (λ o. is_chosen Mapped (page_in o i)) at ∙ shown i (has_bit b.present i)
         by_place i false past = sym (all.below k b at i (is_past i past))
 
-    dirty_pages_are : (k : ℕ) (b : BlockPages) → get blocks k ≡ Some b → b.dirty ≡ chosen_of MappedDirty g (entries_of g pages blocks) k
-    dirty_pages_are k b at = same_from_bits b.dirty (chosen_of MappedDirty g (entries_of g pages blocks) k)
-        (λ i. bit_is b.dirty (chosen_of MappedDirty g (entries_of g pages blocks) k) i
-        (sym (bit_of_set (λ n. is_chosen MappedDirty (get (entries_of g pages blocks) (k * g.p + n))) g.p i ∙ by_place i (nat_lt i g.p) refl)))
+    dirty_pages_are : (k : ℕ) (b : BlockPages) → get blocks k ≡ Some b → b.dirty ≡ chosen_of MappedDirty g (packed_entries g pages blocks) k
+    dirty_pages_are k b at = same_from_bits b.dirty (chosen_of MappedDirty g (packed_entries g pages blocks) k)
+        (λ i. bit_is b.dirty (chosen_of MappedDirty g (packed_entries g pages blocks) k) i
+        (sym (bit_of_set (λ n. is_chosen MappedDirty (get (packed_entries g pages blocks) (k * g.p + n))) g.p i ∙ by_place i (nat_lt i g.p) refl)))
       where
         within : (i : ℕ) → has_bit b.dirty i ≡ true → has_bit b.present i ≡ true
         within i t = (all.sound k b at).within i t
@@ -451,11 +451,11 @@ module _ (g : Geometry) where
         none true c of f = sym (of refl) ∙ f
         none false c of f = refl
 
-        by_place : (i : ℕ) (c : Bool) → nat_lt i g.p ≡ c → (c && is_chosen MappedDirty (get (entries_of g pages blocks) (k * g.p + i))) ≡ has_bit b.dirty i
+        by_place : (i : ℕ) (c : Bool) → nat_lt i g.p ≡ c → (c && is_chosen MappedDirty (get (packed_entries g pages blocks) (k * g.p + i))) ≡ has_bit b.dirty i
         by_place i true low = dirty_is k i (is_low i low) ∙ ap (λ o. is_chosen MappedDirty (page_in o i)) at ∙ shown i (has_bit b.present i) (has_bit b.dirty i) (within i)
         by_place i false past = sym (none (has_bit b.dirty i) (has_bit b.present i) (within i) (all.below k b at i (is_past i past)))
 
-    pub data_block_is : (k : ℕ) (b : BlockPages) → get blocks k ≡ Some b → IsDataBlock g (entries_of g pages blocks) k b
+    pub data_block_is : (k : ℕ) (b : BlockPages) → get blocks k ≡ Some b → IsDataBlock g (packed_entries g pages blocks) k b
     data_block_is k b at = record {
       stands = λ a e is mapped in_group. by_log a e in_group mapped (get pages a) (sym (get_held pages blocks a) ∙ is);
       present = present_is k b at;
@@ -471,23 +471,23 @@ module _ (g : Geometry) where
         by_log a e in_group mapped None s = of_page a e (has_bit b.present (a % g.p)) (sym (ap (λ o. page_in o (a % g.p)) (ap (get blocks) in_group ∙ at)) ∙ s)
         by_log a e in_group mapped (Some x) s = absurd (both_ways e.block_mapped (ap (λ (y : Entry). y.block_mapped) (sym (same_Some (in_log_block x.place x.dirty) e s))) mapped)
 
-    pub no_data_block : (k : ℕ) → get blocks k ≡ None → chosen_of Mapped g (entries_of g pages blocks) k ≡ 0
-    no_data_block k none = set_of_none (λ i. is_chosen Mapped (get (entries_of g pages blocks) (k * g.p + i))) g.p (λ i low. mapped_is k i low ∙ ap (λ o. is_chosen Mapped (page_in o i)) none)
+    pub no_data_block : (k : ℕ) → get blocks k ≡ None → chosen_of Mapped g (packed_entries g pages blocks) k ≡ 0
+    no_data_block k none = set_of_none (λ i. is_chosen Mapped (get (packed_entries g pages blocks) (k * g.p + i))) g.p (λ i low. mapped_is k i low ∙ ap (λ o. is_chosen Mapped (page_in o i)) none)
 
-  pub block_found : (pages : Pages) (blocks : Blocks) → AreBlocks g blocks → AreDisjoint g pages blocks → (k : ℕ) (o : Option BlockPages) → o ≡ get blocks k → IfSome o (IsDataBlock g (entries_of g pages blocks) k)
+  pub block_found : (pages : Pages) (blocks : Blocks) → AreBlocks g blocks → AreDisjoint g pages blocks → (k : ℕ) (o : Option BlockPages) → o ≡ get blocks k → IfSome o (IsDataBlock g (packed_entries g pages blocks) k)
   block_found pages blocks all apart k None is = tt
   block_found pages blocks all apart k (Some b) is = data_block_is pages blocks all apart k b (sym is)
 
-  pub block_not_found : (pages : Pages) (blocks : Blocks) → AreBlocks g blocks → AreDisjoint g pages blocks → (k : ℕ) (o : Option BlockPages) → o ≡ get blocks k → IfNone o (chosen_of Mapped g (entries_of g pages blocks) k ≡ 0)
+  pub block_not_found : (pages : Pages) (blocks : Blocks) → AreBlocks g blocks → AreDisjoint g pages blocks → (k : ℕ) (o : Option BlockPages) → o ≡ get blocks k → IfNone o (chosen_of Mapped g (packed_entries g pages blocks) k ≡ 0)
   block_not_found pages blocks all apart k None is = no_data_block pages blocks all apart k (sym is)
   block_not_found pages blocks all apart k (Some b) is = tt
 
   -- a group without entries has no data block
-  pub block_absent : (pages : Pages) (blocks : Blocks) → AreBlocks g blocks → AreDisjoint g pages blocks → (k : ℕ) → ((i : ℕ) → i < g.p → get (entries_of g pages blocks) (k * g.p + i) ≡ None) → get blocks k ≡ None
+  pub block_absent : (pages : Pages) (blocks : Blocks) → AreBlocks g blocks → AreDisjoint g pages blocks → (k : ℕ) → ((i : ℕ) → i < g.p → get (packed_entries g pages blocks) (k * g.p + i) ≡ None) → get blocks k ≡ None
   block_absent pages blocks all apart k free = by_block (get blocks k) refl
     where
-      empty_set : chosen_of Mapped g (entries_of g pages blocks) k ≡ 0
-      empty_set = set_of_none (λ i. is_chosen Mapped (get (entries_of g pages blocks) (k * g.p + i))) g.p (λ i low. ap (is_chosen Mapped) (free i low))
+      empty_set : chosen_of Mapped g (packed_entries g pages blocks) k ≡ 0
+      empty_set = set_of_none (λ i. is_chosen Mapped (get (packed_entries g pages blocks) (k * g.p + i))) g.p (λ i low. ap (is_chosen Mapped) (free i low))
 
       by_block : (o : Option BlockPages) → get blocks k ≡ o → o ≡ None
       by_block None at = refl

@@ -35,8 +35,8 @@ abbrev pub with_logs : Geometry → List (ℕ × MappedPage) → Entries → Ent
 with_logs g [] m = m
 with_logs g (x ∷ xs) m = after g (page_record x) (with_logs g xs m)
 
-unfoldable pub entries_of : Geometry → Pages → Blocks → Entries
-entries_of g pages blocks = with_logs g (entries pages) (with_data_blocks g (entries blocks))
+unfoldable pub packed_entries : Geometry → Pages → Blocks → Entries
+packed_entries g pages blocks = with_logs g (entries pages) (with_data_blocks g (entries blocks))
 
 -- the entry of a page of a data block, where there is one
 abbrev pub page_in : Option BlockPages → ℕ → Option Entry

@@ -36,7 +36,7 @@ impl Model for Held {
     ghost use Rattle.sparse_map.specs.Packed.{map_of, buckets_of};
     ghost use Rattle.sparse_map.specs.Slots.{items_of};
     ghost use Rattle.mapping.specs.MapValue.{entries_code};
-    ghost use Rattle.mapping.specs.Packed.{HeldValue, entries_of, records_of, IsPackedMap};
+    ghost use Rattle.mapping.specs.Packed.{HeldValue, packed_entries, records_of, IsPackedMap};
 
     ghost Value = { HeldValue };
 
@@ -44,11 +44,11 @@ impl Model for Held {
 
     ghost view = { λ h. record {
       geometry = h.geometry;
-      entries = entries_of h.geometry (map_of h.pages) (map_of h.blocks);
+      entries = packed_entries h.geometry (map_of h.pages) (map_of h.blocks);
       spare_pages = h.pages.spare;
       spare_blocks = h.blocks.spare;
       records = records_of h.geometry
-          (entries_of h.geometry (map_of h.pages) (map_of h.blocks)) (items_of h.pages.slots) (items_of h.blocks.slots);
+          (packed_entries h.geometry (map_of h.pages) (map_of h.blocks)) (items_of h.pages.slots) (items_of h.blocks.slots);
       buckets = buckets_of h.pages;
       group_buckets = buckets_of h.blocks;
     } };

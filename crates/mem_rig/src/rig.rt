@@ -2,7 +2,7 @@ ghost use Rattle.std.specs.Prelude.{◌≡◌, ◌≤◌, ℕ, false, []};
 ghost use Rattle.ft_base.specs.Count.{last_count};
 ghost use Rattle.nand_model.specs.Nand.{flash_of, nand_blocks, nand_pages, HasRoom};
 ghost use Rattle.nand_model.specs.Nand as nand_numbers;
-ghost use Rattle.disk_model.specs.Disk.{disk_of, size_of};
+ghost use Rattle.disk_model.specs.Disk.{disk_lists, size_of};
 ghost use Rattle.disk_model.specs.Disk as disk_numbers;
 ghost use Rattle.mem_rig.specs.Off.{IsUnready, IsSettled};
 ghost use Rattle.mem_rig.specs.Steps.{disk_beside, flash_beside, cuts_left};
@@ -27,7 +27,7 @@ pub struct MemRig {
     cuts: u64,
     ghost cuts_small: { cuts ≤ last_count },
     ghost unready: { supply.on ≡ false → IsUnready (flash_of nand) },
-    ghost settled: { supply.on ≡ false → IsSettled (disk_of disk) },
+    ghost settled: { supply.on ≡ false → IsSettled (disk_lists disk) },
 }
 
 impl MemRig {
@@ -329,7 +329,7 @@ impl MemRig {
 
 /// The disk after a device write of the flash: settled where that was cut.
 fn settle_beside(disk: &mut MemDisk, ending: Ending)
-    ensures disk { disk_of disk.new ≡ disk_beside ending (disk_of disk.old) }
+    ensures disk { disk_lists disk.new ≡ disk_beside ending (disk_lists disk.old) }
     ensures size { size_of disk.new ≡ size_of disk.old }
     ensures numbers { disk_numbers.SameNumbers disk.old disk.new }
 {

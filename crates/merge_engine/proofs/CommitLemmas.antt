@@ -16,7 +16,7 @@ use Rattle.op_log.specs.Log.{LogValue, FitsOn}
 use Rattle.checkpoint.specs.Commits.{CanCheckpoint}
 use Rattle.checkpoint.specs.Current.{IsCommitted, PoolStays, PoolReadyStays, LoadsOneOf}
 use Rattle.checkpoint.proofs.SealedLemmas.{current_map}
-use Rattle.log_blocks.specs.Logs.{next_place}
+use Rattle.log_blocks.specs.Logs.{append_place}
 use Rattle.merge_engine.specs.declared.parts.Parts.{Parts}
 use Rattle.merge_engine.proofs.BesideLemmas.{held_same}
 use Rattle.merge_engine.proofs.RoleLemmas.{open_in_use}
@@ -100,7 +100,7 @@ module _ (old : Parts) (log : LogValue) (checkpoints : Geometry) (before now : C
       roles = record { data_blocks = sound.roles.data_blocks; log_blocks = sound.roles.log_blocks; in_pool = sound.roles.in_pool; page_mapped = sound.roles.page_mapped };
       log_blocks = sound.log_blocks;
       open_block = λ room.
-          let block = (next_place old.log_blocks).block in
+          let block = (append_place old.log_blocks).block in
           let within = sound.roles.in_pool block (open_in_use old.log_blocks sound.log_blocks room) in
           subst (λ (h : Geometry). PoolReadyStays h before.flash now.flash) own ready block within.0 ∙ sound.open_block room;
     };

@@ -25,7 +25,7 @@ use Rattle.cache_model.specs.Spelling.{spelled_spare, spare_fields}
 use Rattle.cache_model.specs.CacheList.{CacheList}
 use Rattle.cache_model.proofs.LoadLemmas.{set_page-other}
 use Rattle.block_pool.specs.Pool.{IsFree, IsInPool}
-use Rattle.log_blocks.specs.Logs.{IsInUse, next_place}
+use Rattle.log_blocks.specs.Logs.{IsInUse, append_place}
 use Rattle.mapping.specs.declared.bits.Choice.TheVariants.{Held}
 use Rattle.mapping.specs.Bits.{set_of, is_chosen, chosen_of}
 use Rattle.mapping.proofs.BitsLemmas.{set_below}
@@ -61,7 +61,7 @@ module _ (parts : Parts) (old new : Contents) (agree : PartsAgree parts old) (at
       agree_beside parts old new agree (beside leaves) parts.pool parts.log_blocks shape
       (λ b low. others b (λ same. absurd (omega (arith, same))))
       agree.sound.of_one agree.sound.roles agree.sound.log_blocks
-      (λ some. others (next_place parts.log_blocks).block (λ same. free_not_in_use parts agree.sound.of_one agree.sound.roles at.block free (subst (λ b. IsInUse parts.log_blocks b) (sym same) (open_in_use parts.log_blocks agree.sound.log_blocks some))) ∙ agree.sound.open_block some)
+      (λ some. others (append_place parts.log_blocks).block (λ same. free_not_in_use parts agree.sound.of_one agree.sound.roles at.block free (subst (λ b. IsInUse parts.log_blocks b) (sym same) (open_in_use parts.log_blocks agree.sound.log_blocks some))) ∙ agree.sound.open_block some)
 
 -- ---- one page is copied
 

@@ -18,7 +18,7 @@ use Rattle.mapping.specs.Numbers.{StandsNoneIn}
 use Rattle.checkpoint.specs.Counts.{programs_counted}
 use Rattle.checkpoint.specs.Current.{PoolStays}
 use Rattle.block_pool.specs.Pool.{PoolValue, IsFree, IsInPool, role_of}
-use Rattle.log_blocks.specs.Logs.{IsInUse, next_place}
+use Rattle.log_blocks.specs.Logs.{IsInUse, append_place}
 use Rattle.silent_evict.specs.Candidates.{IsGroupHeld}
 use Rattle.merge_engine.specs.declared.parts.Parts.{Parts}
 use Rattle.merge_engine.specs.Agreement.{PartsAgree, IsOpenBlock, Lists, RolesAgree}
@@ -64,7 +64,7 @@ module _ (parts : Parts) (old new : Contents) (agree : PartsAgree parts old) (no
       }
 
   opened : IsOpenBlock parts.log_blocks new.flash
-  opened = λ some. next_other (next_place parts.log_blocks).block (λ is. free_not_in_use parts agree.sound.of_one agree.sound.roles block free (subst (λ n. IsInUse parts.log_blocks n) (sym is) (open_in_use parts.log_blocks agree.sound.log_blocks some))) ∙ agree.sound.open_block some
+  opened = λ some. next_other (append_place parts.log_blocks).block (λ is. free_not_in_use parts agree.sound.of_one agree.sound.roles block free (subst (λ n. IsInUse parts.log_blocks n) (sym is) (open_in_use parts.log_blocks agree.sound.log_blocks some))) ∙ agree.sound.open_block some
 
   pub agree_taken : PartsAgree (record parts { pool = pool }) new
   agree_taken = agree_beside parts old new agree beside pool parts.log_blocks shape (λ b low. next_other b (λ is. let high = in_pool.0 in absurd (omega arith))) (of_one_roles parts pool same agree.sound.of_one) roles_taken agree.sound.log_blocks opened

@@ -8,7 +8,7 @@ use Rattle.mapping.specs.Numbers.{StandsNoneIn}
 use Rattle.block_pool.specs.Pool.{IsFree, IsInPool, role_of}
 use Rattle.block_pool.specs.declared.pool.Role.TheVariants.{Free, Data, Log}
 use Rattle.ft_base.specs.declared.geometry.Geometry.{Geometry}
-use Rattle.log_blocks.specs.Logs.{LogBlocksValue, IsInUse, last_of, next_place}
+use Rattle.log_blocks.specs.Logs.{LogBlocksValue, IsInUse, last_of, append_place}
 use Rattle.log_blocks.specs.Logs as list
 use Rattle.log_blocks.proofs.LogsLemmas.{is_in-at}
 use Rattle.merge_engine.specs.declared.parts.Parts.{Parts}
@@ -45,7 +45,7 @@ log_page_mapped parts roles a e is used mapped =
     cc
 
 -- where the open log block has a page left, it is one of those in use
-pub open_in_use : (logs : LogBlocksValue) → list.AreSoundLogs logs → 1 ≤ logs.room → IsInUse logs (next_place logs).block
+pub open_in_use : (logs : LogBlocksValue) → list.AreSoundLogs logs → 1 ≤ logs.room → IsInUse logs (append_place logs).block
 open_in_use logs sound some = at logs.open_block refl sound.last
   where
     at : (o : Option ℕ) → logs.open_block ≡ o → IfSome o (λ b. last_of logs.used ≡ Some b) → IsInUse logs (unwrap_or logs.open_block 0)

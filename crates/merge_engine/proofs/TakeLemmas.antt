@@ -12,7 +12,7 @@ use Rattle.cache_model.specs.Entries.{IsMap}
 use Rattle.cache_model.specs.CacheList.{CacheList}
 use Rattle.mapping.specs.Numbers.{StandsNoneIn}
 use Rattle.block_pool.specs.Pool.{IsFree, IsInPool}
-use Rattle.log_blocks.specs.Logs.{block_begun, next_place}
+use Rattle.log_blocks.specs.Logs.{block_begun, append_place}
 use Rattle.log_blocks.specs.Logs as list
 use Rattle.merge_engine.specs.declared.parts.Parts.{Parts}
 use Rattle.merge_engine.specs.Agreement.{PartsAgree, AreOfOne, IsOpenBlock, Lists, RolesAgree}
@@ -64,5 +64,5 @@ module _ (parts : Parts) (old new : Contents) (agree : PartsAgree parts old) (no
 
       opened : IsOpenBlock (block_begun block parts.log_blocks) new.flash
       opened = λ some.
-          let first : 0 ≡ (next_place (block_begun block parts.log_blocks)).page = omega arith in
+          let first : 0 ≡ (append_place (block_begun block parts.log_blocks)).page = omega arith in
           ap (λ (f : Flash). f.next block) ok ∙ set_here old.flash.next block (Some 0) ∙ ap Some first

@@ -14,7 +14,7 @@ use Rattle.op_log.specs.Log.{FitsOn}
 use Rattle.checkpoint.specs.Current.{IsCurrent, AreWhole, IsOpenLog}
 use Rattle.block_pool.specs.Pool.{IsInPool, role_of}
 use Rattle.block_pool.specs.declared.pool.Role.TheVariants.{Data, Log}
-use Rattle.log_blocks.specs.Logs.{LogBlocksValue, IsInUse, next_place}
+use Rattle.log_blocks.specs.Logs.{LogBlocksValue, IsInUse, append_place}
 use Rattle.log_blocks.specs.Logs as list
 use Rattle.merge_engine.specs.declared.parts.Parts.{Parts}
 
@@ -45,7 +45,7 @@ pub record RolesAgree (parts : Parts) : Type 0 where
 
 -- where the open log block has a page left, that page is the next one of an erase block that is ready
 abbrev pub IsOpenBlock : LogBlocksValue → Flash → Type 0
-IsOpenBlock logs flash = 1 ≤ logs.room → flash.next (next_place logs).block ≡ Some (next_place logs).page
+IsOpenBlock logs flash = 1 ≤ logs.room → flash.next (append_place logs).block ≡ Some (append_place logs).page
 
 -- the parts agree with the flash, but for the pages of the log that are left
 pub record ArePartsSound (parts : Parts) (contents : Contents) : Type 0 where

@@ -1,7 +1,7 @@
 ghost use Rattle.std.specs.Prelude.{◌≡◌, ◌<◌, ◌≤◌, length, Some, IfSome};
 ghost use Rattle.std.specs.Bool.{OnTrue};
 ghost use Rattle.mem_rig.specs.Rig.{state_of};
-ghost use Rattle.log_blocks.specs.Logs.{IsInUse, is_in, next_place};
+ghost use Rattle.log_blocks.specs.Logs.{IsInUse, is_in, append_place};
 
 use ft_base::{Geometry, Place, Spare, zero_block};
 use ft_media::{MediaError, PageRead};
@@ -117,9 +117,9 @@ fn release(logs: &mut LogBlocks, block: u32) -> bool
 }
 
 /// The page of the open block to program next, where there is one.
-fn next_place(logs: &LogBlocks, geometry: &Geometry) -> Option<Place>
+fn append_place(logs: &LogBlocks, geometry: &Geometry) -> Option<Place>
     requires { logs.now.geometry ≡ geometry.now }
-    ensures place { IfSome result (λ at. at ≡ next_place logs.now) }
+    ensures place { IfSome result (λ at. at ≡ append_place logs.now) }
     ensures room { IfSome result (λ at. 1 ≤ logs.now.room) }
 {
     let room = logs.room();
@@ -159,7 +159,7 @@ fn append(
     if rig.flash_pages() != geometry.p {
         return None;
     }
-    let at = next_place(logs, geometry)?;
+    let at = append_place(logs, geometry)?;
     if !is_ready(rig, at) {
         return None;
     }

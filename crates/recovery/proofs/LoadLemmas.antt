@@ -11,7 +11,7 @@ use Rattle.ft_media.specs.Reads.{ReadsFlash}
 use Rattle.ft_media.proofs.DrivesLemmas.{reads_then}
 use Rattle.cache_model.specs.declared.format.PageKind.TheVariants.{Log, Map}
 use Rattle.cache_model.specs.Records.{Entries, no_entries}
-use Rattle.cache_model.specs.Loading.{Refusal, ◌>>=◌, Complete, pages_from, after_pages, log_region, checkpoint_of, replayed, entries_of, all_whole, load}
+use Rattle.cache_model.specs.Loading.{Refusal, ◌>>=◌, Complete, pages_from, after_pages, log_region, checkpoint_of, replayed, replayed_entries, all_whole, load}
 use Rattle.op_log.specs.declared.error.OpenError.{OpenError}
 use Rattle.op_log.specs.declared.error.OpenError.TheVariants.{NotFormatted, OtherGeometry, Damaged, FlashFault, DiskFault, PowerLost, OutOfMemory}
 use Rattle.op_log.specs.Refusals.{IsRefusal, open_failed, open_lost}
@@ -45,23 +45,23 @@ module _ (g : Geometry) (page : Place → Page) (c : ℕ × Complete) (within : 
 
 pub find_refused : (g : Geometry) (page : Place → Page) (e : OpenError) → IsRefusal g e (checkpoint_of g page) → IsRefusal g e (load g page)
 unfolding load
-find_refused g page e is = bind_refused g e (entries_of g page) (λ m. all_whole page (entries m) m) (bind_refused g e (checkpoint_of g page) (replayed g page) is)
+find_refused g page e is = bind_refused g e (replayed_entries g page) (λ m. all_whole page (entries m) m) (bind_refused g e (checkpoint_of g page) (replayed g page) is)
 
 module _ (g : Geometry) (page : Place → Page) (c : ℕ × Complete) (there : checkpoint_of g page ≡ Ok c) (page' : Place → Page) (pages : page' ≡ page) where
   pub replay_refused : (e : OpenError) → IsRefusal g e (replayed g page' c) → IsRefusal g e (load g page)
   unfolding load
   replay_refused e is =
-      bind_refused g e (entries_of g page) (λ m. all_whole page (entries m) m)
+      bind_refused g e (replayed_entries g page) (λ m. all_whole page (entries m) m)
       (then_refused g e (checkpoint_of g page) c (replayed g page) there (subst (λ (p : Place → Page). IsRefusal g e (replayed g p c)) pages is))
 
   module _ (m : Entries) (replay : replayed g page' c ≡ Ok m) where
-    entries_are : entries_of g page ≡ Ok m
+    entries_are : replayed_entries g page ≡ Ok m
     entries_are = ap (λ r. r >>= replayed g page) there ∙ ap (λ (p : Place → Page). replayed g p c) (sym pages) ∙ replay
 
     module _ (page'' : Place → Page) (pages' : page'' ≡ page) where
       pub places_refused : (e : OpenError) → IsRefusal g e (all_whole page'' (entries m) m) → IsRefusal g e (load g page)
       unfolding load
-      places_refused e is = then_refused g e (entries_of g page) m (λ n. all_whole page (entries n) n) entries_are (subst (λ (p : Place → Page). IsRefusal g e (all_whole p (entries m) m)) pages' is)
+      places_refused e is = then_refused g e (replayed_entries g page) m (λ n. all_whole page (entries n) n) entries_are (subst (λ (p : Place → Page). IsRefusal g e (all_whole p (entries m) m)) pages' is)
 
       pub places_whole : all_whole page'' (entries m) m ≡ Ok m → load g page ≡ Ok m
       unfolding load

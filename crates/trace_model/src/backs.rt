@@ -2,7 +2,7 @@
 ghost use Rattle.std.specs.Prelude.{◌≡◌, ◌≤◌, ◌<◌, ◌+◌, ◌-◌, ◌^◌, ◌/◌, IfOk, min};
 ghost use Rattle.ft_base.specs.Table as dirty;
 ghost use Rattle.trace_model.specs.PlainTable.{plain_table};
-ghost use Rattle.trace_model.specs.Plan.{told_of};
+ghost use Rattle.trace_model.specs.Plan.{plan_told};
 ghost use Rattle.trace_model.specs.Backs as backs;
 ghost use Rattle.trace_model.specs.Plain.{AreAddressed, IsAddressed};
 
@@ -32,7 +32,7 @@ pub(crate) struct Walk {
 /// How many blocks these lines write to the disk. The run has its newest line first.
 pub fn plain_backs(alloc: Global, plan: &Plan, run: &[Ran]) -> Result<u64, AllocError>
     requires { AreAddressed run.now }
-    ensures { IfOk result (λ n. n ≡ min (backs.backs_in (told_of plan.now) run.now) (2 ^ 64 - 1)) }
+    ensures { IfOk result (λ n. n ≡ min (backs.backs_in (plan_told plan.now) run.now) (2 ^ 64 - 1)) }
 {
     let walk = walk_lines(alloc, plan, run)?;
     Ok(walk.backs)
@@ -41,8 +41,8 @@ pub fn plain_backs(alloc: Global, plan: &Plan, run: &[Ran]) -> Result<u64, Alloc
 /// The table after these lines, and how many blocks they wrote to the disk in write-back.
 fn walk_lines(alloc: Global, plan: &Plan, run: &[Ran]) -> Result<Walk, AllocError>
     requires { AreAddressed run.now }
-    ensures table { IfOk result (λ w. plain_table w.table.items ≡ backs.table_after_lines (told_of plan.now) run.now) }
-    ensures backs { IfOk result (λ w. w.backs ≡ min (backs.backs_in (told_of plan.now) run.now) (2 ^ 64 - 1)) }
+    ensures table { IfOk result (λ w. plain_table w.table.items ≡ backs.table_after_lines (plan_told plan.now) run.now) }
+    ensures backs { IfOk result (λ w. w.backs ≡ min (backs.backs_in (plan_told plan.now) run.now) (2 ^ 64 - 1)) }
 {
     match run {
         [] => Ok(Walk {
@@ -59,8 +59,8 @@ fn walk_lines(alloc: Global, plan: &Plan, run: &[Ran]) -> Result<Walk, AllocErro
 fn walk_line(alloc: Global, plan: &Plan, line: &Line, before: Walk) -> Result<Walk, AllocError>
     requires { IsAddressed line.now }
     ensures table { IfOk result (λ w. plain_table w.table.items ≡
-        backs.table_line (told_of plan.now) line.now (plain_table before.table.items)) }
-    ensures backs { IfOk result (λ w. w.backs ≡ min (before.backs + backs.backs_line (told_of plan.now) line.now
+        backs.table_line (plan_told plan.now) line.now (plain_table before.table.items)) }
+    ensures backs { IfOk result (λ w. w.backs ≡ min (before.backs + backs.backs_line (plan_told plan.now) line.now
         (plain_table before.table.items)) (2 ^ 64 - 1)) }
 {
     match *line {
@@ -78,9 +78,9 @@ fn walk_blocks(
     before: Walk,
 ) -> Result<Walk, AllocError>
     requires { lba + count < 2 ^ 64 }
-    ensures table { IfOk result (λ w. plain_table w.table.items ≡ backs.table_blocks (told_of plan.now) lba count
+    ensures table { IfOk result (λ w. plain_table w.table.items ≡ backs.table_blocks (plan_told plan.now) lba count
         (plain_table before.table.items)) }
-    ensures backs { IfOk result (λ w. w.backs ≡ min (before.backs + backs.backs_blocks (told_of plan.now) lba count
+    ensures backs { IfOk result (λ w. w.backs ≡ min (before.backs + backs.backs_blocks (plan_told plan.now) lba count
         (plain_table before.table.items)) (2 ^ 64 - 1)) }
 {
     let mut walk = before;
@@ -92,9 +92,9 @@ fn walk_blocks(
 
 /// One block is written: where its group is new and there are as many as may be, the oldest goes first.
 fn write(alloc: Global, plan: &Plan, lba: u64, before: Walk) -> Result<Walk, AllocError>
-    ensures table { IfOk result (λ w. plain_table w.table.items ≡ dirty.table_written plan.now.mode (told_of plan.now) lba
+    ensures table { IfOk result (λ w. plain_table w.table.items ≡ dirty.table_written plan.now.mode (plan_told plan.now) lba
         (plain_table before.table.items)) }
-    ensures backs { IfOk result (λ w. w.backs ≡ min (before.backs + dirty.backs_written plan.now.mode (told_of plan.now) lba
+    ensures backs { IfOk result (λ w. w.backs ≡ min (before.backs + dirty.backs_written plan.now.mode (plan_told plan.now) lba
         (plain_table before.table.items)) (2 ^ 64 - 1)) }
 {
     match plan.mode {
@@ -107,9 +107,9 @@ fn write(alloc: Global, plan: &Plan, lba: u64, before: Walk) -> Result<Walk, All
 }
 
 fn write_back(alloc: Global, plan: &Plan, lba: u64, before: Walk) -> Result<Walk, AllocError>
-    ensures table { IfOk result (λ w. plain_table w.table.items ≡ dirty.table_written Mode.Back (told_of plan.now) lba
+    ensures table { IfOk result (λ w. plain_table w.table.items ≡ dirty.table_written Mode.Back (plan_told plan.now) lba
         (plain_table before.table.items)) }
-    ensures backs { IfOk result (λ w. w.backs ≡ min (before.backs + dirty.backs_written Mode.Back (told_of plan.now) lba
+    ensures backs { IfOk result (λ w. w.backs ≡ min (before.backs + dirty.backs_written Mode.Back (plan_told plan.now) lba
         (plain_table before.table.items)) (2 ^ 64 - 1)) }
 {
     let p = plan.geometry.p() as u64;
@@ -134,8 +134,8 @@ fn put(alloc: Global, p: u64, lba: u64, before: Walk) -> Result<Walk, AllocError
 }
 
 fn idle(alloc: Global, plan: &Plan, before: Walk) -> Result<Walk, AllocError>
-    ensures table { IfOk result (λ w. plain_table w.table.items ≡ dirty.table_idled (told_of plan.now) (plain_table before.table.items)) }
-    ensures backs { IfOk result (λ w. w.backs ≡ min (before.backs + dirty.backs_idled (told_of plan.now) (plain_table before.table.items))
+    ensures table { IfOk result (λ w. plain_table w.table.items ≡ dirty.table_idled (plan_told plan.now) (plain_table before.table.items)) }
+    ensures backs { IfOk result (λ w. w.backs ≡ min (before.backs + dirty.backs_idled (plan_told plan.now) (plain_table before.table.items))
         (2 ^ 64 - 1)) }
 {
     if goes_back(plan, before.table.len()) {

@@ -2,11 +2,11 @@ use Rattle.std.proofs.Common.{◌≡◌, ap, sym, ◌∙◌, ℕ, ◌+◌, ◌*�
 use Rattle.std.specs.FinMap.{get}
 use Rattle.cache_model.specs.Records.{has_bit}
 use Rattle.sparse_map.specs.Packed.{map_of}
-use Rattle.mapping.specs.Packed.{HeldValue, entries_of}
+use Rattle.mapping.specs.Packed.{HeldValue, packed_entries}
 use Rattle.mapping.proofs.PackedLemmas.{block_put, block_put_apart, blocks_more, block_absent, spare_less}
 use Rattle.mapping.proofs.held.Held.put_block.Goals as goal
 
-free : (c : goal.After-insert_ready) (i : ℕ) → i < c.self.inside.geometry.p → get (entries_of c.self.inside.geometry (map_of c.self.inside.pages) (map_of c.self.inside.blocks)) (c.args.group * c.self.inside.geometry.p + i) ≡ None
+free : (c : goal.After-insert_ready) (i : ℕ) → i < c.self.inside.geometry.p → get (packed_entries c.self.inside.geometry (map_of c.self.inside.pages) (map_of c.self.inside.blocks)) (c.args.group * c.self.inside.geometry.p + i) ≡ None
 free c = subst (λ (v : HeldValue). (i : ℕ) → i < v.geometry.p → get v.entries (c.args.group * v.geometry.p + i) ≡ None) (sym c.self.view_is) c.requires.absent
 
 below : (c : goal.After-insert_ready) (i : ℕ) → c.self.inside.geometry.p ≤ i → has_bit c.args.block.present i ≡ false

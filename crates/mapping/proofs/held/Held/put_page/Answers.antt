@@ -1,11 +1,11 @@
 use Rattle.std.proofs.Common.{◌≡◌, ◌≤◌, subst, ap, sym, ◌∙◌, None, ◌^◌}
 use Rattle.std.specs.FinMap.{get}
 use Rattle.sparse_map.specs.Packed.{map_of}
-use Rattle.mapping.specs.Packed.{HeldValue, entries_of}
+use Rattle.mapping.specs.Packed.{HeldValue, packed_entries}
 use Rattle.mapping.proofs.PackedLemmas.{page_put, page_put_apart, page_absent, spare_less}
 use Rattle.mapping.proofs.held.Held.put_page.Goals as goal
 
-absent : (c : goal.After-insert_ready) → get (entries_of c.self.inside.geometry (map_of c.self.inside.pages) (map_of c.self.inside.blocks)) c.args.lba ≡ None
+absent : (c : goal.After-insert_ready) → get (packed_entries c.self.inside.geometry (map_of c.self.inside.pages) (map_of c.self.inside.blocks)) c.args.lba ≡ None
 absent c = ap (λ (v : HeldValue). get v.entries c.args.lba) c.self.view_is ∙ c.requires.absent
 
 pub invariant_of-self : goal.invariant_of-self

@@ -3,20 +3,20 @@ use Rattle.std.specs.FinMap.{entries}
 use Rattle.std.proofs.lemmas.Result.{on_err_weaker}
 use Rattle.sparse_map.specs.Home.{IsDoubledFor}
 use Rattle.sparse_map.specs.Packed.{map_of, len_of, buckets_of}
-use Rattle.mapping.specs.Packed.{HeldValue, entries_of, AreBlocks, AreDisjoint}
+use Rattle.mapping.specs.Packed.{HeldValue, packed_entries, AreBlocks, AreDisjoint}
 use Rattle.mapping.proofs.ListingLemmas.{few_data_blocks, data_blocks_are, doubled_or_same, blocks_refused}
 use Rattle.mapping.proofs.held.Held.reserve_blocks.Goals as goal
 
 pub reserve-requires : goal.reserve-requires
 reserve-requires c =
     let few = few_data_blocks c.self.inside.geometry c.self.inside.pages c.self.inside.blocks c.self.invariant in
-    let room : length (entries (entries_of c.self.inside.geometry (map_of c.self.inside.pages) (map_of c.self.inside.blocks))) + c.args.blocks ≤ 2 ^ 30 = subst (λ (v : HeldValue). length (entries v.entries) + c.args.blocks ≤ 2 ^ 30) (sym c.self.view_is) c.requires in
+    let room : length (entries (packed_entries c.self.inside.geometry (map_of c.self.inside.pages) (map_of c.self.inside.blocks))) + c.args.blocks ≤ 2 ^ 30 = subst (λ (v : HeldValue). length (entries v.entries) + c.args.blocks ≤ 2 ^ 30) (sym c.self.view_is) c.requires in
     omega (arith, few, room)
 
 pub invariant_of-self : goal.invariant_of-self
 invariant_of-self c =
     let few = few_data_blocks c.self.inside.geometry c.self.inside.pages c.self.inside.blocks c.self.invariant in
-    let room : length (entries (entries_of c.self.inside.geometry (map_of c.self.inside.pages) (map_of c.self.inside.blocks))) + c.args.blocks ≤ 2 ^ 30 = subst (λ (v : HeldValue). length (entries v.entries) + c.args.blocks ≤ 2 ^ 30) (sym c.self.view_is) c.requires in
+    let room : length (entries (packed_entries c.self.inside.geometry (map_of c.self.inside.pages) (map_of c.self.inside.blocks))) + c.args.blocks ≤ 2 ^ 30 = subst (λ (v : HeldValue). length (entries v.entries) + c.args.blocks ≤ 2 ^ 30) (sym c.self.view_is) c.requires in
     record {
       pages_sound = c.self.invariant.pages_sound;
       blocks_sound = c.reserve.ensures.sound;

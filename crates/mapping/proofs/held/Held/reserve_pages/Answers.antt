@@ -3,20 +3,20 @@ use Rattle.std.specs.FinMap.{entries}
 use Rattle.std.proofs.lemmas.Result.{on_err_weaker}
 use Rattle.sparse_map.specs.Home.{IsDoubledFor}
 use Rattle.sparse_map.specs.Packed.{map_of, len_of, buckets_of}
-use Rattle.mapping.specs.Packed.{HeldValue, entries_of, AreDisjoint}
+use Rattle.mapping.specs.Packed.{HeldValue, packed_entries, AreDisjoint}
 use Rattle.mapping.proofs.ListingLemmas.{few_log_pages, log_pages_are, doubled_or_same, pages_refused}
 use Rattle.mapping.proofs.held.Held.reserve_pages.Goals as goal
 
 pub reserve-requires : goal.reserve-requires
 reserve-requires c =
     let few = few_log_pages c.self.inside.geometry c.self.inside.pages c.self.inside.blocks c.self.invariant in
-    let room : length (entries (entries_of c.self.inside.geometry (map_of c.self.inside.pages) (map_of c.self.inside.blocks))) + c.args.pages ≤ 2 ^ 30 = subst (λ (v : HeldValue). length (entries v.entries) + c.args.pages ≤ 2 ^ 30) (sym c.self.view_is) c.requires in
+    let room : length (entries (packed_entries c.self.inside.geometry (map_of c.self.inside.pages) (map_of c.self.inside.blocks))) + c.args.pages ≤ 2 ^ 30 = subst (λ (v : HeldValue). length (entries v.entries) + c.args.pages ≤ 2 ^ 30) (sym c.self.view_is) c.requires in
     omega (arith, few, room)
 
 pub invariant_of-self : goal.invariant_of-self
 invariant_of-self c =
     let few = few_log_pages c.self.inside.geometry c.self.inside.pages c.self.inside.blocks c.self.invariant in
-    let room : length (entries (entries_of c.self.inside.geometry (map_of c.self.inside.pages) (map_of c.self.inside.blocks))) + c.args.pages ≤ 2 ^ 30 = subst (λ (v : HeldValue). length (entries v.entries) + c.args.pages ≤ 2 ^ 30) (sym c.self.view_is) c.requires in
+    let room : length (entries (packed_entries c.self.inside.geometry (map_of c.self.inside.pages) (map_of c.self.inside.blocks))) + c.args.pages ≤ 2 ^ 30 = subst (λ (v : HeldValue). length (entries v.entries) + c.args.pages ≤ 2 ^ 30) (sym c.self.view_is) c.requires in
     record {
       pages_sound = c.reserve.ensures.sound;
       blocks_sound = c.self.invariant.blocks_sound;

@@ -2,7 +2,7 @@ use Rattle.std.proofs.Common.{refl}
 use Rattle.device_calls.specs.declared.ending.Ending.{Ending}
 use Rattle.nand_model.specs.Nand.{flash_of}
 use Rattle.nand_model.specs.Steps.{erase_left}
-use Rattle.disk_model.specs.Disk.{disk_of}
+use Rattle.disk_model.specs.Disk.{disk_lists}
 use Rattle.mem_rig.specs.Supply.{power_of}
 use Rattle.mem_rig.specs.Steps.{disk_beside}
 use Rattle.mem_rig.proofs.OffLemmas.{unready_after, settled_after}
@@ -12,13 +12,13 @@ pub invariant_of-self : goal.invariant_of-self
 invariant_of-self c =
     let old = c.args.self.now in
     let flash = flash_of old.nand in
-    let disk = disk_of old.disk in
+    let disk = disk_lists old.disk in
     record {
       cuts_small = c.cuts_after-self.ensures.small old.cuts_small;
       unready = unready_after c.erase-ending.result c.current-current.result _ (power_of old.supply) (power_of c.count_write.new.self)
           c.erase-ending.ensures.ending c.current-current.ensures c.count_write.ensures (λ (how : Ending). erase_left how flash c.args.block) flash (flash_of c.erase-ending.new.self)
           (λ outcome b. refl) refl c.erase-ending.ensures.flash old.unready;
       settled = settled_after c.erase-ending.result c.current-current.result _ (power_of old.supply) (power_of c.count_write.new.self)
-          c.erase-ending.ensures.ending c.current-current.ensures c.count_write.ensures (λ (how : Ending). disk_beside how disk) disk (disk_of c.settle_beside.new.disk) (λ outcome lba. refl)
+          c.erase-ending.ensures.ending c.current-current.ensures c.count_write.ensures (λ (how : Ending). disk_beside how disk) disk (disk_lists c.settle_beside.new.disk) (λ outcome lba. refl)
           refl c.settle_beside.ensures.disk old.settled;
     }
