@@ -1,7 +1,2 @@
-pub mod AskLemmas
-pub mod BeginLemmas
-pub mod InspectLemmas
-pub mod SilentLemmas
 pub mod StatusLemmas
-pub mod UncutLemmas
 pub mod WordsLemmas

@@ -7,7 +7,8 @@ use Rattle.command_line.specs.Command.{IsGen, Text}
 use Rattle.trace_replay.specs.Causes.{EndHasCause, EndHasCauseUntraced}
 use Rattle.trace_replay.specs.declared.ended.Ended.{Ended}
 use Rattle.trace_replay.specs.declared.ended.Ended.TheVariants.{Trace, Source, Sink, Flash, Disk, Memory}
-use Rattle.flashtier_cli.specs.Status.{RunsEveryLine, StatusHasCause, status_of}
+use Rattle.cache_run.specs.Status.{status_of}
+use Rattle.flashtier_cli.specs.Status.{RunsEveryLine, StatusHasCause}
 use Rattle.flashtier_cli.specs.Words.{ReadsTrace}
 
 pub at_ok : {A : Type 0} (r : Result (Unit {0}) Ended) → OnOk r A → status_of r ≡ 0 → A

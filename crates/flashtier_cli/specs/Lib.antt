@@ -1,5 +1,2 @@
-pub mod Begun
-pub mod Inspected
 pub mod Status
 pub mod Words
-pub mod Fitted

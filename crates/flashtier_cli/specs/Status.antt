@@ -1,22 +1,10 @@
--- How the program ends.
-use Rattle.std.specs.Prelude.{◌≡◌, ◌⊎◌, ℕ, List, Result, Ok, Err}
+-- How the program ends: that a status has its cause, and when every line is run.
+use Rattle.std.specs.Prelude.{◌≡◌, ◌⊎◌, ℕ, List}
 use Rattle.ft_base.specs.Count.{Rose}
 use Rattle.ft_base.specs.StreamState.{SinkState, SourceState}
 use Rattle.ft_base.specs.Told.{Told}
 use Rattle.ft_media.specs.State.{State}
-use Rattle.trace_replay.specs.declared.ended.Ended.{Ended}
-use Rattle.trace_replay.specs.declared.ended.Ended.TheVariants.{Trace, Source, Sink, Flash, Disk, Memory}
 use Rattle.command_line.specs.Command.{IsCommand, IsGen, IsInspect, Text}
-
--- the status of a run that ended so
-abbrev pub status_of : Result (Unit {0}) Ended → ℕ
-status_of (Ok done) = 0
-status_of (Err Trace) = 2
-status_of (Err Source) = 3
-status_of (Err Sink) = 4
-status_of (Err Flash) = 5
-status_of (Err Disk) = 6
-status_of (Err Memory) = 7
 
 -- a status has its cause: where it tells that the source, the sink, the flash or the disk failed, that one's count of faults rose
 pub record StatusHasCause (status : ℕ) (a b : SourceState) (x y : SinkState) (old new : State) : Type 0 where

@@ -1,17 +1,10 @@
 //! The program as a call: words, a source, a sink and a rig in, a status out.
 //!
-//! `main` relies on the clauses of `run` alone.
+//! `main` relies on the clauses of `run` alone. By `default_law` the word `replay` alone says the default options.
 #![tactic(auto)]
 
-mod beginning;
-mod ending;
-mod inspecting;
-mod making;
+mod laws;
 mod program;
-mod replaying;
-mod reporting;
 
-pub use inspecting::inspect_with;
-pub use making::gen_with;
+pub use laws::default_law;
 pub use program::run;
-pub use replaying::replay_with;

@@ -11,16 +11,13 @@ ghost use Rattle.trace_replay.specs.Commands.{Gives, TellsEnd, TellsEndPart, Tel
 ghost use Rattle.trace_replay.specs.Said.{Tells, TellsPart};
 ghost use Rattle.trace_replay.specs.Theorem.{EndsPart, EndsRefused, EndsUnread, RunsWhole};
 ghost use Rattle.command_line.specs.Command.{IsCommand, IsGen, IsInspect};
-ghost use Rattle.flashtier_cli.specs.Fitted.{fitted_for};
-ghost use Rattle.flashtier_cli.specs.Inspected.{EndsInspecting, Inspects, LoadsAs};
-ghost use Rattle.flashtier_cli.specs.Status as status;
+ghost use Rattle.cache_run.specs.Fitted.{fitted_for};
+ghost use Rattle.cache_run.specs.Inspected.{EndsInspecting, Inspects, LoadsAs};
+ghost use Rattle.cache_run.specs.Status as status;
 ghost use Rattle.flashtier_cli.specs.Status.{RunsEveryLine, StatusHasCause};
 ghost use Rattle.flashtier_cli.specs.Words.{ReadsTrace, RefusesWords};
 
-use crate::ending::status_of;
-use crate::inspecting::inspect_with;
-use crate::making::gen_with;
-use crate::replaying::replay_with;
+use cache_run::{gen_with, inspect_with, replay_with, status_of};
 use command_line::{Command, command_of};
 use ft_base::{Sink, Source};
 use ft_media::{Media, Rig};

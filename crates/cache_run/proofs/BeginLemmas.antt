@@ -1,0 +1,204 @@
+-- A run over a new volume, from a run over any volume.
+use Rattle.std.proofs.Common.{◌≡◌, ◌≢◌, ◌⊎◌, inl, inr, ◌≤◌, ◌+◌, ◌&&◌, nat_le, nat_lt, ℕ, true, false, List, [], map, filter, Option, Result, Err, IsErrOf, refl, sym, ap, ◌∙◌, subst}
+use Rattle.std.proofs.lemmas.List.{nil_from_length}
+use Rattle.std.specs.FinMap.{entries, get-empty, len-empty, len-entries}
+use Rattle.std.specs.Option.{is_some}
+use Rattle.std.specs.Ordering.{nat_cmp}
+use Rattle.ft_base.specs.Contents.{Contents, Image}
+use Rattle.ft_base.specs.PlainDisk.{PlainDisk, empty}
+use Rattle.ft_base.specs.StreamState.{SinkState, SourceState}
+use Rattle.ft_base.specs.Table.{table_of}
+use Rattle.ft_base.specs.Told.{Told}
+use Rattle.ft_base.specs.declared.geometry.Geometry.{Geometry}
+use Rattle.ft_base.specs.declared.told.Mode.{Mode}
+use Rattle.cache_model.specs.Cache.{dirty_between}
+use Rattle.cache_model.specs.CacheList.{Held}
+use Rattle.cache_model.specs.Stands.{ImageStandsFor}
+use Rattle.ft_media.specs.Fitted.{KeepsReady}
+use Rattle.ft_media.specs.Passes.{Passes}
+use Rattle.ft_media.specs.State.{State}
+use Rattle.ft_volume.proofs.MediaLemmas.{image_stands}
+use Rattle.ft_volume.specs.Opening.{ImageIs, IsNewestOnDisk, IsOpened, nothing_held}
+use Rattle.ft_volume.specs.Volume.{VolumeState, told_for}
+use Rattle.ft_volume.specs.Standing.{StandFor}
+use Rattle.ft_volume.specs.declared.options.Options.{Options}
+use Rattle.trace_model.specs.declared.line.Line.{Line}
+use Rattle.trace_model.specs.Readings.{Reads}
+use Rattle.trace_replay.proofs.FromLemmas.{part_from, refused_from, unread_from, whole_from}
+use Rattle.trace_replay.specs.Before.{IsBefore}
+use Rattle.trace_replay.specs.Causes.{EndHasCause, EndHasCauseUntraced, KeepsLentUntraced}
+use Rattle.trace_replay.specs.Lent.{KeepsLent}
+use Rattle.trace_replay.specs.Commands.{Gives, TellsEnd, TellsEndPart}
+use Rattle.trace_replay.specs.AsMade.{IsAsMade}
+use Rattle.trace_replay.specs.Said.{Tells, TellsPart}
+use Rattle.trace_replay.specs.Theorem.{EndsPart, EndsRefused, EndsUnread, RunsWhole}
+use Rattle.trace_replay.specs.declared.ended.Ended.{Ended}
+use Rattle.trace_replay.specs.declared.ended.Ended.TheVariants.{Trace, Source, Sink, Flash, Disk, Memory}
+use Rattle.cache_run.specs.Begun.{Begins, IsNewVolume}
+use Rattle.cache_run.specs.Fitted.{fitted_for}
+use Rattle.trace_replay.proofs.ExitLemmas.{rose_later}
+
+-- ---- a new volume
+
+-- nothing is dirty in a cache that holds nothing
+pub table_none : (p size : ℕ) → table_of p [] (dirty_between 0 size nothing_held) ≡ []
+table_none p size =
+    let none : entries nothing_held ≡ [] = nil_from_length (entries nothing_held) (sym (len-entries nothing_held) ∙ len-empty nat_cmp Held) in
+    ap (λ (es : List (ℕ × Held)). table_of p [] (map (λ x. x.0) (filter (λ x. x.1.dirty && nat_le 0 x.0 && nat_lt x.0 (0 + size)) es))) none
+
+-- a rig that was fitted, and what a volume that is made on it makes of it
+module _ (g : Geometry) (old made now : State) (fit : made ≡ fitted_for g old) where
+  newest_none : IsNewestOnDisk g made.contents empty
+  newest_none a low = ap (λ (x : State). (x.contents.disk a).newest) fit
+
+  stays_on : Passes made now false → now.power.on ≡ true
+  stays_on passes = (passes.stayed (ap (λ (x : State). x.power.on) fit) refl).on
+
+  stays_unarmed : Passes made now false → now.power.stops ≡ []
+  stays_unarmed passes = (passes.stayed (ap (λ (x : State). x.power.on) fit) refl).stops ∙ ap (λ (x : State). x.power.stops) fit
+
+  before_new : now.counts.disk_reads ≡ made.counts.disk_reads → now.counts.disk_writes ≡ made.counts.disk_writes → made.faults.cuts ≤ now.faults.cuts → Passes made now false → KeepsReady made now → IsBefore (fitted_for g old) now
+  before_new reads writes cuts passes ready = subst (λ (x : State). IsBefore x now) fit (record { shape = passes.shape; disk_reads = reads; disk_writes = writes; cuts = cuts; ready = ready })
+
+-- a volume that was opened over what it was made on
+pub new_from : (mode : Mode) (options : Options) (owns : Contents → Type 0) (v : VolumeState) (old made now : State) → made ≡ fitted_for options.geometry old
+    → owns now.contents → IsOpened (told_for mode options) nothing_held v
+    → ((d : PlainDisk) → IsNewestOnDisk options.geometry made.contents d → StandFor (ImageIs (told_for mode options)) now.contents d)
+    → KeepsReady made now → now.counts.disk_reads ≡ made.counts.disk_reads → now.counts.disk_writes ≡ made.counts.disk_writes → made.faults.cuts ≤ now.faults.cuts → Passes made now false
+    → IsNewVolume (told_for mode options) owns v old now
+new_from mode options owns v old made now fit left opened stands ready reads writes cuts passes = record {
+  left = left;
+  told = opened.told;
+  up = opened.up;
+  table = opened.table ∙ table_none options.geometry.p options.geometry.size;
+  held = λ a. opened.held a ∙ ap (λ (h : Option Held). is_some h) (get-empty nat_cmp a);
+  empty = stands empty (newest_none options.geometry old made now fit);
+  on = stays_on options.geometry old made now fit passes;
+  unarmed = stays_unarmed options.geometry old made now fit passes;
+  before = before_new options.geometry old made now fit reads writes cuts passes ready;
+}
+
+-- it is a disk of zero blocks, also as the volume tells it
+pub empty_new : {o : Told} {owns : Contents → Type 0} {v : VolumeState} {old now : State} → IsNewVolume o owns v old now → StandFor (ImageIs v.told) now.contents empty
+empty_new {now = now} new = subst (λ (k : Told). StandFor (ImageIs k) now.contents empty) (sym new.told) new.empty
+
+-- so a run can begin on it
+pub fresh_new : (mode : Mode) (options : Options) {owns : Contents → Type 0} {v : VolumeState} {old now : State} (stands : Told → Image → PlainDisk → Type 0) → IsNewVolume (told_for mode options) owns v old now → StandFor (stands v.told) now.contents empty
+    → IsAsMade stands v now
+fresh_new mode options stands new stood = record {
+  ack = ap (λ (k : Told). k.ack) new.told;
+  on = new.on;
+  unarmed = new.unarmed;
+  dirty = subst (λ (k : Told). k.dirty ≤ k.geometry.c) (sym new.told) options.dirty_high;
+  up = new.up;
+  table = new.table;
+  held = new.held;
+  empty = stood;
+}
+
+-- ---- why it ended, and what lies beneath
+
+-- making a volume ends at a device, or for want of memory
+not_begun : {V : Type 0} (e : Ended) → IsErrOf {T = V} (Err e) Flash ⊎ IsErrOf {T = V} (Err e) Disk ⊎ IsErrOf {T = V} (Err e) Memory → e ≢ Flash → e ≢ Disk → e ≢ Memory → ⊥
+not_begun e (inl flash) not_flash not_disk not_memory = not_flash (let same : e ≡ Flash = cc in same)
+not_begun e (inr (inl disk)) not_flash not_disk not_memory = not_disk (let same : e ≡ Disk = cc in same)
+not_begun e (inr (inr memory)) not_flash not_disk not_memory = not_memory (let same : e ≡ Memory = cc in same)
+
+-- no volume was made
+pub cause_begun : {V : Type 0} (e : Ended) (a : SourceState) (x : SinkState) (old now : State) → Begins {V = V} (Err e) old now → EndHasCause {T = Unit {0}} (Err e) a a x x old now
+cause_begun Flash a x old now begins = record { source = λ is. absurd (cc); sink = λ is. absurd (cc); flash = λ is. begins.flash refl; disk = λ is. absurd (cc) }
+cause_begun Disk a x old now begins = record { source = λ is. absurd (cc); sink = λ is. absurd (cc); flash = λ is. absurd (cc); disk = λ is. begins.disk refl }
+cause_begun Memory a x old now begins = record { source = λ is. absurd (cc); sink = λ is. absurd (cc); flash = λ is. absurd (cc); disk = λ is. absurd (cc) }
+cause_begun Trace a x old now begins = absurd (not_begun Trace begins.only (λ is. cc) (λ is. cc) (λ is. cc))
+cause_begun Source a x old now begins = absurd (not_begun Source begins.only (λ is. cc) (λ is. cc) (λ is. cc))
+cause_begun Sink a x old now begins = absurd (not_begun Sink begins.only (λ is. cc) (λ is. cc) (λ is. cc))
+
+pub untraced_begun : {V : Type 0} (e : Ended) (x : SinkState) (old now : State) → Begins {V = V} (Err e) old now → EndHasCauseUntraced {T = Unit {0}} (Err e) x x old now
+untraced_begun Flash x old now begins = record { not_trace = λ is. cc; not_source = λ is. cc; sink = λ is. absurd (cc); flash = λ is. begins.flash refl; disk = λ is. absurd (cc) }
+untraced_begun Disk x old now begins = record { not_trace = λ is. cc; not_source = λ is. cc; sink = λ is. absurd (cc); flash = λ is. absurd (cc); disk = λ is. begins.disk refl }
+untraced_begun Memory x old now begins = record { not_trace = λ is. cc; not_source = λ is. cc; sink = λ is. absurd (cc); flash = λ is. absurd (cc); disk = λ is. absurd (cc) }
+untraced_begun Trace x old now begins = absurd (not_begun Trace begins.only (λ is. cc) (λ is. cc) (λ is. cc))
+untraced_begun Source x old now begins = absurd (not_begun Source begins.only (λ is. cc) (λ is. cc) (λ is. cc))
+untraced_begun Sink x old now begins = absurd (not_begun Sink begins.only (λ is. cc) (λ is. cc) (λ is. cc))
+
+-- a volume was made, and a run over it ended
+pub cause_later : {T V : Type 0} {r : Result T Ended} {made : Result V Ended} {a b : SourceState} {x y : SinkState} {old begun now : State} → Begins made old begun → EndHasCause r a b x y begun now → EndHasCause r a b x y old now
+cause_later begins causes = record {
+  source = causes.source;
+  sink = causes.sink;
+  flash = λ is. rose_later _ _ _ begins.flash_later (causes.flash is);
+  disk = λ is. rose_later _ _ _ begins.disk_later (causes.disk is);
+}
+
+pub untraced_later : {T V : Type 0} {r : Result T Ended} {made : Result V Ended} {x y : SinkState} {old begun now : State} → Begins made old begun → EndHasCauseUntraced r x y begun now → EndHasCauseUntraced r x y old now
+untraced_later begins causes = record {
+  not_trace = causes.not_trace;
+  not_source = causes.not_source;
+  sink = causes.sink;
+  flash = λ is. rose_later _ _ _ begins.flash_later (causes.flash is);
+  disk = λ is. rose_later _ _ _ begins.disk_later (causes.disk is);
+}
+
+pub lent_later : {V : Type 0} {made : Result V Ended} {a b : SourceState} {x y : SinkState} {old begun now : State} → Begins made old begun → KeepsLent a b x y begun now → KeepsLent a b x y old now
+lent_later begins lent = record { source_lent = lent.source_lent; sink_lent = lent.sink_lent; rig_lent = lent.rig_lent ∙ begins.lent }
+
+pub lent_untraced : {V : Type 0} {made : Result V Ended} {x y : SinkState} {old begun now : State} → Begins made old begun → KeepsLentUntraced x y begun now → KeepsLentUntraced x y old now
+lent_untraced begins lent = record { sink_lent = lent.sink_lent; rig_lent = lent.rig_lent ∙ begins.lent }
+
+-- ---- the records of a run over it
+
+module _ (mode kind : Mode) (options : Options) (is : mode ≡ kind) {owns : Contents → Type 0} {v : VolumeState} {old begun : State} (new : IsNewVolume (told_for kind options) owns v old begun)
+    (u : Told) (stays : u ≡ v.told) (a z : SourceState) (x y : SinkState) (now : State) where
+  same : v.told ≡ told_for mode options
+  same = new.told ∙ ap (λ (m : Mode). told_for m options) (sym is)
+
+  pub whole_new : RunsWhole v.told (Reads v.told.geometry.size a z) (Tells x y) (ImageIs u) begun now
+      → RunsWhole (told_for mode options) (Reads options.geometry.size a z) (Tells x y) (ImageStandsFor options.geometry) (fitted_for options.geometry old) now
+  whole_new whole =
+      whole_from (told_for mode options) (Reads options.geometry.size a z) (Reads options.geometry.size a z) (Tells x y) (Tells x y) (ImageIs (told_for mode options)) (ImageStandsFor options.geometry) (fitted_for options.geometry old) begun now
+      (λ all w reads. reads) (λ run answers says. says) (image_stands (told_for mode options)) new.before
+      (subst (λ (k : Told). RunsWhole k (Reads k.geometry.size a z) (Tells x y) (ImageIs k) begun now) same (subst (λ (k : Told). RunsWhole v.told (Reads v.told.geometry.size a z) (Tells x y) (ImageIs k) begun now) stays whole))
+
+  pub refused_new : EndsRefused v.told (Reads v.told.geometry.size a z) (Tells x y) (ImageIs u) begun now
+      → EndsRefused (told_for mode options) (Reads options.geometry.size a z) (Tells x y) (ImageStandsFor options.geometry) (fitted_for options.geometry old) now
+  refused_new ends =
+      refused_from (told_for mode options) (Reads options.geometry.size a z) (Reads options.geometry.size a z) (Tells x y) (Tells x y) (ImageIs (told_for mode options)) (ImageStandsFor options.geometry) (fitted_for options.geometry old) begun now
+      (λ all w reads. reads) (λ run answers says. says) (image_stands (told_for mode options)) new.before
+      (subst (λ (k : Told). EndsRefused k (Reads k.geometry.size a z) (Tells x y) (ImageIs k) begun now) same (subst (λ (k : Told). EndsRefused v.told (Reads v.told.geometry.size a z) (Tells x y) (ImageIs k) begun now) stays ends))
+
+  pub unread_new : EndsUnread v.told (Reads v.told.geometry.size a z) (Tells x y) (ImageIs u) begun now
+      → EndsUnread (told_for mode options) (Reads options.geometry.size a z) (Tells x y) (ImageStandsFor options.geometry) (fitted_for options.geometry old) now
+  unread_new ends =
+      unread_from (told_for mode options) (Reads options.geometry.size a z) (Reads options.geometry.size a z) (Tells x y) (Tells x y) (ImageIs (told_for mode options)) (ImageStandsFor options.geometry) (fitted_for options.geometry old) begun now
+      (λ all w reads. reads) (λ run answers says. says) (image_stands (told_for mode options)) new.before
+      (subst (λ (k : Told). EndsUnread k (Reads k.geometry.size a z) (Tells x y) (ImageIs k) begun now) same (subst (λ (k : Told). EndsUnread v.told (Reads v.told.geometry.size a z) (Tells x y) (ImageIs k) begun now) stays ends))
+
+  pub part_new : (e : Ended) → EndsPart v.told (Reads v.told.geometry.size a z) (Tells x y) (TellsPart x y) (ImageIs u) begun now e
+      → EndsPart (told_for mode options) (Reads options.geometry.size a z) (Tells x y) (TellsPart x y) (ImageStandsFor options.geometry) (fitted_for options.geometry old) now e
+  part_new e ends =
+      part_from (told_for mode options) (Reads options.geometry.size a z) (Reads options.geometry.size a z) (Tells x y) (Tells x y) (ImageIs (told_for mode options)) (ImageStandsFor options.geometry) (fitted_for options.geometry old) begun now
+      (λ all w reads. reads) (λ run answers says. says) (image_stands (told_for mode options)) new.before
+      (TellsPart x y) (TellsPart x y) (λ run answers next shown. shown) e
+      (subst (λ (k : Told). EndsPart k (Reads k.geometry.size a z) (Tells x y) (TellsPart x y) (ImageIs k) begun now e) same (subst (λ (k : Told). EndsPart v.told (Reads v.told.geometry.size a z) (Tells x y) (TellsPart x y) (ImageIs k) begun now e) stays ends))
+
+-- ---- the records of a run of given lines over it
+
+module _ (mode kind : Mode) (options : Options) (is : mode ≡ kind) {owns : Contents → Type 0} {v : VolumeState} {old begun : State} (new : IsNewVolume (told_for kind options) owns v old begun)
+    (u : Told) (stays : u ≡ v.told) (left lines : List Line) (given : left ≡ lines) (x y : SinkState) (now : State) where
+  told_made : v.told ≡ told_for mode options
+  told_made = new.told ∙ ap (λ (m : Mode). told_for m options) (sym is)
+
+  pub whole_made : RunsWhole v.told (Gives left) (TellsEnd x y) (ImageIs u) begun now
+      → RunsWhole (told_for mode options) (Gives lines) (TellsEnd x y) (ImageStandsFor options.geometry) (fitted_for options.geometry old) now
+  whole_made whole =
+      whole_from (told_for mode options) (Gives left) (Gives lines) (TellsEnd x y) (TellsEnd x y) (ImageIs (told_for mode options)) (ImageStandsFor options.geometry) (fitted_for options.geometry old) begun now
+      (λ all w gives. subst (λ (ls : List Line). Gives ls all w) given gives) (λ run answers says. says) (image_stands (told_for mode options)) new.before
+      (subst (λ (k : Told). RunsWhole k (Gives left) (TellsEnd x y) (ImageIs k) begun now) told_made (subst (λ (k : Told). RunsWhole v.told (Gives left) (TellsEnd x y) (ImageIs k) begun now) stays whole))
+
+  pub part_made : (e : Ended) → EndsPart v.told (Gives left) (TellsEnd x y) (TellsEndPart x y) (ImageIs u) begun now e
+      → EndsPart (told_for mode options) (Gives lines) (TellsEnd x y) (TellsEndPart x y) (ImageStandsFor options.geometry) (fitted_for options.geometry old) now e
+  part_made e ends =
+      part_from (told_for mode options) (Gives left) (Gives lines) (TellsEnd x y) (TellsEnd x y) (ImageIs (told_for mode options)) (ImageStandsFor options.geometry) (fitted_for options.geometry old) begun now
+      (λ all w gives. subst (λ (ls : List Line). Gives ls all w) given gives) (λ run answers says. says) (image_stands (told_for mode options)) new.before
+      (TellsEndPart x y) (TellsEndPart x y) (λ run answers next shown. shown) e
+      (subst (λ (k : Told). EndsPart k (Gives left) (TellsEnd x y) (TellsEndPart x y) (ImageIs k) begun now e) told_made (subst (λ (k : Told). EndsPart v.told (Gives left) (TellsEnd x y) (TellsEndPart x y) (ImageIs k) begun now e) stays ends))

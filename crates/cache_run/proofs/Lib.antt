@@ -1,0 +1,5 @@
+pub mod AskLemmas
+pub mod BeginLemmas
+pub mod InspectLemmas
+pub mod SilentLemmas
+pub mod UncutLemmas

@@ -1,0 +1,11 @@
+use Rattle.ft_base.specs.declared.told.Mode.TheVariants.{Back}
+use Rattle.write_back.specs.Left.{IsLeft, state_of}
+use Rattle.cache_run.proofs.BeginLemmas.{new_from}
+use Rattle.cache_run.proofs.beginning.begin_back.Goals as goal
+
+pub returns-in-Ok-create-clause-new : goal.returns-in-Ok-create-clause-new
+returns-in-Ok-create-clause-new g c =
+    let volume = c.in-Ok-create.volume in
+    let made = c.in-Ok-create.ensures in
+    new_from Back c.args.options.now (IsLeft volume) (state_of volume) (g.R.Media.state c.args.rig.now) (g.R.Media.state c.fit_for.new.rig) (g.R.Media.state c.create.new.rig) c.in-Ok.ensures.fitted
+    made.owns made.opened made.stands made.ready made.disk_reads made.disk_writes made.cause.cuts made.passes

@@ -1,0 +1,22 @@
+use Rattle.std.proofs.Common.{◌≡◌, ℕ, length}
+use Rattle.ft_base.specs.declared.told.Ack.TheVariants as ack
+use Rattle.trace_replay.specs.Went.{Keeps}
+use Rattle.cache_run.specs.Inspected.{Asks}
+use Rattle.cache_run.proofs.reporting.report_through.Given as goal
+
+abbrev pub invariant-again : goal.invariant-again
+invariant-again g l =
+    let first = g.R.Media.state l.fn.rig in
+    let now = g.R.Media.state l.rig in
+    let was = g.V.Volume.state l.fn.volume in
+    let is = g.V.Volume.state l.volume in
+    record {
+      owns : g.V.Volume.owns l.volume now.contents;
+      told : is.told ≡ was.told;
+      ack : is.told.ack ≡ ack.Write;
+      kept : Keeps (g.V.Volume.stands was.told) (g.V.Volume.stands is.told) first.contents now.contents;
+      asks : (cuts : ℕ) × Asks cuts first now × (cuts ≡ 0 → now ≡ first);
+    }
+
+abbrev pub decreases-again : goal.decreases-again
+decreases-again g l = length (g.R.Media.state l.rig).power.stops

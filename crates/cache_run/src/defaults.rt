@@ -1,0 +1,21 @@
+ghost use Rattle.ft_base.specs.declared.told.Mode.TheVariants.{Back};
+ghost use Rattle.ft_volume.specs.Volume.{told_for};
+ghost use Rattle.cache_run.specs.Default.{IsDefault};
+
+use ft_base::Geometry;
+use ft_volume::Options;
+
+/// What a volume is made with where no word says otherwise: 64 pages an erase block, 128 data blocks, 16 log blocks, 2
+/// erase blocks of a log region and 1,048,576 blocks, and an idle step leaves 64 groups dirty.
+pub fn default_options() -> Options
+    ensures { IsDefault (told_for Back result) }
+{
+    match Geometry::new(64, 128, 16, 2, 1048576) {
+        Ok(geometry) => Options {
+            geometry,
+            dirty: 64,
+        },
+        // Each number is in its range.
+        Err(_) => unreachable!(),
+    }
+}

@@ -1,0 +1,64 @@
+ghost use Rattle.std.specs.Prelude.{◌≡◌, ◌≢◌, ◌⊎◌, [], true, OnOk, IfErr, IsErrOf};
+ghost use Rattle.std.specs.Io.KnownBytes.{IsAtEnd};
+ghost use Rattle.ft_volume.specs.Volume.{told_for};
+ghost use Rattle.cache_model.specs.Stands.{ImageStandsFor};
+ghost use Rattle.trace_model.specs.Readings.{Reads};
+ghost use Rattle.trace_replay.specs.Causes.{EndHasCause};
+ghost use Rattle.trace_replay.specs.Lent.{KeepsLent};
+ghost use Rattle.trace_replay.specs.Said.{Tells, TellsPart};
+ghost use Rattle.trace_replay.specs.Theorem.{EndsPart, EndsRefused, EndsUnread, RunsWhole};
+ghost use Rattle.cache_run.specs.Fitted.{fitted_for};
+
+use crate::beginning::{begin_back, begin_through};
+use ft_base::{Sink, Source};
+use ft_media::{Media, Rig};
+use ft_volume::{Mode, Options};
+use std::alloc::Global;
+use trace_replay::{Ended, replay};
+
+/// Fits the rig, makes a volume of this mode and these options on it, runs the trace over it, and prints what
+/// each request answered. Power may stop within any device write; the run then goes on after recovery.
+pub fn replay_with<I: Source, O: Sink, R: Rig>(
+    alloc: Global,
+    mode: Mode,
+    options: &Options,
+    source: &mut I,
+    sink: &mut O,
+    rig: &mut R,
+) -> Result<(), Ended>
+    ensures whole { OnOk result (RunsWhole (told_for mode options.now)
+        (Reads options.now.geometry.size (I.state source.old) (I.state source.new)) (Tells (O.state sink.old) (O.state sink.new))
+        (ImageStandsFor options.now.geometry) (fitted_for options.now.geometry (R.state rig.old)) (R.state rig.new)) }
+    ensures end { OnOk result (IsAtEnd (I.state source.new).left) }
+    ensures refused { IsErrOf result Ended.Trace → EndsRefused (told_for mode options.now)
+        (Reads options.now.geometry.size (I.state source.old) (I.state source.new)) (Tells (O.state sink.old) (O.state sink.new))
+        (ImageStandsFor options.now.geometry) (fitted_for options.now.geometry (R.state rig.old)) (R.state rig.new) }
+    ensures unread { IsErrOf result Ended.Source → EndsUnread (told_for mode options.now)
+        (Reads options.now.geometry.size (I.state source.old) (I.state source.new)) (Tells (O.state sink.old) (O.state sink.new))
+        (ImageStandsFor options.now.geometry) (fitted_for options.now.geometry (R.state rig.old)) (R.state rig.new) }
+    // Another end comes before anything was read or printed, with no call of the disk that reads or writes, and
+    // with nothing armed where a device failed; or within the answers of a line.
+    ensures part { IfErr result (λ e. e ≢ Ended.Trace → e ≢ Ended.Source → ((source.new ≡ source.old) × (sink.new ≡ sink.old)
+        × ((R.state rig.new).counts.disk_reads ≡ (R.state rig.old).counts.disk_reads)
+        × ((R.state rig.new).counts.disk_writes ≡ (R.state rig.old).counts.disk_writes)
+        × ((e ≡ Ended.Flash) ⊎ (e ≡ Ended.Disk) → (R.state rig.new).power.stops ≡ []))
+        ⊎ EndsPart (told_for mode options.now) (Reads options.now.geometry.size (I.state source.old) (I.state source.new))
+        (Tells (O.state sink.old) (O.state sink.new)) (TellsPart (O.state sink.old) (O.state sink.new))
+        (ImageStandsFor options.now.geometry) (fitted_for options.now.geometry (R.state rig.old)) (R.state rig.new) e) }
+    ensures causes { EndHasCause result (I.state source.old) (I.state source.new) (O.state sink.old) (O.state sink.new) (R.state rig.old)
+        (R.state rig.new) }
+    ensures on { (IsErrOf result Ended.Memory → ⊥) → (R.state rig.new).power.on ≡ true }
+    ensures lent { KeepsLent (I.state source.old) (I.state source.new) (O.state sink.old) (O.state sink.new) (R.state rig.old)
+        (R.state rig.new) }
+{
+    match mode {
+        Mode::Back => match begin_back(alloc, rig, options) {
+            Ok(mut volume) => replay(alloc, source, sink, rig, &mut volume),
+            Err(ended) => Err(ended),
+        },
+        Mode::Through => match begin_through(alloc, rig, options) {
+            Ok(mut volume) => replay(alloc, source, sink, rig, &mut volume),
+            Err(ended) => Err(ended),
+        },
+    }
+}

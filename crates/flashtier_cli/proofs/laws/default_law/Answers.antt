@@ -1,0 +1,20 @@
+use Rattle.std.proofs.Common.{◌∙◌, ◌+◌, ◌/◌, ℕ, [], arith, ap, refl, sym}
+use Rattle.flashtier_cli.proofs.laws.default_law.Goals as goal
+
+pub returns : goal.returns
+returns c = λ o is.
+    record {
+      others = [];
+      first = refl;
+      settings = [];
+      spelled = record { spelled = refl; known = tt; once = tt };
+      says =
+          record {
+            mode = is.mode;
+            numbers = record { pages = is.pages; data_blocks = is.data_blocks; log_blocks = is.log_blocks; journal = is.journal; size = is.size };
+            dirty =
+                let dirty = is.dirty in let data_blocks = is.data_blocks in
+                record { given = is.dirty ∙ sym (ap (λ (n : ℕ). (n + 1) / 2) is.data_blocks); low = omega arith; high = omega arith };
+            ack = is.ack;
+          };
+    }

@@ -1,0 +1,36 @@
+//! The program without words: standard input is a trace, which is run over a cache of the default numbers that writes
+//! back, as the word `replay` alone says. It is built in less time than the whole program, whose words are read by a
+//! large library.
+#![tactic(auto)]
+
+use cache_run::{default_options, replay_with, status_of};
+use ft_base::{StdSink, StdSource};
+use ft_volume::Mode;
+use mem_rig::MemRig;
+use std::io;
+use std::process::ExitCode;
+
+/// Whether there is a word after the program's name.
+fn has_words(rt: &(impl std::rt::Env + AllocGlobal)) -> io::Result<bool> {
+    Ok(std::env::args(rt)?.nth(1).is_some())
+}
+
+fn main(rt: HostRuntime) -> ExitCode {
+    match has_words(&rt) {
+        Ok(false) => {}
+        Err(error) if error.kind() == io::ErrorKind::OutOfMemory => return ExitCode::from(7),
+        _ => return ExitCode::from(1),
+    }
+    let mut source = StdSource::new(rt.reader());
+    let mut sink = StdSink::new(io::writer(&rt));
+    let mut rig = MemRig::new(rt.alloc());
+    let ended = replay_with(
+        rt.alloc(),
+        Mode::Back,
+        &default_options(),
+        &mut source,
+        &mut sink,
+        &mut rig,
+    );
+    ExitCode::from(status_of(ended))
+}
