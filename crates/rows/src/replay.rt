@@ -109,7 +109,12 @@ fn the_first_refused_line_ends_the_run(rt: HostRuntime) -> Result<(), Fail> {
         assert_eq!(rt; outcome.status, 2);
         assert_eq!(rt; outcome.text.as_slice(), text);
     }
-    let long = replay(alloc, [b'w'; 201].as_slice())?;
+    Ok(())
+}
+
+#[test]
+fn a_line_that_is_too_long_is_refused(rt: HostRuntime) -> Result<(), Fail> {
+    let long = replay(rt.alloc(), [b'w'; 201].as_slice())?;
     assert_eq!(rt;
         (long.status, long.text.as_slice()),
         (2, b"line 1: LineTooLong\n".as_slice())
