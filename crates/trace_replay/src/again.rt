@@ -12,7 +12,7 @@ ghost use Rattle.trace_replay.specs.Said.{ended_of};
 ghost use Rattle.trace_replay.specs.Saying.{SaysSo};
 ghost use Rattle.trace_replay.specs.Spends.{SpendsSteps};
 ghost use Rattle.trace_replay.specs.Spends.Step.{Puts, Rests, Touches};
-ghost use Rattle.trace_replay.specs.Went.{EndsOnce, Keeps, Went, cut_if};
+ghost use Rattle.trace_replay.specs.Went.{EndsOnce, Keeps, StaysOwner, Went, cut_if};
 
 use crate::ended::end_at;
 use crate::saying::say;
@@ -54,8 +54,7 @@ pub(crate) fn read_once<P: Script, R: Rig, V: Volume<R>>(
 ) -> Result<bool, Ended>
     requires can { CanCall (V.owns volume.old) (V.state volume.old).told (R.state rig.old) }
     requires within { lba < (V.state volume.old).told.geometry.size }
-    ensures owns { V.owns volume.new (R.state rig.new).contents }
-    ensures told { (V.state volume.new).told ≡ (V.state volume.old).told }
+    ensures owner { StaysOwner (V.owns volume.new) (R.state rig.new).contents (V.state volume.old) (V.state volume.new) }
     ensures found { IfOk result (λ cut. cut ≡ false → (d : PlainDisk)
         → StandFor (V.stands (V.state volume.old).told) (R.state rig.old).contents d → block.new ≡ d lba) }
     ensures kept { Keeps (V.stands (V.state volume.old).told) (V.stands (V.state volume.new).told) (R.state rig.old).contents
@@ -82,8 +81,7 @@ pub(crate) fn write_once<P: Script, R: Rig, V: Volume<R>>(
 ) -> Result<bool, Ended>
     requires can { CanCall (V.owns volume.old) (V.state volume.old).told (R.state rig.old) }
     requires within { lba < (V.state volume.old).told.geometry.size }
-    ensures owns { V.owns volume.new (R.state rig.new).contents }
-    ensures told { (V.state volume.new).told ≡ (V.state volume.old).told }
+    ensures owner { StaysOwner (V.owns volume.new) (R.state rig.new).contents (V.state volume.old) (V.state volume.new) }
     ensures done { IfOk result (λ cut. cut ≡ false → (d : PlainDisk)
         → StandFor (V.stands (V.state volume.old).told) (R.state rig.old).contents d
         → StandFor (V.stands (V.state volume.new).told) (R.state rig.new).contents (set d lba block.now)) }
@@ -111,8 +109,7 @@ pub(crate) fn flush_once<P: Script, R: Rig, V: Volume<R>>(
     volume: &mut V,
 ) -> Result<bool, Ended>
     requires can { CanCall (V.owns volume.old) (V.state volume.old).told (R.state rig.old) }
-    ensures owns { V.owns volume.new (R.state rig.new).contents }
-    ensures told { (V.state volume.new).told ≡ (V.state volume.old).told }
+    ensures owner { StaysOwner (V.owns volume.new) (R.state rig.new).contents (V.state volume.old) (V.state volume.new) }
     ensures kept { Keeps (V.stands (V.state volume.old).told) (V.stands (V.state volume.new).told) (R.state rig.old).contents
         (R.state rig.new).contents }
     ensures went { Went P.state P.came P.broke P.knows cut_if 0 script.old script.new (R.state rig.old) (R.state rig.new) result }
@@ -135,8 +132,7 @@ pub(crate) fn idle_once<P: Script, R: Rig, V: Volume<R>>(
     volume: &mut V,
 ) -> Result<u64, Ended>
     requires can { CanCall (V.owns volume.old) (V.state volume.old).told (R.state rig.old) }
-    ensures owns { V.owns volume.new (R.state rig.new).contents }
-    ensures told { (V.state volume.new).told ≡ (V.state volume.old).told }
+    ensures owner { StaysOwner (V.owns volume.new) (R.state rig.new).contents (V.state volume.old) (V.state volume.new) }
     ensures kept { Keeps (V.stands (V.state volume.old).told) (V.stands (V.state volume.new).told) (R.state rig.old).contents
         (R.state rig.new).contents }
     ensures once { IfOk result (λ cuts. cuts ≤ 1) }
@@ -164,8 +160,7 @@ pub(crate) fn read_through<P: Script, R: Rig, V: Volume<R>>(
 ) -> Result<u64, Ended>
     requires can { CanCall (V.owns volume.old) (V.state volume.old).told (R.state rig.old) }
     requires within { lba < (V.state volume.old).told.geometry.size }
-    ensures owns { V.owns volume.new (R.state rig.new).contents }
-    ensures told { (V.state volume.new).told ≡ (V.state volume.old).told }
+    ensures owner { StaysOwner (V.owns volume.new) (R.state rig.new).contents (V.state volume.old) (V.state volume.new) }
     ensures found { OnOk result ((d : PlainDisk) → StandFor (V.stands (V.state volume.old).told) (R.state rig.old).contents d
         → block.new ≡ d lba) }
     ensures kept { Keeps (V.stands (V.state volume.old).told) (V.stands (V.state volume.new).told) (R.state rig.old).contents
@@ -192,8 +187,7 @@ pub(crate) fn flush_through<P: Script, R: Rig, V: Volume<R>>(
     volume: &mut V,
 ) -> Result<u64, Ended>
     requires can { CanCall (V.owns volume.old) (V.state volume.old).told (R.state rig.old) }
-    ensures owns { V.owns volume.new (R.state rig.new).contents }
-    ensures told { (V.state volume.new).told ≡ (V.state volume.old).told }
+    ensures owner { StaysOwner (V.owns volume.new) (R.state rig.new).contents (V.state volume.old) (V.state volume.new) }
     ensures kept { Keeps (V.stands (V.state volume.old).told) (V.stands (V.state volume.new).told) (R.state rig.old).contents
         (R.state rig.new).contents }
     ensures went { Went P.state P.came P.broke P.knows (λ cuts. cuts) 0 script.old script.new (R.state rig.old) (R.state rig.new) result }

@@ -11,7 +11,7 @@ ghost use Rattle.trace_replay.specs.Ends.{EndsWithin, RunsLine, StandForPart};
 ghost use Rattle.trace_replay.specs.Events.{Says};
 ghost use Rattle.trace_replay.specs.MayRun.{CanCall, MayRun};
 ghost use Rattle.trace_replay.specs.Spends.{SpendsLine};
-ghost use Rattle.trace_replay.specs.Went.{KeepsFrame, Keeps};
+ghost use Rattle.trace_replay.specs.Went.{Keeps, KeepsFrame, StaysOwner};
 
 use crate::again::{flush_through, idle_once};
 use crate::reading::run_read;
@@ -31,8 +31,7 @@ pub(crate) fn run_flush<P: Script, R: Rig, V: Volume<R>>(
     volume: &mut V,
 ) -> Result<Became, Ended>
     requires can { CanCall (V.owns volume.old) (V.state volume.old).told (R.state rig.old) }
-    ensures owns { V.owns volume.new (R.state rig.new).contents }
-    ensures told { (V.state volume.new).told ≡ (V.state volume.old).told }
+    ensures owner { StaysOwner (V.owns volume.new) (R.state rig.new).contents (V.state volume.old) (V.state volume.new) }
     ensures kept { Keeps (V.stands (V.state volume.old).told) (V.stands (V.state volume.new).told) (R.state rig.old).contents
         (R.state rig.new).contents }
     ensures said { IfOk result (λ b. (d : PlainDisk)
@@ -55,8 +54,7 @@ pub(crate) fn run_idle<P: Script, R: Rig, V: Volume<R>>(
     volume: &mut V,
 ) -> Result<Became, Ended>
     requires can { CanCall (V.owns volume.old) (V.state volume.old).told (R.state rig.old) }
-    ensures owns { V.owns volume.new (R.state rig.new).contents }
-    ensures told { (V.state volume.new).told ≡ (V.state volume.old).told }
+    ensures owner { StaysOwner (V.owns volume.new) (R.state rig.new).contents (V.state volume.old) (V.state volume.new) }
     ensures once { IfOk result (λ b. b.cuts ≤ 1) }
     ensures kept { Keeps (V.stands (V.state volume.old).told) (V.stands (V.state volume.new).told) (R.state rig.old).contents
         (R.state rig.new).contents }
@@ -82,8 +80,7 @@ pub(crate) fn run_cut<P: Script, R: Rig, V: Volume<R>>(
 ) -> Result<Became, Ended>
     requires owns { V.owns volume.old (R.state rig.old).contents }
     ensures none { IfOk result (λ b. b.cuts ≡ 0) }
-    ensures owns { V.owns volume.new (R.state rig.new).contents }
-    ensures told { (V.state volume.new).told ≡ (V.state volume.old).told }
+    ensures owner { StaysOwner (V.owns volume.new) (R.state rig.new).contents (V.state volume.old) (V.state volume.new) }
     ensures kept { Keeps (V.stands (V.state volume.old).told) (V.stands (V.state volume.new).told) (R.state rig.old).contents
         (R.state rig.new).contents }
     ensures said { IfOk result (λ b. (d : PlainDisk)
@@ -110,8 +107,7 @@ pub(crate) fn run_line<P: Script, R: Rig, V: Volume<R>>(
 ) -> Result<Became, Ended>
     requires owns { V.owns volume.old (R.state rig.old).contents }
     requires may_run { MayRun line.now (V.state volume.old).told (R.state rig.old) }
-    ensures owns { V.owns volume.new (R.state rig.new).contents }
-    ensures told { (V.state volume.new).told ≡ (V.state volume.old).told }
+    ensures owner { StaysOwner (V.owns volume.new) (R.state rig.new).contents (V.state volume.old) (V.state volume.new) }
     ensures fits { IfOk result (λ b. (d : PlainDisk) → StandFor (V.stands (V.state volume.old).told) (R.state rig.old).contents d
         → FitsLine ack.Write line.now b.cuts b.kept 0 d) }
     ensures disk { IfOk result (λ b. (d : PlainDisk) → StandFor (V.stands (V.state volume.old).told) (R.state rig.old).contents d

@@ -7,6 +7,7 @@ ghost use Rattle.trace_replay.specs.Commands as commands;
 ghost use Rattle.trace_replay.specs.Commands.{Gives, TellsEnd, TellsEndPart};
 ghost use Rattle.trace_replay.specs.AsMade.{IsAsMade};
 ghost use Rattle.trace_replay.specs.Theorem.{EndsPart, RunsWhole};
+ghost use Rattle.trace_replay.specs.Went.{StaysOwner};
 
 use crate::Ended;
 use crate::digest::EndDigest;
@@ -162,8 +163,7 @@ pub fn replay_made<O: Sink, R: Rig, V: Volume<R>>(
     requires size { volume_size made ≡ (V.state volume.old).told.geometry.size }
     requires owns { V.owns volume.old (R.state rig.old).contents }
     requires fresh { IsAsMade V.stands (V.state volume.old) (R.state rig.old) }
-    ensures owns { V.owns volume.new (R.state rig.new).contents }
-    ensures told { (V.state volume.new).told ≡ (V.state volume.old).told }
+    ensures owner { StaysOwner (V.owns volume.new) (R.state rig.new).contents (V.state volume.old) (V.state volume.new) }
     ensures whole { OnOk result (RunsWhole (V.state volume.old).told (Gives (lines_left made))
         (TellsEnd (O.state sink.old) (O.state sink.new))
         (V.stands (V.state volume.new).told) (R.state rig.old) (R.state rig.new)) }

@@ -9,7 +9,7 @@ ghost use Rattle.trace_replay.specs.Ends.{EndsWithin, RunsLine};
 ghost use Rattle.trace_replay.specs.Events.{Says};
 ghost use Rattle.trace_replay.specs.MayRun.{CanCall, MayRun};
 ghost use Rattle.trace_replay.specs.Spends.{SpendsSteps, SpendsLine, touches_of};
-ghost use Rattle.trace_replay.specs.Went.{KeepsFrame, Keeps, Went};
+ghost use Rattle.trace_replay.specs.Went.{Keeps, KeepsFrame, StaysOwner, Went};
 
 use crate::again::read_through;
 use crate::saying::say_all;
@@ -31,8 +31,7 @@ pub(crate) fn read_blocks<P: Script, R: Rig, V: Volume<R>>(
 ) -> Result<u64, Ended>
     requires can { CanCall (V.owns volume.old) (V.state volume.old).told (R.state rig.old) }
     requires within { lba + count ≤ (V.state volume.old).told.geometry.size }
-    ensures owns { V.owns volume.new (R.state rig.new).contents }
-    ensures told { (V.state volume.new).told ≡ (V.state volume.old).told }
+    ensures owner { StaysOwner (V.owns volume.new) (R.state rig.new).contents (V.state volume.old) (V.state volume.new) }
     ensures found { OnOk result ((d : PlainDisk) → StandFor (V.stands (V.state volume.old).told) (R.state rig.old).contents d
         → scratch.new.answers.items ≡ read_backs lba count d) }
     ensures kept { Keeps (V.stands (V.state volume.old).told) (V.stands (V.state volume.new).told) (R.state rig.old).contents
@@ -72,8 +71,7 @@ pub(crate) fn run_read<P: Script, R: Rig, V: Volume<R>>(
 ) -> Result<Became, Ended>
     requires owns { V.owns volume.old (R.state rig.old).contents }
     requires may_run { MayRun (line_kind.Read lba count) (V.state volume.old).told (R.state rig.old) }
-    ensures owns { V.owns volume.new (R.state rig.new).contents }
-    ensures told { (V.state volume.new).told ≡ (V.state volume.old).told }
+    ensures owner { StaysOwner (V.owns volume.new) (R.state rig.new).contents (V.state volume.old) (V.state volume.new) }
     ensures kept { Keeps (V.stands (V.state volume.old).told) (V.stands (V.state volume.new).told) (R.state rig.old).contents
         (R.state rig.new).contents }
     ensures said { IfOk result (λ b. (d : PlainDisk) → StandFor (V.stands (V.state volume.old).told) (R.state rig.old).contents d

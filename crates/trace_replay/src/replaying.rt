@@ -6,6 +6,7 @@ ghost use Rattle.trace_replay.specs.Lent.{KeepsLent};
 ghost use Rattle.trace_replay.specs.AsMade.{IsAsMade};
 ghost use Rattle.trace_replay.specs.Said.{Tells, TellsPart};
 ghost use Rattle.trace_replay.specs.Theorem.{EndsPart, EndsRefused, EndsUnread, RunsWhole};
+ghost use Rattle.trace_replay.specs.Went.{StaysOwner};
 
 use crate::Ended;
 use crate::running::replay_script;
@@ -30,8 +31,7 @@ pub fn replay<I: Source, O: Sink, R: Rig, V: Volume<R>>(
 ) -> Result<(), Ended>
     requires owns { V.owns volume.old (R.state rig.old).contents }
     requires fresh { IsAsMade V.stands (V.state volume.old) (R.state rig.old) }
-    ensures owns { V.owns volume.new (R.state rig.new).contents }
-    ensures told { (V.state volume.new).told ≡ (V.state volume.old).told }
+    ensures owner { StaysOwner (V.owns volume.new) (R.state rig.new).contents (V.state volume.old) (V.state volume.new) }
     ensures whole { OnOk result (RunsWhole (V.state volume.old).told
         (Reads (V.state volume.old).told.geometry.size (I.state source.old) (I.state source.new))
         (Tells (O.state sink.old) (O.state sink.new))

@@ -10,6 +10,7 @@ ghost use Rattle.trace_replay.specs.AsMade.{IsAsMade};
 ghost use Rattle.trace_replay.specs.MayRun.{MayRun};
 ghost use Rattle.trace_replay.specs.Ran.{BlamesLine, BlamesRun, EndsRun, RunKeepsFrame, IsTallyOf, MayCount, RanSoFar};
 ghost use Rattle.trace_replay.specs.Theorem.{EndsPart, EndsRefused, EndsUnread, RunsWhole};
+ghost use Rattle.trace_replay.specs.Went.{StaysOwner};
 
 use crate::lines::run_line;
 use crate::scratch::Scratch;
@@ -32,8 +33,7 @@ pub fn replay_script<P: Script, R: Rig, V: Volume<R>>(
     requires owns { V.owns volume.old (R.state rig.old).contents }
     requires size { (P.state script.old).size ≡ (V.state volume.old).told.geometry.size }
     requires fresh { IsAsMade V.stands (V.state volume.old) (R.state rig.old) }
-    ensures owns { V.owns volume.new (R.state rig.new).contents }
-    ensures told { (V.state volume.new).told ≡ (V.state volume.old).told }
+    ensures owner { StaysOwner (V.owns volume.new) (R.state rig.new).contents (V.state volume.old) (V.state volume.new) }
     ensures whole { OnOk result ((s : SourceState) → (b : SinkState) → P.came s b [] script.old → RunsWhole (V.state volume.old).told
         (P.knows s script.new) (CameBy P.came s b script.new) (V.stands (V.state volume.new).told) (R.state rig.old) (R.state rig.new)) }
     ensures refused { IsErrOf result Ended.Trace → (s : SourceState) → (b : SinkState) → P.came s b [] script.old
@@ -66,8 +66,7 @@ fn run_lines<P: Script, R: Rig, V: Volume<R>>(
     requires size { (P.state script.old).size ≡ (V.state volume.old).told.geometry.size }
     requires fresh { IsAsMade V.stands (V.state volume.old) (R.state rig.old) }
     requires tally { IsTallyOf [] tally.old }
-    ensures owns { V.owns volume.new (R.state rig.new).contents }
-    ensures told { (V.state volume.new).told ≡ (V.state volume.old).told }
+    ensures owner { StaysOwner (V.owns volume.new) (R.state rig.new).contents (V.state volume.old) (V.state volume.new) }
     ensures whole { OnOk result ((run : List Ran)
         × RanSoFar (V.state volume.old).told (V.stands (V.state volume.new).told) (R.state rig.old) (R.state rig.new) tally.new
         (V.state volume.new) run
@@ -102,8 +101,7 @@ fn run_given<P: Script, R: Rig, V: Volume<R>>(
     requires so_far { (first : State) × (run : List Ran)
         × RanSoFar (V.state volume.old).told (V.stands (V.state volume.old).told) first (R.state rig.old) tally.old (V.state volume.old)
         run }
-    ensures owns { V.owns volume.new (R.state rig.new).contents }
-    ensures told { (V.state volume.new).told ≡ (V.state volume.old).told }
+    ensures owner { StaysOwner (V.owns volume.new) (R.state rig.new).contents (V.state volume.old) (V.state volume.new) }
     ensures ran { OnOk result ((first : State) → (run : List Ran)
         → RanSoFar (V.state volume.old).told (V.stands (V.state volume.old).told) first (R.state rig.old) tally.old (V.state volume.old) run
         → (one : Ran) × RanSoFar (V.state volume.old).told (V.stands (V.state volume.new).told) first (R.state rig.new) tally.new

@@ -10,7 +10,7 @@ ghost use Rattle.trace_replay.specs.MayRun.{CanCall};
 ghost use Rattle.trace_replay.specs.Said.{Cuts};
 ghost use Rattle.trace_replay.specs.Saying.{SaysTouched};
 ghost use Rattle.trace_replay.specs.Spends.{SpendsSteps, touches_each};
-ghost use Rattle.trace_replay.specs.Went.{KeepsFrame, Keeps};
+ghost use Rattle.trace_replay.specs.Went.{Keeps, KeepsFrame, StaysOwner};
 
 use crate::again::read_through;
 use crate::tally::Tally;
@@ -30,8 +30,7 @@ pub(crate) fn tell_touched<P: Script, R: Rig, V: Volume<R>>(
 ) -> Result<u64, Ended>
     requires can { CanCall (V.owns volume.old) (V.state volume.old).told (R.state rig.old) }
     requires within { All (λ a. a < (V.state volume.old).told.geometry.size) touched.now.keys }
-    ensures owns { V.owns volume.new (R.state rig.new).contents }
-    ensures told { (V.state volume.new).told ≡ (V.state volume.old).told }
+    ensures owner { StaysOwner (V.owns volume.new) (R.state rig.new).contents (V.state volume.old) (V.state volume.new) }
     ensures kept { Keeps (V.stands (V.state volume.old).told) (V.stands (V.state volume.new).told) (R.state rig.old).contents
         (R.state rig.new).contents }
     ensures cuts { IfOk result (λ cuts. Cuts cuts 0 (R.state rig.old) (R.state rig.new)) }
@@ -65,8 +64,7 @@ pub(crate) fn say_end<P: Script, R: Rig, V: Volume<R>>(
 ) -> Result<u64, Ended>
     requires can { CanCall (V.owns volume.old) (V.state volume.old).told (R.state rig.old) }
     requires within { All (λ a. a < (V.state volume.old).told.geometry.size) tally.now.touched.keys }
-    ensures owns { V.owns volume.new (R.state rig.new).contents }
-    ensures told { (V.state volume.new).told ≡ (V.state volume.old).told }
+    ensures owner { StaysOwner (V.owns volume.new) (R.state rig.new).contents (V.state volume.old) (V.state volume.new) }
     ensures kept { Keeps (V.stands (V.state volume.old).told) (V.stands (V.state volume.new).told) (R.state rig.old).contents
         (R.state rig.new).contents }
     ensures cuts { IfOk result (λ cuts. Cuts cuts 0 (R.state rig.old) (R.state rig.new)) }

@@ -12,7 +12,7 @@ ghost use Rattle.trace_replay.specs.Events.{Says};
 ghost use Rattle.trace_replay.specs.MayRun.{CanCall, MayWriteBlocks};
 ghost use Rattle.trace_replay.specs.Saying.{count_unless};
 ghost use Rattle.trace_replay.specs.Spends.{SpendsSteps, SpendsLine, puts_of};
-ghost use Rattle.trace_replay.specs.Went.{KeepsFrame, Keeps, Went, cut_if};
+ghost use Rattle.trace_replay.specs.Went.{Keeps, KeepsFrame, StaysOwner, Went, cut_if};
 
 use crate::again::{read_once, write_once};
 use crate::saying::say;
@@ -41,8 +41,7 @@ pub(crate) fn write_blocks<P: Script, R: Rig, V: Volume<R>>(
 ) -> Result<bool, Ended>
     requires can { CanCall (V.owns volume.old) (V.state volume.old).told (R.state rig.old) }
     requires within { request.lba + request.count ≤ (V.state volume.old).told.geometry.size }
-    ensures owns { V.owns volume.new (R.state rig.new).contents }
-    ensures told { (V.state volume.new).told ≡ (V.state volume.old).told }
+    ensures owner { StaysOwner (V.owns volume.new) (R.state rig.new).contents (V.state volume.old) (V.state volume.new) }
     ensures whole { IfOk result (λ cut. cut ≡ false → (d : PlainDisk)
         → StandFor (V.stands (V.state volume.old).told) (R.state rig.old).contents d
         → StandFor (V.stands (V.state volume.new).told) (R.state rig.new).contents (after_blocks request.lba request.tag request.count d)) }
@@ -80,8 +79,7 @@ pub(crate) fn kept_once<P: Script, R: Rig, V: Volume<R>>(
 ) -> Result<Option<u64>, Ended>
     requires can { CanCall (V.owns volume.old) (V.state volume.old).told (R.state rig.old) }
     requires within { request.lba + request.count ≤ (V.state volume.old).told.geometry.size }
-    ensures owns { V.owns volume.new (R.state rig.new).contents }
-    ensures told { (V.state volume.new).told ≡ (V.state volume.old).told }
+    ensures owner { StaysOwner (V.owns volume.new) (R.state rig.new).contents (V.state volume.old) (V.state volume.new) }
     ensures found { IfOk result (λ o. IfSome o (λ kept. (d : PlainDisk)
         → StandFor (V.stands (V.state volume.old).told) (R.state rig.old).contents d
         → IsKept request.lba request.count request.tag kept d)) }
@@ -115,8 +113,7 @@ pub(crate) fn kept_blocks<P: Script, R: Rig, V: Volume<R>>(
 ) -> Result<Became, Ended>
     requires can { CanCall (V.owns volume.old) (V.state volume.old).told (R.state rig.old) }
     requires within { request.lba + request.count ≤ (V.state volume.old).told.geometry.size }
-    ensures owns { V.owns volume.new (R.state rig.new).contents }
-    ensures told { (V.state volume.new).told ≡ (V.state volume.old).told }
+    ensures owner { StaysOwner (V.owns volume.new) (R.state rig.new).contents (V.state volume.old) (V.state volume.new) }
     ensures found { IfOk result (λ b. (d : PlainDisk) → StandFor (V.stands (V.state volume.old).told) (R.state rig.old).contents d
         → IsKept request.lba request.count request.tag b.kept d) }
     ensures kept { Keeps (V.stands (V.state volume.old).told) (V.stands (V.state volume.new).told) (R.state rig.old).contents
@@ -145,8 +142,7 @@ pub(crate) fn run_write<P: Script, R: Rig, V: Volume<R>>(
 ) -> Result<Became, Ended>
     requires owns { V.owns volume.old (R.state rig.old).contents }
     requires may_write { MayWriteBlocks request.lba request.count (V.state volume.old).told (R.state rig.old) }
-    ensures owns { V.owns volume.new (R.state rig.new).contents }
-    ensures told { (V.state volume.new).told ≡ (V.state volume.old).told }
+    ensures owner { StaysOwner (V.owns volume.new) (R.state rig.new).contents (V.state volume.old) (V.state volume.new) }
     ensures fits { IfOk result (λ b. (d : PlainDisk) → StandFor (V.stands (V.state volume.old).told) (R.state rig.old).contents d
         → FitsLine ack.Write (line_kind.Write request.lba request.count request.tag) b.cuts b.kept 0 d) }
     ensures disk { IfOk result (λ b. (d : PlainDisk) → StandFor (V.stands (V.state volume.old).told) (R.state rig.old).contents d

@@ -10,7 +10,7 @@ use Rattle.cache_run.proofs.inspecting.inspect.Goals as goal
 -- ---- every line was run
 
 pub returns-in-Ok-clause-told : goal.returns-in-Ok-clause-told
-returns-in-Ok-clause-told g c = c.tell_report.ensures.told ∙ c.replay_quiet.ensures.told
+returns-in-Ok-clause-told g c = c.tell_report.ensures.told ∙ c.replay_quiet.ensures.owner.1
 
 pub returns-in-Ok-clause-whole : goal.returns-in-Ok-clause-whole
 returns-in-Ok-clause-whole g c =
@@ -27,7 +27,7 @@ returns-in-Ok-clause-whole g c =
     on_both c.tell_report.result (λ prints ready.
     whole_then o _ (g.V.Volume.stands mid) (g.V.Volume.stands after) (g.V.Volume.loads o) x y z first between now
     c.in-Ok.ensures.whole c.in-Ok.ensures.silent asks.0 asks.1 c.tell_report.ensures.kept ready
-    (subst (λ (k : Told). PrintsReport k.geometry (g.V.Volume.loads k) now y z) c.replay_quiet.ensures.told prints))
+    (subst (λ (k : Told). PrintsReport k.geometry (g.V.Volume.loads k) now y z) c.replay_quiet.ensures.owner.1 prints))
     c.tell_report.ensures.printed asks.2
 
 pub returns-in-Ok-clause-part : goal.returns-in-Ok-clause-part
@@ -45,7 +45,7 @@ returns-in-Ok-clause-part g c =
     if_err_is c.tell_report.result (λ e is silent not_trace not_source.
     inspecting_then o _ (g.V.Volume.stands mid) (g.V.Volume.stands after) (g.V.Volume.loads o) x y z first between now
     c.in-Ok.ensures.whole c.in-Ok.ensures.silent asks.0 asks.1 c.tell_report.ensures.kept e
-    (λ broke. subst (λ (k : Told). PrintsFront k.geometry (g.V.Volume.loads k) now y z) c.replay_quiet.ensures.told (c.tell_report.ensures.short (is ∙ ap failed_by broke)))
+    (λ broke. subst (λ (k : Told). PrintsFront k.geometry (g.V.Volume.loads k) now y z) c.replay_quiet.ensures.owner.1 (c.tell_report.ensures.short (is ∙ ap failed_by broke)))
     (λ other. ap g.O.Sink.state (silent other)))
     c.tell_report.ensures.silent
 

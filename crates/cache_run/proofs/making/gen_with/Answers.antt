@@ -11,13 +11,13 @@ replay_made-requires-clause-fresh g c = fresh_new Back c.args.options.now _ c.in
 
 pub returns-in-Ok-clause-whole : goal.returns-in-Ok-clause-whole
 returns-in-Ok-clause-whole g c =
-    on_ok_weaker c.replay_made.result (whole_made c.args.mode Back c.args.options.now c.in-Back.is c.in-Ok.ensures.new _ c.replay_made.ensures.told _ _ c.new-made.ensures.lines
+    on_ok_weaker c.replay_made.result (whole_made c.args.mode Back c.args.options.now c.in-Back.is c.in-Ok.ensures.new _ c.replay_made.ensures.owner.1 _ _ c.new-made.ensures.lines
     (g.O.Sink.state c.args.sink.now) (g.O.Sink.state c.replay_made.new.sink) (g.R.Media.state c.replay_made.new.rig)) c.replay_made.ensures.whole
 
 pub returns-in-Ok-clause-part : goal.returns-in-Ok-clause-part
 returns-in-Ok-clause-part g c =
     IfErr-weaker c.replay_made.result _ _ (λ e part. inr (
-    part_made c.args.mode Back c.args.options.now c.in-Back.is c.in-Ok.ensures.new _ c.replay_made.ensures.told _ _ c.new-made.ensures.lines
+    part_made c.args.mode Back c.args.options.now c.in-Back.is c.in-Ok.ensures.new _ c.replay_made.ensures.owner.1 _ _ c.new-made.ensures.lines
     (g.O.Sink.state c.args.sink.now) (g.O.Sink.state c.replay_made.new.sink) (g.R.Media.state c.replay_made.new.rig)
     e part)) c.replay_made.ensures.part
 

@@ -11,25 +11,25 @@ replay-requires-clause-fresh g c = fresh_new Back c.args.options.now _ c.in-Ok.e
 
 pub returns-in-Ok-clause-whole : goal.returns-in-Ok-clause-whole
 returns-in-Ok-clause-whole g c =
-    on_ok_weaker c.replay.result (whole_new c.args.mode Back c.args.options.now c.in-Back.is c.in-Ok.ensures.new _ c.replay.ensures.told
+    on_ok_weaker c.replay.result (whole_new c.args.mode Back c.args.options.now c.in-Back.is c.in-Ok.ensures.new _ c.replay.ensures.owner.1
     (g.I.Source.state c.args.source.now) (g.I.Source.state c.replay.new.source) (g.O.Sink.state c.args.sink.now) (g.O.Sink.state c.replay.new.sink) (g.R.Media.state c.replay.new.rig)) c.replay.ensures.whole
 
 pub returns-in-Ok-clause-refused : goal.returns-in-Ok-clause-refused
 returns-in-Ok-clause-refused g c = λ is.
-    refused_new c.args.mode Back c.args.options.now c.in-Back.is c.in-Ok.ensures.new _ c.replay.ensures.told
+    refused_new c.args.mode Back c.args.options.now c.in-Back.is c.in-Ok.ensures.new _ c.replay.ensures.owner.1
     (g.I.Source.state c.args.source.now) (g.I.Source.state c.replay.new.source) (g.O.Sink.state c.args.sink.now) (g.O.Sink.state c.replay.new.sink) (g.R.Media.state c.replay.new.rig)
     (c.replay.ensures.refused is)
 
 pub returns-in-Ok-clause-unread : goal.returns-in-Ok-clause-unread
 returns-in-Ok-clause-unread g c = λ is.
-    unread_new c.args.mode Back c.args.options.now c.in-Back.is c.in-Ok.ensures.new _ c.replay.ensures.told
+    unread_new c.args.mode Back c.args.options.now c.in-Back.is c.in-Ok.ensures.new _ c.replay.ensures.owner.1
     (g.I.Source.state c.args.source.now) (g.I.Source.state c.replay.new.source) (g.O.Sink.state c.args.sink.now) (g.O.Sink.state c.replay.new.sink) (g.R.Media.state c.replay.new.rig)
     (c.replay.ensures.unread is)
 
 pub returns-in-Ok-clause-part : goal.returns-in-Ok-clause-part
 returns-in-Ok-clause-part g c =
     IfErr-weaker c.replay.result _ _ (λ e part not_trace not_source. inr (
-    part_new c.args.mode Back c.args.options.now c.in-Back.is c.in-Ok.ensures.new _ c.replay.ensures.told
+    part_new c.args.mode Back c.args.options.now c.in-Back.is c.in-Ok.ensures.new _ c.replay.ensures.owner.1
     (g.I.Source.state c.args.source.now) (g.I.Source.state c.replay.new.source) (g.O.Sink.state c.args.sink.now) (g.O.Sink.state c.replay.new.sink) (g.R.Media.state c.replay.new.rig)
     e (part not_trace not_source))) c.replay.ensures.part
 
