@@ -10,6 +10,7 @@ use Rattle.std.proofs.lemmas.Bool.{cases_lt, cases_eq, cases_Bool, ne_eqb, cond-
 use Rattle.sparse_map.specs.declared.group.Group.{Group}
 use Rattle.sparse_map.specs.declared.table.Touched.{Touched}
 use Rattle.sparse_map.specs.declared.table.Touched.TheVariants.{Nowhere}
+use Rattle.sparse_map.specs.Home.{IsTableSize}
 use Rattle.sparse_map.specs.Slots.{slot_at, key_at, items_of}
 use Rattle.sparse_map.specs.Groups.{slots_in, slots_of}
 use Rattle.sparse_map.specs.Places.{sizes_of, lacking}
@@ -116,13 +117,13 @@ module _ {V : Type 0} where
         reached = λ b key q is. absurd (false≢true (sym (no_key b) ∙ ap is_some is));
       }
 
-  pub kept_groups : (bits len spare blanks : ℕ) (us : List (Group V)) → 5 ≤ bits → bits ≤ 31 → length (slots_of us) ≡ 2 ^ bits → IsPacked (slots_of us) → len ≡ length (items_of (slots_of us))
+  pub kept_groups : (bits len spare blanks : ℕ) (us : List (Group V)) → IsTableSize bits → length (slots_of us) ≡ 2 ^ bits → IsPacked (slots_of us) → len ≡ length (items_of (slots_of us))
       → 4 * (len + spare) ≤ 3 * 2 ^ bits → min spare (lacking spare Nowhere (sizes_of us)) ≤ blanks → lacking 1 Nowhere (sizes_of us) ≡ 0 → KeepsTable bits len spare blanks Nowhere us
-  kept_groups bits len spare blanks us many few size packed counted room stocked ready =
+  kept_groups bits len spare blanks us bounds size packed counted room stocked ready =
       record {
-        few = few;
-        many = λ _. many;
-        buckets = size ∙ sym (cond-false (eqb bits 0) _ _ (ne_eqb bits 0 (λ e. omega arith)));
+        few = bounds.few;
+        many = λ _. bounds.many;
+        buckets = size ∙ sym (cond-false (eqb bits 0) _ _ (ne_eqb bits 0 (λ e. omega (arith, bounds.many))));
         packed = packed;
         counted = counted;
         room = omega (arith, room, size);

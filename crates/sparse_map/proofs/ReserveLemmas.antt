@@ -24,10 +24,6 @@ pub on_err_both : {T E : Type 0} (r : Result T E) (P Q : Type 0) → P → OnErr
 on_err_both (Ok x) P Q p q = tt
 on_err_both (Err e) P Q p q = (p, q)
 
-pub on_ok_both : {T E : Type 0} (r : Result T E) (P Q : Type 0) → OnOk r P → OnOk r Q → OnOk r (P × Q)
-on_ok_both (Ok x) P Q p q = (p, q)
-on_ok_both (Err e) P Q p q = tt
-
 pub on_ok_always : {T E : Type 0} (r : Result T E) (P Q : Type 0) → OnOk r Q → OnOk r (P → Q)
 on_ok_always (Ok x) P Q q = λ p. q
 on_ok_always (Err e) P Q q = tt

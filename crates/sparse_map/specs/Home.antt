@@ -1,6 +1,11 @@
 -- Where a key is looked for first, and how buckets follow one another round the table.
 use Rattle.std.specs.Prelude.{◌≡◌, ℕ, ◌+◌, ◌-◌, ◌*◌, ◌/◌, ◌%◌, ◌^◌, ◌<◌, ◌≤◌, nat_le, if◌then◌else◌}
 
+-- so many bits number the buckets of a table: 32 to 2^31 buckets
+pub record IsTableSize (bits : ℕ) : Type 0 where
+  pub many : 5 ≤ bits
+  pub few : bits ≤ 31
+
 -- the home of a key among 2^b buckets: the top b bits of its product with 2^64 over the golden ratio, taken modulo 2^64
 unfoldable pub home : ℕ → ℕ → ℕ
 home buckets key = key * 0x9E37_79B9_7F4A_7C15 % 2 ^ 64 * buckets / 2 ^ 64

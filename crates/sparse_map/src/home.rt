@@ -1,7 +1,7 @@
 //! Where a key is looked for first, and how buckets follow one another round the table.
 
 ghost use Rattle.std.specs.Prelude.{◌≡◌, ◌+◌, ◌*◌, ◌^◌, ◌<◌, ◌≤◌, if◌then◌else◌, nat_lt, ◌==◌, ◌⊎◌, ◌↔◌, IsTrue};
-ghost use Rattle.sparse_map.specs.Home.{home, steps, IsDoubledFor};
+ghost use Rattle.sparse_map.specs.Home.{home, steps, IsTableSize, IsDoubledFor};
 
 /// 2^64 over the golden ratio, made odd: products with it spread neighbouring keys over the whole table.
 const MULTIPLIER: u64 = 0x9E37_79B9_7F4A_7C15;
@@ -73,8 +73,7 @@ pub fn bits_for(bits: u32, need: u64) -> u32
     requires bits { bits ≤ 31 }
     requires some { bits ≡ 0 ⊎ 5 ≤ bits }
     ensures doubled { IsDoubledFor need (if bits == 0 then 0 else 2 ^ bits) (2 ^ result) }
-    ensures many { 5 ≤ result }
-    ensures few { result ≤ 31 }
+    ensures size { IsTableSize result }
 {
     let mut wide = if bits == 0 { 5 } else { bits };
     while 3 * (1u64 << wide) < 4 * need {

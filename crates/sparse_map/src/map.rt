@@ -4,7 +4,7 @@ ghost use Rattle.std.specs.Int.{bit_at};
 ghost use Rattle.std.specs.Ordering.{nat_cmp};
 ghost use Rattle.std.specs.FinMap as map;
 ghost use Rattle.std.specs.FinMap.{find};
-ghost use Rattle.sparse_map.specs.Home.{IsDoubledFor};
+ghost use Rattle.sparse_map.specs.Home.{IsDoubledFor, IsTableSize};
 ghost use Rattle.sparse_map.specs.Slots.{slot_at, key_at, items_of, unpacked, group};
 ghost use Rattle.sparse_map.specs.Groups.{slots_of};
 ghost use Rattle.sparse_map.specs.Packed.{map_of, len_of, buckets_of, memory_of, IsSound};
@@ -273,16 +273,15 @@ impl<V: Drop> SparseMap<V> {
     /// Places every item anew in `2^bits` buckets, in the order of the old ones. What goes where is counted first, so that
     /// lists are taken that fit, and all memory is taken before the first item moves.
     fn widen(&mut self, bits: u32, n: u64) -> Result<(), AllocError>
-        requires many { 5 ≤ bits }
-        requires few { bits ≤ 31 }
+        requires size { IsTableSize bits }
         requires wider { buckets_of self.old ≤ 2 ^ bits }
         requires room { 4 * (len_of self.old + n) ≤ 3 * 2 ^ bits }
         ensures map { map_of self.new ≡ map_of self.old }
         ensures buckets { OnOk result (buckets_of self.new ≡ 2 ^ bits) }
         ensures spare { OnOk result (self.new.spare ≡ max self.old.spare n) }
-        ensures memory { OnOk result (self.new.places ≤ len_of self.new + buckets_of self.new / 32) }
+        ensures exact { OnOk result
+            ((self.new.places ≤ len_of self.new + buckets_of self.new / 32) × (self.new.spare ≤ 1 → self.new.blanks ≡ 0)) }
         ensures blanks { OnOk result (self.new.blanks ≤ min self.new.spare (buckets_of self.new / 32)) }
-        ensures one { OnOk result (self.new.spare ≤ 1 → self.new.blanks ≡ 0) }
         ensures loose { OnOk result (self.new.loose ≡ 0) }
         ensures err { OnErr result (self.new ≡ self.old) }
         ensures sound { OnOk result (IsSound self.new) }

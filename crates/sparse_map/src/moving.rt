@@ -1,5 +1,6 @@
 //! The groups of a wider table, and how the items of the old groups move there.
 ghost use Rattle.std.specs.Prelude.{◌≡◌, ◌≢◌, ℕ, ◌+◌, ◌*◌, ◌/◌, ◌^◌, ◌<◌, ◌≤◌, [], ◌∷◌, length, vec_len, map, replicate, Some, None, IfOk, slice_index_or, slice_set};
+ghost use Rattle.sparse_map.specs.Home.{IsTableSize};
 ghost use Rattle.sparse_map.specs.Slots.{slot_at};
 ghost use Rattle.sparse_map.specs.Groups.{slots_of};
 ghost use Rattle.sparse_map.specs.Ranks.{IsRankOf};
@@ -33,8 +34,7 @@ pub fn groups_ahead<V: Drop>(
     groups: &[Group<V>],
     bits: u32,
 ) -> Result<Vec<Group<V>>, AllocError>
-    requires many { 5 ≤ bits }
-    requires few { bits ≤ 31 }
+    requires size { IsTableSize bits }
     requires small { length (items_in groups.now) < 2 ^ 32 }
     ensures count { IfOk result (λ us. 32 * vec_len us ≡ 2 ^ bits) }
     ensures free { IfOk result (λ us. (b : ℕ) → slot_at (slots_of us.items) b ≡ None) }
@@ -62,8 +62,7 @@ fn put_ready<V: Drop>(groups: &mut [Group<V>], bucket: u64, rank: u32, item: (u6
 
 /// Puts an item with a new key into the first free bucket from its home on. As no key comes twice, none is compared.
 fn place<V: Drop>(groups: &mut [Group<V>], bits: u32, item: (u64, V))
-    requires many { 5 ≤ bits }
-    requires few { bits ≤ 31 }
+    requires size { IsTableSize bits }
     requires ready { CanTake (2 ^ bits) groups.old (item ∷ []) }
     ensures { HasTaken (2 ^ bits) groups.old groups.new (item ∷ []) }
 {
@@ -73,8 +72,7 @@ fn place<V: Drop>(groups: &mut [Group<V>], bits: u32, item: (u64, V))
 
 /// Puts in the items of a list, one after another.
 fn place_items<V: Drop>(groups: &mut [Group<V>], bits: u32, items: Vec<(u64, V)>)
-    requires many { 5 ≤ bits }
-    requires few { bits ≤ 31 }
+    requires size { IsTableSize bits }
     requires ready { CanTake (2 ^ bits) groups.old items.items }
     ensures { HasTaken (2 ^ bits) groups.old groups.new items.items }
 {
@@ -85,8 +83,7 @@ fn place_items<V: Drop>(groups: &mut [Group<V>], bits: u32, items: Vec<(u64, V)>
 
 /// Puts in the items of all old groups, one after another.
 pub fn place_groups<V: Drop>(groups: &mut [Group<V>], bits: u32, old: Vec<Group<V>>)
-    requires many { 5 ≤ bits }
-    requires few { bits ≤ 31 }
+    requires size { IsTableSize bits }
     requires ready { CanTake (2 ^ bits) groups.old (items_in old.items) }
     ensures { HasTaken (2 ^ bits) groups.old groups.new (items_in old.items) }
 {

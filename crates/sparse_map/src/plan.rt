@@ -1,6 +1,6 @@
 //! How many items each group of a wider table gets, counted before any item moves, so that lists are made that fit.
 ghost use Rattle.std.specs.Prelude.{◌≡◌, ◌+◌, ◌*◌, ◌^◌, ◌<◌, ◌≤◌, length, IfOk};
-ghost use Rattle.sparse_map.specs.Home.{home};
+ghost use Rattle.sparse_map.specs.Home.{home, IsTableSize};
 ghost use Rattle.sparse_map.specs.Moved.{items_in};
 ghost use Rattle.sparse_map.specs.Plan.{first_unmarked, planned, with_key, with_items, blank_plan, CanCount};
 
@@ -10,8 +10,7 @@ use std::alloc::{AllocError, Global};
 
 /// The first bucket that isn't marked, from the home of a key on, going round.
 fn first_unmarked(marks: &[bool], bits: u32, key: u64) -> u64
-    requires many { 5 ≤ bits }
-    requires few { bits ≤ 31 }
+    requires size { IsTableSize bits }
     requires buckets { length marks.now ≡ 2 ^ bits }
     ensures first { result ≡ first_unmarked (2 ^ bits) (2 ^ bits) (home (2 ^ bits) key) marks.now }
     ensures within { result < 2 ^ bits }
@@ -29,8 +28,7 @@ fn first_unmarked(marks: &[bool], bits: u32, key: u64) -> u64
 
 /// Marks the bucket that a new key takes, and counts it in its group.
 fn mark_key(marks: &mut [bool], counts: &mut [u32], bits: u32, key: u64)
-    requires many { 5 ≤ bits }
-    requires few { bits ≤ 31 }
+    requires size { IsTableSize bits }
     requires buckets { length marks.old ≡ 2 ^ bits }
     requires groups { 32 * length counts.old ≡ 2 ^ bits }
     requires small { CanCount 1 counts.old }
@@ -43,8 +41,7 @@ fn mark_key(marks: &mut [bool], counts: &mut [u32], bits: u32, key: u64)
 
 /// Marks the buckets that new keys take, one after another.
 fn mark_items<V: Drop>(marks: &mut [bool], counts: &mut [u32], bits: u32, items: &[(u64, V)])
-    requires many { 5 ≤ bits }
-    requires few { bits ≤ 31 }
+    requires size { IsTableSize bits }
     requires buckets { length marks.old ≡ 2 ^ bits }
     requires groups { 32 * length counts.old ≡ 2 ^ bits }
     requires small { CanCount (length items.now) counts.old }
@@ -57,8 +54,7 @@ fn mark_items<V: Drop>(marks: &mut [bool], counts: &mut [u32], bits: u32, items:
 
 /// Marks the buckets that the keys of all these groups take.
 fn mark_groups<V: Drop>(marks: &mut [bool], counts: &mut [u32], bits: u32, groups: &[Group<V>])
-    requires many { 5 ≤ bits }
-    requires few { bits ≤ 31 }
+    requires size { IsTableSize bits }
     requires buckets { length marks.old ≡ 2 ^ bits }
     requires groups { 32 * length counts.old ≡ 2 ^ bits }
     requires small { CanCount (length (items_in groups.now)) counts.old }
@@ -75,8 +71,7 @@ pub fn count_ahead<V: Drop>(
     groups: &[Group<V>],
     bits: u32,
 ) -> Result<Vec<u32>, AllocError>
-    requires many { 5 ≤ bits }
-    requires few { bits ≤ 31 }
+    requires size { IsTableSize bits }
     requires small { length (items_in groups.now) < 2 ^ 32 }
     ensures len { IfOk result (λ v. 32 * length v.items ≡ 2 ^ bits) }
     ensures counts { IfOk result (λ v. v.items ≡ (with_items (2 ^ bits) (blank_plan (2 ^ bits)) (items_in groups.now)).counts) }

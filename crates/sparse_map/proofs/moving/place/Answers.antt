@@ -12,7 +12,7 @@ use Rattle.sparse_map.proofs.TakingLemmas.{new_place, placed}
 use Rattle.sparse_map.proofs.moving.place.Goals as goal
 
 pub first_free-seat-requires-clause-few : goal.first_free-seat-requires-clause-few
-first_free-seat-requires-clause-few g c = omega (arith, length-slots_of c.args.groups.now, c.requires.ready.buckets, (shifted_one c.args.bits c.requires.few).1)
+first_free-seat-requires-clause-few g c = omega (arith, length-slots_of c.args.groups.now, c.requires.ready.buckets, (shifted_one c.args.bits c.requires.size.few).1)
 
 pub first_free-seat-requires-clause-within : goal.first_free-seat-requires-clause-within
 first_free-seat-requires-clause-within g c = omega (arith, c.home_of.ensures.within, length-slots_of c.args.groups.now, c.requires.ready.buckets)

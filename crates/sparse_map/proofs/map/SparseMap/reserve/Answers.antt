@@ -7,7 +7,7 @@ use Rattle.sparse_map.specs.Packed.{len_of, buckets_of}
 use Rattle.sparse_map.proofs.MapLemmas.{kept_buckets}
 use Rattle.sparse_map.proofs.ViewLemmas.{seen_len, seen_slots, seen_sound}
 use Rattle.std.proofs.lemmas.Result.{on_ok_weaker}
-use Rattle.sparse_map.proofs.ReserveLemmas.{on_ok, on_ok_always, on_ok_both, on_err_both, doubled_grows, other_buckets, map_of-slots, sound_stocked, sound_either, loose_either, stays_either, as_before, no_more}
+use Rattle.sparse_map.proofs.ReserveLemmas.{on_ok, on_ok_always, on_err_both, doubled_grows, other_buckets, map_of-slots, sound_stocked, sound_either, loose_either, stays_either, as_before, no_more}
 use Rattle.sparse_map.proofs.map.SparseMap.reserve.Goals as goal
 
 pub bits_for-bits-requires-clause-room : goal.bits_for-bits-requires-clause-room
@@ -20,7 +20,7 @@ stock_up-requires g c =
     let m = c.self.inside in
     let t = c.args.self.now in
     let len = seen_len m t c.self.invariant c.self.view_is in
-    let some : 0 < m.bits = omega (arith, c.bits_for-bits.ensures.many, c.if-bits-self.true) in
+    let some : 0 < m.bits = omega (arith, c.bits_for-bits.ensures.size.many, c.if-bits-self.true) in
     let size = kept_buckets m.bits m.len m.spare (vec_len m.stock) m.touched m.groups.items c.self.invariant some in
     let long : length (slots_of m.groups.items) ≡ buckets_of t = ap length (seen_slots m t c.self.invariant c.self.view_is) in
     let wide : 2 ^ c.bits_for-bits.result ≡ 2 ^ m.bits = ap (λ b. 2 ^ b) c.if-bits-self.true in
@@ -46,7 +46,7 @@ pub returns-then-bits-self-clause-buckets : goal.returns-then-bits-self-clause-b
 returns-then-bits-self-clause-buckets g c =
     let m = c.self.inside in
     let t = c.args.self.now in
-    let some : 0 < m.bits = omega (arith, c.bits_for-bits.ensures.many, c.if-bits-self.true) in
+    let some : 0 < m.bits = omega (arith, c.bits_for-bits.ensures.size.many, c.if-bits-self.true) in
     let need : m.len + c.from-n.result ≡ len_of t + c.args.n = λ i. seen_len m t c.self.invariant c.self.view_is i + c.from-n.ensures i in
     let narrow : cond (eqb m.bits 0) 0 (2 ^ m.bits) ≡ buckets_of t = sym c.self.invariant.buckets ∙ ap length (seen_slots m t c.self.invariant c.self.view_is) in
     let wide : 2 ^ c.bits_for-bits.result ≡ buckets_of c.stock_up.new.self =
@@ -63,7 +63,7 @@ returns-then-bits-self-clause-sound g c =
     let m = c.self.inside in
     let t = c.args.self.now in
     let len = seen_len m t c.self.invariant c.self.view_is in
-    let some : 0 < m.bits = omega (arith, c.bits_for-bits.ensures.many, c.if-bits-self.true) in
+    let some : 0 < m.bits = omega (arith, c.bits_for-bits.ensures.size.many, c.if-bits-self.true) in
     let size = kept_buckets m.bits m.len m.spare (vec_len m.stock) m.touched m.groups.items c.self.invariant some in
     let long : length (slots_of m.groups.items) ≡ buckets_of t = ap length (seen_slots m t c.self.invariant c.self.view_is) in
     let wide : 2 ^ c.bits_for-bits.result ≡ 2 ^ m.bits = ap (λ b. 2 ^ b) c.if-bits-self.true in
@@ -116,13 +116,13 @@ returns-else-bits-self-clause-stays g c =
 pub returns-else-bits-self-clause-memory : goal.returns-else-bits-self-clause-memory
 returns-else-bits-self-clause-memory g c =
     let u = c.widen.new.self in
-    on_ok_weaker {P = u.places ≤ len_of u + buckets_of u / 32} {Q = u.places ≤ len_of u + buckets_of u / 8 + u.loose} c.widen.result (λ few. omega (arith, few)) c.widen.ensures.memory
+    on_ok_weaker {P = (u.places ≤ len_of u + buckets_of u / 32) × (u.spare ≤ 1 → u.blanks ≡ 0)} {Q = u.places ≤ len_of u + buckets_of u / 8 + u.loose} c.widen.result (λ exact. omega (arith, exact.0))
+    c.widen.ensures.exact
 
 pub returns-else-bits-self-clause-exact : goal.returns-else-bits-self-clause-exact
 returns-else-bits-self-clause-exact g c =
     let u = c.widen.new.self in
-    on_ok_always c.widen.result (buckets_of u ≢ buckets_of c.args.self.now) ((u.places ≤ len_of u + buckets_of u / 32) × (u.spare ≤ 1 → u.blanks ≡ 0))
-    (on_ok_both c.widen.result (u.places ≤ len_of u + buckets_of u / 32) (u.spare ≤ 1 → u.blanks ≡ 0) c.widen.ensures.memory c.widen.ensures.one)
+    on_ok_always c.widen.result (buckets_of u ≢ buckets_of c.args.self.now) ((u.places ≤ len_of u + buckets_of u / 32) × (u.spare ≤ 1 → u.blanks ≡ 0)) c.widen.ensures.exact
 
 pub returns-else-bits-self-clause-loose : goal.returns-else-bits-self-clause-loose
 returns-else-bits-self-clause-loose g c = loose_either c.widen.result c.args.self.now c.widen.new.self c.widen.ensures.err c.widen.ensures.loose

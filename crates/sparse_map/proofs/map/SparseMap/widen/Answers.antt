@@ -29,7 +29,7 @@ groups_ahead-requires-clause-small g c =
     let len = seen_len m c.args.self.now c.self.invariant c.self.view_is in
     let read = ap (λ us. length (items_of (slots_of us))) c.as_slice.ensures.value in
     let count = ap length (items_of-slots_of c.as_slice.result.now) in
-    let most = (shifted_one c.args.bits c.requires.few).1 in
+    let most = (shifted_one c.args.bits c.requires.size.few).1 in
     omega (arith, len, read, count, most, c.self.invariant.counted, c.requires.room)
 
 pub place_groups-requires-clause-ready : goal.place_groups-requires-clause-ready
@@ -61,7 +61,7 @@ invariant_of-self g c =
       | inr one ↦ inr (one.0, ready)
     ] in
     subst (λ us. KeepsTable c.args.bits m.len c.max-spare.result (vec_len c.add_blanks.new.stock) Nowhere us) (sym (written new ws long))
-    (kept_groups c.args.bits m.len c.max-spare.result (vec_len c.add_blanks.new.stock) ws c.requires.many c.requires.few size w.packed
+    (kept_groups c.args.bits m.len c.max-spare.result (vec_len c.add_blanks.new.stock) ws c.requires.size size w.packed
     (c.self.invariant.counted ∙ sym w.count)
     (omega (arith, c.requires.room, c.requires.wider, c.max-spare.ensures, len, before, c.self.invariant.room))
     (stocked_for c.max-spare.result (vec_len c.add_blanks.new.stock) (sizes_of ws) enough) ready)
@@ -96,8 +96,8 @@ returns-clause-blanks g c =
     let size = ap (λ us. length (slots_of us)) (written new ws long) ∙ length-slots_of ws in
     omega (arith, size, long, c.in_ok-groups.ensures.count, c.len.ensures, c.in_ok-add_blanks.ensures.ok, c.blanks_for-wanted.ensures.few)
 
-pub returns-clause-memory : goal.returns-clause-memory
-returns-clause-memory g c =
+pub returns-clause-exact : goal.returns-clause-exact
+returns-clause-exact g c =
     let m = c.self.inside in
     let t = c.args.self.now in
     let new = c.in_ok-groups.groups in
@@ -115,14 +115,18 @@ returns-clause-memory g c =
       | inr one ↦ inr (one.0, ready)
     ] in
     let kept : KeepsTable c.args.bits m.len c.max-spare.result (vec_len c.add_blanks.new.stock) Nowhere ws =
-    kept_groups c.args.bits m.len c.max-spare.result (vec_len c.add_blanks.new.stock) ws c.requires.many c.requires.few size w.packed
+    kept_groups c.args.bits m.len c.max-spare.result (vec_len c.add_blanks.new.stock) ws c.requires.size size w.packed
     (c.self.invariant.counted ∙ sym w.count)
     (omega (arith, c.requires.room, c.requires.wider, c.max-spare.ensures, len, before, c.self.invariant.room))
     (stocked_for c.max-spare.result (vec_len c.add_blanks.new.stock) (sizes_of ws) enough) ready in
     let now = written new ws long in
     let count = kept_len c.args.bits m.len c.max-spare.result (vec_len c.add_blanks.new.stock) Nowhere ws kept (seen_of (vec.with_items new ws).items c.max-spare.result (vec_len c.add_blanks.new.stock) Nowhere) (ap slots_of now) in
-    let all = ap length (items_of-slots_of ws) in
-    omega (arith, exact-places ws w.exact, ap (λ us. places_of (sizes_of us)) now, ap (λ us. length (slots_of us)) now, length-slots_of ws, all, count, kept.counted)
+    let all = ap length (items_of-slots_of ws) in (
+      omega (arith, exact-places ws w.exact, ap (λ us. places_of (sizes_of us)) now, ap (λ us. length (slots_of us)) now, length-slots_of ws, all, count, kept.counted),
+      λ one.
+          let none = c.blanks_for-wanted.ensures.one one (λ e. cc) in
+          omega (arith, none, c.in_ok-add_blanks.ensures.ok),
+    )
 
 pub returns-clause-loose : goal.returns-clause-loose
 returns-clause-loose g c =
@@ -154,7 +158,7 @@ returns-clause-sound g c =
       | inr one ↦ inr (one.0, ready)
     ] in
     let kept : KeepsTable c.args.bits m.len c.max-spare.result (vec_len c.add_blanks.new.stock) Nowhere ws =
-    kept_groups c.args.bits m.len c.max-spare.result (vec_len c.add_blanks.new.stock) ws c.requires.many c.requires.few size w.packed
+    kept_groups c.args.bits m.len c.max-spare.result (vec_len c.add_blanks.new.stock) ws c.requires.size size w.packed
     (c.self.invariant.counted ∙ sym w.count)
     (omega (arith, c.requires.room, c.requires.wider, c.max-spare.ensures, len, before, c.self.invariant.room))
     (stocked_for c.max-spare.result (vec_len c.add_blanks.new.stock) (sizes_of ws) enough) ready in
