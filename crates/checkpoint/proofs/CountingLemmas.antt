@@ -13,7 +13,7 @@ use Rattle.ft_base.specs.Layout.{rounded_up, most_records, page_records, pages_f
 use Rattle.cache_model.specs.declared.entry.Entry.{Entry}
 use Rattle.cache_model.specs.Records.{Entries}
 use Rattle.cache_model.specs.Entries.{each_once, groups_with, blocks_with, page_mapped, IsMap}
-use Rattle.cache_model.proofs.CountLemmas.{member, numbers, each_once-le, member_of}
+use Rattle.cache_model.proofs.CountLemmas.{member, numbers, each_once-le, member_of, once_few}
 use Rattle.cache_model.proofs.MapLemmas.{all_entries, holds}
 use Rattle.ft_base.proofs.LayoutLemmas.{k_holds}
 use Rattle.ft_base.specs.declared.record.Record.{Record}
@@ -22,7 +22,7 @@ use Rattle.mapping.proofs.AscendingLemmas.{Items}
 use Rattle.mapping.proofs.MarksLemmas.{member_from}
 use Rattle.checkpoint.specs.Regions.{map_pages}
 use Rattle.checkpoint.proofs.PlacesLemmas.{product}
-use Rattle.mapping.proofs.TallyLemmas.{once_few, above}
+use Rattle.mapping.proofs.TallyLemmas.{above}
 
 -- ---- membership
 

@@ -14,7 +14,7 @@ use Rattle.cache_model.specs.declared.entry.Entry.{Entry}
 use Rattle.cache_model.specs.Records.{has_bit, in_log_block}
 use Rattle.cache_model.specs.Entries.{each_once, groups_with, page_mapped}
 use Rattle.cache_model.proofs.MapLemmas.{eq_key}
-use Rattle.cache_model.proofs.CountLemmas.{member, numbers, same_number, each_once-same}
+use Rattle.cache_model.proofs.CountLemmas.{member, numbers, same_number, each_once-same, once_few}
 use Rattle.block_map.specs.PageSets.{BlockPages}
 use Rattle.block_map.proofs.PageSetLemmas.{empty_set}
 use Rattle.sparse_map.specs.Home.{IsDoubledFor}
@@ -32,7 +32,7 @@ use Rattle.cache_model.specs.Buckets.{AreBucketsFor}
 use Rattle.mapping.proofs.MarksLemmas.{same_bools, member_from, member_to}
 use Rattle.mapping.proofs.PackedLemmas.{get_held, data_block_is}
 use Rattle.mapping.proofs.ChosenLemmas.{blocks_as}
-use Rattle.mapping.proofs.TallyLemmas.{tally_is, once_few}
+use Rattle.mapping.proofs.TallyLemmas.{tally_is}
 use Rattle.mapping.proofs.SeekingLemmas.{none_some}
 
 -- ---- a list in which no key comes twice

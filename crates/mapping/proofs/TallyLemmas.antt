@@ -15,7 +15,7 @@ use Rattle.cache_model.specs.Records.{Entries, no_entries}
 use Rattle.cache_model.specs.Entries.{each_once, groups_with, blocks_with, page_mapped, IsMap}
 use Rattle.cache_model.proofs.MapLemmas.{holds, get_remove, less_key}
 use Rattle.cache_model.proofs.FitsLemmas.{no_entries-nil}
-use Rattle.cache_model.proofs.CountLemmas.{member, numbers, same_number, each_once-same, counts_beside, less-map, member_of}
+use Rattle.cache_model.proofs.CountLemmas.{member, numbers, same_number, each_once-same, counts_beside, less-map, member_of, once_few}
 use Rattle.ft_base.specs.declared.record.Record.{Record}
 use Rattle.mapping.specs.Checkpoint.{IsCheckpointOf, set_group_of, set_page_of}
 use Rattle.mapping.specs.Numbers.{pool_pages, number_of}
@@ -39,12 +39,6 @@ some_counted (k ∷ ns) n t = elim (cases_Bool (member k ns)) [
 pub counted_some : (ns : List ℕ) → 0 < length (each_once ns) → (n : ℕ) × (member n ns ≡ true)
 counted_some [] some = absurd (omega arith)
 counted_some (k ∷ ns) some = (k, or_left (k == k) (member k ns) (same_number k))
-
-pub once_few : (ns : List ℕ) → length (each_once ns) ≤ length ns
-once_few [] = omega arith
-once_few (k ∷ ns) =
-    let few = once_few ns in
-    elim (member k ns) as (λ b. length (cond b (each_once ns) (k ∷ each_once ns)) ≤ suc (length ns)) [ true ↦ omega (arith, few) | false ↦ omega (arith, few) ]
 
 -- ---- how many entries pass
 

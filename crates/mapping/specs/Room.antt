@@ -1,5 +1,5 @@
--- How many buckets a reservation makes: those that the items and so many more ask, and no others.
-use Rattle.std.specs.Prelude.{ℕ, ◌+◌}
+-- How many buckets a reservation makes: those that the items and so many more ask, and no others. What other calls leave as it is.
+use Rattle.std.specs.Prelude.{◌≡◌, ℕ, ◌+◌}
 use Rattle.sparse_map.specs.Home.{IsDoubledFor}
 use Rattle.mapping.specs.Counts.{page_mapped_count, data_block_count}
 use Rattle.mapping.specs.MapValue.{MapValue}
@@ -18,3 +18,15 @@ LogsGrew old new more = IsDoubledFor (page_mapped_count old.entries + more) old.
 
 abbrev pub BlocksGrew : HeldValue → HeldValue → ℕ → Type 0
 BlocksGrew old new more = IsDoubledFor (data_block_count old.geometry old.entries + more) old.group_buckets new.group_buckets
+
+-- the geometry stays, and so do the numbers of buckets
+pub record KeepsTables (old new : HeldValue) : Type 0 where
+  pub geometry : new.geometry ≡ old.geometry
+  pub buckets : new.buckets ≡ old.buckets
+  pub group_buckets : new.group_buckets ≡ old.group_buckets
+
+-- so does the room for new pages and new data blocks
+pub record KeepsRoom (old new : HeldValue) : Type 0 where
+  pub tables : KeepsTables old new
+  pub pages : new.spare_pages ≡ old.spare_pages
+  pub blocks : new.spare_blocks ≡ old.spare_blocks

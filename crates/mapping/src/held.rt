@@ -8,7 +8,7 @@ ghost use Rattle.sparse_map.specs.Packed.{map_of, buckets_of, IsSound};
 ghost use Rattle.mapping.specs.declared.bits.Choice.TheVariants.{Mapped};
 ghost use Rattle.mapping.specs.Bits.{chosen_of, IsDataBlock};
 ghost use Rattle.mapping.specs.Checkpoint.{IsCheckpointOf, HasWindow};
-ghost use Rattle.mapping.specs.Room.{LogsGrew, BlocksGrew};
+ghost use Rattle.mapping.specs.Room.{LogsGrew, BlocksGrew, KeepsTables, KeepsRoom};
 ghost use Rattle.cache_model.specs.Buckets.{AreBucketsFor};
 ghost use Rattle.mapping.specs.Packed.{page_in, IsLeftOut};
 
@@ -123,12 +123,10 @@ impl Held {
     pub fn put_page(&mut self, lba: u64, place: Place, dirty: bool)
         requires absent { map.get self.old.entries lba ≡ None }
         requires room { 1 ≤ self.old.spare_pages }
-        ensures geometry { self.new.geometry ≡ self.old.geometry }
+        ensures tables { KeepsTables self.old self.new }
         ensures entries { self.new.entries ≡ after self.old.geometry (SetPage lba place dirty) self.old.entries }
         ensures pages { self.new.spare_pages + 1 ≡ self.old.spare_pages }
         ensures blocks { self.new.spare_blocks ≡ self.old.spare_blocks }
-        ensures buckets { self.new.buckets ≡ self.old.buckets }
-        ensures group_buckets { self.new.group_buckets ≡ self.old.group_buckets }
     {
         let _ = self.pages.insert_ready(lba, MappedPage { place, dirty });
     }
@@ -139,25 +137,19 @@ impl Held {
         requires sound { IsSoundBlock block }
         requires below { (i : ℕ) → self.old.geometry.p ≤ i → has_bit block.present i ≡ false }
         requires room { 1 ≤ self.old.spare_blocks }
-        ensures geometry { self.new.geometry ≡ self.old.geometry }
+        ensures tables { KeepsTables self.old self.new }
         ensures entries { self.new.entries ≡ after self.old.geometry (SetGroup group block.block block.present block.dirty)
             self.old.entries }
         ensures pages { self.new.spare_pages ≡ self.old.spare_pages }
         ensures blocks { self.new.spare_blocks + 1 ≡ self.old.spare_blocks }
-        ensures buckets { self.new.buckets ≡ self.old.buckets }
-        ensures group_buckets { self.new.group_buckets ≡ self.old.group_buckets }
     {
         let _ = self.blocks.insert_ready(group, block);
     }
 
     /// Takes out the entry of an address.
     pub fn remove(&mut self, lba: u64)
-        ensures geometry { self.new.geometry ≡ self.old.geometry }
+        ensures room { KeepsRoom self.old self.new }
         ensures entries { self.new.entries ≡ after self.old.geometry (Remove lba) self.old.entries }
-        ensures pages { self.new.spare_pages ≡ self.old.spare_pages }
-        ensures blocks { self.new.spare_blocks ≡ self.old.spare_blocks }
-        ensures buckets { self.new.buckets ≡ self.old.buckets }
-        ensures group_buckets { self.new.group_buckets ≡ self.old.group_buckets }
     {
         let pages = self.geometry.p as u64;
         let _ = self.pages.remove(lba);
@@ -171,12 +163,8 @@ impl Held {
 
     /// Makes the entry of an address clean, if there is one.
     pub fn clean(&mut self, lba: u64)
-        ensures geometry { self.new.geometry ≡ self.old.geometry }
+        ensures room { KeepsRoom self.old self.new }
         ensures entries { self.new.entries ≡ after self.old.geometry (Clean lba) self.old.entries }
-        ensures pages { self.new.spare_pages ≡ self.old.spare_pages }
-        ensures blocks { self.new.spare_blocks ≡ self.old.spare_blocks }
-        ensures buckets { self.new.buckets ≡ self.old.buckets }
-        ensures group_buckets { self.new.group_buckets ≡ self.old.group_buckets }
     {
         let pages = self.geometry.p as u64;
         match mapped_page(&self.pages, lba) {
@@ -200,12 +188,8 @@ impl Held {
     /// Takes out the entries of a group.
     pub fn remove_group(&mut self, group: u64)
         requires { group ≤ (self.old.geometry.size - 1) / self.old.geometry.p }
-        ensures geometry { self.new.geometry ≡ self.old.geometry }
+        ensures room { KeepsRoom self.old self.new }
         ensures entries { self.new.entries ≡ after self.old.geometry (RemoveGroup group) self.old.entries }
-        ensures pages { self.new.spare_pages ≡ self.old.spare_pages }
-        ensures blocks { self.new.spare_blocks ≡ self.old.spare_blocks }
-        ensures buckets { self.new.buckets ≡ self.old.buckets }
-        ensures group_buckets { self.new.group_buckets ≡ self.old.group_buckets }
     {
         remove_pages(&mut self.pages, &self.geometry, group);
         let _ = self.blocks.remove(group);

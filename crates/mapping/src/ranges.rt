@@ -4,6 +4,7 @@ ghost use Rattle.cache_model.specs.Records.{after};
 ghost use Rattle.cache_model.specs.Entries.{IsMap, IsInReach, Fits};
 ghost use Rattle.mapping.specs.MapValue.{pages_taken, groups_taken};
 ghost use Rattle.mapping.specs.Index.{IsIndex, without_range};
+ghost use Rattle.mapping.specs.Room.{KeepsTables};
 ghost use Rattle.mapping.specs.Ranges.{first_of, count_of, group_of};
 
 use crate::held::Held;
@@ -115,11 +116,10 @@ pub fn change_entries(held: &mut Held, index: &mut Index, geometry: &Geometry, c
     requires index { IsIndex geometry.now held.old.entries index.old }
     requires pages { pages_taken change.now ≤ held.old.spare_pages }
     requires groups { groups_taken change.now ≤ held.old.spare_blocks }
-    ensures geometry { held.new.geometry ≡ geometry.now }
+    ensures tables { KeepsTables held.old held.new }
     ensures entries { held.new.entries ≡ after geometry.now change.now held.old.entries }
     ensures pages { held.old.spare_pages ≤ held.new.spare_pages + pages_taken change.now }
     ensures groups { held.old.spare_blocks ≤ held.new.spare_blocks + groups_taken change.now }
-    ensures buckets { (held.new.buckets ≡ held.old.buckets) × (held.new.group_buckets ≡ held.old.group_buckets) }
     ensures index { IsIndex geometry.now held.new.entries index.new }
 {
     let first = first_of(geometry, change);

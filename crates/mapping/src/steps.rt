@@ -4,6 +4,7 @@ ghost use Rattle.ft_base.specs.declared.record.Record.TheVariants.{SetPage, SetG
 ghost use Rattle.cache_model.specs.Records.{after};
 ghost use Rattle.cache_model.specs.Entries.{IsInReach};
 ghost use Rattle.mapping.specs.MapValue.{pages_taken, groups_taken};
+ghost use Rattle.mapping.specs.Room.{KeepsTables};
 
 use crate::held::Held;
 use block_map::BlockAt;
@@ -14,12 +15,10 @@ pub fn step(held: &mut Held, change: &Record)
     requires reach { IsInReach held.old.geometry change.now }
     requires pages { pages_taken change.now ≤ held.old.spare_pages }
     requires groups { groups_taken change.now ≤ held.old.spare_blocks }
-    ensures geometry { held.new.geometry ≡ held.old.geometry }
+    ensures tables { KeepsTables held.old held.new }
     ensures entries { held.new.entries ≡ after held.old.geometry change.now held.old.entries }
     ensures pages { held.old.spare_pages ≤ held.new.spare_pages + pages_taken change.now }
     ensures groups { held.old.spare_blocks ≤ held.new.spare_blocks + groups_taken change.now }
-    ensures buckets { held.new.buckets ≡ held.old.buckets }
-    ensures group_buckets { held.new.group_buckets ≡ held.old.group_buckets }
 {
     match *change {
         Record::SetPage { lba, place, dirty } => set_page(held, lba, place, dirty),
@@ -38,12 +37,10 @@ pub fn step(held: &mut Held, change: &Record)
 /// The block of an address stands in this mapped page from now on.
 fn set_page(held: &mut Held, lba: u64, place: Place, dirty: bool)
     requires { 1 ≤ held.old.spare_pages }
-    ensures geometry { held.new.geometry ≡ held.old.geometry }
+    ensures tables { KeepsTables held.old held.new }
     ensures entries { held.new.entries ≡ after held.old.geometry (SetPage lba place dirty) held.old.entries }
     ensures pages { held.new.spare_pages + 1 ≡ held.old.spare_pages }
     ensures blocks { held.new.spare_blocks ≡ held.old.spare_blocks }
-    ensures buckets { held.new.buckets ≡ held.old.buckets }
-    ensures group_buckets { held.new.group_buckets ≡ held.old.group_buckets }
 {
     held.remove(lba);
     held.put_page(lba, place, dirty);
@@ -54,12 +51,10 @@ fn set_group(held: &mut Held, group: u64, block: u32, present: u64, dirty: u64)
     requires group { group ≤ (held.old.geometry.size - 1) / held.old.geometry.p }
     requires below { present < 2 ^ held.old.geometry.p }
     requires room { 1 ≤ held.old.spare_blocks }
-    ensures geometry { held.new.geometry ≡ held.old.geometry }
+    ensures tables { KeepsTables held.old held.new }
     ensures entries { held.new.entries ≡ after held.old.geometry (SetGroup group block present dirty) held.old.entries }
     ensures pages { held.new.spare_pages ≡ held.old.spare_pages }
     ensures blocks { held.old.spare_blocks ≤ held.new.spare_blocks + 1 }
-    ensures buckets { held.new.buckets ≡ held.old.buckets }
-    ensures group_buckets { held.new.group_buckets ≡ held.old.group_buckets }
 {
     held.remove_group(group);
     if present == 0 {

@@ -10,5 +10,5 @@ put_page-requires-clause-absent c = ap (λ m. get m c.args.lba) c.remove.ensures
 
 pub returns-clause-entries : goal.returns-clause-entries
 returns-clause-entries c =
-    c.put_page.ensures.entries ∙ ap (λ g. after g (SetPage c.args.lba c.args.place c.args.dirty) c.remove.new.self.entries) c.remove.ensures.geometry
+    c.put_page.ensures.entries ∙ ap (λ g. after g (SetPage c.args.lba c.args.place c.args.dirty) c.remove.new.self.entries) c.remove.ensures.room.tables.geometry
     ∙ ap (after c.args.held.now.geometry (SetPage c.args.lba c.args.place c.args.dirty)) c.remove.ensures.entries ∙ page_anew c.args.held.now.geometry c.args.held.now.entries c.args.lba c.args.place c.args.dirty

@@ -1,4 +1,4 @@
-use Rattle.std.proofs.Common.{sym, subst, arith}
+use Rattle.std.proofs.Common.{sym, ◌∙◌, subst, arith}
 use Rattle.cache_model.specs.Entries.{Fits}
 use Rattle.mapping.specs.MapValue.{MapValue}
 use Rattle.mapping.specs.declared.marks.Mark.TheVariants.{Dirty}
@@ -20,7 +20,7 @@ note-requires c =
       c.change_entries.new.held.entries,
       c.group_of-group.result,
       one_change c.self.inside.geometry c.self.inside.held.geometry c.change_entries.new.held.geometry c.args.change.now c.self.inside.held.entries c.change_entries.new.held.entries c.group_of-group.result c.block_of-before.result c.block_of-now.result c.has_mark-is_dirty.result
-          c.self.invariant.geometry c.change_entries.ensures.geometry c.self.invariant.is_map fits c.change_entries.ensures.entries c.group_of-group.ensures.group c.block_of-before.ensures.some
+          c.self.invariant.geometry (c.change_entries.ensures.tables.geometry ∙ c.self.invariant.geometry) c.self.invariant.is_map fits c.change_entries.ensures.entries c.group_of-group.ensures.group c.block_of-before.ensures.some
           c.block_of-before.ensures.none c.block_of-now.ensures.some c.block_of-now.ensures.none c.has_mark-is_dirty.ensures,
       c.self.invariant.are_candidates,
     )
@@ -32,10 +32,10 @@ invariant_of-self c =
     let m = c.self.inside.held.entries in
     let n = c.change_entries.new.held.entries in
     let change = one_change g c.self.inside.held.geometry c.change_entries.new.held.geometry c.args.change.now m n c.group_of-group.result c.block_of-before.result c.block_of-now.result c.has_mark-is_dirty.result
-    c.self.invariant.geometry c.change_entries.ensures.geometry c.self.invariant.is_map fits c.change_entries.ensures.entries c.group_of-group.ensures.group c.block_of-before.ensures.some
+    c.self.invariant.geometry (c.change_entries.ensures.tables.geometry ∙ c.self.invariant.geometry) c.self.invariant.is_map fits c.change_entries.ensures.entries c.group_of-group.ensures.group c.block_of-before.ensures.some
     c.block_of-before.ensures.none c.block_of-now.ensures.some c.block_of-now.ensures.none c.has_mark-is_dirty.ensures in
     record {
-      geometry = c.change_entries.ensures.geometry;
+      geometry = c.change_entries.ensures.tables.geometry ∙ c.self.invariant.geometry;
       is_map = change.new_map;
       index = c.change_entries.ensures.index;
       are_candidates = c.note.ensures m n c.group_of-group.result change c.self.invariant.are_candidates;
