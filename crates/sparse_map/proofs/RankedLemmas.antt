@@ -13,16 +13,13 @@ use Rattle.sparse_map.specs.Probe.{IsPlaceOf, IsFreeFor}
 use Rattle.sparse_map.specs.declared.table.Place.{Place}
 use Rattle.sparse_map.specs.declared.table.Place.TheVariants.{Found, Free}
 use Rattle.sparse_map.proofs.RankLemmas.{rank_zero, rank_suc, rank_same, rank_at_most, ones_at_most_32}
-use Rattle.sparse_map.proofs.GroupLemmas.{taken, untaken, length-group_slots, get_or-group_slots, unpacked_item, slots-replace}
+use Rattle.sparse_map.proofs.GroupLemmas.{taken, untaken, get_or-group_slots, unpacked_item, slots-replace}
 use Rattle.sparse_map.proofs.RoundLemmas.{next, next_cases}
 use Rattle.sparse_map.proofs.SlotLemmas.{is_some-key_at, slot_of_key}
 use Rattle.sparse_map.proofs.PackedLemmas.{key_inside}
-use Rattle.sparse_map.proofs.TableLemmas.{length-slots_of, slot_in_group, slot_of_bucket}
+use Rattle.sparse_map.proofs.TableLemmas.{length-slots_in, length-slots_of, slot_in_group, slot_of_bucket}
 
 module _ {V : Type 0} where
-  length-slots_in : (u : Group V) → length (slots_in u) ≡ 32
-  length-slots_in u = length-group_slots u.occupied u.items.items
-
   -- counted in the group that an index read
   pub rank_read : (us : List (Group V)) (b place : ℕ) (u d : Group V) → b < 32 * length us → u ≡ get_or us (b / 32) d → place ≡ rank u.occupied (b % 32) → IsRankOf us b place
   rank_read us b place u d inside is at =

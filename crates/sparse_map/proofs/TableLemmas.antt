@@ -8,7 +8,7 @@ use Rattle.sparse_map.specs.Groups.{slots_in, slots_of}
 use Rattle.sparse_map.proofs.GroupLemmas.{length-group_slots}
 
 module _ {V : Type 0} where
-  length-slots_in : (u : Group V) → length (slots_in u) ≡ 32
+  pub length-slots_in : (u : Group V) → length (slots_in u) ≡ 32
   length-slots_in u = length-group_slots u.occupied u.items.items
 
   pub length-slots_of : (us : List (Group V)) → length (slots_of us) ≡ 32 * length us
