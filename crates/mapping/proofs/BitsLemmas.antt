@@ -3,6 +3,7 @@ use Rattle.std.proofs.Common.{◌≡◌, ℕ, zero, suc, ◌+◌, ◌-◌, ◌*�
 use Rattle.std.specs.Int.{bit_at}
 use Rattle.std.proofs.lemmas.Nat.{div-mul-add}
 use Rattle.std.proofs.lemmas.Nat.Bits.{bit_at-zero, bit_at_above, bit_at_cat_low, bit_at_cat_high}
+use Rattle.std.proofs.Math.Bool.{and-true, and-false}
 use Rattle.std.proofs.lemmas.Bool.{cases_Bool, cases_lt, cases_eq, both_ways, and_parts, and_from}
 use Rattle.std.specs.FinMap.{get}
 use Rattle.ft_base.specs.declared.geometry.Geometry.{Geometry}
@@ -54,21 +55,13 @@ bit_of_set test (suc n) i = elim (cases_lt i n) [
       ap (λ k. bit_at k i == 1) (as_sum (test n) (set_of test n) (2 ^ n)) ∙ ap (λ k. k == 1) (bit_at_cat_high (cond (test n) 1 0) n (set_of test n) i (set_below test n) high)
       ∙ top_bit (test n) (i - n)
       ∙ elim (cases_eq i n) [
-        | inl same ↦ ap (λ k. test n && (k == 0)) (gone i n same) ∙ turned (test n) ∙ ap test (sym same) ∙ ap (λ b. b && test i) (sym (lt-ltb i (suc n) (omega arith)))
-        | inr other ↦ ap (λ b. test n && b) (ne_eqb (i - n) 0 (λ e. other (omega arith))) ∙ never (test n) ∙ ap (λ b. b && test i) (sym (le-ltb i (suc n) (omega arith)))
+        | inl same ↦ ap (λ k. test n && (k == 0)) (gone i n same) ∙ and-true (test n) ∙ ap test (sym same) ∙ ap (λ b. b && test i) (sym (lt-ltb i (suc n) (omega arith)))
+        | inr other ↦ ap (λ b. test n && b) (ne_eqb (i - n) 0 (λ e. other (omega arith))) ∙ and-false (test n) ∙ ap (λ b. b && test i) (sym (le-ltb i (suc n) (omega arith)))
       ]
 ]
   where
     gone : (i n : ℕ) → i ≡ n → i - n ≡ 0
     gone i n same = omega arith
-
-    turned : (b : Bool) → (b && true) ≡ b
-    turned true = refl
-    turned false = refl
-
-    never : (b : Bool) → (b && false) ≡ false
-    never true = refl
-    never false = refl
 
 pub set_of_none : (test : ℕ → Bool) (n : ℕ) → ((i : ℕ) → i < n → test i ≡ false) → set_of test n ≡ 0
 set_of_none test zero none = refl

@@ -14,6 +14,7 @@ use Rattle.mapping.specs.declared.bits.Choice.TheVariants.{Mapped}
 use Rattle.mapping.specs.Bits.{set_of, is_chosen, chosen_of, IsDataBlock}
 use Rattle.mapping.specs.Candidates.{IsClean, IsCandidate, IsCandidateIn, AreCandidates, ChangesOne, StandsInPool, pages_held, with_count}
 use Rattle.mapping.specs.Numbers.{IsGroupIn}
+use Rattle.mapping.proofs.NumbersLemmas.{pool_end}
 use Rattle.mapping.proofs.ChosenLemmas.{chosen_none, stands_some, pages_held-count, page_count-most}
 use Rattle.mapping.proofs.SeekingLemmas.{none_some}
 
@@ -50,10 +51,7 @@ any_in_pool g m group None is_map own_block = tt
 any_in_pool g m group (Some b) is_map own_block = in_pool g m group b is_map own_block
 
 pub place_below : (g : Geometry) (block : ℕ) → first_pool g ≤ block → block < blocks g → block - first_pool g < g.c + g.l + 1
-place_below g block above below = omega (arith, pool_end)
-  where
-    pool_end : blocks g ≡ first_pool g + (g.c + g.l + 1)
-    pool_end = omega arith
+place_below g block above below = omega (arith, pool_end g)
 
 same_block : (first a b : ℕ) → first ≤ a → first ≤ b → a - first ≡ b - first → a ≡ b
 same_block first a b low low' same = omega arith

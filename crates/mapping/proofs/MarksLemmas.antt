@@ -66,15 +66,15 @@ recounted true false n d d' x is sum sum' = omega arith
 recounted false true n d d' x is sum sum' = omega arith
 recounted false false n d d' x is sum sum' = omega arith
 
+pub some_counted : (ns : List ℕ) (n : ℕ) → member n ns ≡ true → 0 < length (each_once ns)
+some_counted [] n t = absurd (cc)
+some_counted (k ∷ ns) n t = elim (cases_Bool (member k ns)) [
+  | inl m ↦ subst (λ b. 0 < length (cond b (each_once ns) (k ∷ each_once ns))) (sym m) (some_counted ns k m)
+  | inr f ↦ subst (λ b. 0 < length (cond b (each_once ns) (k ∷ each_once ns))) (sym f) (omega arith)
+]
+
 pub counts_some : (g : Geometry) (mark : Mark) (m : Entries) (group n : ℕ) (had : Bool) → n ≡ length (groups_with g (has_mark mark) m) → (had ≡ true → HasMarkIn g m mark group) → had ≡ true → 1 ≤ n
 counts_some g mark m group n had is before t = let some = some_counted (numbers (λ x. x.0 / g.p) (has_mark mark) (entries m)) group ((counts_group g mark m group).1 (before t)) in omega (arith, is, some)
-  where
-    some_counted : (ns : List ℕ) (k : ℕ) → member k ns ≡ true → 0 < length (each_once ns)
-    some_counted [] k t = absurd (cc)
-    some_counted (j ∷ ns) k t = elim (cases_Bool (member j ns)) [
-      | inl m ↦ subst (λ b. 0 < length (cond b (each_once ns) (j ∷ each_once ns))) (sym m) (some_counted ns j m)
-      | inr f ↦ subst (λ b. 0 < length (cond b (each_once ns) (j ∷ each_once ns))) (sym f) (omega arith)
-    ]
 
 -- the group may have the mark from now on exactly where at most C groups have it then
 pub may_have_fits : (g : Geometry) (mark : Mark) (group : ℕ) (old new : Entries) (has : Bool) → ChangesGroup g mark group old new has → length (groups_with g (has_mark mark) old) ≤ g.c

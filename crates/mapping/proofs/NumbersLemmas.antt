@@ -1,6 +1,7 @@
 -- Numbers of the pages of the pool.
 use Rattle.std.proofs.Common.{◌≡◌, ℕ, ◌+◌, ◌-◌, ◌*◌, ◌/◌, ◌%◌, ◌<◌, ◌≤◌, sym, ◌∙◌, ap, subst, arith}
 use Rattle.std.proofs.lemmas.Nat.{div-mul-add, mod-mul-add, mul-add-lt}
+use Rattle.std.proofs.Math.Nat.{mul_comm}
 use Rattle.ft_base.specs.declared.geometry.Geometry.{Geometry}
 use Rattle.ft_base.specs.declared.block.Place.{Place}
 use Rattle.ft_base.specs.Layout.{first_pool, blocks}
@@ -10,11 +11,8 @@ use Rattle.mapping.specs.Counts.{Owns}
 use Rattle.mapping.specs.Numbers.{pool_pages, number_of, HasNone, AreNumbered}
 
 module _ (g : Geometry) where
-  pool_end : blocks g ≡ first_pool g + (g.c + g.l + 1)
+  pub pool_end : blocks g ≡ first_pool g + (g.c + g.l + 1)
   pool_end = omega arith
-
-  mul_turned : (a b : ℕ) → a * b ≡ b * a
-  mul_turned a b = omega arith
 
   -- the pool has no more pages than that of the largest geometry
   pub pages_few : pool_pages g ≤ 36928
@@ -33,7 +31,7 @@ module _ (g : Geometry) where
       let above = pool.above in
       let below = pool.below in
       let offset : at.block - first_pool g < g.c + g.l + 1 = omega (arith, pool_end) in
-      subst (λ n. (at.block - first_pool g) * g.p + at.page < n) (mul_turned g.p (g.c + g.l + 1)) (mul-add-lt (at.block - first_pool g) g.p at.page (g.c + g.l + 1) offset pool.page)
+      subst (λ n. (at.block - first_pool g) * g.p + at.page < n) (mul_comm g.p (g.c + g.l + 1)) (mul-add-lt (at.block - first_pool g) g.p at.page (g.c + g.l + 1) offset pool.page)
 
   -- pages of one number are one page
   pub number_tells : (at at' : Place) → InPool g at → InPool g at' → number_of g at ≡ number_of g at' → at ≡ at'

@@ -4,6 +4,7 @@ use Rattle.std.proofs.Common.{refl, sym, ◌∙◌, ap, ap₂, subst, arith, inl
 use Rattle.std.specs.Bool.{then_some}
 use Rattle.std.specs.Cmp.{nat_cmp_total}
 use Rattle.std.specs.FinMap.{get, insert, remove, entries, find, get-entries, get-empty, same_map, nat_cmp-IsAntisymmetric}
+use Rattle.std.proofs.Math.Bool.{and-true, and-false}
 use Rattle.std.proofs.lemmas.Bool.{cases_Bool, cases_eq, both_ways, ltb-false}
 use Rattle.std.proofs.lemmas.Nat.{div-mul-add, mod-mul-add, div-add-mod', mod_below}
 use Rattle.std.proofs.lemmas.Bool.Decides.{nat_tests}
@@ -206,18 +207,10 @@ module _ (g : Geometry) where
       blocks = λ all. blocks_more sound (λ i past. present i ∙ ap (λ c. c && not (i == page)) (all.below k a at i past)) all;
     }
       where
-        gone : (c : Bool) → (c && not true) ≡ false
-        gone true = refl
-        gone false = refl
-
-        kept : (c : Bool) → (c && not false) ≡ c
-        kept true = refl
-        kept false = refl
-
         page_left : (i : ℕ) (c : Bool) → (i == page) ≡ c → page_of_group b.block b.present b.dirty i ≡ cond c None (page_of_group a.block a.present a.dirty i)
-        page_left i true is' = ap (λ t. then_some t (record { place = record { block = b.block; page = i }; dirty = has_bit b.dirty i; block_mapped = true })) (present i ∙ ap (λ c. has_bit a.present i && not c) is' ∙ gone (has_bit a.present i))
-        page_left i false is' = λ t. then_some ((present i ∙ ap (λ c. has_bit a.present i && not c) is' ∙ kept (has_bit a.present i)) t)
-            (record { place = record { block = block t; page = i }; dirty = (dirty i ∙ ap (λ c. has_bit a.dirty i && not c) is' ∙ kept (has_bit a.dirty i)) t; block_mapped = true })
+        page_left i true is' = ap (λ t. then_some t (record { place = record { block = b.block; page = i }; dirty = has_bit b.dirty i; block_mapped = true })) (present i ∙ ap (λ c. has_bit a.present i && not c) is' ∙ and-false (has_bit a.present i))
+        page_left i false is' = λ t. then_some ((present i ∙ ap (λ c. has_bit a.present i && not c) is' ∙ and-true (has_bit a.present i)) t)
+            (record { place = record { block = block t; page = i }; dirty = (dirty i ∙ ap (λ c. has_bit a.dirty i && not c) is' ∙ and-true (has_bit a.dirty i)) t; block_mapped = true })
 
     -- ---- a block with one of its pages clean
 
@@ -238,23 +231,15 @@ module _ (g : Geometry) where
               ∙ sym (ap (λ c. cond c (option_map cleaned (page_in (get blocks (q / g.p)) (q % g.p))) (page_in (get blocks (q / g.p)) (q % g.p))) same)
         ]
       where
-        gone : (c : Bool) → (c && not true) ≡ false
-        gone true = refl
-        gone false = refl
-
-        kept : (c : Bool) → (c && not false) ≡ c
-        kept true = refl
-        kept false = refl
-
         clean_of : (c : Bool) (e : Entry) → option_map cleaned (then_some c e) ≡ then_some c (cleaned e)
         clean_of true e = refl
         clean_of false e = refl
 
         cleaned_in : (i : ℕ) (c : Bool) → (i == lba % g.p) ≡ c → page_of_group b.block b.present b.dirty i ≡ cond c (option_map cleaned (page_of_group a.block a.present a.dirty i)) (page_of_group a.block a.present a.dirty i)
         cleaned_in i true is' =
-            (λ t. then_some (has_bit (present t) i) (record { place = record { block = block t; page = i }; dirty = (dirty i ∙ ap (λ c. has_bit a.dirty i && not c) is' ∙ gone (has_bit a.dirty i)) t; block_mapped = true }))
+            (λ t. then_some (has_bit (present t) i) (record { place = record { block = block t; page = i }; dirty = (dirty i ∙ ap (λ c. has_bit a.dirty i && not c) is' ∙ and-false (has_bit a.dirty i)) t; block_mapped = true }))
             ∙ sym (clean_of (has_bit a.present i) (record { place = record { block = a.block; page = i }; dirty = has_bit a.dirty i; block_mapped = true }))
-        cleaned_in i false is' = λ t. then_some (has_bit (present t) i) (record { place = record { block = block t; page = i }; dirty = (dirty i ∙ ap (λ c. has_bit a.dirty i && not c) is' ∙ kept (has_bit a.dirty i)) t; block_mapped = true })
+        cleaned_in i false is' = λ t. then_some (has_bit (present t) i) (record { place = record { block = block t; page = i }; dirty = (dirty i ∙ ap (λ c. has_bit a.dirty i && not c) is' ∙ and-true (has_bit a.dirty i)) t; block_mapped = true })
 
     pub block_cleaned : (a : BlockPages) (lba : ℕ) → k ≡ lba / g.p → get pages lba ≡ None → get blocks k ≡ Some a → b.block ≡ a.block → b.present ≡ a.present → IsLeftWithout a.dirty (lba % g.p) b.dirty → packed_entries g pages blocks' ≡ after g (Clean lba) (packed_entries g pages blocks)
     block_cleaned a lba group none at block present dirty = same_held pages blocks' (after g (Clean lba) (packed_entries g pages blocks)) (λ q.
@@ -512,11 +497,7 @@ module _ (g : Geometry) where
     pub sound : IsSoundTable new
 
   pub none_gone : (group : ℕ) (old : PackedTable MappedPage) → IsSoundTable old → PagesGone group old old 0
-  none_gone group old sound = record { gone = λ q. sym (ap (λ c. cond c None (get (map_of old) q)) (ap (λ c. (q / g.p == group) && c) (le-ltb (q % g.p) 0 (omega arith)) ∙ never (q / g.p == group))); spare = refl; buckets = refl; sound = sound }
-    where
-      never : (c : Bool) → (c && false) ≡ false
-      never true = refl
-      never false = refl
+  none_gone group old sound = record { gone = λ q. sym (ap (λ c. cond c None (get (map_of old) q)) (ap (λ c. (q / g.p == group) && c) (le-ltb (q % g.p) 0 (omega arith)) ∙ and-false (q / g.p == group))); spare = refl; buckets = refl; sound = sound }
 
   pub one_gone : (group i : ℕ) (old now new : PackedTable MappedPage) → i < g.p → PagesGone group old now i → map_of new ≡ remove (map_of now) (group * g.p + i) → new.spare ≡ now.spare → buckets_of new ≡ buckets_of now → IsSoundTable new → PagesGone group old new (i + 1)
   one_gone group i old now new low so_far is spare buckets sound = record {
@@ -543,8 +524,4 @@ module _ (g : Geometry) where
       joined false e l l' o is' = refl
 
   pub all_gone : (group : ℕ) (old new : PackedTable MappedPage) → PagesGone group old new g.p → (q : ℕ) → get (map_of new) q ≡ cond (q / g.p == group) None (get (map_of old) q)
-  all_gone group old new so_far q = so_far.gone q ∙ ap (λ c. cond ((q / g.p == group) && c) None (get (map_of old) q)) (lt-ltb _ _ (mod_below q g.p some_pages)) ∙ ap (λ c. cond c None (get (map_of old) q)) (always (q / g.p == group))
-    where
-      always : (c : Bool) → (c && true) ≡ c
-      always true = refl
-      always false = refl
+  all_gone group old new so_far q = so_far.gone q ∙ ap (λ c. cond ((q / g.p == group) && c) None (get (map_of old) q)) (lt-ltb _ _ (mod_below q g.p some_pages)) ∙ ap (λ c. cond c None (get (map_of old) q)) (and-true (q / g.p == group))

@@ -18,6 +18,7 @@ use Rattle.mapping.specs.declared.marks.Mark.TheVariants.{Dirty}
 use Rattle.mapping.specs.declared.seeking.Sought.TheVariants.{MappedBeside}
 use Rattle.mapping.specs.Index.{tally, is_mapped_in, LogsAre}
 use Rattle.mapping.specs.Seeking.{IsFoundIn, IsNotIn, IsTaken, MayHave, log_block}
+use Rattle.mapping.proofs.NumbersLemmas.{pool_end}
 use Rattle.mapping.proofs.MarksLemmas.{ChangesGroup, may_have_fits}
 use Rattle.mapping.proofs.TallyLemmas.{not_there, others_there, tally_without, used_without, used_same, absent_same}
 use Rattle.mapping.proofs.FittingLemmas.{page_cases, page_here, page_other, page_fits, fits_page}
@@ -68,12 +69,9 @@ module _ (g : Geometry) (m : Entries) (lba : ℕ) where
   -- what the list counts for a block of the pool
   pub count_read : (logs : LogCounts) (block first x : ℕ) → LogsAre g m logs → first ≡ first_pool g → first_pool g ≤ block → block < blocks g → x ≡ get_or logs.pages.items (block - first) x → x ≡ tally (is_mapped_in block) m
   count_read logs block first x all is above below read =
-      let low : block - first_pool g < g.c + g.l + 1 = omega (arith, pool_end) in
+      let low : block - first_pool g < g.c + g.l + 1 = omega (arith, pool_end g) in
       let whole : first_pool g + (block - first_pool g) ≡ block = omega arith in
       read ∙ ap (λ n. get_or logs.pages.items (block - n) x) is ∙ get_or_default logs.pages.items (block - first_pool g) x 0 (omega (arith, all.long, low)) ∙ all.pages (block - first_pool g) low ∙ ap (λ n. tally (is_mapped_in n) m) whole
-    where
-      pool_end : blocks g ≡ first_pool g + (g.c + g.l + 1)
-      pool_end = omega arith
 
   pub own_counted : (block : ℕ) → Some block ≡ log_block (get m lba) → 1 ≤ tally (is_mapped_in block) m
   own_counted block is =

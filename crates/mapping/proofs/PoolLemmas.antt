@@ -4,8 +4,9 @@ use Rattle.std.specs.FinMap.{from_entries}
 use Rattle.std.proofs.lemmas.Bool.{cases_Bool, or_cases}
 use Rattle.std.proofs.lemmas.Nat.{div-mul-add, mod-mul-add, mul-add-lt}
 use Rattle.std.proofs.lemmas.List.{get_or-map, length-map}
+use Rattle.std.proofs.Math.Nat.{mul_comm}
 use Rattle.ft_base.specs.declared.geometry.Geometry.{Geometry}
-use Rattle.ft_base.specs.Layout.{first_pool, blocks}
+use Rattle.ft_base.specs.Layout.{first_pool}
 use Rattle.cache_model.specs.declared.entry.Entry.{Entry}
 use Rattle.cache_model.specs.Entries.{each_once, IsMap}
 use Rattle.cache_model.proofs.CountLemmas.{member}
@@ -13,6 +14,7 @@ use Rattle.mapping.proofs.Words.{Ascends}
 use Rattle.mapping.proofs.Words.{count_range}
 use Rattle.mapping.proofs.AscendingLemmas.{Items, spare_item, get_here, keys_rise}
 use Rattle.mapping.proofs.MarksLemmas.{range_counts}
+use Rattle.mapping.proofs.NumbersLemmas.{pool_end}
 
 count_most : (test : ℕ → Bool) (from n : ℕ) → count_range test from n ≤ n
 count_most test from zero = omega arith
@@ -78,13 +80,7 @@ module _ (g : Geometry) (items : Items) (up : Ascends items) (is_map : IsMap g (
       let above = pool.above in
       let below = pool.below in
       let offset : x.1.place.block - first_pool g < g.c + g.l + 1 = omega (arith, pool_end g) in
-      subst (λ n. (x.1.place.block - first_pool g) * g.p + x.1.place.page < n) (mul_turned g.p (g.c + g.l + 1)) (mul-add-lt (x.1.place.block - first_pool g) g.p x.1.place.page (g.c + g.l + 1) offset pool.page)
-    where
-      pool_end : (g : Geometry) → blocks g ≡ first_pool g + (g.c + g.l + 1)
-      pool_end g = omega arith
-
-      mul_turned : (a b : ℕ) → a * b ≡ b * a
-      mul_turned a b = omega arith
+      subst (λ n. (x.1.place.block - first_pool g) * g.p + x.1.place.page < n) (mul_comm g.p (g.c + g.l + 1)) (mul-add-lt (x.1.place.block - first_pool g) g.p x.1.place.page (g.c + g.l + 1) offset pool.page)
 
   -- no more entries than pages of the pool
   pub few_entries : length items ≤ (g.c + g.l + 1) * g.p

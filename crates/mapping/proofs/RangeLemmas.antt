@@ -1,13 +1,12 @@
 -- The entries without those of a range of addresses.
-use Rattle.std.proofs.Common.{◌≡◌, ℕ, zero, suc, ◌+◌, ◌*◌, ◌/◌, ◌%◌, ◌<◌, ◌≤◌, ◌==◌, Bool, true, false, cond, Option, None, refl, sym, ◌∙◌, ap, subst, arith, inl, inr, ◌⊎◌, add-one, ne_eqb}
+use Rattle.std.proofs.Common.{◌≡◌, ℕ, zero, suc, ◌+◌, ◌*◌, ◌/◌, ◌%◌, ◌<◌, ◌≤◌, ◌==◌, None, refl, sym, ◌∙◌, ap, subst, arith, inl, inr, ◌⊎◌, add-one, ne_eqb}
 use Rattle.std.specs.Cmp.{nat_cmp_total}
 use Rattle.std.specs.FinMap.{get, remove, same_map, nat_cmp-IsAntisymmetric}
-use Rattle.std.proofs.lemmas.Bool.{cases_eq, cases_lt}
+use Rattle.std.proofs.lemmas.Bool.{cases_eq, cases_lt, cond-false}
 use Rattle.std.proofs.lemmas.Nat.{div-add-mod', mod_below}
 use Rattle.ft_base.specs.declared.geometry.Geometry.{Geometry}
 use Rattle.ft_base.specs.declared.record.Record.{Record}
 use Rattle.ft_base.specs.declared.record.Record.TheVariants.{SetPage, Remove, Clean, SetGroup, RemoveGroup}
-use Rattle.cache_model.specs.declared.entry.Entry.{Entry}
 use Rattle.cache_model.specs.Records.{Entries, after}
 use Rattle.cache_model.proofs.Words.{after_at}
 use Rattle.cache_model.specs.Entries.{IsMap}
@@ -91,16 +90,12 @@ not_group g group q out s =
 pub after_outside : (g : Geometry) (change : Record) (m : Entries) (q : ℕ) → IsOutside (first_of g change) (count_of g change) q → get m q ≡ get (after g change m) q
 after_outside g change m q out = sym (get-after g change m q ∙ by_change change out)
   where
-    passed : (b : Bool) (x : Option Entry) → b ≡ false → cond b x (get m q) ≡ get m q
-    passed true x f = absurd (cc)
-    passed false x f = refl
-
     by_change : (change : Record) → IsOutside (first_of g change) (count_of g change) q → after_at g change (get m) q ≡ get m q
-    by_change (SetPage lba place dirty) out = passed (q == lba) _ (ne_eqb q lba (not_one lba q out))
-    by_change (Remove lba) out = passed (q == lba) _ (ne_eqb q lba (not_one lba q out))
-    by_change (Clean lba) out = passed (q == lba) _ (ne_eqb q lba (not_one lba q out))
-    by_change (SetGroup group block present dirty) out = passed (q / g.p == group) _ (ne_eqb (q / g.p) group (not_group g group q out))
-    by_change (RemoveGroup group) out = passed (q / g.p == group) _ (ne_eqb (q / g.p) group (not_group g group q out))
+    by_change (SetPage lba place dirty) out = cond-false (q == lba) _ _ (ne_eqb q lba (not_one lba q out))
+    by_change (Remove lba) out = cond-false (q == lba) _ _ (ne_eqb q lba (not_one lba q out))
+    by_change (Clean lba) out = cond-false (q == lba) _ _ (ne_eqb q lba (not_one lba q out))
+    by_change (SetGroup group block present dirty) out = cond-false (q / g.p == group) _ _ (ne_eqb (q / g.p) group (not_group g group q out))
+    by_change (RemoveGroup group) out = cond-false (q / g.p == group) _ _ (ne_eqb (q / g.p) group (not_group g group q out))
 
 -- beside its addresses the entries before a record and after it are the same
 pub around : (g : Geometry) (change : Record) (old new : Entries) (first count : ℕ) (index : Index) → first ≡ first_of g change → count ≡ count_of g change → new ≡ after g change old → IsIndex g (without_range old first count) index → IsIndex g (without_range new first count) index
@@ -111,13 +106,9 @@ around g change old new first count index from many is all = subst (λ (x : Entr
 pub after_elsewhere : (g : Geometry) (change : Record) (m : Entries) (q : ℕ) → (q / g.p ≡ group_of g change → ⊥) → get (after g change m) q ≡ get m q
 after_elsewhere g change m q apart = get-after g change m q ∙ by_change change apart
   where
-    passed : (b : Bool) (x : Option Entry) → b ≡ false → cond b x (get m q) ≡ get m q
-    passed true x f = absurd (cc)
-    passed false x f = refl
-
     by_change : (change : Record) → (q / g.p ≡ group_of g change → ⊥) → after_at g change (get m) q ≡ get m q
-    by_change (SetPage lba place dirty) apart = passed (q == lba) _ (ne_eqb q lba (λ s. apart (ap (λ n. n / g.p) s)))
-    by_change (Remove lba) apart = passed (q == lba) _ (ne_eqb q lba (λ s. apart (ap (λ n. n / g.p) s)))
-    by_change (Clean lba) apart = passed (q == lba) _ (ne_eqb q lba (λ s. apart (ap (λ n. n / g.p) s)))
-    by_change (SetGroup group block present dirty) apart = passed (q / g.p == group) _ (ne_eqb (q / g.p) group apart)
-    by_change (RemoveGroup group) apart = passed (q / g.p == group) _ (ne_eqb (q / g.p) group apart)
+    by_change (SetPage lba place dirty) apart = cond-false (q == lba) _ _ (ne_eqb q lba (λ s. apart (ap (λ n. n / g.p) s)))
+    by_change (Remove lba) apart = cond-false (q == lba) _ _ (ne_eqb q lba (λ s. apart (ap (λ n. n / g.p) s)))
+    by_change (Clean lba) apart = cond-false (q == lba) _ _ (ne_eqb q lba (λ s. apart (ap (λ n. n / g.p) s)))
+    by_change (SetGroup group block present dirty) apart = cond-false (q / g.p == group) _ _ (ne_eqb (q / g.p) group apart)
+    by_change (RemoveGroup group) apart = cond-false (q / g.p == group) _ _ (ne_eqb (q / g.p) group apart)

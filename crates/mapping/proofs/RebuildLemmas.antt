@@ -25,6 +25,15 @@ use Rattle.mapping.proofs.BitsLemmas.{bit_of_set, set_below}
 use Rattle.mapping.proofs.CountsLemmas.{div_mono}
 use Rattle.mapping.proofs.ChosenLemmas.{block_is}
 
+turned : (x y : ℕ) → (x == y) ≡ (y == x)
+turned x y = grind (arith, nat_tests)
+
+joined : (b c c' : Bool) (x y : Option Entry) → c ≡ c' → cond b x (cond c x y) ≡ cond (c' || b) x y
+joined true true c' x y e = ap (λ d. cond (d || true) x y) e
+joined true false c' x y e = ap (λ d. cond (d || true) x y) e
+joined false true c' x y e = ap (λ d. cond (d || false) x y) e
+joined false false c' x y e = ap (λ d. cond (d || false) x y) e
+
 -- the entry, if it stands in a data block
 abbrev only_mapped : Option Entry → Option Entry
 only_mapped None = None
@@ -141,15 +150,6 @@ module _ (g : Geometry) (m : Entries) (is_map : IsMap g m) where
           has = λ a. rest.1.has a ∙ ap (λ o. cond (member (a / g.p) groups) (only_mapped (get m a)) o) (after_group group n a) ∙ joined (member (a / g.p) groups) (a / g.p == group) (group == a / g.p) (only_mapped (get m a)) (get n a) (turned (a / g.p) group);
         },
       )
-    where
-      turned : (x y : ℕ) → (x == y) ≡ (y == x)
-      turned x y = grind (arith, nat_tests)
-
-      joined : (b c c' : Bool) (x y : Option Entry) → c ≡ c' → cond b x (cond c x y) ≡ cond (c' || b) x y
-      joined true true c' x y e = ap (λ d. cond (d || true) x y) e
-      joined true false c' x y e = ap (λ d. cond (d || true) x y) e
-      joined false true c' x y e = ap (λ d. cond (d || false) x y) e
-      joined false false c' x y e = ap (λ d. cond (d || false) x y) e
 
   -- ---- pages
 
@@ -205,15 +205,6 @@ module _ (g : Geometry) (m : Entries) (is_map : IsMap g m) where
           },
         )
   ]
-    where
-      turned : (x y : ℕ) → (x == y) ≡ (y == x)
-      turned x y = grind (arith, nat_tests)
-
-      joined : (b c c' : Bool) (x y : Option Entry) → c ≡ c' → cond b x (cond c x y) ≡ cond (c' || b) x y
-      joined true true c' x y e = ap (λ d. cond (d || true) x y) e
-      joined true false c' x y e = ap (λ d. cond (d || true) x y) e
-      joined false true c' x y e = ap (λ d. cond (d || false) x y) e
-      joined false false c' x y e = ap (λ d. cond (d || false) x y) e
 
   -- ---- the whole
 

@@ -9,7 +9,7 @@ use Rattle.std.proofs.lemmas.Bool.{cases_Bool, cases_eq, and_parts, and_from, bo
 use Rattle.std.proofs.lemmas.List.{length-map, length-set, length-replicate, get_or-set_same, get_or-set_other, get_or_default}
 use Rattle.std.proofs.lemmas.Option.{same_Some}
 use Rattle.ft_base.specs.declared.geometry.Geometry.{Geometry}
-use Rattle.ft_base.specs.Layout.{first_pool, blocks}
+use Rattle.ft_base.specs.Layout.{first_pool}
 use Rattle.cache_model.specs.declared.entry.Entry.{Entry}
 use Rattle.cache_model.specs.Records.{Entries, no_entries}
 use Rattle.cache_model.specs.Entries.{each_once, groups_with, blocks_with, page_mapped, IsMap}
@@ -22,19 +22,12 @@ use Rattle.mapping.specs.Numbers.{pool_pages, number_of}
 use Rattle.mapping.specs.declared.index.LogCounts.{LogCounts}
 use Rattle.mapping.specs.declared.index.Index.{Index}
 use Rattle.mapping.specs.Index.{tally, is_any, is_mapped_in, OwnersAre, LogsAre, IsIndex}
-use Rattle.mapping.proofs.MarksLemmas.{same_bools, member_from, member_to}
-use Rattle.mapping.proofs.NumbersLemmas.{number_below, number_tells, pages_few}
+use Rattle.mapping.proofs.MarksLemmas.{same_bools, member_from, member_to, some_counted}
+use Rattle.mapping.proofs.NumbersLemmas.{number_below, number_tells, pages_few, pool_end}
 use Rattle.mapping.proofs.PoolLemmas.{few_entries}
 use Rattle.mapping.proofs.SeekingLemmas.{none_some}
 
 -- ---- how many numbers there are
-
-pub some_counted : (ns : List ℕ) (n : ℕ) → member n ns ≡ true → 0 < length (each_once ns)
-some_counted [] n t = absurd (cc)
-some_counted (k ∷ ns) n t = elim (cases_Bool (member k ns)) [
-  | inl m ↦ subst (λ b. 0 < length (cond b (each_once ns) (k ∷ each_once ns))) (sym m) (some_counted ns k m)
-  | inr f ↦ subst (λ b. 0 < length (cond b (each_once ns) (k ∷ each_once ns))) (sym f) (omega arith)
-]
 
 pub counted_some : (ns : List ℕ) → 0 < length (each_once ns) → (n : ℕ) × (member n ns ≡ true)
 counted_some [] some = absurd (omega arith)
@@ -264,10 +257,7 @@ module _ (g : Geometry) (m : Entries) (is_map : IsMap g m) (a : ℕ) (e : Entry)
       let pool = is_map.in_pool a e is in
       let above = pool.above in
       let below = pool.below in
-      omega (arith, pool_end)
-    where
-      pool_end : blocks g ≡ first_pool g + (g.c + g.l + 1)
-      pool_end = omega arith
+      omega (arith, pool_end g)
 
   whole : first_pool g + (e.place.block - first_pool g) ≡ e.place.block
   whole = let above = (is_map.in_pool a e is).above in omega arith
