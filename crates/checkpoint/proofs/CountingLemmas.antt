@@ -9,11 +9,11 @@ use Rattle.std.proofs.lemmas.List.{length-map}
 use Rattle.std.proofs.lemmas.List.FromFn.{length-range_with_len}
 use Rattle.std.proofs.lemmas.Nat.{same_from_place}
 use Rattle.ft_base.specs.declared.geometry.Geometry.{Geometry}
-use Rattle.ft_base.specs.Layout.{rounded_up, most_records, page_records, pages_for, checkpoint_pages}
+use Rattle.ft_base.specs.Layout.{rounded_up, most_records, page_records, pages_for, checkpoint_pages, most_page_records}
 use Rattle.cache_model.specs.declared.entry.Entry.{Entry}
 use Rattle.cache_model.specs.Records.{Entries}
 use Rattle.cache_model.specs.Entries.{each_once, groups_with, blocks_with, page_mapped, IsMap}
-use Rattle.cache_model.proofs.CountLemmas.{member, numbers, each_once-le, member_of, once_few}
+use Rattle.cache_model.proofs.CountLemmas.{member, numbers, each_once-le, member_of, member_once, once_few}
 use Rattle.cache_model.proofs.MapLemmas.{all_entries, holds}
 use Rattle.ft_base.proofs.LayoutLemmas.{k_holds}
 use Rattle.ft_base.specs.declared.record.Record.{Record}
@@ -25,19 +25,6 @@ use Rattle.checkpoint.proofs.PlacesLemmas.{product}
 use Rattle.mapping.proofs.TallyLemmas.{above}
 
 -- ---- membership
-
-member_once : (k : ℕ) (ns : List ℕ) → member k ns ≡ true → member k (each_once ns) ≡ true
-member_once k [] there = there
-member_once k (n ∷ ns) there = elim (cases_Bool (member n ns)) [
-  | inl t ↦ ap (λ b. member k (cond b (each_once ns) (n ∷ each_once ns))) t ∙ member_once k ns (elim (cases_Bool (n == k)) [
-    | inl s ↦ ap (λ j. member j ns) (sym (eqb-true n k s)) ∙ t
-    | inr f ↦ ap (λ b. b || member k ns) (sym f) ∙ there
-  ])
-  | inr f ↦ ap (λ b. member k (cond b (each_once ns) (n ∷ each_once ns))) f ∙ elim (cases_Bool (n == k)) [
-    | inl s ↦ or_left (n == k) (member k (each_once ns)) s
-    | inr f' ↦ or_right (n == k) (member k (each_once ns)) (member_once k ns (ap (λ b. b || member k ns) (sym f') ∙ there))
-  ]
-]
 
 member_front : (k : ℕ) (xs ys : List ℕ) → member k xs ≡ true → member k (xs ++ ys) ≡ true
 member_front k [] ys there = absurd (cc)
@@ -138,7 +125,7 @@ module _ (g : Geometry) (m : Entries) (is_map : IsMap g m) where
   within_blocks : (n : ℕ) → member n (numbers (place_number g.p) page_mapped (entries m)) ≡ true → member n (pages_of g.p (blocks_with page_mapped m)) ≡ true
   within_blocks n there =
       let x = member_of (place_number g.p) page_mapped (λ x. get m x.0 ≡ Some x.1) (entries m) n each_there there in
-      let block : member x.0.1.place.block (blocks_with page_mapped m) ≡ true = member_once x.0.1.place.block (numbers (λ x. x.1.place.block) page_mapped (entries m)) (member_from (λ x. x.1.place.block) page_mapped m x.0.0 x.0.1 x.1 x.2) in
+      let block : member x.0.1.place.block (blocks_with page_mapped m) ≡ true = member_once x.0.1.place.block (numbers (λ x. x.1.place.block) page_mapped (entries m)) ∙ member_from (λ x. x.1.place.block) page_mapped m x.0.0 x.0.1 x.1 x.2 in
       ap (λ k. member k (pages_of g.p (blocks_with page_mapped m))) (sym x.3) ∙ member_pages g.p (blocks_with page_mapped m) x.0.1.place.block x.0.1.place.page block (is_map.in_pool x.0.0 x.0.1 x.1).page
 
   -- as many page-mapped entries as the log blocks have pages
@@ -177,5 +164,5 @@ pub listing_here : (g' g : Geometry) (m : Entries) (records : List Record) → g
 listing_here g' g m records same listed = subst (λ (x : Geometry). IsCheckpointOf x m records) same listed
 
 -- the map pages of so many records, and the seal, fit the region
-pub pages_fit : (g' g : Geometry) (m : Entries) (records : List Record) (n : ℕ) → g' ≡ g → IsMap g m → IsCheckpointOf g' m records → n ≡ length records → (n + 127 - 1) / 127 < checkpoint_pages g
-pages_fit g' g m records n same is_map listed is = subst (λ k. (k + 127 - 1) / 127 < checkpoint_pages g) (sym is) (maps_fit g m is_map records (listing_here g' g m records same listed))
+pub pages_fit : (g' g : Geometry) (m : Entries) (records : List Record) (n : ℕ) → g' ≡ g → IsMap g m → IsCheckpointOf g' m records → n ≡ length records → (n + most_page_records - 1) / most_page_records < checkpoint_pages g
+pages_fit g' g m records n same is_map listed is = subst (λ k. (k + most_page_records - 1) / most_page_records < checkpoint_pages g) (sym is) (maps_fit g m is_map records (listing_here g' g m records same listed))

@@ -1,11 +1,14 @@
 -- Counts that rise by one and one, up to their last value.
-use Rattle.std.proofs.Common.{◌≡◌, ℕ, ◌+◌, ◌*◌, ◌≤◌, ◌∙◌, ap, ap₂, subst, arith}
+use Rattle.std.proofs.Common.{◌≡◌, ℕ, false, ◌+◌, ◌*◌, ◌≤◌, ◌∙◌, ap, ap₂, subst, arith}
 use Rattle.ft_base.specs.declared.geometry.Geometry.{Geometry}
 use Rattle.ft_base.specs.Count.{last_count}
 use Rattle.ft_base.specs.Layout.{k}
 use Rattle.ft_media.specs.declared.rig.Counts.{Counts}
 use Rattle.ft_media.specs.Media.{program_counted, erase_counted}
-use Rattle.checkpoint.specs.Counts.{raised, erases_counted, programs_counted, checkpoint_counted, format_counted}
+use Rattle.ft_media.specs.Passes.{Passes}
+use Rattle.ft_media.specs.State.{State}
+use Rattle.ft_media.proofs.PassesLemmas.{spends_after}
+use Rattle.checkpoint.specs.Counts.{ProgramsPages, raised, erases_counted, programs_counted, checkpoint_counted, format_counted}
 
 raised_none : (c : ℕ) → c ≤ last_count → c ≡ raised 0 c
 raised_none c low = omega arith
@@ -42,3 +45,10 @@ checkpoint_made g n pages first erased mapped last same is is' is'' = programs_m
 
 pub format_made : (g : Geometry) (n : ℕ) (first erased last : Counts) → n ≡ 2 * k g + g.j → erased ≡ erases_counted n first → last ≡ program_counted erased → last ≡ format_counted g first
 format_made g n first erased last same is is' = is' ∙ ap program_counted is ∙ ap (λ m. programs_counted 1 (erases_counted m first)) same
+
+-- what came before programs no fewer
+pub programs_after : (a b c : State) (n : ℕ) → Passes a b false → ProgramsPages n b c → ProgramsPages n a c
+programs_after a b c n passes then = record {
+  count = let first = passes.counts.programs in let later = then.count in omega (arith, first, later);
+  spends = spends_after a b c n passes then.spends;
+}

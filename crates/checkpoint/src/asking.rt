@@ -1,7 +1,8 @@
 //! The records of a checkpoint, which are asked of the map for several pages at once, since each question walks over the
 //! groups of the map.
 ghost use Rattle.std.specs.Prelude.{◌≡◌, ◌<◌, ◌*◌, ◌^◌, length};
-ghost use Rattle.checkpoint.specs.Asked.{HasRun, IsAskedFor};
+ghost use Rattle.ft_base.specs.Layout.{most_page_records};
+ghost use Rattle.checkpoint.specs.Asked.{HasRun, IsAskedFor, asked_records};
 ghost use Rattle.checkpoint.specs.Regions.{part};
 
 use crate::pages::MOST;
@@ -11,16 +12,16 @@ use mapping::Map;
 /// The pages whose records are asked for at once.
 const PAGES: u32 = 16;
 
-/// How many records these have.
-pub(crate) const ROOM: u32 = 2_032;
+/// The most records that these have.
+pub(crate) const ROOM: u32 = PAGES * MOST;
 
 /// Asks the map for the records of a page, and of those that follow it, unless they came with an earlier page.
 pub(crate) fn ask(map: &Map, asked: &mut [Record], sequence: u32)
-    requires room { length asked.old ≡ 2032 }
+    requires room { length asked.old ≡ asked_records }
     requires few { length map.now.records < 2 ^ 32 }
-    requires some { 127 * sequence < length map.now.records }
+    requires some { most_page_records * sequence < length map.now.records }
     requires asked { IsAskedFor map.now.records sequence asked.old }
-    ensures room { length asked.new ≡ 2032 }
+    ensures room { length asked.new ≡ asked_records }
     ensures run { HasRun map.now.records sequence asked.new }
 {
     if sequence % PAGES == 0 {
@@ -30,8 +31,8 @@ pub(crate) fn ask(map: &Map, asked: &mut [Record], sequence: u32)
 
 /// The records of a page among those that were asked for.
 pub(crate) fn records_of<'a>(map: &Map, asked: &'a [Record], sequence: u32) -> &'a [Record]
-    requires room { length asked.now ≡ 2032 }
-    requires some { 127 * sequence < length map.now.records }
+    requires room { length asked.now ≡ asked_records }
+    requires some { most_page_records * sequence < length map.now.records }
     requires run { HasRun map.now.records sequence asked.now }
     ensures { result.now ≡ part map.now.geometry map.now.records sequence }
 {

@@ -1,9 +1,8 @@
 ghost use Rattle.std.specs.Prelude.{◌≡◌, ◌≢◌, ◌<◌, ◌≤◌, [], IfOk, OnOk, IsOk};
-ghost use Rattle.ft_base.specs.Count.{Rose};
 ghost use Rattle.ft_base.specs.Layout.{log_pages};
-ghost use Rattle.ft_media.specs.Passes.{Spends};
 ghost use Rattle.ft_media.specs.Drives.{OnlyDrives};
 ghost use Rattle.checkpoint.specs.Commits.{CanCheckpoint, LogGoesOn, LeavesPool, AddsLogPage, AddsCheckpoint};
+ghost use Rattle.checkpoint.specs.Counts.{ProgramsPages};
 ghost use Rattle.checkpoint.specs.Current.{IsOpenLog, IsCommitted, LogGoesLast, log_committed, log_checkpointed};
 
 use crate::asking::ROOM;
@@ -26,12 +25,13 @@ pub struct Checkpoints {
 impl Model for Checkpoints {
     ghost use Rattle.std.specs.Prelude.{◌≡◌, length};
     ghost use Rattle.ft_base.specs.declared.geometry.Geometry.{Geometry};
+    ghost use Rattle.checkpoint.specs.Asked.{asked_records};
 
     ghost Value = { Geometry };
 
     ghost view = { λ c. c.geometry };
 
-    ghost invariant = { λ c. length c.asked.items ≡ 2032 };
+    ghost invariant = { λ c. length c.asked.items ≡ asked_records };
 }
 
 impl Checkpoints {
@@ -70,9 +70,7 @@ impl Checkpoints {
             → AddsLogPage log.old (M.state media.old) (M.state media.new)) }
         ensures whole_checkpoint { OnOk result (log.old.buffered ≢ [] → log_pages log.old.geometry ≤ log.old.next
             → AddsCheckpoint log.old map.now.records (M.state media.old) (M.state media.new)) }
-        ensures programs { OnOk result (log.old.buffered ≢ []
-            → Rose (M.state media.old).counts.programs (M.state media.new).counts.programs) }
-        ensures spends { OnOk result (log.old.buffered ≢ [] → Spends 1 (M.state media.old) (M.state media.new)) }
+        ensures programs { OnOk result (log.old.buffered ≢ [] → ProgramsPages 1 (M.state media.old) (M.state media.new)) }
         ensures drives { OnlyDrives (M.state media.old) (M.state media.new) result }
     {
         if log.buffered() == 0 {
@@ -100,8 +98,7 @@ impl Checkpoints {
             result }
         ensures log_last { LogGoesLast log.old (M.state media.old).contents.flash.page (M.state media.new).contents.flash.page }
         ensures whole_checkpoint { OnOk result (AddsCheckpoint log.old map.now.records (M.state media.old) (M.state media.new)) }
-        ensures programs { OnOk result (Rose (M.state media.old).counts.programs (M.state media.new).counts.programs) }
-        ensures spends { OnOk result (Spends 1 (M.state media.old) (M.state media.new)) }
+        ensures programs { OnOk result (ProgramsPages 1 (M.state media.old) (M.state media.new)) }
         ensures drives { OnlyDrives (M.state media.old) (M.state media.new) result }
     {
         let target = Target {

@@ -1,5 +1,6 @@
 ghost use Rattle.std.specs.Prelude.{◌≡◌, ◌≤◌, true, length};
 ghost use Rattle.std.specs.List.{list_all};
+ghost use Rattle.ft_base.specs.Layout.{most_page_records};
 ghost use Rattle.cache_model.specs.declared.format.PageKind.TheVariants as PageKind;
 ghost use Rattle.cache_model.specs.Spelling.{IsPage, IsSealOf, may_stand_in};
 ghost use Rattle.op_log.specs.Refusals.{seal_of};
@@ -16,7 +17,7 @@ pub(crate) const MOST: u32 = 127;
 pub(crate) fn write_map(out: &mut Block, records: &[Record], era: u8, sequence: u32)
     requires kinds { list_all (may_stand_in PageKind.Map) records.now ≡ true }
     requires some { 1 ≤ length records.now }
-    requires few { length records.now ≤ 127 }
+    requires few { length records.now ≤ most_page_records }
     requires era { era ≤ 2 }
     ensures { IsPage out.new.0 (map_header era sequence records.now) records.now }
 {

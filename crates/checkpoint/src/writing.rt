@@ -1,17 +1,17 @@
 ghost use Rattle.std.specs.Prelude.{true, ◌≡◌, ◌⊎◌, ◌<◌, ◌≤◌, ◌+◌, ◌*◌, length, OnOk};
 ghost use Rattle.std.specs.List.{list_all};
 ghost use Rattle.ft_base.specs.Count.{Rose};
-ghost use Rattle.ft_base.specs.Layout.{checkpoint_at, checkpoint_pages, k, page_records};
+ghost use Rattle.ft_base.specs.Layout.{checkpoint_at, checkpoint_pages, k, most_page_records};
 ghost use Rattle.ft_media.specs.Media.{program_counted};
-ghost use Rattle.ft_media.specs.Passes.{Spends};
 ghost use Rattle.ft_media.specs.Drives.{OnlyDrives};
 ghost use Rattle.cache_model.specs.declared.format.PageKind.TheVariants as PageKind;
 ghost use Rattle.cache_model.specs.Entries.{IsMap};
 ghost use Rattle.cache_model.specs.Spelling.{may_stand_in};
 ghost use Rattle.mapping.specs.Checkpoint.{IsCheckpointOf};
 ghost use Rattle.op_log.specs.Log.{FitsOn};
-ghost use Rattle.checkpoint.specs.Counts.{programs_counted, checkpoint_counted};
-ghost use Rattle.checkpoint.specs.Regions.{AreBlank, CanProgram, IsReadyAt, IsMapPage, IsSealPage, Programmed, LeavesOne, MapsWritten, LeavesMaps, IsUnsealed, IsSealed, IsWritten, part, map_pages};
+ghost use Rattle.checkpoint.specs.Asked.{asked_records};
+ghost use Rattle.checkpoint.specs.Counts.{ProgramsPages, checkpoint_counted, programs_counted};
+ghost use Rattle.checkpoint.specs.Regions.{AreBlank, CanProgram, IsReadyAt, IsMapPage, IsSealPage, Programmed, LeavesOne, MapsWritten, LeavesMaps, IsUnsealed, IsSealed, IsWritten, map_pages};
 
 use crate::asking::{ask, records_of};
 use crate::erasing::erase_regions;
@@ -45,7 +45,7 @@ fn program_map<M: Media>(
     requires shape { FitsOn geometry.now (M.state media.old).contents.shape }
     requires kinds { list_all (may_stand_in PageKind.Map) records.now ≡ true }
     requires some { 1 ≤ length records.now }
-    requires few { length records.now ≤ 127 }
+    requires few { length records.now ≤ most_page_records }
     requires room { sequence < checkpoint_pages geometry.now }
     requires ready { IsReadyAt (checkpoint_at geometry.now target.now.region sequence) (M.state media.old).contents.flash }
     ensures done { OnOk result (Programmed (IsMapPage target.now.era sequence records.now)
@@ -77,8 +77,8 @@ fn program_maps<M: Media>(
     requires all { pages ≡ map_pages geometry.now map.now.records }
     requires room { pages < checkpoint_pages geometry.now }
     requires blank { AreBlank (target.now.region * k geometry.now) (k geometry.now) (M.state media.old).contents.flash }
-    requires asked { length asked.old ≡ 2032 }
-    ensures asked { length asked.new ≡ 2032 }
+    requires asked { length asked.old ≡ asked_records }
+    ensures asked { length asked.new ≡ asked_records }
     ensures done { OnOk result (MapsWritten geometry.now target.now.region target.now.era map.now.records pages
         (M.state media.old).contents.flash (M.state media.new).contents.flash) }
     ensures counts { OnOk result ((M.state media.new).counts ≡ programs_counted pages (M.state media.old).counts) }
@@ -111,8 +111,7 @@ pub(crate) fn program_seal<M: Media>(
     ensures counts { OnOk result ((M.state media.new).counts ≡ program_counted (M.state media.old).counts) }
     ensures pages { LeavesOne (IsSealPage geometry.now target.now.era pages records) (checkpoint_at geometry.now target.now.region pages)
         (M.state media.old).contents.flash (M.state media.new).contents.flash }
-    ensures programs { OnOk result (Rose (M.state media.old).counts.programs (M.state media.new).counts.programs) }
-    ensures spends { OnOk result (Spends 1 (M.state media.old) (M.state media.new)) }
+    ensures programs { OnOk result (ProgramsPages 1 (M.state media.old) (M.state media.new)) }
     ensures drives { OnlyDrives (M.state media.old) (M.state media.new) result }
 {
     write_numbers(page, geometry, target.era, pages, records);
@@ -134,8 +133,8 @@ pub(crate) fn write_checkpoint<M: Media>(
     requires shape { FitsOn geometry.now (M.state media.old).contents.shape }
     requires map { map.now.geometry ≡ geometry.now }
     requires is_map { IsMap geometry.now map.now.entries }
-    requires asked { length asked.old ≡ 2032 }
-    ensures asked { length asked.new ≡ 2032 }
+    requires asked { length asked.old ≡ asked_records }
+    ensures asked { length asked.new ≡ asked_records }
     ensures listing { IsCheckpointOf geometry.now map.now.entries map.now.records }
     ensures done { OnOk result (IsWritten geometry.now target.now.region target.now.era map.now.records (M.state media.old).contents.flash
         (M.state media.new).contents.flash) }
@@ -145,8 +144,7 @@ pub(crate) fn write_checkpoint<M: Media>(
         (M.state media.new).contents.flash.page
         ⊎ IsSealed geometry.now target.now.region target.now.era map.now.records (M.state media.old).contents.flash.page
         (M.state media.new).contents.flash.page }
-    ensures programs { OnOk result (Rose (M.state media.old).counts.programs (M.state media.new).counts.programs) }
-    ensures spends { OnOk result (Spends 1 (M.state media.old) (M.state media.new)) }
+    ensures programs { OnOk result (ProgramsPages 1 (M.state media.old) (M.state media.new)) }
     ensures drives { OnlyDrives (M.state media.old) (M.state media.new) result }
 {
     let records = map.checkpoint_len();

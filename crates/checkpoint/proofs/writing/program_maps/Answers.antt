@@ -1,7 +1,7 @@
 use Rattle.std.proofs.Common.{◌≡◌, ◌*◌, ◌<◌, List, length, inl, refl, rules, ◌∙◌, ap, subst, arith}
 use Rattle.std.specs.List.{list_all}
 use Rattle.ft_base.specs.declared.record.Record.{Record}
-use Rattle.ft_base.specs.Layout.{checkpoint_at}
+use Rattle.ft_base.specs.Layout.{checkpoint_at, most_page_records}
 use Rattle.ft_media.proofs.DrivesLemmas.{drives_none, drives_then}
 use Rattle.cache_model.specs.declared.format.PageKind.TheVariants.{Map}
 use Rattle.cache_model.specs.Spelling.{may_stand_in}
@@ -25,7 +25,7 @@ program_map-requires-clause-kinds g c =
 pub program_map-requires-clause-some : goal.program_map-requires-clause-some
 program_map-requires-clause-some g c =
     let long = ap length c.records_of-records.ensures ∙ length-part c.args.map.now.geometry c.args.map.now.records c.loop-sequence.sequence in
-    let some : 127 * c.loop-sequence.sequence < length c.args.map.now.records = search rules in
+    let some : most_page_records * c.loop-sequence.sequence < length c.args.map.now.records = search rules in
     omega (arith, long, some)
 
 pub program_map-requires-clause-few : goal.program_map-requires-clause-few

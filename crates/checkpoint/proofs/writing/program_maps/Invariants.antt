@@ -1,6 +1,6 @@
 use Rattle.std.proofs.Common.{◌≡◌, length, false}
 use Rattle.ft_media.specs.Drives.{DrivesFlash}
-use Rattle.checkpoint.specs.Asked.{IsAskedFor}
+use Rattle.checkpoint.specs.Asked.{IsAskedFor, asked_records}
 use Rattle.checkpoint.specs.Counts.{programs_counted}
 use Rattle.checkpoint.specs.Regions.{MapsWritten}
 use Rattle.checkpoint.proofs.writing.program_maps.Given as goal
@@ -13,6 +13,6 @@ invariant-loop-sequence g l =
       maps : MapsWritten l.geometry l.target.region l.target.era l.map.records l.sequence old.contents.flash now.contents.flash;
       counts : now.counts ≡ programs_counted l.sequence old.counts;
       drives : DrivesFlash old now false false;
-      room : length l.asked ≡ 2032;
+      room : length l.asked ≡ asked_records;
       asked : IsAskedFor l.map.records l.sequence l.asked;
     }
