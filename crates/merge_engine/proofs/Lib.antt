@@ -19,7 +19,6 @@ pub mod RoomLemmas
 pub mod WayLemmas
 pub mod OwnerLemmas
 pub mod GiveBackLemmas
-pub mod SpendLemmas
 pub mod GoesLemmas
 pub mod LoadedLemmas
 pub mod LogRoomLemmas

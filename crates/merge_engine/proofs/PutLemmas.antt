@@ -28,6 +28,7 @@ use Rattle.block_pool.specs.declared.pool.Role.TheVariants.{Data, Log}
 use Rattle.log_blocks.specs.Logs.{IsInUse}
 use Rattle.silent_evict.specs.Candidates.{IsGroupHeld}
 use Rattle.merge_engine.specs.declared.parts.Parts.{Parts}
+use Rattle.merge_engine.specs.Kept.{OnlyMapLogPoolChange}
 use Rattle.merge_engine.specs.Agreement.{PartsAgree, AreOfOne, IsDataBlockOf, RolesAgree, Lists}
 use Rattle.merge_engine.specs.Merges.{HasBlockOrRoom, OthersStay, move_record, moved, list_without}
 use Rattle.merge_engine.specs.Steps.{FollowsGroup, IsCopied, IsCopyOf}
@@ -236,10 +237,10 @@ module _ (parts : Parts) (group block present dirty : ℕ) (one : AreOfOne parts
 -- ---- the same of parts that are known by equations
 
 -- a change was noted
-pub as_noted : (old new : Parts) (change : Record) → new ≡ record old { map = new.map; log = new.log; pool = new.pool } → new.log ≡ pushed change old.log → new ≡ noted old new.map change new.pool
+pub as_noted : (old new : Parts) (change : Record) → OnlyMapLogPoolChange old new → new.log ≡ pushed change old.log → new ≡ noted old new.map change new.pool
 as_noted old new change is log = is ∙ ap (λ (l : LogValue). record old { map = new.map; log = l; pool = new.pool }) log
 
-pub same_geometry : (old new : Parts) → new ≡ record old { map = new.map; log = new.log; pool = new.pool } → new.geometry ≡ old.geometry
+pub same_geometry : (old new : Parts) → OnlyMapLogPoolChange old new → new.geometry ≡ old.geometry
 same_geometry old new is = ap (λ (p : Parts). p.geometry) is
 
 -- other roles are of the same geometry

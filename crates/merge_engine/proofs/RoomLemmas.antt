@@ -1,33 +1,20 @@
 -- A list that gave room.
-use Rattle.std.proofs.Common.{◌≡◌, ℕ, ◌/◌, ◌≤◌, ◌==◌, ◌||◌, Bool, true, false, cond, List, [], ◌∷◌, map, length, Option, None, inl, inr, refl, sym, ◌∙◌, ap, subst, arith, eqb-true}
+use Rattle.std.proofs.Common.{◌≡◌, ℕ, ◌/◌, ◌≤◌, ◌==◌, ◌||◌, Bool, true, false, cond, ◌∷◌, map, length, Option, None, inl, inr, refl, sym, ◌∙◌, ap, subst, arith}
 use Rattle.std.specs.FinMap.{get, entries}
-use Rattle.std.proofs.lemmas.Bool.{cases_Bool, or_cases, or_right}
+use Rattle.std.proofs.lemmas.Bool.{cases_Bool, or_right}
 use Rattle.ft_base.specs.declared.geometry.Geometry.{Geometry}
 use Rattle.cache_model.specs.Entries.{each_once}
 use Rattle.cache_model.specs.Cache.{IsWhollyClean, Vanish, groups, with_group}
 use Rattle.cache_model.specs.CacheList.{CacheList, Held}
-use Rattle.cache_model.proofs.CountLemmas.{member, each_once-le}
+use Rattle.cache_model.proofs.CountLemmas.{member, each_once-le, member_once}
 use Rattle.merge_engine.specs.Room.{GaveRoom, GivesRoom}
 
 -- ---- a group more counts for no less
 
-member_once : (n : ℕ) (ns : List ℕ) → member n ns ≡ true → member n (each_once ns) ≡ true
-member_once n [] there = there
-member_once n (m ∷ ns) there = elim (cases_Bool (member m ns)) [
-  | inl again ↦ ap (λ b. member n (cond b (each_once ns) (m ∷ each_once ns))) again ∙ elim (or_cases (m == n) (member n ns) there) [
-    | inl here ↦ let same : m ≡ n = eqb-true m n here in member_once n ns (ap (λ k. member k ns) (sym same) ∙ again)
-    | inr later ↦ member_once n ns later
-  ]
-  | inr first ↦ ap (λ b. member n (cond b (each_once ns) (m ∷ each_once ns))) first ∙ elim (or_cases (m == n) (member n ns) there) [
-    | inl here ↦ ap (λ b. b || member n (each_once ns)) here
-    | inr later ↦ or_right (m == n) (member n (each_once ns)) (member_once n ns later)
-  ]
-]
-
 with_group-more : (g : Geometry) (s : CacheList) (group : ℕ) → length (groups g s) ≤ length (with_group group (groups g s))
 with_group-more g s group =
     let all = map (λ (x : ℕ × Held). x.0 / g.p) (entries s) in
-    each_once-le all (group ∷ each_once all) (λ n there. or_right (group == n) (member n (each_once all)) (member_once n all there))
+    each_once-le all (group ∷ each_once all) (λ n there. or_right (group == n) (member n (each_once all)) (member_once n all ∙ there))
 
 -- ---- what went
 

@@ -27,6 +27,7 @@ use Rattle.log_blocks.specs.Logs.{LogBlocksValue, IsInUse, released}
 use Rattle.log_blocks.specs.Logs as list
 use Rattle.silent_evict.specs.Candidates.{IsGroupHeld}
 use Rattle.merge_engine.specs.declared.parts.Parts.{Parts}
+use Rattle.merge_engine.specs.Kept.{OnlyMapLogPoolChange}
 use Rattle.merge_engine.specs.Agreement.{PartsAgree, AreOfOne, IsDataBlockOf, RolesAgree, Lists}
 use Rattle.merge_engine.specs.Merges.{HasBlockOrRoom, OthersStay, move_record, moved}
 use Rattle.merge_engine.specs.Steps.{FollowsGroup}
@@ -164,7 +165,7 @@ module _ (parts : Parts) (group block present dirty : ℕ) (one : AreOfOne parts
 -- ---- the same of parts that are known by equations
 
 -- the record was noted, the log block is out of the list, and it has its role
-pub as_switched : (old noted : Parts) (change : Record) (pool : PoolValue) (logs : LogBlocksValue) (block : ℕ) → noted ≡ record old { map = noted.map; log = noted.log; pool = noted.pool } → noted.log ≡ pushed change old.log → logs ≡ released block noted.log_blocks
+pub as_switched : (old noted : Parts) (change : Record) (pool : PoolValue) (logs : LogBlocksValue) (block : ℕ) → OnlyMapLogPoolChange old noted → noted.log ≡ pushed change old.log → logs ≡ released block noted.log_blocks
     → record noted { pool = pool; log_blocks = logs } ≡ switched_to old noted.map change pool block
 as_switched old noted change pool logs block is log out =
     ap (λ (l : LogBlocksValue). record noted { pool = pool; log_blocks = l }) (out ∙ ap (λ (p : Parts). released block p.log_blocks) is)
@@ -178,7 +179,7 @@ of_one_switched parts pool logs same of_logs one = record { map = one.map; log =
 module _ (old noted : Parts) (pool : PoolValue) (logs : LogBlocksValue) (group block present dirty : ℕ) (one : AreOfOne old) (is_map : IsMap old.geometry old.map.entries) (roles : RolesAgree old)
     (is_held : IsGroupHeld old.geometry old.map.entries group) (room : HasBlockOrRoom old.geometry old.map.entries group) (switch : CanSwitch old group block)
     (present_is : present ≡ chosen_of Held old.map.geometry old.map.entries group) (dirty_is : dirty ≡ chosen_of Dirty old.map.geometry old.map.entries group)
-    (is : noted ≡ record old { map = noted.map; log = noted.log; pool = noted.pool }) (log : noted.log ≡ pushed (SetGroup group block present dirty) old.log)
+    (is : OnlyMapLogPoolChange old noted) (log : noted.log ≡ pushed (SetGroup group block present dirty) old.log)
     (entries : noted.map.entries ≡ after old.geometry (SetGroup group block present dirty) old.map.entries)
     (one' : AreOfOne noted) (follows : FollowsGroup old.geometry group old.map.entries noted.map.entries old.pool noted.pool)
     (out : logs ≡ released block noted.log_blocks) (sound : list.AreSoundLogs logs)

@@ -33,6 +33,16 @@ pub record CanGoOn (parts : Parts) (contents : Contents) (n : ℕ) : Type 0 wher
   pub groups : n ≤ parts.map.spare_groups
   pub room : length parts.log.buffered < page_records parts.log.geometry
 
+-- ---- which parts it changes
+
+-- nothing but the map, the log and the pool
+abbrev pub OnlyMapLogPoolChange : Parts → Parts → Type 0
+OnlyMapLogPoolChange old new = new ≡ record old { map = new.map; log = new.log; pool = new.pool }
+
+-- nothing but the pool and the log blocks
+abbrev pub OnlyPoolLogBlocksChange : Parts → Parts → Type 0
+OnlyPoolLogBlocksChange old new = new ≡ record old { pool = new.pool; log_blocks = new.log_blocks }
+
 -- ---- what it keeps of the map's memory
 
 -- the map with this change made in it, and without the memory that it took

@@ -1,15 +1,14 @@
 ghost use Rattle.std.specs.Prelude.{◌≡◌, ◌≤◌, ◌<◌, ◌-◌, [], length, ℕ, OnOk, OnErr, IfOk, IsOk};
-ghost use Rattle.ft_base.specs.Count.{Rose};
 ghost use Rattle.ft_base.specs.Contents.{Contents};
-ghost use Rattle.ft_media.specs.Passes.{Spends};
 ghost use Rattle.ft_media.specs.Media.{program_counted};
 ghost use Rattle.ft_media.specs.Drives.{OnlyDrives};
 ghost use Rattle.cache_model.specs.CacheList.{CacheList};
+ghost use Rattle.checkpoint.specs.Counts.{ProgramsPages};
 ghost use Rattle.block_pool.specs.Pool.{IsFree, IsInPool};
 ghost use Rattle.log_blocks.specs.Logs.{IsInUse, AreSoundLogs, block_begun};
 ghost use Rattle.merge_engine.specs.Agreement.{PartsAgree, AreOfOne, Lists, RolesAgree};
 ghost use Rattle.merge_engine.specs.Steps.{CanBeginLog, HasLogBlock, HasUnheldLog, IsNewPage};
-ghost use Rattle.merge_engine.specs.Kept.{CanGoOn, KeepsRoom, CommitsList, KeepsOrGives, NothingGivesWay};
+ghost use Rattle.merge_engine.specs.Kept.{CanGoOn, OnlyPoolLogBlocksChange, KeepsRoom, CommitsList, KeepsOrGives, NothingGivesWay};
 
 use crate::Parts;
 use crate::committing::commit;
@@ -39,8 +38,7 @@ pub fn append<M: Media>(
     ensures one_program { OnOk result (1 ≤ cache.old.log_blocks.room
         → (cache.new ≡ record cache.old { log_blocks = record cache.old.log_blocks { room = cache.old.log_blocks.room - 1 } })
         × ((M.state media.new).counts ≡ program_counted (M.state media.old).counts)) }
-    ensures rises { OnOk result (Rose (M.state media.old).counts.programs (M.state media.new).counts.programs) }
-    ensures spends { OnOk result (Spends 1 (M.state media.old) (M.state media.new)) }
+    ensures programs { OnOk result (ProgramsPages 1 (M.state media.old) (M.state media.new)) }
     ensures drives { OnlyDrives (M.state media.old) (M.state media.new) result }
 {
     open_if_closed(cache, media)?;
@@ -66,7 +64,7 @@ fn program_next<M: Media>(
     ensures lists { (list durable : CacheList) → Lists cache.old (M.state media.old).contents.flash.page list durable
         → Lists cache.old (M.state media.new).contents.flash.page list durable }
     ensures counts { OnOk result ((M.state media.new).counts ≡ program_counted (M.state media.old).counts) }
-    ensures spends { OnOk result (Spends 1 (M.state media.old) (M.state media.new)) }
+    ensures programs { OnOk result (ProgramsPages 1 (M.state media.old) (M.state media.new)) }
     ensures drives { OnlyDrives (M.state media.old) (M.state media.new) result }
 {
     cache.log_blocks.append(media, lba, block)
@@ -113,7 +111,7 @@ fn take_log_block<M: Media>(cache: &mut Parts, media: &mut M) -> Result<(), Medi
     requires agree { PartsAgree cache.old (M.state media.old).contents }
     requires nothing { cache.old.log.buffered ≡ [] }
     requires few { length cache.old.log_blocks.used < cache.old.geometry.l }
-    ensures cache { cache.new ≡ record cache.old { pool = cache.new.pool; log_blocks = cache.new.log_blocks } }
+    ensures cache { OnlyPoolLogBlocksChange cache.old cache.new }
     ensures opened { OnOk result (cache.new.log_blocks.room ≡ cache.old.geometry.p) }
     ensures agree { OnOk result (PartsAgree cache.new (M.state media.new).contents) }
     // Whatever is answered, no page that an entry names changed.
@@ -151,7 +149,7 @@ fn make_room<M: Media>(cache: &mut Parts, media: &mut M) -> Result<(), MediaErro
     ensures few { OnOk result (length cache.new.log_blocks.used < cache.new.geometry.l) }
     ensures goes { KeepsOrGives cache.old cache.new (M.state media.old).contents (M.state media.new).contents result }
     ensures no_merge { CanBeginLog cache.old → IsOk result
-        × (cache.new ≡ record cache.old { pool = cache.new.pool; log_blocks = cache.new.log_blocks })
+        × OnlyPoolLogBlocksChange cache.old cache.new
         × (M.state media.new ≡ M.state media.old) }
     ensures drives { OnlyDrives (M.state media.old) (M.state media.new) result }
 {
@@ -166,7 +164,7 @@ fn make_room<M: Media>(cache: &mut Parts, media: &mut M) -> Result<(), MediaErro
 fn free_unheld(cache: &mut Parts)
     requires of_one { AreOfOne cache.old }
     requires in_pool { (b : ℕ) → IsInUse cache.old.log_blocks b → IsInPool cache.old.geometry b }
-    ensures cache { cache.new ≡ record cache.old { pool = cache.new.pool; log_blocks = cache.new.log_blocks } }
+    ensures cache { OnlyPoolLogBlocksChange cache.old cache.new }
     ensures no_more { length cache.new.log_blocks.used ≤ length cache.old.log_blocks.used }
     ensures fewer { HasUnheldLog cache.old → length cache.new.log_blocks.used < length cache.old.log_blocks.used }
     ensures agree { (contents : Contents) → PartsAgree cache.old contents → PartsAgree cache.new contents }

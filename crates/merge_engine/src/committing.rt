@@ -1,9 +1,8 @@
 ghost use Rattle.std.specs.Prelude.{◌≡◌, ◌≢◌, ◌<◌, [], OnOk, OnErr, IsOk};
-ghost use Rattle.ft_base.specs.Count.{Rose};
 ghost use Rattle.ft_base.specs.Layout.{log_pages};
-ghost use Rattle.ft_media.specs.Passes.{Spends};
 ghost use Rattle.ft_media.specs.Media.{program_counted};
 ghost use Rattle.ft_media.specs.Drives.{OnlyDrives};
+ghost use Rattle.checkpoint.specs.Counts.{ProgramsPages};
 ghost use Rattle.checkpoint.specs.Current.{PoolStays, PoolReadyStays, LoadsOneOf, log_committed, log_checkpointed};
 ghost use Rattle.merge_engine.specs.Agreement.{PartsAgree, ArePartsSound};
 ghost use Rattle.merge_engine.specs.Kept.{CommitsList};
@@ -25,9 +24,7 @@ pub fn commit<M: Media>(cache: &mut Parts, media: &mut M) -> Result<(), MediaErr
         (M.state media.new).contents.flash) }
     ensures one_page { OnOk result (cache.old.log.buffered ≢ [] → cache.old.log.next < log_pages cache.old.geometry
         → (M.state media.new).counts ≡ program_counted (M.state media.old).counts) }
-    ensures rises { OnOk result (cache.old.log.buffered ≢ []
-        → Rose (M.state media.old).counts.programs (M.state media.new).counts.programs) }
-    ensures spends { OnOk result (cache.old.log.buffered ≢ [] → Spends 1 (M.state media.old) (M.state media.new)) }
+    ensures programs { OnOk result (cache.old.log.buffered ≢ [] → ProgramsPages 1 (M.state media.old) (M.state media.new)) }
     ensures drives { OnlyDrives (M.state media.old) (M.state media.new) result }
 {
     cache.checkpoints.commit(media, &cache.map, &mut cache.log)
@@ -44,8 +41,7 @@ pub fn make_checkpoint<M: Media>(cache: &mut Parts, media: &mut M) -> Result<(),
     ensures loads { LoadsOneOf cache.old.geometry (M.state media.old).contents.flash.page
         (M.state media.new).contents.flash.page cache.old.map.entries }
     ensures pool { PoolStays cache.old.geometry (M.state media.old).contents.flash.page (M.state media.new).contents.flash.page }
-    ensures rises { OnOk result (Rose (M.state media.old).counts.programs (M.state media.new).counts.programs) }
-    ensures spends { OnOk result (Spends 1 (M.state media.old) (M.state media.new)) }
+    ensures programs { OnOk result (ProgramsPages 1 (M.state media.old) (M.state media.new)) }
     ensures drives { OnlyDrives (M.state media.old) (M.state media.new) result }
 {
     cache

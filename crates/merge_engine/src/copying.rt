@@ -13,7 +13,7 @@ ghost use Rattle.checkpoint.specs.Counts.{programs_counted};
 ghost use Rattle.block_pool.specs.Pool.{IsFree};
 ghost use Rattle.merge_engine.specs.Agreement.{PartsAgree, Lists};
 ghost use Rattle.merge_engine.specs.Merges.{ReachesTo};
-ghost use Rattle.merge_engine.specs.Steps.{IsCopied, IsCopyOf, IsFilledUp, filler_page};
+ghost use Rattle.merge_engine.specs.Steps.{IsCopied, IsCopyOf, IsFilledUp, IsNextFreePage, filler_page};
 
 use crate::Parts;
 use cache_model::SpareKind;
@@ -72,9 +72,7 @@ fn copy_page<M: Media>(
 ) -> Result<(), MediaError>
     requires zeros { zeros.now ≡ contents.zero_block }
     requires agree { PartsAgree cache.now (M.state media.old).contents }
-    requires free { IsFree cache.now.pool to.block }
-    requires ready { (M.state media.old).contents.flash.next to.block ≡ Some to.page }
-    requires page { to.page < cache.now.geometry.p }
+    requires next { IsNextFreePage cache.now (M.state media.old).contents.flash to }
     ensures agree { OnOk result (PartsAgree cache.now (M.state media.new).contents) }
     ensures lists { (list durable : CacheList) → Lists cache.now (M.state media.old).contents.flash.page list durable
         → Lists cache.now (M.state media.new).contents.flash.page list durable }
@@ -105,9 +103,7 @@ fn program_unheld<M: Media>(
     spare: &Spare,
 ) -> Result<(), MediaError>
     requires agree { PartsAgree cache.now (M.state media.old).contents }
-    requires free { IsFree cache.now.pool at.block }
-    requires ready { (M.state media.old).contents.flash.next at.block ≡ Some at.page }
-    requires page { at.page < cache.now.geometry.p }
+    requires next { IsNextFreePage cache.now (M.state media.old).contents.flash at }
     ensures programmed { OnOk result ((M.state media.new).contents.flash ≡ after_program
         (M.state media.old).contents.flash at block.now spare.now) }
     ensures agree { OnOk result (PartsAgree cache.now (M.state media.new).contents) }

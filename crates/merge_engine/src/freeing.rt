@@ -7,7 +7,7 @@ ghost use Rattle.log_blocks.specs.Logs.{IsInUse, released};
 ghost use Rattle.merge_engine.specs.Agreement.{PartsAgree, AreOfOne, RolesAgree};
 ghost use Rattle.merge_engine.specs.Steps.{IsUnowned, PageMappedStay};
 ghost use Rattle.merge_engine.specs.Switch.{LogsStayOrLose};
-ghost use Rattle.merge_engine.specs.Kept.{CanGoOn, KeepsRoom, KeepsOrGives};
+ghost use Rattle.merge_engine.specs.Kept.{CanGoOn, OnlyPoolLogBlocksChange, KeepsRoom, KeepsOrGives};
 
 use crate::Parts;
 use crate::merging::merge_group;
@@ -27,7 +27,7 @@ pub fn free_log_block<M: Media>(cache: &mut Parts, media: &mut M) -> Result<(), 
     // Whatever is answered, there is no log block that wasn't one.
     ensures used { (b : ℕ) → IsInUse cache.new.log_blocks b → IsInUse cache.old.log_blocks b }
     ensures unheld { (oldest : ℕ) → slice_get cache.old.log_blocks.used 0 ≡ Some oldest → StandsNoneIn cache.old.map.entries oldest
-        → IsOk result × (cache.new ≡ record cache.old { pool = cache.new.pool; log_blocks = cache.new.log_blocks })
+        → IsOk result × OnlyPoolLogBlocksChange cache.old cache.new
         × (M.state media.new ≡ M.state media.old) }
     ensures room { KeepsRoom cache.old.map cache.new.map cache.old.geometry.p }
     ensures goes { KeepsOrGives cache.old cache.new (M.state media.old).contents (M.state media.new).contents result }
@@ -88,7 +88,7 @@ fn give_back_used(cache: &mut Parts, block: u32)
     requires of_one { AreOfOne cache.old }
     requires in_pool { IsInPool cache.old.geometry block }
     requires roles { RolesAgree cache.old }
-    ensures cache { cache.new ≡ record cache.old { pool = cache.new.pool; log_blocks = cache.new.log_blocks } }
+    ensures cache { OnlyPoolLogBlocksChange cache.old cache.new }
     ensures used { IsInUse cache.old.log_blocks block → cache.new.log_blocks ≡ released block cache.old.log_blocks }
     ensures switched { (IsInUse cache.old.log_blocks block → ⊥) → cache.new.log_blocks ≡ cache.old.log_blocks }
     ensures agree { (contents : Contents) → PartsAgree cache.old contents

@@ -13,7 +13,7 @@ ghost use Rattle.merge_engine.specs.Agreement.{PartsAgree, AreOfOne, Lists, Role
 ghost use Rattle.merge_engine.specs.Merges.{HasBlockOrRoom, OthersStay, ReachesTo, FlashStandsForEither, list_without, move_counted, move_record};
 ghost use Rattle.merge_engine.specs.Steps.{IsCopied, IsFilledUp, OthersStayOrGo, PageMappedStay};
 ghost use Rattle.merge_engine.specs.Switch.{LogsStayOrSwitch};
-ghost use Rattle.merge_engine.specs.Kept.{CanNote, CanGoOn, IsNoted, KeepsRoom, StaysOn, CommitsList, MergesList, IsGathered, CostsOfMove};
+ghost use Rattle.merge_engine.specs.Kept.{CanNote, CanGoOn, OnlyMapLogPoolChange, IsNoted, KeepsRoom, StaysOn, CommitsList, MergesList, IsGathered, CostsOfMove};
 
 use crate::Parts;
 use crate::committing::commit;
@@ -61,7 +61,7 @@ pub fn merge_group<M: Media>(cache: &mut Parts, media: &mut M, group: u64) -> Re
 fn drop_group<M: Media>(cache: &mut Parts, media: &mut M, group: u64) -> Result<(), MediaError>
     requires can { CanGoOn cache.old (M.state media.old).contents 0 }
     requires held { IsGroupHeld cache.old.geometry cache.old.map.entries group }
-    ensures cache { cache.new ≡ record cache.old { map = cache.new.map; log = cache.new.log; pool = cache.new.pool } }
+    ensures cache { OnlyMapLogPoolChange cache.old cache.new }
     ensures map { IsNoted cache.old.geometry (RemoveGroup group) cache.old.map cache.new.map }
     ensures agree { OnOk result (PartsAgree cache.new (M.state media.new).contents) }
     ensures nothing_waits { OnOk result (cache.new.log.buffered ≡ []) }
@@ -110,7 +110,7 @@ fn gather_group<M: Media>(cache: &mut Parts, media: &mut M, group: u64) -> Resul
     requires held { IsGroupHeld cache.old.geometry cache.old.map.entries group }
     requires block { HasBlockOrRoom cache.old.geometry cache.old.map.entries group }
     requires groups { 1 ≤ cache.old.map.spare_groups }
-    ensures cache { cache.new ≡ record cache.old { map = cache.new.map; log = cache.new.log; pool = cache.new.pool } }
+    ensures cache { OnlyMapLogPoolChange cache.old cache.new }
     ensures room { KeepsRoom cache.old.map cache.new.map 1 }
     ensures kept { CommitsList cache.old cache.new (M.state media.old).contents (M.state media.new).contents result }
     ensures gathered { OnOk result (IsGathered cache.old.geometry cache.new.map.entries group (M.state media.new).contents.flash.page) }
@@ -160,7 +160,7 @@ fn put_group(cache: &mut Parts, group: u64, block: u32)
     requires block { HasBlockOrRoom cache.old.geometry cache.old.map.entries group }
     requires free { IsFree cache.old.pool block }
     requires room { CanNote cache.old 0 1 }
-    ensures cache { cache.new ≡ record cache.old { map = cache.new.map; log = cache.new.log; pool = cache.new.pool } }
+    ensures cache { OnlyMapLogPoolChange cache.old cache.new }
     ensures map { IsNoted cache.old.geometry (move_record cache.old.geometry cache.old.map.entries group block) cache.old.map
         cache.new.map }
     ensures waits { cache.new.log.buffered ≢ [] }

@@ -15,7 +15,7 @@ ghost use Rattle.mapping.specs.MapValue.{pages_taken, groups_taken};
 ghost use Rattle.op_log.specs.Log.{pushed};
 ghost use Rattle.merge_engine.specs.Agreement.{PartsAgree, Lists, RolesAgree, AreOfOne};
 ghost use Rattle.merge_engine.specs.Steps.{FollowsGroup, IsNewPage};
-ghost use Rattle.merge_engine.specs.Kept.{CanNote, IsNoted};
+ghost use Rattle.merge_engine.specs.Kept.{CanNote, IsNoted, OnlyMapLogPoolChange};
 
 use crate::Parts;
 use block_pool::Role;
@@ -28,7 +28,7 @@ pub fn put_page(cache: &mut Parts, lba: u64, place: Place, dirty: bool)
     requires roles { RolesAgree cache.old }
     requires fits { Fits cache.old.geometry (SetPage lba place dirty) cache.old.map.entries }
     requires room { CanNote cache.old 1 0 }
-    ensures cache { cache.new ≡ record cache.old { map = cache.new.map; log = cache.new.log; pool = cache.new.pool } }
+    ensures cache { OnlyMapLogPoolChange cache.old cache.new }
     ensures map { IsNoted cache.old.geometry (SetPage lba place dirty) cache.old.map cache.new.map }
     ensures log { cache.new.log ≡ pushed (SetPage lba place dirty) cache.old.log }
     ensures agree { (contents : Contents) (block : Block) → PartsAgree cache.old contents
@@ -49,7 +49,7 @@ pub fn put_out(cache: &mut Parts, lba: u64)
     requires roles { RolesAgree cache.old }
     requires fits { Fits cache.old.geometry (Remove lba) cache.old.map.entries }
     requires room { length cache.old.log.buffered < page_records cache.old.log.geometry }
-    ensures cache { cache.new ≡ record cache.old { map = cache.new.map; log = cache.new.log; pool = cache.new.pool } }
+    ensures cache { OnlyMapLogPoolChange cache.old cache.new }
     ensures map { cache.new.map ≡ record cache.old.map {
       entries = after cache.old.geometry (Remove lba) cache.old.map.entries;
       records = cache.new.map.records;
@@ -91,7 +91,7 @@ pub(crate) fn note(cache: &mut Parts, change: &Record, group: u64)
     requires fits { Fits cache.old.geometry change.now cache.old.map.entries }
     requires sound { IsTrue (may_stand_in log_page change.now) }
     requires room { CanNote cache.old (pages_taken change.now) (groups_taken change.now) }
-    ensures cache { cache.new ≡ record cache.old { map = cache.new.map; log = cache.new.log; pool = cache.new.pool } }
+    ensures cache { OnlyMapLogPoolChange cache.old cache.new }
     ensures of_one { AreOfOne cache.new }
     ensures map { IsNoted cache.old.geometry change.now cache.old.map cache.new.map }
     ensures log { cache.new.log ≡ pushed change.now cache.old.log }

@@ -1,12 +1,12 @@
 use Rattle.std.proofs.Common.{◌<◌, length, inl, sym, ◌∙◌, ap, subst}
 use Rattle.ft_base.specs.Layout.{page_records}
 use Rattle.ft_media.proofs.DrivesLemmas.{only_then}
+use Rattle.checkpoint.proofs.CountsLemmas.{programs_after}
 use Rattle.merge_engine.specs.declared.parts.Parts.{Parts}
 use Rattle.merge_engine.proofs.ResultLemmas.{on_ok_from, ok_at}
 use Rattle.merge_engine.proofs.BesideLemmas.{lists_as}
 use Rattle.merge_engine.proofs.GoesLemmas.{given_then, goes_then}
 use Rattle.merge_engine.proofs.LogRoomLemmas.{keeps_stands, keeps_then}
-use Rattle.merge_engine.proofs.SpendLemmas.{spends_after}
 use Rattle.merge_engine.proofs.appending.append.Goals as goal
 
 pub returns-clause-goes : goal.returns-clause-goes
@@ -29,9 +29,9 @@ returns-clause-goes g c = record {
       (λ l d now. inl (c.program_next.ensures.lists l d now).stands);
 }
 
-pub returns-clause-spends : goal.returns-clause-spends
-returns-clause-spends g c = on_ok_from c.program_next.result (λ v is.
-    spends_after (g.M.Media.state c.args.media.now) (g.M.Media.state c.open_if_closed.new.media) (g.M.Media.state c.program_next.new.media) 1 c.in_ok-open_if_closed.ensures.drives.flash.passes (ok_at c.program_next.result v is c.program_next.ensures.spends))
+pub returns-clause-programs : goal.returns-clause-programs
+returns-clause-programs g c = on_ok_from c.program_next.result (λ v is.
+    programs_after (g.M.Media.state c.args.media.now) (g.M.Media.state c.open_if_closed.new.media) (g.M.Media.state c.program_next.new.media) 1 c.in_ok-open_if_closed.ensures.drives.flash.passes (ok_at c.program_next.result v is c.program_next.ensures.programs))
 
 pub returns-clause-drives : goal.returns-clause-drives
 returns-clause-drives g c = only_then _ _ _ _ c.in_ok-open_if_closed.ensures.drives.flash c.program_next.ensures.drives

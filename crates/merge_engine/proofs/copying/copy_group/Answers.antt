@@ -16,8 +16,12 @@ overflow_add-lba g c = let page = is_page_of_group c.args.cache.now (g.M.Media.s
     c.args.media.now).contents c.args.group c.held_bits-held.result c.loop-page.page c.requires.agree c.held_bits-held.ensures c.loop-page-test.true in let low = page.1 in omega
     (arith, low, c.args.cache.now.geometry.in_range.size_high)
 
-pub copy_page-requires-clause-page : goal.copy_page-requires-clause-page
-copy_page-requires-clause-page g c = (is_page_of_group c.args.cache.now (g.M.Media.state c.args.media.now).contents c.args.group c.held_bits-held.result c.loop-page.page c.requires.agree c.held_bits-held.ensures c.loop-page-test.true).0
+pub copy_page-requires-clause-next : goal.copy_page-requires-clause-next
+copy_page-requires-clause-next g c = record {
+  free = c.requires.free;
+  ready = c.loop-page.invariant.next;
+  in_block = (is_page_of_group c.args.cache.now (g.M.Media.state c.args.media.now).contents c.args.group c.held_bits-held.result c.loop-page.page c.requires.agree c.held_bits-held.ensures c.loop-page-test.true).0;
+}
 
 pub returns-in_err-copy_page-clause-lists : goal.returns-in_err-copy_page-clause-lists
 returns-in_err-copy_page-clause-lists g c list durable lists = c.copy_page.ensures.lists list durable (c.loop-page.invariant.lists list durable lists)

@@ -22,7 +22,7 @@ pub returns-clause-copied : goal.returns-clause-copied
 returns-clause-copied g c =
     on_ok_from c.program_unheld-2.result (λ v is.
     copy_is c.args.cache.now (g.M.Media.state c.args.media.now).contents (g.M.Media.state c.program_unheld-2.new.media).contents c.requires.agree c.args.lba c.in-Some.from c.args.to
-    c.in-Some.field-0-1 c.read_whole.new.buffer c.read_whole.new.spare c.requires.ready (g.met.M.Media.blank_ahead c.args.media.now) c.in-Some.ensures.place
+    c.in-Some.field-0-1 c.read_whole.new.buffer c.read_whole.new.spare c.requires.next.ready (g.met.M.Media.blank_ahead c.args.media.now) c.in-Some.ensures.place
     c.in_ok-read_whole.ensures.found
     (subst (λ (k : Contents). (g.M.Media.state c.program_unheld-2.new.media).contents.flash ≡ after_program k.flash c.args.to c.read_whole.new.buffer c.read_whole.new.spare) c.in_ok-read_whole.ensures.contents (ok_at c.program_unheld-2.result v is c.program_unheld-2.ensures.programmed)))
 
