@@ -1,5 +1,5 @@
 -- A checkpoint has no more records than its region has room for.
-use Rattle.std.proofs.Common.{◌≡◌, ℕ, zero, suc, ◌+◌, ◌-◌, ◌*◌, ◌/◌, ◌<◌, ◌≤◌, ◌==◌, ◌||◌, true, false, cond, List, [], ◌∷◌, ◌++◌, length, map, filter, Some, sym, ◌∙◌, ap, ap₂, subst, arith, inl, inr, nat_cmp, eqb-true, length-append}
+use Rattle.std.proofs.Common.{◌≡◌, ℕ, zero, suc, ◌+◌, ◌-◌, ◌*◌, ◌<◌, ◌≤◌, ◌==◌, ◌||◌, true, false, cond, List, [], ◌∷◌, ◌++◌, length, map, filter, Some, sym, ◌∙◌, ap, ap₂, subst, arith, inl, inr, nat_cmp, eqb-true, length-append}
 use Rattle.std.specs.List.{AllByRecursion, range_with_len}
 use Rattle.std.specs.FinMap.{get, entries, entries_sorted, is_sorted}
 use Rattle.std.specs.FinMap.Entries.{below_all}
@@ -9,7 +9,7 @@ use Rattle.std.proofs.lemmas.List.{length-map}
 use Rattle.std.proofs.lemmas.List.FromFn.{length-range_with_len}
 use Rattle.std.proofs.lemmas.Nat.{same_from_place}
 use Rattle.ft_base.specs.declared.geometry.Geometry.{Geometry}
-use Rattle.ft_base.specs.Layout.{rounded_up, most_records, page_records, pages_for, checkpoint_pages, most_page_records}
+use Rattle.ft_base.specs.Layout.{rounded_up, most_records, page_records, pages_for, checkpoint_pages}
 use Rattle.cache_model.specs.declared.entry.Entry.{Entry}
 use Rattle.cache_model.specs.Records.{Entries}
 use Rattle.cache_model.specs.Entries.{each_once, groups_with, blocks_with, page_mapped, IsMap}
@@ -164,5 +164,5 @@ pub listing_here : (g' g : Geometry) (m : Entries) (records : List Record) → g
 listing_here g' g m records same listed = subst (λ (x : Geometry). IsCheckpointOf x m records) same listed
 
 -- the map pages of so many records, and the seal, fit the region
-pub pages_fit : (g' g : Geometry) (m : Entries) (records : List Record) (n : ℕ) → g' ≡ g → IsMap g m → IsCheckpointOf g' m records → n ≡ length records → (n + most_page_records - 1) / most_page_records < checkpoint_pages g
-pages_fit g' g m records n same is_map listed is = subst (λ k. (k + most_page_records - 1) / most_page_records < checkpoint_pages g) (sym is) (maps_fit g m is_map records (listing_here g' g m records same listed))
+pub pages_fit : (g' g : Geometry) (m : Entries) (records : List Record) (n : ℕ) → g' ≡ g → IsMap g m → IsCheckpointOf g' m records → n ≡ length records → rounded_up n (page_records g) < checkpoint_pages g
+pages_fit g' g m records n same is_map listed is = subst (λ k. rounded_up k (page_records g) < checkpoint_pages g) (sym is) (maps_fit g m is_map records (listing_here g' g m records same listed))

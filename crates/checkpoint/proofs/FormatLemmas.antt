@@ -7,7 +7,7 @@ use Rattle.ft_base.specs.declared.geometry.Geometry.{Geometry}
 use Rattle.ft_base.specs.declared.block.Place.{Place}
 use Rattle.ft_base.specs.declared.block.Page.{Page}
 use Rattle.ft_base.specs.Contents.{Flash}
-use Rattle.ft_base.specs.Layout.{rounded_up, k, checkpoint_at, checkpoint_pages, most_page_records}
+use Rattle.ft_base.specs.Layout.{rounded_up, k, checkpoint_at, checkpoint_pages, page_records}
 use Rattle.cache_model.specs.declared.entry.Entry.{Entry}
 use Rattle.cache_model.specs.Records.{Entries, no_entries}
 use Rattle.cache_model.specs.Entries.{each_once, page_mapped}
@@ -52,7 +52,7 @@ nothing_listed g = record {
 -- ---- its seal
 
 some_blocks : (g : Geometry) → 0 < k g
-some_blocks g = at_least (rounded_up (g.c + g.l * g.p) most_page_records) g.p (omega (arith, g.in_range.p_low))
+some_blocks g = at_least (rounded_up (g.c + g.l * g.p) (page_records g)) g.p (omega (arith, g.in_range.p_low))
   where
     at_least : (n p : ℕ) → 0 < p → 0 < (n + 1 + p - 1) / p
     at_least n p some = le-div 1 (n + 1 + p - 1) p some (omega arith)

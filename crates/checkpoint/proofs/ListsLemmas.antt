@@ -12,7 +12,7 @@ use Rattle.cache_model.specs.declared.format.Header.{Header}
 use Rattle.cache_model.specs.Loading.{pages_from, header_at}
 use Rattle.cache_model.specs.Laws.{ArePages}
 use Rattle.checkpoint.specs.Regions.{part}
-use Rattle.ft_base.specs.Layout.{most_page_records}
+use Rattle.ft_base.specs.Layout.{page_records}
 
 -- ---- pages
 
@@ -53,24 +53,24 @@ any_part n rs i =
     sym (take-append-drop n (drop (n * i) rs))
     ∙ ap (λ qs. take n (drop (n * i) rs) ++ qs) (drop-more (n * i) n rs ∙ ap (λ k. drop k rs) (let e : n * i + n ≡ n * (i + 1) = omega arith in e))
 
-pub part_and_rest : (g : Geometry) (rs : List Record) (i : ℕ) → drop (most_page_records * i) rs ≡ part g rs i ++ drop (most_page_records * (i + 1)) rs
+pub part_and_rest : (g : Geometry) (rs : List Record) (i : ℕ) → drop (page_records g * i) rs ≡ part g rs i ++ drop (page_records g * (i + 1)) rs
 unfolding part
-part_and_rest g rs i = any_part most_page_records rs i
+part_and_rest g rs i = any_part (page_records g) rs i
 
 any_length : (n : ℕ) (rs : List Record) (i : ℕ) → length (take n (drop (n * i) rs)) ≡ min n (length rs - n * i)
 any_length n rs i = length-take n (drop (n * i) rs) ∙ ap (min n) (length-drop (n * i) rs)
 
-pub length-part : (g : Geometry) (rs : List Record) (i : ℕ) → length (part g rs i) ≡ min most_page_records (length rs - most_page_records * i)
+pub length-part : (g : Geometry) (rs : List Record) (i : ℕ) → length (part g rs i) ≡ min (page_records g) (length rs - page_records g * i)
 unfolding part
-length-part g rs i = any_length most_page_records rs i
+length-part g rs i = any_length (page_records g) rs i
 
 least_is : (rs out : List Record) (most from count : ℕ) → count ≡ min most (length rs - from) → take count out ≡ take count (drop from rs) → take count out ≡ take most (drop from rs)
 least_is rs out most from count few same =
     same ∙ ap (λ k. take k (drop from rs)) (few ∙ ap (min most) (sym (length-drop from rs))) ∙ take_min most (drop from rs)
 
-pub part_is : (g : Geometry) (rs out : List Record) (count i : ℕ) → count ≡ min most_page_records (length rs - most_page_records * i) → take count out ≡ take count (drop (most_page_records * i) rs) → take count out ≡ part g rs i
+pub part_is : (g : Geometry) (rs out : List Record) (count i : ℕ) → count ≡ min (page_records g) (length rs - page_records g * i) → take count out ≡ take count (drop (page_records g * i) rs) → take count out ≡ part g rs i
 unfolding part
-part_is g rs out count i few same = least_is rs out most_page_records (most_page_records * i) count few same
+part_is g rs out count i few same = least_is rs out (page_records g) (page_records g * i) count few same
 
 -- ---- what holds of each
 
@@ -93,4 +93,4 @@ any_all test n k xs all = all-take test n (drop k xs) (all-drop test k xs all)
 
 pub all-part : (g : Geometry) (test : Record → Bool) (rs : List Record) (i : ℕ) → list_all test rs ≡ true → list_all test (part g rs i) ≡ true
 unfolding part
-all-part g test rs i all = any_all test most_page_records (most_page_records * i) rs all
+all-part g test rs i all = any_all test (page_records g) (page_records g * i) rs all

@@ -1,5 +1,5 @@
 -- With its seal the new checkpoint counts, and stands for the map.
-use Rattle.std.proofs.Common.{◌≡◌, ◌⊎◌, ℕ, zero, suc, ◌+◌, ◌-◌, ◌*◌, ◌/◌, ◌%◌, ◌<◌, ◌≤◌, ◌==◌, true, cond, min, Option, List, [], ◌∷◌, ◌++◌, length, drop, Some, None, ok_or, Ok, Err, refl, sym, ◌∙◌, ap, ap₂, subst, arith, inl, inr}
+use Rattle.std.proofs.Common.{◌≡◌, ◌⊎◌, ℕ, zero, suc, ◌+◌, ◌-◌, ◌*◌, ◌%◌, ◌<◌, ◌≤◌, ◌==◌, true, cond, min, Option, List, [], ◌∷◌, ◌++◌, length, drop, Some, None, ok_or, Ok, Err, refl, sym, ◌∙◌, ap, ap₂, subst, arith, inl, inr}
 use Rattle.std.specs.List.{AllByRecursion}
 use Rattle.std.specs.FinMap.{get, entries}
 use Rattle.std.proofs.lemmas.Bool.{cases_Bool, cases_cond, and_from}
@@ -11,7 +11,7 @@ use Rattle.ft_base.specs.declared.block.Place.{Place}
 use Rattle.ft_base.specs.declared.block.Page.{Page}
 use Rattle.ft_base.specs.declared.record.Record.{Record}
 use Rattle.ft_base.specs.Contents.{Flash}
-use Rattle.ft_base.specs.Layout.{first_pool, checkpoint_at, log_at, checkpoint_pages, most_page_records}
+use Rattle.ft_base.specs.Layout.{first_pool, checkpoint_at, log_at, checkpoint_pages, page_records, rounded_up}
 use Rattle.cache_model.specs.declared.entry.Entry.{Entry}
 use Rattle.cache_model.specs.declared.format.PageKind.TheVariants.{Map}
 use Rattle.cache_model.specs.Records.{Entries, after, no_entries}
@@ -49,7 +49,7 @@ after_all_split g (r ∷ rs) qs m n is = elim (cases_Bool (fits g r m)) [
 ]
 
 module _ (g : Geometry) (era : ℕ) (rs : List Record) (page : Place → Page) (at : ℕ → Place) where
-  maps_counted : (i n before : ℕ) → ((j : ℕ) → i ≤ j → j < i + n → IsMapPage era j (part g rs j) (page (at j))) → before ≡ min (length rs) (most_page_records * i) → length rs ≤ most_page_records * (i + n) → AreMaps era i before (length rs) (pages_from page at i n)
+  maps_counted : (i n before : ℕ) → ((j : ℕ) → i ≤ j → j < i + n → IsMapPage era j (part g rs j) (page (at j))) → before ≡ min (length rs) (page_records g * i) → length rs ≤ page_records g * (i + n) → AreMaps era i before (length rs) (pages_from page at i n)
   maps_counted i zero before each is all = omega arith
   maps_counted i (suc n) before each is all =
       let here = each i (omega arith) (omega arith) in
@@ -57,14 +57,14 @@ module _ (g : Geometry) (era : ℕ) (rs : List Record) (page : Place → Page) (
       let long = length-part g rs i in
       (here.header, here.head, maps_counted (i + 1) n (before + here.header.count) (λ j low high. each j (omega arith) (omega arith)) (omega arith) (omega arith))
 
-  maps_applied : (i n : ℕ) (m m' : Entries) → ((j : ℕ) → i ≤ j → j < i + n → IsMapPage era j (part g rs j) (page (at j))) → length rs ≤ most_page_records * (i + n) → after_all g (drop (most_page_records * i) rs) m ≡ Some m' → after_pages g Map era at i (pages_from page at i n) m ≡ Ok m'
+  maps_applied : (i n : ℕ) (m m' : Entries) → ((j : ℕ) → i ≤ j → j < i + n → IsMapPage era j (part g rs j) (page (at j))) → length rs ≤ page_records g * (i + n) → after_all g (drop (page_records g * i) rs) m ≡ Some m' → after_pages g Map era at i (pages_from page at i n) m ≡ Ok m'
   maps_applied i zero m m' each all is =
-      let none : drop (most_page_records * i) rs ≡ [] = drop_all (most_page_records * i) rs (omega arith) in
+      let none : drop (page_records g * i) rs ≡ [] = drop_all (page_records g * i) rs (omega arith) in
       let same : Some m ≡ Some m' = sym (ap (λ qs. after_all g qs m) none) ∙ is in
       ap Ok (same_Some m m' same)
   maps_applied i (suc n) m m' each all is =
       let here = each i (omega arith) (omega arith) in
-      let split = after_all_split g (part g rs i) (drop (most_page_records * (i + 1)) rs) m m' (ap (λ qs. after_all g qs m) (sym (part_and_rest g rs i)) ∙ is) in
+      let split = after_all_split g (part g rs i) (drop (page_records g * (i + 1)) rs) m m' (ap (λ qs. after_all g qs m) (sym (part_and_rest g rs i)) ∙ is) in
       after_pages-one g Map era at i (page (at i)) (pages_from page at (i + 1) n) m split.0 here.header (part g rs i) here.head here.records split.1
       ∙ maps_applied (i + 1) n split.0 m' (λ j low high. each j (omega arith) (omega arith)) (omega arith) split.2
 
@@ -114,10 +114,10 @@ module _ (g : Geometry) (region era : ℕ) (m : Entries) (records : List Record)
   within : map_pages g records < checkpoint_pages g
   within = maps_fit g m is_map records listed
 
-  enough : length records ≤ most_page_records * (0 + map_pages g records)
+  enough : length records ≤ page_records g * (0 + map_pages g records)
   enough = by_number (length records)
     where
-      by_number : (n : ℕ) → n ≤ most_page_records * (0 + (n + most_page_records - 1) / most_page_records)
+      by_number : (n : ℕ) → n ≤ page_records g * (0 + rounded_up n (page_records g))
       by_number n = omega arith
 
   is_checkpoint : IsCheckpoint sealed_checkpoint (checkpoint_region g new region)

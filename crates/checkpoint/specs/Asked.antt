@@ -1,26 +1,27 @@
 -- The records that were asked of a map for several pages at once.
 use Rattle.std.specs.Prelude.{◌≡◌, ◌⊎◌, ℕ, ◌-◌, ◌*◌, ◌/◌, ◌%◌, List, length, take, drop, min}
+use Rattle.ft_base.specs.declared.geometry.Geometry.{Geometry}
 use Rattle.ft_base.specs.declared.record.Record.{Record}
-use Rattle.ft_base.specs.Layout.{most_page_records}
+use Rattle.ft_base.specs.Layout.{page_records}
 
--- the pages whose records are asked for at once, and the most records that these have
+-- the pages whose records are asked for at once, and how many records these have at most
 abbrev pub asked_pages : ℕ
 asked_pages = 16
 
-abbrev pub asked_records : ℕ
-asked_records = asked_pages * most_page_records
+abbrev pub asked_records : Geometry → ℕ
+asked_records g = asked_pages * page_records g
 
 -- the first record that is asked for with those of page i, and how many are
-abbrev pub first_asked : ℕ → ℕ
-first_asked i = asked_records * (i / asked_pages)
+abbrev pub first_asked : Geometry → ℕ → ℕ
+first_asked g i = asked_records g * (i / asked_pages)
 
-abbrev pub count_asked : List Record → ℕ → ℕ
-count_asked records i = min asked_records (length records - first_asked i)
+abbrev pub count_asked : Geometry → List Record → ℕ → ℕ
+count_asked g records i = min (asked_records g) (length records - first_asked g i)
 
 -- the list begins with the records that are asked for with those of page i
-abbrev pub HasRun : List Record → ℕ → List Record → Type 0
-HasRun records i asked = take (count_asked records i) asked ≡ take (count_asked records i) (drop (first_asked i) records)
+abbrev pub HasRun : Geometry → List Record → ℕ → List Record → Type 0
+HasRun g records i asked = take (count_asked g records i) asked ≡ take (count_asked g records i) (drop (first_asked g i) records)
 
 -- so it does, unless page i is the first whose records are asked for at once
-abbrev pub IsAskedFor : List Record → ℕ → List Record → Type 0
-IsAskedFor records i asked = (i % asked_pages ≡ 0) ⊎ HasRun records i asked
+abbrev pub IsAskedFor : Geometry → List Record → ℕ → List Record → Type 0
+IsAskedFor g records i asked = (i % asked_pages ≡ 0) ⊎ HasRun g records i asked

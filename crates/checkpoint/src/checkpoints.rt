@@ -31,7 +31,7 @@ impl Model for Checkpoints {
 
     ghost view = { λ c. c.geometry };
 
-    ghost invariant = { λ c. length c.asked.items ≡ asked_records };
+    ghost invariant = { λ c. length c.asked.items ≡ asked_records c.geometry };
 }
 
 impl Checkpoints {

@@ -1,7 +1,7 @@
 ghost use Rattle.std.specs.Prelude.{true, ◌≡◌, ◌⊎◌, ◌<◌, ◌≤◌, ◌+◌, ◌*◌, length, OnOk};
 ghost use Rattle.std.specs.List.{list_all};
 ghost use Rattle.ft_base.specs.Count.{Rose};
-ghost use Rattle.ft_base.specs.Layout.{checkpoint_at, checkpoint_pages, k, most_page_records};
+ghost use Rattle.ft_base.specs.Layout.{checkpoint_at, checkpoint_pages, k, page_records};
 ghost use Rattle.ft_media.specs.Media.{program_counted};
 ghost use Rattle.ft_media.specs.Drives.{OnlyDrives};
 ghost use Rattle.cache_model.specs.declared.format.PageKind.TheVariants as PageKind;
@@ -45,7 +45,7 @@ fn program_map<M: Media>(
     requires shape { FitsOn geometry.now (M.state media.old).contents.shape }
     requires kinds { list_all (may_stand_in PageKind.Map) records.now ≡ true }
     requires some { 1 ≤ length records.now }
-    requires few { length records.now ≤ most_page_records }
+    requires few { length records.now ≤ page_records geometry.now }
     requires room { sequence < checkpoint_pages geometry.now }
     requires ready { IsReadyAt (checkpoint_at geometry.now target.now.region sequence) (M.state media.old).contents.flash }
     ensures done { OnOk result (Programmed (IsMapPage target.now.era sequence records.now)
@@ -77,8 +77,8 @@ fn program_maps<M: Media>(
     requires all { pages ≡ map_pages geometry.now map.now.records }
     requires room { pages < checkpoint_pages geometry.now }
     requires blank { AreBlank (target.now.region * k geometry.now) (k geometry.now) (M.state media.old).contents.flash }
-    requires asked { length asked.old ≡ asked_records }
-    ensures asked { length asked.new ≡ asked_records }
+    requires asked { length asked.old ≡ asked_records geometry.now }
+    ensures asked { length asked.new ≡ asked_records geometry.now }
     ensures done { OnOk result (MapsWritten geometry.now target.now.region target.now.era map.now.records pages
         (M.state media.old).contents.flash (M.state media.new).contents.flash) }
     ensures counts { OnOk result ((M.state media.new).counts ≡ programs_counted pages (M.state media.old).counts) }
@@ -133,8 +133,8 @@ pub(crate) fn write_checkpoint<M: Media>(
     requires shape { FitsOn geometry.now (M.state media.old).contents.shape }
     requires map { map.now.geometry ≡ geometry.now }
     requires is_map { IsMap geometry.now map.now.entries }
-    requires asked { length asked.old ≡ asked_records }
-    ensures asked { length asked.new ≡ asked_records }
+    requires asked { length asked.old ≡ asked_records geometry.now }
+    ensures asked { length asked.new ≡ asked_records geometry.now }
     ensures listing { IsCheckpointOf geometry.now map.now.entries map.now.records }
     ensures done { OnOk result (IsWritten geometry.now target.now.region target.now.era map.now.records (M.state media.old).contents.flash
         (M.state media.new).contents.flash) }

@@ -1,7 +1,7 @@
 use Rattle.std.proofs.Common.{◌≡◌, ◌*◌, ◌<◌, List, length, inl, refl, rules, ◌∙◌, ap, subst, arith}
 use Rattle.std.specs.List.{list_all}
 use Rattle.ft_base.specs.declared.record.Record.{Record}
-use Rattle.ft_base.specs.Layout.{checkpoint_at, most_page_records}
+use Rattle.ft_base.specs.Layout.{checkpoint_at, page_records}
 use Rattle.ft_media.proofs.DrivesLemmas.{drives_none, drives_then}
 use Rattle.cache_model.specs.declared.format.PageKind.TheVariants.{Map}
 use Rattle.cache_model.specs.Spelling.{may_stand_in}
@@ -25,7 +25,7 @@ program_map-requires-clause-kinds g c =
 pub program_map-requires-clause-some : goal.program_map-requires-clause-some
 program_map-requires-clause-some g c =
     let long = ap length c.records_of-records.ensures ∙ length-part c.args.map.now.geometry c.args.map.now.records c.loop-sequence.sequence in
-    let some : most_page_records * c.loop-sequence.sequence < length c.args.map.now.records = search rules in
+    let some : page_records c.args.map.now.geometry * c.loop-sequence.sequence < length c.args.map.now.records = search rules in
     omega (arith, long, some)
 
 pub program_map-requires-clause-few : goal.program_map-requires-clause-few
@@ -70,5 +70,5 @@ loop-sequence-preserved g c =
       counts = programs_more i (g.M.Media.state c.args.media.now).counts (g.M.Media.state c.loop-sequence.media).counts (g.M.Media.state c.program_map.new.media).counts c.loop-sequence.invariant.counts c.in_ok-program_map.ensures.counts;
       drives = drives_then (g.M.Media.state c.args.media.now) (g.M.Media.state c.loop-sequence.media) (g.M.Media.state c.program_map.new.media) _ _ c.loop-sequence.invariant.drives c.in_ok-program_map.ensures.drives.flash;
       room = c.ask.ensures.room;
-      asked = asked_next rs c.ask.new.asked i c.ask.ensures.run;
+      asked = asked_next c.args.map.now.geometry rs c.ask.new.asked i c.ask.ensures.run;
     }

@@ -13,6 +13,6 @@ invariant-loop-sequence g l =
       maps : MapsWritten l.geometry l.target.region l.target.era l.map.records l.sequence old.contents.flash now.contents.flash;
       counts : now.counts ≡ programs_counted l.sequence old.counts;
       drives : DrivesFlash old now false false;
-      room : length l.asked ≡ asked_records;
-      asked : IsAskedFor l.map.records l.sequence l.asked;
+      room : length l.asked ≡ asked_records l.geometry;
+      asked : IsAskedFor l.map.geometry l.map.records l.sequence l.asked;
     }

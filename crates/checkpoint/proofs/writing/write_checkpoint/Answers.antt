@@ -1,4 +1,4 @@
-use Rattle.std.proofs.Common.{◌+◌, ◌-◌, ◌/◌, arith, rules, sym, ap, subst, inl}
+use Rattle.std.proofs.Common.{◌-◌, arith, rules, sym, ap, subst, inl}
 use Rattle.ft_base.specs.Contents.{Shape}
 use Rattle.ft_media.proofs.DrivesLemmas.{drives_then, only_then}
 use Rattle.op_log.specs.Log.{FitsOn}
@@ -7,7 +7,7 @@ use Rattle.checkpoint.proofs.CountingLemmas.{records_bounded, listing_here, page
 use Rattle.checkpoint.proofs.OnlyLemmas.{only_failed}
 use Rattle.checkpoint.proofs.MapsLemmas.{maps_ready}
 use Rattle.checkpoint.proofs.WrittenLemmas.{maps_unsealed, seal_left, seal_done}
-use Rattle.ft_base.specs.Layout.{most_page_records}
+use Rattle.ft_base.specs.Layout.{page_records, rounded_up}
 use Rattle.checkpoint.proofs.writing.write_checkpoint.Goals as goal
 
 pub overflow_add-pages : goal.overflow_add-pages
@@ -47,7 +47,7 @@ program_seal-requires-clause-ready g c =
 pub returns-in_err-program_seal-clause-pages : goal.returns-in_err-program_seal-clause-pages
 returns-in_err-program_seal-clause-pages g c =
     let same = c.checkpoint_len-records.ensures.count in
-    seal_left c.args.geometry.now c.args.target.now.region c.args.target.now.era c.args.map.now.records c.args.target.now.one_of_two _ c.checkpoint_len-records.result (ap (λ n. (n + most_page_records - 1) / most_page_records) same) same
+    seal_left c.args.geometry.now c.args.target.now.region c.args.target.now.era c.args.map.now.records c.args.target.now.one_of_two _ c.checkpoint_len-records.result (ap (λ n. rounded_up n (page_records c.args.geometry.now)) same) same
     (pages_fit c.args.map.now.geometry c.args.geometry.now c.args.map.now.entries c.args.map.now.records c.checkpoint_len-records.result c.requires.map c.requires.is_map c.checkpoint_len-records.ensures.listing c.checkpoint_len-records.ensures.count)
     (g.M.Media.state c.args.media.now).contents.flash (g.M.Media.state c.erase_regions.new.media).contents.flash (g.M.Media.state c.program_maps.new.media).contents.flash
     (g.M.Media.state c.program_seal.new.media).contents.flash c.in_ok-erase_regions.ensures.done c.in_ok-program_maps.ensures.done c.program_seal.ensures.pages
@@ -60,7 +60,7 @@ returns-in_err-program_seal-clause-drives g c = only_failed _ _ _ _ _
 pub returns-clause-done : goal.returns-clause-done
 returns-clause-done g c =
     let same = c.checkpoint_len-records.ensures.count in
-    seal_done c.args.geometry.now c.args.target.now.region c.args.target.now.era c.args.map.now.records c.args.target.now.one_of_two _ c.checkpoint_len-records.result (ap (λ n. (n + most_page_records - 1) / most_page_records) same) same
+    seal_done c.args.geometry.now c.args.target.now.region c.args.target.now.era c.args.map.now.records c.args.target.now.one_of_two _ c.checkpoint_len-records.result (ap (λ n. rounded_up n (page_records c.args.geometry.now)) same) same
     (pages_fit c.args.map.now.geometry c.args.geometry.now c.args.map.now.entries c.args.map.now.records c.checkpoint_len-records.result c.requires.map c.requires.is_map c.checkpoint_len-records.ensures.listing c.checkpoint_len-records.ensures.count)
     (g.M.Media.state c.args.media.now).contents.flash (g.M.Media.state c.erase_regions.new.media).contents.flash (g.M.Media.state c.program_maps.new.media).contents.flash
     (g.M.Media.state c.program_seal.new.media).contents.flash c.in_ok-erase_regions.ensures.done c.in_ok-program_maps.ensures.done c.in_ok-program_seal.ensures.done
@@ -68,7 +68,7 @@ returns-clause-done g c =
 pub returns-clause-pages : goal.returns-clause-pages
 returns-clause-pages g c =
     let same = c.checkpoint_len-records.ensures.count in
-    seal_left c.args.geometry.now c.args.target.now.region c.args.target.now.era c.args.map.now.records c.args.target.now.one_of_two _ c.checkpoint_len-records.result (ap (λ n. (n + most_page_records - 1) / most_page_records) same) same
+    seal_left c.args.geometry.now c.args.target.now.region c.args.target.now.era c.args.map.now.records c.args.target.now.one_of_two _ c.checkpoint_len-records.result (ap (λ n. rounded_up n (page_records c.args.geometry.now)) same) same
     (pages_fit c.args.map.now.geometry c.args.geometry.now c.args.map.now.entries c.args.map.now.records c.checkpoint_len-records.result c.requires.map c.requires.is_map c.checkpoint_len-records.ensures.listing c.checkpoint_len-records.ensures.count)
     (g.M.Media.state c.args.media.now).contents.flash (g.M.Media.state c.erase_regions.new.media).contents.flash (g.M.Media.state c.program_maps.new.media).contents.flash
     (g.M.Media.state c.program_seal.new.media).contents.flash c.in_ok-erase_regions.ensures.done c.in_ok-program_maps.ensures.done c.program_seal.ensures.pages
@@ -76,7 +76,7 @@ returns-clause-pages g c =
 pub returns-clause-counts : goal.returns-clause-counts
 returns-clause-counts g c =
     checkpoint_made c.args.geometry.now _ _ (g.M.Media.state c.args.media.now).counts (g.M.Media.state c.erase_regions.new.media).counts (g.M.Media.state c.program_maps.new.media).counts (g.M.Media.state c.program_seal.new.media).counts
-    (ap (λ n. (n + most_page_records - 1) / most_page_records) c.checkpoint_len-records.ensures.count) c.in_ok-erase_regions.ensures.counts c.in_ok-program_maps.ensures.counts c.in_ok-program_seal.ensures.counts
+    (ap (λ n. rounded_up n (page_records c.args.geometry.now)) c.checkpoint_len-records.ensures.count) c.in_ok-erase_regions.ensures.counts c.in_ok-program_maps.ensures.counts c.in_ok-program_seal.ensures.counts
 
 pub returns-clause-drives : goal.returns-clause-drives
 returns-clause-drives g c = only_then _ _ _ _
