@@ -18,14 +18,13 @@ use Rattle.cache_model.specs.declared.entry.Entry.{Entry}
 use Rattle.cache_model.specs.Cache.{Vanish, dirty_between, groups, with_group}
 use Rattle.cache_model.specs.CacheList.{CacheList, Held}
 use Rattle.cache_model.specs.Entries.{each_once}
-use Rattle.cache_model.proofs.CountLemmas.{all_members, each_once-le, member_of, same_number}
+use Rattle.cache_model.proofs.CountLemmas.{all_members, each_once-le, member_of, same_number, member_once}
 use Rattle.cache_model.proofs.MapLemmas.{less_key, all_entries, by_get, get_insert}
 use Rattle.mapping.proofs.MarksLemmas.{same_bools}
 use Rattle.merge_engine.specs.Loaded.{AreAscending}
 use Rattle.merge_engine.proofs.TakeLemmas.{agree_map}
 use Rattle.ssc.specs.declared.cache.Ssc.{Ssc}
 use Rattle.ssc.specs.CacheState.{Holds, entries_of, geometry_of}
-use Rattle.ssc.proofs.DirtyLemmas.{member_once}
 use Rattle.ssc.proofs.HoldsLemmas.{held_none, held_some}
 use Rattle.ssc.proofs.ListedLemmas.{dirty_alike, marks, same_marks}
 use Rattle.cached_disk.specs.Kept.{IsDirtyIn}

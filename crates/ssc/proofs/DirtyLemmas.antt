@@ -1,5 +1,5 @@
 -- How many groups have a dirty address, together with that of one more.
-use Rattle.std.proofs.Common.{◌≡◌, ℕ, suc, ◌+◌, ◌*◌, ◌/◌, ◌%◌, ◌<◌, ◌≤◌, ◌==◌, nat_lt, ◌&&◌, ◌||◌, Bool, true, false, cond, List, [], ◌∷◌, length, Option, Some, None, refl, sym, ◌∙◌, ap, arith, inl, inr, nat_cmp, eqb-true, lt-ltb}
+use Rattle.std.proofs.Common.{◌≡◌, ℕ, suc, ◌+◌, ◌*◌, ◌/◌, ◌%◌, ◌<◌, ◌≤◌, ◌==◌, nat_lt, ◌&&◌, ◌||◌, Bool, true, false, cond, List, ◌∷◌, length, Option, Some, None, refl, sym, ◌∙◌, ap, arith, inl, inr, nat_cmp, lt-ltb}
 use Rattle.std.specs.Option.{option_and_then}
 use Rattle.std.specs.FinMap.{FinMap, get, entries}
 use Rattle.std.proofs.lemmas.Bool.{cases_Bool, both_ways, false≢true, and_from}
@@ -16,7 +16,7 @@ use Rattle.cache_model.specs.CacheList.{Held, CacheList}
 use Rattle.cache_model.specs.Stands.{held_at}
 use Rattle.cache_model.proofs.StandLemmas.{held_of, whole_held}
 use Rattle.cache_model.proofs.MapLemmas.{all_entries, by_get}
-use Rattle.cache_model.proofs.CountLemmas.{member, numbers, all_members, member_of, each_once-same}
+use Rattle.cache_model.proofs.CountLemmas.{member, numbers, all_members, member_of, member_once, each_once-same}
 use Rattle.mapping.specs.declared.bits.Choice.TheVariants.{Dirty}
 use Rattle.mapping.specs.Bits.{is_chosen, chosen_of}
 use Rattle.mapping.proofs.MarksLemmas.{same_bools}
@@ -25,17 +25,6 @@ use Rattle.merge_engine.specs.Steps.{dirty_groups_with, HasRoomFor}
 use Rattle.merge_engine.proofs.GaveLemmas.{dirty_numbers}
 
 -- ---- lists of numbers, each once
-
-pub member_once : (n : ℕ) (ns : List ℕ) → member n (each_once ns) ≡ member n ns
-member_once n [] = refl
-member_once n (m ∷ ns) = elim (cases_Bool (member m ns)) [
-  | inl t ↦ ap (λ b. member n (cond b (each_once ns) (m ∷ each_once ns))) t ∙ member_once n ns ∙ known (m == n) (member n ns) (λ e. ap (λ k. member k ns) (sym (eqb-true m n e)) ∙ t)
-  | inr f ↦ ap (λ b. member n (cond b (each_once ns) (m ∷ each_once ns))) f ∙ ap (λ b. (m == n) || b) (member_once n ns)
-]
-  where
-    known : (a b : Bool) → (a ≡ true → b ≡ true) → b ≡ (a || b)
-    known true b is = is refl
-    known false b is = refl
 
 once_once : (ns : List ℕ) → length (each_once (each_once ns)) ≡ length (each_once ns)
 once_once ns = each_once-same (each_once ns) ns (λ n. member_once n ns)

@@ -1,36 +1,26 @@
 -- Entries by the numbers of their pages.
-use Rattle.std.proofs.Common.{◌≡◌, ℕ, ◌+◌, ◌-◌, ◌*◌, ◌/◌, ◌<◌, ◌==◌, nat_lt, Bool, true, false, cond, List, [], ◌∷◌, length, Some, refl, sym, ◌∙◌, ap, subst, arith, nat_cmp, inl, inr, eqb-true, eq-eqb, ne_eqb, lt-ltb, count_by}
+use Rattle.std.proofs.Common.{◌≡◌, ℕ, ◌+◌, ◌<◌, ◌==◌, nat_lt, Bool, true, cond, List, [], ◌∷◌, length, Some, refl, sym, ◌∙◌, ap, subst, arith, nat_cmp, inl, inr, eqb-true, eq-eqb, ne_eqb, lt-ltb, count_by}
 use Rattle.std.specs.List.{AllByRecursion}
 use Rattle.std.specs.Ordering.{is_lt}
 use Rattle.std.specs.FinMap.{FinMap, get, entries, entries_sorted, find, is_sorted, get-entries}
 use Rattle.std.specs.FinMap.Entries.{below_all}
 use Rattle.std.proofs.lemmas.Bool.{cases_Bool, and_parts, both_ways}
 use Rattle.std.proofs.lemmas.Bool.Decides.{nat_tests}
-use Rattle.std.proofs.lemmas.Nat.{same_from_place}
 use Rattle.std.proofs.lemmas.List.Sums.{sum_by-cons}
 use Rattle.ft_base.specs.declared.geometry.Geometry.{Geometry}
 use Rattle.ft_base.specs.declared.block.Place.{Place}
-use Rattle.ft_base.specs.Layout.{first_pool}
 use Rattle.cache_model.specs.declared.entry.Entry.{Entry}
 use Rattle.cache_model.specs.Records.{Entries}
-use Rattle.cache_model.specs.Entries.{InPool, IsMap}
+use Rattle.cache_model.specs.Entries.{IsMap}
 use Rattle.cache_model.proofs.MapLemmas.{less_key, holds, all_entries, eq_key}
 use Rattle.mapping.specs.Numbers.{number_of, HasNumber}
+use Rattle.mapping.proofs.NumbersLemmas.{number_tells}
 
 -- ---- one number, one place
 
-pub same_place : (g : Geometry) (at other : Place) → InPool g at → InPool g other → number_of g at ≡ number_of g other → at ≡ other
-same_place g at other pool pool' is =
-    let parts = same_from_place (at.block - first_pool g) at.page (other.block - first_pool g) other.page g.p pool.page pool'.page is in
-    let above = pool.above in
-    let above' = pool'.above in
-    let blocks = parts.0 in
-    let block : at.block ≡ other.block = omega arith in
-    λ k. record { block = block k; page = parts.1 k }
-
 -- entries of one number are those of one address
 pub one_address : (g : Geometry) (m : Entries) → IsMap g m → (a b : ℕ) (e f : Entry) → get m a ≡ Some e → get m b ≡ Some f → number_of g e.place ≡ number_of g f.place → a ≡ b
-one_address g m is_map a b e f there there' is = is_map.apart a b e f there there' (same_place g e.place f.place (is_map.in_pool a e there) (is_map.in_pool b f there') is)
+one_address g m is_map a b e f there there' is = is_map.apart a b e f there there' (number_tells g e.place f.place (is_map.in_pool a e there) (is_map.in_pool b f there') is)
 
 pub same_entry : (m : Entries) (a b : ℕ) (e f : Entry) → a ≡ b → get m a ≡ Some e → get m b ≡ Some f → e ≡ f
 same_entry m a b e f same there there' = let both : Some e ≡ Some f = sym there ∙ ap (get m) same ∙ there' in cc

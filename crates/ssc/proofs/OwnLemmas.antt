@@ -7,7 +7,7 @@ use Rattle.ft_base.specs.declared.block.Block.{Block}
 use Rattle.ft_base.specs.declared.block.Place.{Place}
 use Rattle.ft_base.specs.declared.block.Page.{Page}
 use Rattle.ft_base.specs.declared.geometry.Geometry.{Geometry}
-use Rattle.ft_base.specs.Contents.{Contents, Image, Now}
+use Rattle.ft_base.specs.Contents.{Contents}
 use Rattle.cache_model.specs.Spelling.{data_spare}
 use Rattle.cache_model.specs.Cache.{AreOwn, Buffered, Inserted, Cleaned, Vanish, evicted, made_clean, marked, marked_as, undo, written_block}
 use Rattle.cache_model.specs.CacheList.{CacheList, Held}
@@ -17,7 +17,7 @@ use Rattle.cache_model.proofs.UndoLemmas.{back_at, get_undo, undone_at}
 use Rattle.ssc.specs.declared.cache.Ssc.{Ssc}
 use Rattle.ssc.specs.CacheState.{Holds, geometry_of, pending}
 use Rattle.ssc.specs.Commands.{FlashStandsForOne, AsUndone, AsBefore, AsAfter, FlashStandsForWrite, AsLeft, AsWritten, HoldsWritten, ImagesOf, ImagesOfWrite}
-use Rattle.ssc.specs.Own.{HoldsOwn, KeepsOwn, LoadsOwn}
+use Rattle.ssc.specs.Own.{KeepsOwn, LoadsOwn}
 
 -- ---- at one address
 

@@ -11,17 +11,16 @@ use Rattle.ft_base.specs.Contents.{Contents}
 use Rattle.cache_model.specs.declared.entry.Entry.{Entry}
 use Rattle.cache_model.specs.Records.{Entries, after}
 use Rattle.cache_model.specs.Entries.{each_once, groups_with, blocks_with, page_mapped, Fits, IsMap, InPool}
-use Rattle.cache_model.proofs.CountLemmas.{member, numbers, each_once-le, count_le}
+use Rattle.cache_model.proofs.CountLemmas.{member, numbers, each_once-le, count_le, member_once}
 use Rattle.mapping.proofs.FittingLemmas.{page_cases, page_fits}
 use Rattle.log_blocks.specs.Logs.{IsInUse}
-use Rattle.log_blocks.specs.Logs as list
 use Rattle.merge_engine.specs.declared.parts.Parts.{Parts}
 use Rattle.merge_engine.specs.Agreement.{PartsAgree}
 use Rattle.merge_engine.specs.Steps.{IsNewPage, HasRoomFor}
 use Rattle.merge_engine.proofs.FreeLemmas.{member-used}
 use Rattle.merge_engine.proofs.TakeLemmas.{agree_map}
 use Rattle.merge_engine.proofs.RoleLemmas.{log_page_mapped}
-use Rattle.ssc.proofs.DirtyLemmas.{member_once, member_from, member_to}
+use Rattle.ssc.proofs.DirtyLemmas.{member_from, member_to}
 use Rattle.merge_engine.proofs.GaveLemmas.{dirty_numbers}
 
 -- a list has no fewer numbers than each of them once

@@ -19,7 +19,7 @@ use Rattle.cache_model.specs.Records.{Entries}
 use Rattle.cache_model.specs.Entries.{each_once}
 use Rattle.cache_model.specs.CacheList.{CacheList, Held}
 use Rattle.cache_model.specs.Stands.{FlashStandsFor, held_at}
-use Rattle.cache_model.proofs.CountLemmas.{member, each_once-le}
+use Rattle.cache_model.proofs.CountLemmas.{member, each_once-le, member_once}
 use Rattle.checkpoint.specs.Current.{AreWhole}
 use Rattle.op_log.specs.Log.{LogValue, pushed}
 use Rattle.merge_engine.specs.declared.parts.Parts.{Parts}
@@ -29,7 +29,7 @@ use Rattle.merge_engine.specs.Steps.{GoesOn, HasLogBlock, HasRoomFor}
 use Rattle.mapping.specs.MapValue.{MapValue}
 use Rattle.ssc.specs.Commands.{FlashStandsForOne, AsUndone, AsBefore, AsAfter}
 use Rattle.ssc.specs.Steps.{IsPushed, LeftOf, ListsAfter, ListsWritten, PutsBlock, FlashStandsForEither, FlashStandsForStep}
-use Rattle.ssc.proofs.DirtyLemmas.{member_from, member_once, member_to}
+use Rattle.ssc.proofs.DirtyLemmas.{member_from, member_to}
 use Rattle.merge_engine.proofs.GaveLemmas.{dirty_numbers}
 use Rattle.cache_model.proofs.StandLemmas.{held_of, whole_held}
 use Rattle.ssc.proofs.ListLemmas.{list_some, stands_some}

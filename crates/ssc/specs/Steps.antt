@@ -2,15 +2,12 @@
 use Rattle.std.specs.Prelude.{◌≡◌, ◌⊎◌, ◌<◌, ℕ, Bool, List, [], ◌∷◌, ◌++◌, length}
 use Rattle.std.specs.FinMap.{insert}
 use Rattle.ft_base.specs.Contents.{Contents}
-use Rattle.ft_base.specs.Count.{Rose}
 use Rattle.ft_base.specs.Layout.{page_records}
 use Rattle.ft_base.specs.declared.block.Place.{Place}
 use Rattle.ft_base.specs.declared.block.Page.{Page}
 use Rattle.ft_base.specs.declared.geometry.Geometry.{Geometry}
 use Rattle.ft_base.specs.declared.record.Record.{Record}
 use Rattle.ft_base.specs.declared.record.Record.TheVariants.{SetPage}
-use Rattle.ft_media.specs.State.{State}
-use Rattle.ft_media.specs.Passes.{Spends}
 use Rattle.cache_model.specs.CacheList.{CacheList, Held}
 use Rattle.cache_model.specs.Stands.{FlashStandsFor}
 use Rattle.op_log.specs.Log.{pushed}
@@ -69,11 +66,6 @@ pub record LeavesPut (old : Parts) (before after : Place → Page) (lba : ℕ) (
   -- where a log block can be had without a merge nothing gives way
   pub kept : HasLogBlock old → (list durable : CacheList) → Lists old before list durable
       → FlashStandsForOne old.geometry after durable list (insert list lba block)
-
--- the count of programs tells of a new one, and so many device writes were spent at least
-pub record ProgramsPages (n : ℕ) (before after : State) : Type 0 where
-  pub count : Rose before.counts.programs after.counts.programs
-  pub spends : Spends n before after
 
 -- the parts over what was loaded: their log is that of the checkpoint that counts, with nothing of it read or buffered, and no log
 -- block is open

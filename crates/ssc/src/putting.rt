@@ -1,4 +1,4 @@
-ghost use Rattle.std.specs.Prelude.{◌≡◌, ◌≢◌, ◌↔◌, ◌⊎◌, ◌≤◌, ◌<◌, ◌+◌, [], length, true, false, IsTrue, IsOk, Some, OnOk, IsErrOf};
+ghost use Rattle.std.specs.Prelude.{◌≡◌, ◌≢◌, ◌↔◌, ◌⊎◌, ◌≤◌, ◌<◌, ◌+◌, [], length, true, false, IsTrue, IsOk, Some, OnOk};
 ghost use Rattle.std.specs.FinMap.{get, insert};
 ghost use Rattle.ft_base.specs.declared.record.Record.TheVariants.{Clean};
 ghost use Rattle.ft_base.specs.Layout.{log_pages, page_records};
@@ -7,12 +7,13 @@ ghost use Rattle.ft_media.specs.Media.{program_counted};
 ghost use Rattle.cache_model.specs.CacheList.{CacheList};
 ghost use Rattle.cache_model.specs.Cache.{evicted, written_block, made_clean};
 ghost use Rattle.cache_model.specs.declared.entry.Entry.{Entry};
+ghost use Rattle.checkpoint.specs.Counts.{ProgramsPages};
 ghost use Rattle.merge_engine.specs.Agreement.{PartsAgree, Lists};
 ghost use Rattle.merge_engine.specs.Room.{FlashStandsForGiven};
 ghost use Rattle.merge_engine.specs.Steps.{HasLogBlock, HasRoomFor, dirty_groups_with};
 ghost use Rattle.ssc.specs.Errors as errors;
 ghost use Rattle.ssc.specs.CacheState.{HasMemory, entries_of, geometry_of};
-ghost use Rattle.ssc.specs.Steps.{IsPushed, LeavesPut, LeftOf, ListsAfter, MayStep, ProgramsPages, PutsBlock, FlashStandsForEither};
+ghost use Rattle.ssc.specs.Steps.{IsPushed, LeavesPut, LeftOf, ListsAfter, MayStep, PutsBlock, FlashStandsForEither};
 
 use crate::error::of_media;
 use crate::{Ssc, SscError};

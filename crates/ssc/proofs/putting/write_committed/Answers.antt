@@ -37,7 +37,7 @@ pub returns-clause-programs : goal.returns-clause-programs
 returns-clause-programs g c = on_ok_from c.commit.result (λ v is. record {
   count = search rules;
   spends = spends_both (g.M.Media.state c.args.media.now) (g.M.Media.state c.write_page.new.media) (g.M.Media.state c.commit.new.media) 1 1 c.in_ok-write_page.ensures.drives.flash.passes c.in_ok-write_page.ensures.programs.spends
-      (ok_at c.commit.result v is c.commit.ensures.spends c.in_ok-write_page.ensures.waits);
+      (ok_at c.commit.result v is c.commit.ensures.programs c.in_ok-write_page.ensures.waits).spends;
 })
 
 pub returns-clause-drives : goal.returns-clause-drives

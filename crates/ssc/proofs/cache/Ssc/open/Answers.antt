@@ -61,7 +61,7 @@ returns-in-Err-PowerLost-clause-same g c = load-loaded c.args.geometry.now (g.M.
     (g.M.Media.state c.make_checkpoint.new.media).contents c.make_checkpoint.ensures.loads
 
 pub returns-in-Ok-clause-programs : goal.returns-in-Ok-clause-programs
-returns-in-Ok-clause-programs g c = subst (λ (k : Counts). Rose k.programs (g.M.Media.state c.make_checkpoint.new.media).counts.programs) c.in_ok-loaded.ensures.reads.counts c.in-Ok.ensures.rises
+returns-in-Ok-clause-programs g c = subst (λ (k : Counts). Rose k.programs (g.M.Media.state c.make_checkpoint.new.media).counts.programs) c.in_ok-loaded.ensures.reads.counts c.in-Ok.ensures.programs.count
 
 pub returns-in-Ok-clause-is_up : goal.returns-in-Ok-clause-is_up
 returns-in-Ok-clause-is_up g c =
