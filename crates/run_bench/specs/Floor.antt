@@ -9,8 +9,8 @@ abbrev pub no_slot : Slot
 no_slot = record { block = record { 0 = [] }; spare = record { 0 = [] } }
 
 -- a page of a list
-abbrev pub slot_at : List Slot → ℕ → Slot
-slot_at slots at = slice_index_or slots at no_slot
+abbrev pub floor_slot : List Slot → ℕ → Slot
+floor_slot slots at = slice_index_or slots at no_slot
 
 abbrev pub set_slot : List Slot → ℕ → Slot → List Slot
 set_slot slots at slot = slice_set slots at slot
@@ -30,7 +30,7 @@ following pages at = if at + 1 == pages then 0 else at + 1
 -- a page is copied into the next
 abbrev pub copied : PageRing → PageRing
 copied p = record {
-  slots = set_slot p.slots (following (length p.slots) p.at) (slot_at p.slots p.at);
+  slots = set_slot p.slots (following (length p.slots) p.at) (floor_slot p.slots p.at);
   at = following (length p.slots) p.at;
 }
 
@@ -42,4 +42,4 @@ after_copies (suc n) p = copied (after_copies n p)
 -- the addresses below a number, ascending, each with a block
 abbrev pub blocks_told : List Slot → ℕ → List ℕ
 blocks_told slots zero = []
-blocks_told slots (suc n) = blocks_told slots n ++ to_be_bytes w64 n ++ (slot_at slots (n % length slots)).block.0
+blocks_told slots (suc n) = blocks_told slots n ++ to_be_bytes w64 n ++ (floor_slot slots (n % length slots)).block.0

@@ -1,6 +1,6 @@
 //! A page in memory, and copies from one page to another.
 ghost use Rattle.std.specs.Prelude.{◌≡◌, ◌+◌, ◌-◌, ◌<◌, ◌≤◌, length};
-ghost use Rattle.run_bench.specs.Floor.{set_slot, slot_at};
+ghost use Rattle.run_bench.specs.Floor.{set_slot, floor_slot};
 
 use ft_base::{Block, Spare};
 
@@ -24,7 +24,7 @@ impl Slot {
 /// Copies a page into the one after it.
 pub fn copy_next(slots: &mut [Slot], at: usize)
     requires { at + 1 < length slots.old }
-    ensures { slots.new ≡ set_slot slots.old (at + 1) (slot_at slots.old at) }
+    ensures { slots.new ≡ set_slot slots.old (at + 1) (floor_slot slots.old at) }
 {
     let (front, back) = slots.split_at_mut(at + 1);
     copy_slot(&front[at], &mut back[0]);
@@ -33,7 +33,7 @@ pub fn copy_next(slots: &mut [Slot], at: usize)
 /// Copies the last page into the first.
 pub fn copy_round(slots: &mut [Slot])
     requires { 2 ≤ length slots.old }
-    ensures { slots.new ≡ set_slot slots.old 0 (slot_at slots.old (length slots.old - 1)) }
+    ensures { slots.new ≡ set_slot slots.old 0 (floor_slot slots.old (length slots.old - 1)) }
 {
     let last = slots.len() - 1;
     let (front, back) = slots.split_at_mut(last);

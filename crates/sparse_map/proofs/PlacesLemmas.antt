@@ -11,7 +11,7 @@ use Rattle.sparse_map.specs.declared.table.Touched.{Touched}
 use Rattle.sparse_map.specs.declared.table.Touched.TheVariants.{Nowhere, In, Anywhere}
 use Rattle.sparse_map.specs.Trimmed.{MayBeTouched, IsTrimmed, IsReady}
 use Rattle.sparse_map.specs.Moved.{items_in}
-use Rattle.sparse_map.specs.Places.{size_of, sizes_of, places_of, extra, lacks, sum_untouched, loose_of, lacking}
+use Rattle.sparse_map.specs.Places.{list_size, sizes_of, places_of, extra, lacks, sum_untouched, loose_of, lacking}
 
 -- ---- a list that has no place for so many items more
 pub lacks-no : (n : ℕ) (x : ℕ × ℕ) → min 32 (x.0 + n) ≤ x.1 → lacks n x ≡ 0
@@ -160,11 +160,11 @@ stocked_still spare blanks blanks_2 s r one fewer stocked more = elim (cases_eq 
 ]
 
 module _ {V : Type 0} where
-  sizes-set : (us : List (Group V)) (i : ℕ) (w : Group V) → sizes_of (set us i w) ≡ set (sizes_of us) i (size_of w)
+  sizes-set : (us : List (Group V)) (i : ℕ) (w : Group V) → sizes_of (set us i w) ≡ set (sizes_of us) i (list_size w)
   unfolding sizes_of
   sizes-set [] i w = refl
   sizes-set (u ∷ us) zero w = refl
-  sizes-set (u ∷ us) (suc i) w = ap (λ s. size_of u ∷ s) (sizes-set us i w)
+  sizes-set (u ∷ us) (suc i) w = ap (λ s. list_size u ∷ s) (sizes-set us i w)
 
   pub length-sizes : (us : List (Group V)) → length (sizes_of us) ≡ length us
   unfolding sizes_of
@@ -175,7 +175,7 @@ module _ {V : Type 0} where
   unfolding places_of sizes_of
   places_of-groups [] = refl
   places_of-groups (u ∷ us) =
-      sum_by-cons (λ (y : ℕ × ℕ). y.1) (size_of u) (sizes_of us)
+      sum_by-cons (λ (y : ℕ × ℕ). y.1) (list_size u) (sizes_of us)
       ∙ ap (λ n. vec_capacity u.items + n) (places_of-groups us)
       ∙ sym (sum_by-cons (λ (x : Group V). vec_capacity x.items) u us)
 
@@ -193,32 +193,32 @@ module _ {V : Type 0} where
   unfolding sizes_of
   sizes-new us e = rw e refl
 
-  pub extra-most : (u w : Group V) (n : ℕ) → vec_capacity w.items ≤ vec_capacity u.items → vec_len u.items ≤ vec_len w.items + n → extra (size_of w) ≤ extra (size_of u) + n
+  pub extra-most : (u w : Group V) (n : ℕ) → vec_capacity w.items ≤ vec_capacity u.items → vec_len u.items ≤ vec_len w.items + n → extra (list_size w) ≤ extra (list_size u) + n
   unfolding extra
   extra-most u w n capacity len = omega arith
 
-  pub extra-few : (u w : Group V) → vec_len w.items ≡ vec_len u.items → vec_capacity w.items ≤ max (vec_capacity u.items) (vec_len w.items + 4) → extra (size_of w) ≤ extra (size_of u)
+  pub extra-few : (u w : Group V) → vec_len w.items ≡ vec_len u.items → vec_capacity w.items ≤ max (vec_capacity u.items) (vec_len w.items + 4) → extra (list_size w) ≤ extra (list_size u)
   unfolding extra
   extra-few u w len few = omega arith
 
-  pub extra-none : (w : Group V) → IsTrimmed w → extra (size_of w) ≡ 0
+  pub extra-none : (w : Group V) → IsTrimmed w → extra (list_size w) ≡ 0
   unfolding extra
   extra-none w trimmed = omega (arith, trimmed)
 
-  pub lacks-none : (w : Group V) → IsReady w → lacks 1 (size_of w) ≡ 0
-  lacks-none w ready = lacks-no 1 (size_of w) ready
+  pub lacks-none : (w : Group V) → IsReady w → lacks 1 (list_size w) ≡ 0
+  lacks-none w ready = lacks-no 1 (list_size w) ready
 
-  pub lacks-room : (u w : Group V) → vec_len w.items ≡ vec_len u.items → min (vec_capacity u.items) (vec_len u.items + 4) ≤ vec_capacity w.items → lacks 1 (size_of w) ≤ lacks 1 (size_of u)
-  lacks-room u w len room = lacks-le 1 1 (size_of w) (size_of u) (λ lt. omega (arith, lt, len, room))
+  pub lacks-room : (u w : Group V) → vec_len w.items ≡ vec_len u.items → min (vec_capacity u.items) (vec_len u.items + 4) ≤ vec_capacity w.items → lacks 1 (list_size w) ≤ lacks 1 (list_size u)
+  lacks-room u w len room = lacks-le 1 1 (list_size w) (list_size u) (λ lt. omega (arith, lt, len, room))
 
   -- each list counts nothing, so all do
-  pub none-counted : (f : ℕ × ℕ → ℕ) (P : Group V → Type 0) → ((u : Group V) → P u → f (size_of u) ≡ 0) → (us : List (Group V)) → All P us → sum_untouched f Nowhere (sizes_of us) ≡ 0
+  pub none-counted : (f : ℕ × ℕ → ℕ) (P : Group V → Type 0) → ((u : Group V) → P u → f (list_size u) ≡ 0) → (us : List (Group V)) → All P us → sum_untouched f Nowhere (sizes_of us) ≡ 0
   unfolding sum_untouched sizes_of
   none-counted f P none [] all = refl
   none-counted f P none (u ∷ us) all =
-      let here : f (size_of u) ≡ 0 = none u (All-head P u us all) in
+      let here : f (list_size u) ≡ 0 = none u (All-head P u us all) in
       let later : sum_by f (sizes_of us) ≡ 0 = none-counted f P none us (All-tail P u us all) in
-      omega (arith, sum_by-cons f (size_of u) (sizes_of us), here, later)
+      omega (arith, sum_by-cons f (list_size u) (sizes_of us), here, later)
 
   -- the places of all lists are those of the items, four for each list, and the loose ones
   pub places-bound : (us : List (Group V)) → places_of (sizes_of us) ≤ length (items_in us) + 4 * length us + loose_of Nowhere (sizes_of us)
@@ -226,8 +226,8 @@ module _ {V : Type 0} where
   places-bound [] = omega arith
   places-bound (u ∷ us) =
       let long : length (items_in (u ∷ us)) ≡ length u.items.items + length (items_in us) = length-append u.items.items (items_in us) in
-      let places = sum_by-cons (λ (y : ℕ × ℕ). y.1) (size_of u) (sizes_of us) in
-      let extras = sum_by-cons extra (size_of u) (sizes_of us) in
+      let places = sum_by-cons (λ (y : ℕ × ℕ). y.1) (list_size u) (sizes_of us) in
+      let extras = sum_by-cons extra (list_size u) (sizes_of us) in
       let rest = places-bound us in
       omega (arith, long, places, extras, rest, u.items.ok.0)
 
@@ -236,48 +236,48 @@ module _ {V : Type 0} where
     inside_sizes : i < length (sizes_of us)
     inside_sizes = omega (arith, length-sizes us)
 
-    pub size-at : get_or (sizes_of us) i (32, 32) ≡ size_of u
+    pub size-at : get_or (sizes_of us) i (32, 32) ≡ list_size u
     unfolding sizes_of
-    size-at = get_or-map size_of us i e (32, 32) inside ∙ ap size_of (sym is)
+    size-at = get_or-map list_size us i e (32, 32) inside ∙ ap list_size (sym is)
 
     pub places_in-set : places_of (sizes_of (set us i w)) + vec_capacity u.items ≡ places_of (sizes_of us) + vec_capacity w.items
     places_in-set =
-        let now : places_of (sizes_of (set us i w)) ≡ places_of (set (sizes_of us) i (size_of w)) = ap places_of (sizes-set us i w) in
+        let now : places_of (sizes_of (set us i w)) ≡ places_of (set (sizes_of us) i (list_size w)) = ap places_of (sizes-set us i w) in
         let before : (get_or (sizes_of us) i (32, 32)).1 ≡ vec_capacity u.items = ap (λ (y : ℕ × ℕ). y.1) size-at in
-        omega (arith, places-set (sizes_of us) i (size_of w) inside_sizes, now, before)
+        omega (arith, places-set (sizes_of us) i (list_size w) inside_sizes, now, before)
 
-    pub untouched_in-set : (f : ℕ × ℕ → ℕ) (g : Touched) (n : ℕ) → f (size_of w) ≤ f (size_of u) + n → sum_untouched f g (sizes_of (set us i w)) ≤ sum_untouched f g (sizes_of us) + n
+    pub untouched_in-set : (f : ℕ × ℕ → ℕ) (g : Touched) (n : ℕ) → f (list_size w) ≤ f (list_size u) + n → sum_untouched f g (sizes_of (set us i w)) ≤ sum_untouched f g (sizes_of us) + n
     untouched_in-set f g n le =
-        let now : sum_untouched f g (sizes_of (set us i w)) ≡ sum_untouched f g (set (sizes_of us) i (size_of w)) = ap (sum_untouched f g) (sizes-set us i w) in
-        let before : f (get_or (sizes_of us) i (32, 32)) ≡ f (size_of u) = ap f size-at in
-        let most : f (size_of w) ≤ f (get_or (sizes_of us) i (32, 32)) + n = omega (arith, le, before) in
-        omega (arith, untouched-set f (sizes_of us) i (size_of w) inside_sizes g n most, now)
+        let now : sum_untouched f g (sizes_of (set us i w)) ≡ sum_untouched f g (set (sizes_of us) i (list_size w)) = ap (sum_untouched f g) (sizes-set us i w) in
+        let before : f (get_or (sizes_of us) i (32, 32)) ≡ f (list_size u) = ap f size-at in
+        let most : f (list_size w) ≤ f (get_or (sizes_of us) i (32, 32)) + n = omega (arith, le, before) in
+        omega (arith, untouched-set f (sizes_of us) i (list_size w) inside_sizes g n most, now)
 
     pub untouched_in-at : (f : ℕ × ℕ → ℕ) (g : Touched) → MayBeTouched g i → sum_untouched f g (sizes_of (set us i w)) ≤ sum_untouched f g (sizes_of us)
     untouched_in-at f g may =
-        let now : sum_untouched f g (sizes_of (set us i w)) ≡ sum_untouched f g (set (sizes_of us) i (size_of w)) = ap (sum_untouched f g) (sizes-set us i w) in
-        omega (arith, untouched-at f (sizes_of us) i (size_of w) inside_sizes g may, now)
+        let now : sum_untouched f g (sizes_of (set us i w)) ≡ sum_untouched f g (set (sizes_of us) i (list_size w)) = ap (sum_untouched f g) (sizes-set us i w) in
+        omega (arith, untouched-at f (sizes_of us) i (list_size w) inside_sizes g may, now)
 
-    pub untouched_in-fitted : (f : ℕ × ℕ → ℕ) (b : ℕ) → i ≡ b / 32 → f (size_of w) ≡ 0 → sum_untouched f Nowhere (sizes_of (set us i w)) ≤ sum_untouched f (In b) (sizes_of us)
+    pub untouched_in-fitted : (f : ℕ × ℕ → ℕ) (b : ℕ) → i ≡ b / 32 → f (list_size w) ≡ 0 → sum_untouched f Nowhere (sizes_of (set us i w)) ≤ sum_untouched f (In b) (sizes_of us)
     untouched_in-fitted f b at none =
-        let now : sum_untouched f Nowhere (sizes_of (set us i w)) ≡ sum_untouched f Nowhere (set (sizes_of us) i (size_of w)) = ap (sum_untouched f Nowhere) (sizes-set us i w) in
-        omega (arith, untouched-fitted f (sizes_of us) i (size_of w) inside_sizes b at none, now)
+        let now : sum_untouched f Nowhere (sizes_of (set us i w)) ≡ sum_untouched f Nowhere (set (sizes_of us) i (list_size w)) = ap (sum_untouched f Nowhere) (sizes-set us i w) in
+        omega (arith, untouched-fitted f (sizes_of us) i (list_size w) inside_sizes b at none, now)
 
     -- one place less is asked for of each list, and w in place of u has one item more, or a long list
-    pub lacking_in-next : (n d : ℕ) → lacks n (size_of w) + d ≤ lacks (n + 1) (size_of u) → lacking n Nowhere (sizes_of (set us i w)) + d ≤ lacking (n + 1) Nowhere (sizes_of us)
+    pub lacking_in-next : (n d : ℕ) → lacks n (list_size w) + d ≤ lacks (n + 1) (list_size u) → lacking n Nowhere (sizes_of (set us i w)) + d ≤ lacking (n + 1) Nowhere (sizes_of us)
     unfolding sum_untouched
     lacking_in-next n d le =
-        let now : sum_by (lacks n) (sizes_of (set us i w)) ≡ sum_by (lacks n) (set (sizes_of us) i (size_of w)) = ap (sum_by (lacks n)) (sizes-set us i w) in
-        let before : lacks (n + 1) (get_or (sizes_of us) i (32, 32)) ≡ lacks (n + 1) (size_of u) = ap (lacks (n + 1)) size-at in
-        let most : lacks n (size_of w) + d ≤ lacks (n + 1) (get_or (sizes_of us) i (32, 32)) = omega (arith, le, before) in
-        let next = sum-next (lacks n) (sizes_of us) i (size_of w) inside_sizes (lacks (n + 1)) d (lacks-next n (n + 1) (omega arith)) (lacks-full n) (lacks-full (n + 1)) most in
+        let now : sum_by (lacks n) (sizes_of (set us i w)) ≡ sum_by (lacks n) (set (sizes_of us) i (list_size w)) = ap (sum_by (lacks n)) (sizes-set us i w) in
+        let before : lacks (n + 1) (get_or (sizes_of us) i (32, 32)) ≡ lacks (n + 1) (list_size u) = ap (lacks (n + 1)) size-at in
+        let most : lacks n (list_size w) + d ≤ lacks (n + 1) (get_or (sizes_of us) i (32, 32)) = omega (arith, le, before) in
+        let next = sum-next (lacks n) (sizes_of us) i (list_size w) inside_sizes (lacks (n + 1)) d (lacks-next n (n + 1) (omega arith)) (lacks-full n) (lacks-full (n + 1)) most in
         omega (arith, next, now)
 
-    pub lacking-one : (n : ℕ) → lacks n (size_of u) ≤ lacking n Nowhere (sizes_of us)
+    pub lacking-one : (n : ℕ) → lacks n (list_size u) ≤ lacking n Nowhere (sizes_of us)
     unfolding sum_untouched
     lacking-one n =
-        let here : lacks n (get_or (sizes_of us) i (32, 32)) ≡ lacks n (size_of u) = ap (lacks n) size-at in
-        omega (arith, here, one-within (lacks n) (sizes_of us) i (size_of w) inside_sizes)
+        let here : lacks n (get_or (sizes_of us) i (32, 32)) ≡ lacks n (list_size u) = ap (lacks n) size-at in
+        omega (arith, here, one-within (lacks n) (sizes_of us) i (list_size w) inside_sizes)
 
     pub sizes-same : vec_len w.items ≡ vec_len u.items → vec_capacity w.items ≡ vec_capacity u.items → sizes_of (set us i w) ≡ sizes_of us
     sizes-same len capacity =
@@ -290,11 +290,11 @@ module _ {V : Type 0} where
       → vec_len v.items + 1 ≡ vec_len u.items → vec_capacity v.items ≡ vec_capacity u.items → vec_len w.items ≡ vec_len x.items + 1 → vec_capacity w.items ≡ vec_capacity x.items
       → sizes_of (set ws i w) ≡ sizes_of us
   sizes-back us ws i u e v x f w inside is between inside_2 is_2 less same more same_2 =
-      let there : sizes_of ws ≡ set (sizes_of us) i (size_of v) = between ∙ sizes-set us i v in
-      let seen : size_of x ≡ size_of v =
-      sym (size-at ws i x f w inside_2 is_2) ∙ ap (λ s. get_or s i (32, 32)) there ∙ get_or-set_same (sizes_of us) i (size_of v) (32, 32) (inside_sizes us i u e w inside is) in
+      let there : sizes_of ws ≡ set (sizes_of us) i (list_size v) = between ∙ sizes-set us i v in
+      let seen : list_size x ≡ list_size v =
+      sym (size-at ws i x f w inside_2 is_2) ∙ ap (λ s. get_or s i (32, 32)) there ∙ get_or-set_same (sizes_of us) i (list_size v) (32, 32) (inside_sizes us i u e w inside is) in
       let len : vec_len w.items ≡ vec_len u.items = more ∙ ap (λ (y : ℕ × ℕ). y.0 + 1) seen ∙ less in
       let capacity : vec_capacity w.items ≡ vec_capacity u.items = same_2 ∙ ap (λ (y : ℕ × ℕ). y.1) seen ∙ same in
       sizes-set ws i w
-      ∙ ap (λ s. set s i (size_of w)) there
-      ∙ set_back (sizes_of us) i (size_of v) (size_of w) ((λ j. (len j, capacity j)) ∙ sym (size-at us i u e w inside is))
+      ∙ ap (λ s. set s i (list_size w)) there
+      ∙ set_back (sizes_of us) i (list_size v) (list_size w) ((λ j. (len j, capacity j)) ∙ sym (size-at us i u e w inside is))

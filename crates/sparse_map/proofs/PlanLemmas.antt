@@ -10,7 +10,7 @@ use Rattle.sparse_map.specs.declared.group.Group.{Group}
 use Rattle.sparse_map.specs.declared.table.Touched.TheVariants.{Nowhere}
 use Rattle.sparse_map.specs.Home.{home, steps}
 use Rattle.sparse_map.specs.Slots.{slot_at, key_at}
-use Rattle.sparse_map.specs.Places.{size_of, sizes_of, places_of, extra, lacks, sum_untouched, loose_of, lacking}
+use Rattle.sparse_map.specs.Places.{list_size, sizes_of, places_of, extra, lacks, sum_untouched, loose_of, lacking}
 use Rattle.sparse_map.specs.Probe.{IsFreeFor}
 use Rattle.sparse_map.specs.Plan.{Plan, planned, first_unmarked, with_key, with_items, places_for, CanCount, lens_of, rooms_of}
 use Rattle.sparse_map.specs.Moved.{items_in}
@@ -136,9 +136,9 @@ module _ {V : Type 0} where
   unfolding sum_untouched sizes_of
   exact-none f none [] e = refl
   exact-none f none (u ∷ us) e =
-      let here : f (size_of u) ≡ 0 = ap (λ c. f (vec_len u.items, c)) (place_each u us e) ∙ none (vec_len u.items) in
+      let here : f (list_size u) ≡ 0 = ap (λ c. f (vec_len u.items, c)) (place_each u us e) ∙ none (vec_len u.items) in
       let later : sum_by f (sizes_of us) ≡ 0 = exact-none f none us (ap (drop 1) e) in
-      omega (arith, sum_by-cons f (size_of u) (sizes_of us), here, later)
+      omega (arith, sum_by-cons f (list_size u) (sizes_of us), here, later)
 
   pub exact-loose : (us : List (Group V)) → rooms_of us ≡ map places_for (lens_of us) → loose_of Nowhere (sizes_of us) ≡ 0
   unfolding extra
@@ -152,7 +152,7 @@ module _ {V : Type 0} where
   exact-places [] e = omega arith
   exact-places (u ∷ us) e =
       let long : length (items_in (u ∷ us)) ≡ length u.items.items + length (items_in us) = length-append u.items.items (items_in us) in
-      let places = sum_by-cons (λ (y : ℕ × ℕ). y.1) (size_of u) (sizes_of us) in
+      let places = sum_by-cons (λ (y : ℕ × ℕ). y.1) (list_size u) (sizes_of us) in
       let rest = exact-places us (ap (drop 1) e) in
       omega (arith, long, places, rest, place_each u us e, u.items.ok.0)
 

@@ -8,12 +8,12 @@ use Rattle.sparse_map.specs.declared.table.Touched.TheVariants.{Nowhere, In, Any
 
 module _ {V : Type 0} where
   -- how many items and places a group's list has
-  abbrev pub size_of : Group V → ℕ × ℕ
-  size_of g = (vec_len g.items, vec_capacity g.items)
+  abbrev pub list_size : Group V → ℕ × ℕ
+  list_size g = (vec_len g.items, vec_capacity g.items)
 
   -- those of all groups
   unfoldable pub sizes_of : List (Group V) → List (ℕ × ℕ)
-  sizes_of = map size_of
+  sizes_of = map list_size
 
 -- the places of all lists, free ones included
 unfoldable pub places_of : List (ℕ × ℕ) → ℕ

@@ -5,7 +5,7 @@ use Rattle.std.proofs.lemmas.Bool.{cases_eq, false≢true}
 use Rattle.sparse_map.specs.Slots.{rank, slot_at}
 use Rattle.sparse_map.proofs.GroupLemmas.{free_below_32}
 use Rattle.sparse_map.proofs.TableLemmas.{slot_of_bucket, set_bucket}
-use Rattle.sparse_map.specs.Places.{size_of, sizes_of, extra, lacks}
+use Rattle.sparse_map.specs.Places.{list_size, sizes_of, extra, lacks}
 use Rattle.sparse_map.proofs.PlacesLemmas.{untouched-wider, extra-most, lacks-le, lacks-no, lacks-yes, places_in-set, untouched_in-set, untouched_in-at, lacking_in-next, lacking-one}
 use Rattle.sparse_map.proofs.table.put.Goals as goal
 
@@ -70,7 +70,7 @@ make_room-grew-requires-clause-stocked g c =
     let lt : c.args.bucket % 32 < 32 = omega arith in
     let below = free_below_32 u (c.args.bucket % 32) lt (sym (slot_of_bucket us c.args.bucket u read c.requires.within refl) ∙ c.requires.free) in
     λ full.
-    let one = lacks-yes 1 (size_of u) (omega (arith, full, below)) in
+    let one = lacks-yes 1 (list_size u) (omega (arith, full, below)) in
     c.requires.stocked (omega (arith, one, lacking-one us i u read u inside refl 1))
 
 pub returns-clause-fewer_lack : goal.returns-clause-fewer_lack
@@ -85,12 +85,12 @@ returns-clause-fewer_lack g c =
     let below = free_below_32 u (c.args.bucket % 32) lt (sym (slot_of_bucket us c.args.bucket u read c.requires.within refl) ∙ c.requires.free) in
     λ n. elim c.make_room-grew.ensures.widened [
       | inl kept ↦
-          let less = lacks-le n (n + 1) (size_of w) (size_of u) (λ lacked. omega (arith, lacked, c.insert.ensures.len, c.make_room-grew.ensures.len, c.insert.ensures.capacity, kept.1)) in
+          let less = lacks-le n (n + 1) (list_size w) (list_size u) (λ lacked. omega (arith, lacked, c.insert.ensures.len, c.make_room-grew.ensures.len, c.insert.ensures.capacity, kept.1)) in
           let fewer = lacking_in-next us i u read w inside refl n 0 (omega (arith, less)) in
           omega (arith, fewer, kept.2)
       | inr wider ↦
-          let none = lacks-no n (size_of w) (omega (arith, c.insert.ensures.capacity, wider.2)) in
-          let one = lacks-yes (n + 1) (size_of u) (omega (arith, wider.1, below)) in
+          let none = lacks-no n (list_size w) (omega (arith, c.insert.ensures.capacity, wider.2)) in
+          let one = lacks-yes (n + 1) (list_size u) (omega (arith, wider.1, below)) in
           let fewer = lacking_in-next us i u read w inside refl n 1 (omega (arith, none, one)) in
           omega (arith, fewer, wider.3)
     ]
@@ -125,6 +125,6 @@ returns-clause-ready g c =
     elim (cases_eq (vec_len w.items) (vec_capacity w.items)) [
       | inl full ↦ omega (arith, wider, untouched_in-at us i u read w inside refl (lacks 1) after (may (or_right c.make_room-grew.result c.is_full.result (c.is_full.ensures.1 full))))
       | inr ne ↦
-          let none = lacks-no 1 (size_of w) (omega (arith, ne, c.make_room-grew.ensures.room, c.insert.ensures.len, c.insert.ensures.capacity)) in
+          let none = lacks-no 1 (list_size w) (omega (arith, ne, c.make_room-grew.ensures.room, c.insert.ensures.len, c.insert.ensures.capacity)) in
           omega (arith, wider, untouched_in-set us i u read w inside refl (lacks 1) after 0 (omega (arith, none)))
     ]

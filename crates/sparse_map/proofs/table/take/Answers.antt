@@ -1,7 +1,7 @@
 use Rattle.std.proofs.Common.{refl, ◌∙◌, subst, get_or, arith, ◌/◌, None}
 use Rattle.std.specs.Prelude.{IsSome}
 use Rattle.sparse_map.proofs.TableLemmas.{slot_of_bucket, set_bucket}
-use Rattle.sparse_map.specs.Places.{size_of, extra, lacks}
+use Rattle.sparse_map.specs.Places.{list_size, extra, lacks}
 use Rattle.sparse_map.proofs.PlacesLemmas.{extra-most, lacks-le, places_in-set, untouched_in-set}
 use Rattle.sparse_map.proofs.table.take.Goals as goal
 
@@ -45,7 +45,7 @@ returns-clause-lacking g c =
     let u = get_or us (c.args.bucket / 32) read in
     let w = c.remove.new.self in
     λ n t.
-    let less = lacks-le n n (size_of w) (size_of u) (λ lacked. omega (arith, lacked, c.remove.ensures.len, c.remove.ensures.capacity)) in
+    let less = lacks-le n n (list_size w) (list_size u) (λ lacked. omega (arith, lacked, c.remove.ensures.len, c.remove.ensures.capacity)) in
     omega (arith, untouched_in-set us (c.args.bucket / 32) u read w (omega arith) refl (lacks n) t 0 (omega (arith, less)))
 
 pub remove-requires-clause-place : goal.remove-requires-clause-place
