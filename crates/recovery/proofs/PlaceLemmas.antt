@@ -3,11 +3,9 @@ use Rattle.std.proofs.Common.{◌≡◌, ℕ, ◌+◌, ◌<◌, ◌≤◌, ◌==
 use Rattle.std.specs.Option.{option_map, IfSome, IfNone}
 use Rattle.std.specs.List.{AllByRecursion, AllWithin, Contains}
 use Rattle.std.specs.List.Sorted.{IsNonDecreasing, IsPermutation, IsSorted}
-use Rattle.std.specs.Ordering.{is_lt}
 use Rattle.std.specs.FinMap.{get, entries, find, is_sorted, entries_sorted, get-entries}
 use Rattle.std.specs.FinMap.Entries.{below_all}
 use Rattle.std.proofs.lemmas.Bool.{cases_Bool, cases_lt, and_parts}
-use Rattle.std.proofs.lemmas.Bool.Decides.{nat_tests}
 use Rattle.std.proofs.lemmas.List.{get_or_default}
 use Rattle.std.proofs.lemmas.List.Elements.{AllWithin-more, AllWithin-upto, All-from_all_within, All-contains, Contains-push, Contains-append_left}
 use Rattle.std.proofs.lemmas.List.Sorted.{Contains-permutation, IsNonDecreasingBy-from_sort}
@@ -20,7 +18,7 @@ use Rattle.cache_model.specs.Records.{Entries}
 use Rattle.cache_model.specs.Entries.{IsMap, InPool}
 use Rattle.cache_model.specs.Loading.{Refusal, is_whole, all_whole}
 use Rattle.cache_model.specs.Loading.Refusal.{Damaged as damaged}
-use Rattle.cache_model.proofs.MapLemmas.{holds, eq_key, less_key, all_entries}
+use Rattle.cache_model.proofs.MapLemmas.{holds, eq_key, all_entries, find_below}
 use Rattle.mapping.specs.Counts.{place_and_mark}
 use Rattle.mapping.specs.Numbers.{number_of, HasNumber, HasNone, AreNumbered}
 use Rattle.mapping.proofs.NumbersLemmas.{number_tells}
@@ -123,15 +121,6 @@ module _ (page : Place → Page) (m : Entries) (addresses : List ℕ) (i d : ℕ
 
 -- ---- what is answered
 
-find_above : (k : ℕ) (es : List (ℕ × Entry)) → below_all nat_cmp k es ≡ true → (a : ℕ) (v : Entry) → find nat_cmp a es ≡ Some v → k < a
-find_above k [] below a v is = absurd (cc)
-find_above k (e ∷ es) below a v is =
-    let parts = and_parts (is_lt (nat_cmp k e.0)) (below_all nat_cmp k es) below in
-    elim (cases_Bool (a == e.0)) [
-      | inl t ↦ let same : a ≡ e.0 = grind (arith, nat_tests) in let low : k < e.0 = less_key k e.0 parts.0 in omega (arith, same, low)
-      | inr f ↦ find_above k es parts.1 a v (sym (ap (λ b. cond b (Some e.1) (find nat_cmp a es)) (eq_key a e.0 ∙ f)) ∙ is)
-    ]
-
 -- where all before an address are whole, its own page decides
 module _ (page : Place → Page) (x : Entries) (a : ℕ) (v : Entry) where
   decided : (es : List (ℕ × Entry)) → is_sorted nat_cmp es ≡ true → AllByRecursion (λ e. e.0 < a → is_whole (page e.1.place) ≡ true) es → find nat_cmp a es ≡ Some v → (r : Result Entries Refusal) × (all_whole page es x ≡ cond (is_whole (page v.place)) r (Err (damaged v.place)))
@@ -145,7 +134,7 @@ module _ (page : Place → Page) (x : Entries) (a : ℕ) (v : Entry) where
         | inr f ↦
             let there : find nat_cmp a es ≡ Some v = sym (ap (λ b. cond b (Some e.1) (find nat_cmp a es)) (eq_key a e.0 ∙ f)) ∙ is in
             let rest = decided es parts.1 before.1 there in
-            (rest.0, ap (λ b. cond b (all_whole page es x) (Err (damaged e.1.place))) (before.0 (find_above e.0 es parts.0 a v there)) ∙ rest.1)
+            (rest.0, ap (λ b. cond b (all_whole page es x) (Err (damaged e.1.place))) (before.0 (find_below e.0 es parts.0 a v there)) ∙ rest.1)
       ]
 
 module _ (page : Place → Page) (m : Entries) (addresses : List ℕ) (has : HasAddresses m addresses) (i : ℕ) (looked : Looked page m addresses i) where
