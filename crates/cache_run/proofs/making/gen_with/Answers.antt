@@ -37,13 +37,13 @@ replay_made-requires-in-Ok-begin_through-clause-fresh g c = fresh_new Through c.
 
 pub returns-in-Ok-begin_through-clause-whole : goal.returns-in-Ok-begin_through-clause-whole
 returns-in-Ok-begin_through-clause-whole g c =
-    on_ok_weaker c.replay_made-in-Ok-begin_through.result (whole_made c.args.mode Through c.args.options.now c.in-Through.is c.in-Ok-begin_through.ensures.new _ c.replay_made-in-Ok-begin_through.ensures.told _ _ c.new-made.ensures.lines
+    on_ok_weaker c.replay_made-in-Ok-begin_through.result (whole_made c.args.mode Through c.args.options.now c.in-Through.is c.in-Ok-begin_through.ensures.new _ c.replay_made-in-Ok-begin_through.ensures.owner.1 _ _ c.new-made.ensures.lines
     (g.O.Sink.state c.args.sink.now) (g.O.Sink.state c.replay_made-in-Ok-begin_through.new.sink) (g.R.Media.state c.replay_made-in-Ok-begin_through.new.rig)) c.replay_made-in-Ok-begin_through.ensures.whole
 
 pub returns-in-Ok-begin_through-clause-part : goal.returns-in-Ok-begin_through-clause-part
 returns-in-Ok-begin_through-clause-part g c =
     IfErr-weaker c.replay_made-in-Ok-begin_through.result _ _ (λ e part. inr (
-    part_made c.args.mode Through c.args.options.now c.in-Through.is c.in-Ok-begin_through.ensures.new _ c.replay_made-in-Ok-begin_through.ensures.told _ _ c.new-made.ensures.lines
+    part_made c.args.mode Through c.args.options.now c.in-Through.is c.in-Ok-begin_through.ensures.new _ c.replay_made-in-Ok-begin_through.ensures.owner.1 _ _ c.new-made.ensures.lines
     (g.O.Sink.state c.args.sink.now) (g.O.Sink.state c.replay_made-in-Ok-begin_through.new.sink) (g.R.Media.state c.replay_made-in-Ok-begin_through.new.rig)
     e part)) c.replay_made-in-Ok-begin_through.ensures.part
 

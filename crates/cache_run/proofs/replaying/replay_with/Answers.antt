@@ -49,25 +49,25 @@ replay-requires-in-Ok-begin_through-clause-fresh g c = fresh_new Through c.args.
 
 pub returns-in-Ok-begin_through-clause-whole : goal.returns-in-Ok-begin_through-clause-whole
 returns-in-Ok-begin_through-clause-whole g c =
-    on_ok_weaker c.replay-in-Ok-begin_through.result (whole_new c.args.mode Through c.args.options.now c.in-Through.is c.in-Ok-begin_through.ensures.new _ c.replay-in-Ok-begin_through.ensures.told
+    on_ok_weaker c.replay-in-Ok-begin_through.result (whole_new c.args.mode Through c.args.options.now c.in-Through.is c.in-Ok-begin_through.ensures.new _ c.replay-in-Ok-begin_through.ensures.owner.1
     (g.I.Source.state c.args.source.now) (g.I.Source.state c.replay-in-Ok-begin_through.new.source) (g.O.Sink.state c.args.sink.now) (g.O.Sink.state c.replay-in-Ok-begin_through.new.sink) (g.R.Media.state c.replay-in-Ok-begin_through.new.rig)) c.replay-in-Ok-begin_through.ensures.whole
 
 pub returns-in-Ok-begin_through-clause-refused : goal.returns-in-Ok-begin_through-clause-refused
 returns-in-Ok-begin_through-clause-refused g c = λ is.
-    refused_new c.args.mode Through c.args.options.now c.in-Through.is c.in-Ok-begin_through.ensures.new _ c.replay-in-Ok-begin_through.ensures.told
+    refused_new c.args.mode Through c.args.options.now c.in-Through.is c.in-Ok-begin_through.ensures.new _ c.replay-in-Ok-begin_through.ensures.owner.1
     (g.I.Source.state c.args.source.now) (g.I.Source.state c.replay-in-Ok-begin_through.new.source) (g.O.Sink.state c.args.sink.now) (g.O.Sink.state c.replay-in-Ok-begin_through.new.sink) (g.R.Media.state c.replay-in-Ok-begin_through.new.rig)
     (c.replay-in-Ok-begin_through.ensures.refused is)
 
 pub returns-in-Ok-begin_through-clause-unread : goal.returns-in-Ok-begin_through-clause-unread
 returns-in-Ok-begin_through-clause-unread g c = λ is.
-    unread_new c.args.mode Through c.args.options.now c.in-Through.is c.in-Ok-begin_through.ensures.new _ c.replay-in-Ok-begin_through.ensures.told
+    unread_new c.args.mode Through c.args.options.now c.in-Through.is c.in-Ok-begin_through.ensures.new _ c.replay-in-Ok-begin_through.ensures.owner.1
     (g.I.Source.state c.args.source.now) (g.I.Source.state c.replay-in-Ok-begin_through.new.source) (g.O.Sink.state c.args.sink.now) (g.O.Sink.state c.replay-in-Ok-begin_through.new.sink) (g.R.Media.state c.replay-in-Ok-begin_through.new.rig)
     (c.replay-in-Ok-begin_through.ensures.unread is)
 
 pub returns-in-Ok-begin_through-clause-part : goal.returns-in-Ok-begin_through-clause-part
 returns-in-Ok-begin_through-clause-part g c =
     IfErr-weaker c.replay-in-Ok-begin_through.result _ _ (λ e part not_trace not_source. inr (
-    part_new c.args.mode Through c.args.options.now c.in-Through.is c.in-Ok-begin_through.ensures.new _ c.replay-in-Ok-begin_through.ensures.told
+    part_new c.args.mode Through c.args.options.now c.in-Through.is c.in-Ok-begin_through.ensures.new _ c.replay-in-Ok-begin_through.ensures.owner.1
     (g.I.Source.state c.args.source.now) (g.I.Source.state c.replay-in-Ok-begin_through.new.source) (g.O.Sink.state c.args.sink.now) (g.O.Sink.state c.replay-in-Ok-begin_through.new.sink) (g.R.Media.state c.replay-in-Ok-begin_through.new.rig)
     e (part not_trace not_source))) c.replay-in-Ok-begin_through.ensures.part
 
