@@ -1,5 +1,5 @@
 -- The dirty addresses of a list of held blocks, ascending.
-use Rattle.std.proofs.Common.{◌≡◌, ◌⊎◌, ℕ, ◌+◌, ◌/◌, ◌≤◌, ◌<◌, ◌==◌, nat_le, nat_lt, not, ◌&&◌, ◌||◌, Bool, true, false, cond, T, List, [], ◌∷◌, length}
+use Rattle.std.proofs.Common.{◌≡◌, ◌⊎◌, ℕ, ◌+◌, ◌/◌, ◌≤◌, ◌<◌, ◌==◌, nat_le, nat_lt, not, ◌&&◌, ◌||◌, Bool, true, false, cond, List, [], ◌∷◌, length}
 use Rattle.std.proofs.Common.{map, filter, Option, Some, None, Ordering, Less, Equal, Greater, inl, inr, refl, sym, ◌∙◌, ap, subst, arith, nat_cmp, eqb-true, eq-eqb}
 use Rattle.std.specs.List.{AllByRecursion, list_any}
 use Rattle.std.specs.Option.{is_some}
@@ -18,8 +18,8 @@ use Rattle.cache_model.specs.declared.entry.Entry.{Entry}
 use Rattle.cache_model.specs.Cache.{Vanish, dirty_between, groups, with_group}
 use Rattle.cache_model.specs.CacheList.{CacheList, Held}
 use Rattle.cache_model.specs.Entries.{each_once}
-use Rattle.cache_model.proofs.CountLemmas.{all_members, each_once-le, member_of, same_number, member_once}
-use Rattle.cache_model.proofs.MapLemmas.{less_key, all_entries, by_get, get_insert}
+use Rattle.cache_model.proofs.CountLemmas.{all_members, each_once-le, member_of, member_once, once_few, same_number}
+use Rattle.cache_model.proofs.MapLemmas.{less_key, all_entries, by_get, get_insert, holds as true_of}
 use Rattle.mapping.proofs.MarksLemmas.{same_bools}
 use Rattle.merge_engine.specs.Loaded.{AreAscending}
 use Rattle.merge_engine.proofs.TakeLemmas.{agree_map}
@@ -178,10 +178,6 @@ has_lba-with x a (n ∷ ns) = by (nat_cmp a n) refl (has_lba-with x a ns)
 
 -- ---- the keys of entries ascend
 
-true_of : (b : Bool) → T b → b ≡ true
-true_of true t = refl
-true_of false t = absurd t
-
 module _ {X : Type 0} (t : ℕ × X → Bool) where
   above_keys : (n : ℕ) (es : List (ℕ × X)) → below_all nat_cmp n es ≡ true → AllByRecursion (λ k. n < k) (map (λ x. x.0) (filter t es))
   above_keys n [] below = tt
@@ -231,14 +227,6 @@ holds_lbas c contents s holds =
 
 -- ---- a write: few groups are held, so nothing gives way
 
-pub once_short : (ns : List ℕ) → length (each_once ns) ≤ length ns
-once_short [] = omega arith
-once_short (n ∷ ns) = by (has_lba n ns) (once_short ns)
-  where
-    by : (b : Bool) → length (each_once ns) ≤ length ns → length (cond b (each_once ns) (n ∷ each_once ns)) ≤ length (n ∷ ns)
-    by true rest = omega (arith, rest)
-    by false rest = omega (arith, rest)
-
 all_groups : (gs : List ℕ) (p : ℕ) (es : List (ℕ × Held)) → AllByRecursion (λ x. has_lba (x.0 / p) gs ≡ true) es → (n : ℕ) → has_lba n (map (λ x. x.0 / p) es) ≡ true → has_lba n gs ≡ true
 all_groups gs p [] all n there = absurd (false≢true there)
 all_groups gs p (e ∷ es) all n there = elim (or_cases (e.0 / p == n) (has_lba n (map (λ x. x.0 / p) es)) there) [
@@ -253,7 +241,7 @@ few_groups g s group gs own all =
       | inl here ↦ ap (λ k. has_lba k gs) (sym (eqb-true group n here)) ∙ own
       | inr later ↦ all_groups gs g.p (entries s) along n (sym (member_once n (map (λ x. x.0 / g.p) (entries s))) ∙ later)
     ]) in
-    let short = once_short gs in
+    let short = once_few gs in
     omega (arith, fewer, short)
 
 module _ (told : Told) (call : Call) (s v : CacheList) (lba : ℕ) (h : Held) (vanish : Vanish told.geometry s lba v) (own : IsOwn call lba) (alone : (a : ℕ) → IsOwn call a → a ≡ lba) where

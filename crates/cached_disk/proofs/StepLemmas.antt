@@ -15,6 +15,9 @@ use Rattle.cache_model.proofs.UndoLemmas.{back_at, get_undo, undone_at}
 use Rattle.cached_disk.specs.Kept.{IsDirtyIn}
 use Rattle.cached_disk.proofs.DiskLemmas.{IsOver}
 
+pub turned : (a b : ℕ) → (a == b) ≡ (b == a)
+turned a b = grind (arith, nat_tests)
+
 -- over whatever the disk may show, both lists show the same
 abbrev pub IsSameOver : (ℕ → Values) → CacheList → CacheList → Type 0
 IsSameOver disk s t = (a : ℕ) (b : Block) → HasValue (disk a) b → held_or (get t a) b ≡ held_or (get s a) b
@@ -24,6 +27,14 @@ over_same g disk s t d same over a within b has = same a b has ∙ over a within
 
 pub same_back : (disk : ℕ → Values) (s t : CacheList) → IsSameOver disk s t → IsSameOver disk t s
 same_back disk s t same a b has = sym (same a b has)
+
+-- an address that is not dirty: what the disk may show there is what is held, or what is beneath it
+pub not_dirty_beneath : (disk : ℕ → Values) (s : CacheList) → Agrees s disk → (a : ℕ) → (IsDirtyIn s a → ⊥) → (b : Block) → HasValue (disk a) b → (o : Option Held) → get s a ≡ o → b ≡ held_or o b
+not_dirty_beneath disk s agrees a none b has None at = refl
+not_dirty_beneath disk s agrees a none b has (Some h) at = elim (cases_Bool h.dirty) [
+  | inl t ↦ absurd (none (h, at, t))
+  | inr f ↦ agrees a h b at f has
+]
 
 -- ---- without what is buffered
 
@@ -167,9 +178,6 @@ module _ (s : CacheList) (lba : ℕ) (block : Block) where
     | inr f ↦ (dirty.0, get_insert s lba (written_block lba block true) a ∙ ap (λ c. cond c (Some (written_block lba block true)) (get s a)) f ∙ dirty.1, dirty.2)
   ]
 
-  turned : (q a : ℕ) → (q == a) ≡ (a == q)
-  turned q a = grind (arith, nat_tests)
-
   read_choice : (t : Bool) (beneath : Block) (o : Option Held) → held_or (cond t (Some (written_block lba block true)) o) beneath ≡ cond t block (held_or o beneath)
   read_choice true beneath o = refl
   read_choice false beneath o = refl
@@ -212,16 +220,9 @@ module _ (s : CacheList) (lba : ℕ) (block : Block) where
     -- where the address wasn't dirty, nothing else is shown
     pub clean_same : (IsDirtyIn s lba → ⊥) → IsSameOver disk s with_clean
     clean_same none a b has = ap (λ (o : Option Held). held_or o b) (get_insert s lba (written_block lba block false) a) ∙ elim (cases_Bool (a == lba)) [
-      | inl t ↦ ap (λ c. held_or (cond c (Some (written_block lba block false)) (get s a)) b) t ∙ sym (only b (subst (λ (n : ℕ). HasValue (disk n) b) (eqb-true a lba t) has)) ∙ beneath (eqb-true a lba t) (get s a) refl
+      | inl t ↦ ap (λ c. held_or (cond c (Some (written_block lba block false)) (get s a)) b) t ∙ sym (only b (subst (λ (n : ℕ). HasValue (disk n) b) (eqb-true a lba t) has)) ∙ not_dirty_beneath disk s agrees a (λ dirty. none (subst (IsDirtyIn s) (eqb-true a lba t) dirty)) b has (get s a) refl
       | inr f ↦ ap (λ c. held_or (cond c (Some (written_block lba block false)) (get s a)) b) f
     ]
-      where
-        beneath : a ≡ lba → (o : Option Held) → get s a ≡ o → b ≡ held_or o b
-        beneath here None at = refl
-        beneath here (Some h) at = elim (cases_Bool h.dirty) [
-          | inl t ↦ absurd (none (subst (IsDirtyIn s) here (h, at, t)))
-          | inr f ↦ agrees a h b at f has
-        ]
 
   -- an address that wasn't dirty: each that was dirty stays so
   pub clean_dirty : (IsDirtyIn s lba → ⊥) → (a : ℕ) → IsDirtyIn s a → IsDirtyIn with_clean a

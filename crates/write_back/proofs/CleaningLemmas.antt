@@ -34,7 +34,7 @@ use Rattle.cached_disk.specs.declared.disk.CachedDisk.{CachedDisk}
 use Rattle.cached_disk.specs.Errors.{IsOfCache}
 use Rattle.cached_disk.specs.Kept.{IsBeneath, IsDirtyIn, IsHeld, IsLeft, MayUndo, dirty_of, is_down, told_of, WritesDisk}
 use Rattle.cached_disk.proofs.DiskLemmas.{IsOver, one_value, over_stands}
-use Rattle.cached_disk.proofs.StepLemmas.{IsSameOver, over_same, undo_agrees}
+use Rattle.cached_disk.proofs.StepLemmas.{IsSameOver, over_same, turned, undo_agrees}
 use Rattle.cached_disk.proofs.HeldLemmas.{Stays, down_left, drove, goes_on, held_left, held_over, held_stands, step_beneath, step_over, stopped_down, undone_over}
 use Rattle.cached_disk.proofs.CallLemmas.{gives_up}
 use Rattle.write_back.specs.Left.{in_group, out_of_group}
@@ -175,9 +175,6 @@ module _ (v : CachedDisk) (k : Ssc) (s t : State) (list : CacheList) (lba : ℕ)
     pub clean_dirty : (a : ℕ) → is_among (dirty_of (record v { cache = k })) a ≡ (is_among (dirty_of v) a && not (lba == a))
     clean_dirty a = same_test (is_among (dirty_of (record v { cache = k })) a) (is_among (dirty_of v) a) (lba == a) (λ among. was (dirty_is (record v { cache = k }) t.contents after_clean held_clean a among)) (λ among other. stays_dirty (dirty_is v s.contents list is a among) other)
       where
-        turned : (x y : ℕ) → (x == y) ≡ (y == x)
-        turned x y = grind (arith, nat_tests)
-
         same_test : (x y z : Bool) → (x ≡ true → (y ≡ true) × (z ≡ false)) → (y ≡ true → z ≡ false → x ≡ true) → x ≡ (y && not z)
         same_test true true true to from = absurd (false≢true (sym (to refl).1))
         same_test true true false to from = refl

@@ -9,13 +9,14 @@ use Rattle.ft_base.specs.Told.{Told}
 use Rattle.ft_media.specs.declared.media.MediaError.{MediaError}
 use Rattle.ft_media.specs.declared.media.MediaError.TheVariants as media
 use Rattle.ft_media.specs.declared.rig.Counts.{Counts}
-use Rattle.ft_media.specs.State.{Faults, State, failed, lost}
+use Rattle.ft_media.specs.State.{State, failed, lost}
 use Rattle.ft_media.specs.Media.{DeviceWrite, DiskCause, FlashCause, FlashStays}
 use Rattle.ft_media.specs.Fitted.{KeepsReady}
 use Rattle.ft_media.specs.Drives.{DrivesFlash}
 use Rattle.ft_media.specs.Reads.{ReadsFlash}
 use Rattle.ft_media.specs.Passes.{Passes}
 use Rattle.ft_media.proofs.PassesLemmas.{passes_none, passes_then}
+use Rattle.ft_volume.proofs.UpLemmas.{cause_then}
 use Rattle.ft_volume.specs.Opening.{ImageIs}
 use Rattle.ft_volume.specs.Volume.{FaultDowns, Goes, HasCause, volume_lost}
 use Rattle.ft_volume.specs.Standing.{StandFor}
@@ -34,16 +35,6 @@ abbrev pub Answer : Type 0
 Answer = Result (Unit {0}) VolumeError
 
 -- ---- one part after another
-
-cause_first : (s t u : Faults) (r : Answer) → HasCause {T = Unit {0}} s t (Ok tt) → HasCause t u r → HasCause s u r
-cause_first s t u r first then = record {
-  flash = let x = first.flash in let y = then.flash in omega (arith, x, y);
-  disk = let x = first.disk in let y = then.disk in omega (arith, x, y);
-  cuts = let x = first.cuts in let y = then.cuts in omega (arith, x, y);
-  flash_fault = λ is. let x = first.flash in let y = then.flash_fault is in omega (arith, x, y);
-  disk_fault = λ is. let x = first.disk in let y = then.disk_fault is in omega (arith, x, y);
-  power_lost = λ is. let x = first.cuts in let y = then.power_lost is in omega (arith, x, y);
-}
 
 rose_first : (m n k s t u : ℕ) → m + n ≡ k → RoseBy m s t → RoseBy n t u → RoseBy k s u
 rose_first m n k s t u sum first then = λ below. let x = then below in let y = first (omega (arith, x, below)) in omega (arith, x, y, sum)
@@ -68,7 +59,7 @@ module _ (a b c : CachedDisk) (s t u : State) (m n : ℕ) (first : Proceeds m a 
     memory = λ is was. then.memory is before.up;
     ready = λ up b there. then.ready up b (before.ready before.up b there);
     disk = λ is was up. absurd (both_ways (is_down c) up (downs.disk is));
-    cause = cause_first s.faults t.faults u.faults r before.cause then.cause;
+    cause = cause_then s.faults t.faults u.faults tt r before.cause then.cause;
     passes = passes_then s t u (volume_lost r) before.passes then.passes;
   }
 

@@ -22,12 +22,10 @@ use Rattle.mapping.proofs.MarksLemmas.{same_bools}
 use Rattle.merge_engine.specs.Loaded.{AreAscending}
 use Rattle.cached_disk.specs.Kept.{waiting_in}
 use Rattle.cached_disk.proofs.AddressLemmas.{ascending_same, filter_ascending, has_lba, has_lba-filter, has_lba-with, lbas_dirty, lbas_has, lbas_in, with_ascending}
+use Rattle.cached_disk.proofs.StepLemmas.{turned}
 use Rattle.write_back.specs.Left.{IsExact, in_group, out_of_group}
 
 -- ---- a list of distinct groups, one that is touched, and one that is taken out
-
-turned : (a b : ℕ) → (a == b) ≡ (b == a)
-turned a b = grind (arith, nat_tests)
 
 pub has_member : (n : ℕ) (xs : List ℕ) → has n xs ≡ member n xs
 has_member n [] = refl

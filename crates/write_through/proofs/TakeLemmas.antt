@@ -22,7 +22,7 @@ use Rattle.cached_disk.specs.Kept.{IsDirtyIn, IsHeld, MayUndo}
 use Rattle.cached_disk.proofs.AddressLemmas.{holds_held}
 use Rattle.cached_disk.proofs.HeldLemmas.{suits_less}
 use Rattle.cached_disk.proofs.ReadLemmas.{IsShown, ShowsSame, commit_shows, may_none}
-use Rattle.cached_disk.proofs.StepLemmas.{IsSameOver, over_same}
+use Rattle.cached_disk.proofs.StepLemmas.{IsSameOver, not_dirty_beneath, over_same}
 
 module _ (s : CacheList) (lba : ℕ) where
   -- what is left was there
@@ -36,16 +36,9 @@ module _ (s : CacheList) (lba : ℕ) where
   -- a clean block gives way to the disk's own
   evicted_same : (disk : ℕ → Values) → Agrees s disk → (IsDirtyIn s lba → ⊥) → IsSameOver disk s (evicted lba s)
   evicted_same disk agrees none a b has = ap (λ (o : Option Held). held_or o b) (get_remove s lba a) ∙ elim (cases_Bool (a == lba)) [
-    | inl t ↦ ap (λ c. held_or (cond c None (get s a)) b) t ∙ beneath (eqb-true a lba t) (get s a) refl
+    | inl t ↦ ap (λ c. held_or (cond c None (get s a)) b) t ∙ not_dirty_beneath disk s agrees a (λ dirty. none (subst (IsDirtyIn s) (eqb-true a lba t) dirty)) b has (get s a) refl
     | inr f ↦ ap (λ c. held_or (cond c None (get s a)) b) f
   ]
-    where
-      beneath : a ≡ lba → (o : Option Held) → get s a ≡ o → b ≡ held_or o b
-      beneath here None at = refl
-      beneath here (Some h) at = elim (cases_Bool h.dirty) [
-        | inl t ↦ absurd (none (subst (IsDirtyIn s) here (h, at, t)))
-        | inr f ↦ agrees a h b at f has
-      ]
 
 -- ---- what is held then
 
