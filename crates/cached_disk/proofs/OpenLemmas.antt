@@ -1,6 +1,6 @@
 -- What an opening of the cache leaves of the media.
-use Rattle.std.proofs.Common.{◌≡◌, ℕ, ◌-◌, true, Result, Ok, Err, IfOk, IfErr, inl, inr, refl, sym, ◌∙◌, ap, subst, arith}
-use Rattle.std.specs.Prelude.{IsErrOf}
+use Rattle.std.proofs.Common.{◌≡◌, ℕ, ◌-◌, true, false, Result, Ok, Err, IfOk, IfErr, inl, inr, refl, sym, ◌∙◌, ap, subst, arith}
+use Rattle.std.specs.Prelude.{IsErrOf, OnOk}
 use Rattle.std.proofs.lemmas.Bool.{false≢true}
 use Rattle.ft_base.specs.declared.block.Block.{Block}
 use Rattle.ft_base.specs.declared.block.Place.{Place}
@@ -11,20 +11,25 @@ use Rattle.ft_base.specs.Contents.{Contents, Image, Now, Values, HasValue, flush
 use Rattle.ft_base.proofs.Images.{with_newest, newest_image}
 use Rattle.ft_media.specs.declared.media.MediaError.{MediaError}
 use Rattle.ft_media.specs.declared.media.MediaError.TheVariants as media
-use Rattle.ft_media.specs.State.{lost}
-use Rattle.ft_media.specs.Media.{Crashed, DiskStays}
+use Rattle.ft_media.specs.declared.rig.Counts.{Counts}
+use Rattle.ft_media.specs.Drives.{DrivesFlash}
+use Rattle.ft_media.specs.Fitted.{KeepsReady}
+use Rattle.ft_media.specs.Passes.{Passes}
+use Rattle.ft_media.specs.State.{State, lost}
+use Rattle.ft_media.proofs.PassesLemmas.{passes_then}
+use Rattle.ft_media.specs.Media.{Crashed, DeviceWrite, DiskCause, DiskStays, flush_counted}
 use Rattle.ft_volume.specs.Opening.{Opens}
 use Rattle.cache_model.specs.CacheList.{CacheList}
 use Rattle.cache_model.specs.Loading.{load}
 use Rattle.cache_model.specs.Stands.{FlashStandsFor}
 use Rattle.op_log.specs.declared.error.OpenError.{OpenError}
 use Rattle.op_log.specs.declared.error.OpenError.TheVariants.{NotFormatted, OtherGeometry, Damaged, FlashFault, DiskFault, PowerLost, OutOfMemory}
-use Rattle.op_log.specs.Refusals.{IsRefusal, open_lost}
+use Rattle.op_log.specs.Refusals.{IsRefusal, open_failed, open_lost}
 use Rattle.ssc.specs.declared.cache.Ssc.{Ssc}
 use Rattle.ssc.specs.CacheState.{Holds, IsUp, entries_of, geometry_of}
 use Rattle.ssc.specs.Kept.{IsJustOpened}
 use Rattle.cached_disk.specs.Errors.{disk_failed, flush_error}
-use Rattle.cached_disk.specs.Kept.{IsOpenCache}
+use Rattle.cached_disk.specs.Kept.{IsOpenCache, OnlyOpens}
 
 flushed_had : (old new : Values) → new ≡ flushed old → (b : Block) → HasValue new b → HasValue old b
 flushed_had old new is b has = by_value (subst (λ (v : Values). HasValue v b) is has)
@@ -57,7 +62,7 @@ module _ (g : Geometry) (a b c : Contents) (page : b.flash.page ≡ a.flash.page
   open_cache_of (Err e) geometry holds loads opened up = tt
 
   -- a cache doesn't ask the disk
-  not_disk : {A : Type 0} (r : Result Ssc OpenError) (loads : Result A _) → IfErr r (λ e. IsRefusal g e loads) → disk_failed r ≡ true → ⊥
+  pub not_disk : {A : Type 0} (r : Result Ssc OpenError) (loads : Result A _) → IfErr r (λ e. IsRefusal g e loads) → disk_failed r ≡ true → ⊥
   not_disk (Ok v) loads refused is = false≢true is
   not_disk (Err NotFormatted) loads refused is = false≢true is
   not_disk (Err (OtherGeometry found wanted)) loads refused is = false≢true is
@@ -95,3 +100,25 @@ module _ (g : Geometry) (a b c : Contents) (page : b.flash.page ≡ a.flash.page
       by_error media.Failed failed memory crash = record { loads = loads_page; lists = lists_page; values = values; flushed = λ no not. absurd (false≢true (sym no)); unflushed = λ yes. failed refl; alone = λ yes. absurd (false≢true yes) }
       by_error media.PowerLost failed memory crash = record { loads = loads_page; lists = lists_page; values = values; flushed = λ no not. absurd (false≢true (sym not)); unflushed = λ yes. absurd (false≢true yes); alone = λ yes lba. (crash refl).alone lba }
       by_error media.OutOfMemory failed memory crash = absurd (memory refl)
+
+-- and power, the faults and the counts go on as the two answer
+module _ (a b c : State) (device : DeviceWrite {T = Unit {0}} a b (Ok tt)) (counts : b.counts ≡ flush_counted a.counts) (cause : DiskCause a.faults b.faults false false) (passes : Passes a b false) where
+  keeps_ready : (r : Result Ssc OpenError) → (open_failed r ≡ false → open_lost r ≡ false → KeepsReady b c) → OnOk r (KeepsReady a c)
+  keeps_ready (Ok v) then = λ block there. then refl refl block (device.ready refl refl block there)
+  keeps_ready (Err e) then = tt
+
+  pub only_opens : (r : Result Ssc OpenError) → (disk_failed r ≡ true → ⊥) → DrivesFlash b c (open_failed r) (open_lost r) → OnlyOpens a c r
+  only_opens r not_failed drives = record {
+    ready = keeps_ready r drives.ready;
+    disk_reads = drives.disk_reads ∙ ap (λ (n : Counts). n.disk_reads) counts;
+    disk_writes = drives.disk_writes ∙ ap (λ (n : Counts). n.disk_writes) counts;
+    cause = record {
+      flash = let x = drives.cause.flash in let y = cause.flash in omega (arith, x, y);
+      disk = let x = drives.cause.disk in let y = cause.disk in omega (arith, x, y);
+      cuts = let x = drives.cause.cuts in let y = cause.cuts in omega (arith, x, y);
+      flash_fault = λ is. let x = drives.cause.failed is in let y = cause.flash in omega (arith, x, y);
+      disk_fault = λ is. absurd (not_failed is);
+      power_lost = λ is. let x = drives.cause.power_lost is in let y = cause.cuts in omega (arith, x, y);
+    };
+    passes = passes_then a b c (open_lost r) passes drives.passes;
+  }

@@ -1,5 +1,5 @@
 -- What a cache over a disk is, and what it leaves on its media.
-use Rattle.std.specs.Prelude.{◌≡◌, ◌⊎◌, ◌<◌, ◌≤◌, ◌+◌, ◌/◌, ◌==◌, ◌||◌, ℕ, Bool, true, false, List, [], map, filter, Ok, Result, OnOk, OnErr, IsErrOf, ⊤}
+use Rattle.std.specs.Prelude.{◌≡◌, ◌⊎◌, ◌<◌, ◌≤◌, ◌+◌, ◌/◌, ◌==◌, ◌||◌, ℕ, Bool, true, false, List, [], map, filter, Ok, Result, OnOk, OnErr, IfErr, IsErrOf, ⊤}
 use Rattle.std.specs.List.{AllByRecursion}
 use Rattle.std.specs.FinMap.{get}
 use Rattle.std.specs.Option.{is_some}
@@ -17,7 +17,7 @@ use Rattle.ft_base.specs.declared.told.Mode.TheVariants.{Back, Through}
 use Rattle.ft_media.specs.Fitted.{KeepsReady}
 use Rattle.ft_media.specs.Passes.{Passes}
 use Rattle.ft_media.specs.State.{State}
-use Rattle.ft_volume.specs.Opening.{ImageIs, Suits}
+use Rattle.ft_volume.specs.Opening.{ImageIs, Opens, Suits}
 use Rattle.ft_volume.specs.Volume.{Call, Goes, HasCause, IsFixed, StandForAny, VolumeState, WasDone, dirty_lbas, fixes, told_for, volume_lost}
 use Rattle.ft_volume.specs.Standing.{StandFor}
 use Rattle.ft_volume.specs.declared.options.Options.{Options}
@@ -35,7 +35,7 @@ use Rattle.op_log.specs.declared.error.OpenError.{OpenError}
 use Rattle.ssc.specs.declared.cache.Ssc.{Ssc}
 use Rattle.ssc.specs.CacheState.{Holds, IsUp, entries_of, geometry_of, log_room, pending}
 use Rattle.cached_disk.specs.declared.disk.CachedDisk.{CachedDisk}
-use Rattle.cached_disk.specs.Errors.{CausedBy, disk_failed}
+use Rattle.cached_disk.specs.Errors.{CausedBy, IsOpenRefusal, disk_failed}
 
 -- the cache or the disk was given up, so it is opened again first
 abbrev pub is_down : CachedDisk → Bool
@@ -43,6 +43,10 @@ is_down v = v.down || v.cache.stopped
 
 abbrev pub told_of : CachedDisk → Told
 told_of v = told_for v.mode v.options
+
+-- it was made with the same numbers, and is written to alike
+abbrev pub IsMadeAs : CachedDisk → CachedDisk → Type 0
+IsMadeAs old new = (new.options ≡ old.options) × (new.mode ≡ old.mode)
 
 -- the dirty addresses that the cache holds, ascending
 abbrev pub dirty_of : CachedDisk → List ℕ
@@ -100,6 +104,11 @@ pub record IsLeft (v : CachedDisk) (contents : Contents) : Type 0 where
   pub held : CacheList
   pub up : is_down v ≡ false → IsHeld v contents held
 
+-- it may serve a call: the contents are those that it left, and it is up
+pub record MayServe (v : CachedDisk) (contents : Contents) : Type 0 where
+  pub left : IsLeft v contents
+  pub up : is_down v ≡ false
+
 -- the plain disk that a list over a disk is, below the size
 abbrev pub IsVolume : Geometry → CacheList → Contents → PlainDisk → Type 0
 IsVolume g s contents d = (a : ℕ) → a < g.size → vol s (λ lba. (contents.disk lba).newest) a ≡ d a
@@ -113,7 +122,7 @@ pub record Serves {T : Type 0} (call : Call) (old new : CachedDisk) (before afte
       → WasDone ImageIs call (state_in order old) (state_in order new) after.contents result base
   pub goes : (order : List ℕ) → Goes (state_in order old) (state_in order new) before after result
   pub dirty : is_down new ≡ false → dirty_of new ≡ dirty_of old
-  pub options : (new.options ≡ old.options) × (new.mode ≡ old.mode)
+  pub options : IsMadeAs old new
   pub within : IsErrOf result OutOfVolume → ⊥
 
 -- with Ok so many blocks were written to the disk; else no more; and none was read from it
@@ -131,6 +140,17 @@ pub record OnlyOpens {T : Type 0} (before after : State) (result : Result T Open
   pub disk_writes : after.counts.disk_writes ≡ before.counts.disk_writes
   pub cause : CausedBy before.faults after.faults (open_failed result) (disk_failed result) (open_lost result)
   pub passes : Passes before after (open_lost result)
+
+-- an opening of flash of this geometry, whatever it answers, and wherever power went off
+pub record IsOpening {T : Type 0} (g : Geometry) (before after : State) (result : Result T OpenError) : Type 0 where
+  pub opens : Opens g before.contents after.contents (disk_failed result) (open_lost result)
+  pub refused : IfErr result (λ e. IsOpenRefusal g e (load g before.contents.flash.page))
+  pub goes : OnlyOpens before after result
+
+-- the plain disk that the flash and the disk were is the one that the opened media are
+abbrev pub StandsOpened : Told → Contents → Contents → Type 0
+StandsOpened told before after = (s : CacheList) → FlashStandsFor told.geometry before.flash.page s
+    → (d : PlainDisk) → IsVolume told.geometry s before d → StandFor (ImageIs told) after d
 
 -- a cache that was opened over media that stood for a list: it holds that list
 pub record IsOpenCache (g : Geometry) (old new : Contents) (c : Ssc) : Type 0 where

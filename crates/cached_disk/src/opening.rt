@@ -1,20 +1,12 @@
-ghost use Rattle.std.specs.Prelude.{◌≡◌, ℕ, false, Ok, OnOk, IfOk, IfErr, IsErrOf};
-ghost use Rattle.ft_base.specs.Contents.{HasValue};
-ghost use Rattle.ft_base.specs.PlainDisk.{PlainDisk};
-ghost use Rattle.ft_base.specs.declared.block.Block.{Block};
-ghost use Rattle.ft_media.specs.Fitted.{KeepsReady};
-ghost use Rattle.ft_media.specs.Passes.{Passes};
-ghost use Rattle.ft_volume.specs.Opening.{ImageIs, IsNewestOnDisk, MayOpen, Opens, nothing_held};
-ghost use Rattle.ft_volume.specs.Volume.{HasCause, told_for, volume_lost};
-ghost use Rattle.ft_volume.specs.Standing.{StandFor};
+ghost use Rattle.std.specs.Prelude.{◌≡◌, false, Ok, OnOk, IfOk};
+ghost use Rattle.ft_volume.specs.Opening.{Creates, MayOpen, nothing_held};
+ghost use Rattle.ft_volume.specs.Volume.{told_for};
 ghost use Rattle.cache_model.specs.CacheList.{CacheList};
 ghost use Rattle.cache_model.specs.Loading.{load};
 ghost use Rattle.cache_model.specs.Stands.{FlashStandsFor};
 ghost use Rattle.op_log.specs.Log.{FitsOn};
-ghost use Rattle.op_log.specs.Refusals.{open_lost};
 ghost use Rattle.ssc.specs.CacheState.{entries_of};
-ghost use Rattle.cached_disk.specs.Errors.{IsOpenRefusal, disk_failed};
-ghost use Rattle.cached_disk.specs.Kept.{IsFresh, IsLeft, IsOpenCache, IsVolume, OnlyOpens, Reopens};
+ghost use Rattle.cached_disk.specs.Kept.{IsFresh, IsLeft, IsOpenCache, IsOpening, Reopens, StandsOpened};
 ghost use Rattle.cached_disk.specs.Kept as kept;
 
 use crate::CachedDisk;
@@ -37,16 +29,7 @@ impl CachedDisk {
         requires shape { FitsOn options.now.geometry (M.state media.old).contents.shape }
         ensures owns { IfOk result (λ v. IsLeft v (M.state media.new).contents) }
         ensures opened { IfOk result (λ v. IsFresh mode options.now nothing_held v) }
-        ensures stands { OnOk result ((d : PlainDisk) → IsNewestOnDisk options.now.geometry (M.state media.old).contents d
-            → StandFor (ImageIs (told_for mode options.now)) (M.state media.new).contents d) }
-        ensures values { (lba : ℕ) (b : Block) → HasValue ((M.state media.new).contents.disk lba) b
-            → HasValue ((M.state media.old).contents.disk lba) b }
-        ensures ready { OnOk result (KeepsReady (M.state media.old) (M.state media.new)) }
-        ensures within { IsErrOf result VolumeError.OutOfVolume → ⊥ }
-        ensures disk_reads { (M.state media.new).counts.disk_reads ≡ (M.state media.old).counts.disk_reads }
-        ensures disk_writes { (M.state media.new).counts.disk_writes ≡ (M.state media.old).counts.disk_writes }
-        ensures cause { HasCause (M.state media.old).faults (M.state media.new).faults result }
-        ensures passes { Passes (M.state media.old) (M.state media.new) (volume_lost result) }
+        ensures creates { Creates (told_for mode options.now) (M.state media.old) (M.state media.new) result }
     {
         if let Err(error) = Ssc::format(media, &options.geometry) {
             return Err(cache_error(error));
@@ -77,17 +60,10 @@ impl CachedDisk {
         ensures opened { IfOk result (λ v. (s : CacheList) → FlashStandsFor options.now.geometry (M.state media.old).contents.flash.page s
             → IsFresh mode options.now s v) }
         ensures up { IfOk result (λ v. (v.options ≡ options.now) × (v.mode ≡ mode) × (kept.is_down v ≡ false)) }
-        // Whatever is answered, and wherever power went off.
-        ensures opens { Opens options.now.geometry (M.state media.old).contents (M.state media.new).contents (disk_failed result)
-            (open_lost result) }
-        ensures stands { IfOk result (λ v. (s : CacheList) → FlashStandsFor options.now.geometry (M.state media.old).contents.flash.page s
-            → (d : PlainDisk) → IsVolume options.now.geometry s (M.state media.old).contents d
-            → StandFor (ImageIs (told_for mode options.now)) (M.state media.new).contents d) }
+        ensures opening { IsOpening options.now.geometry (M.state media.old) (M.state media.new) result }
+        ensures stands { OnOk result (StandsOpened (told_for mode options.now) (M.state media.old).contents (M.state media.new).contents) }
         // Ok comes only where the flash stands for a list.
         ensures loads { IfOk result (λ v. load options.now.geometry (M.state media.old).contents.flash.page ≡ Ok (entries_of v.cache)) }
-        ensures refused { IfErr result (λ e. IsOpenRefusal options.now.geometry e
-            (load options.now.geometry (M.state media.old).contents.flash.page)) }
-        ensures goes { OnlyOpens (M.state media.old) (M.state media.new) result }
     {
         let cache = open_cache(alloc, media, &options.geometry)?;
         Ok(CachedDisk {
@@ -124,9 +100,7 @@ impl CachedDisk {
 fn open_cache<M: Media>(alloc: Global, media: &mut M, geometry: &Geometry) -> Result<Ssc, OpenError>
     requires shape { FitsOn geometry.now (M.state media.old).contents.shape }
     ensures opened { IfOk result (λ c. IsOpenCache geometry.now (M.state media.old).contents (M.state media.new).contents c) }
-    ensures opens { Opens geometry.now (M.state media.old).contents (M.state media.new).contents (disk_failed result) (open_lost result) }
-    ensures refused { IfErr result (λ e. IsOpenRefusal geometry.now e (load geometry.now (M.state media.old).contents.flash.page)) }
-    ensures goes { OnlyOpens (M.state media.old) (M.state media.new) result }
+    ensures opening { IsOpening geometry.now (M.state media.old) (M.state media.new) result }
 {
     match media.flush_disk() {
         Ok(()) => Ssc::open(alloc, media, geometry),

@@ -1,9 +1,8 @@
-ghost use Rattle.std.specs.Prelude.{◌≡◌, ◌<◌, ℕ, List, None, false, OnErr};
+ghost use Rattle.std.specs.Prelude.{◌≡◌, ◌<◌, ℕ, List, None, OnErr};
 ghost use Rattle.std.specs.FinMap.{get};
 ghost use Rattle.ft_volume.specs.Volume.{Costs, Reads};
 ghost use Rattle.ssc.specs.CacheState.{entries_of};
-ghost use Rattle.cached_disk.specs.Kept.{IsLeft, Serves, state_in};
-ghost use Rattle.cached_disk.specs.Kept as kept;
+ghost use Rattle.cached_disk.specs.Kept.{MayServe, Serves, state_in};
 
 use crate::CachedDisk;
 use crate::errors::{cache_error, disk_error};
@@ -20,8 +19,7 @@ impl CachedDisk {
         lba: u64,
         block: &mut Block,
     ) -> Result<(), VolumeError>
-        requires left { IsLeft self.old (M.state media.old).contents }
-        requires up { kept.is_down self.old ≡ false }
+        requires may { MayServe self.old (M.state media.old).contents }
         requires lba { lba < self.old.options.geometry.size }
         ensures serves { Serves (Reads lba block.new) self.old self.new (M.state media.old) (M.state media.new) result }
         ensures costs { (order : List ℕ) → Costs (Reads lba block.new) (state_in order self.old) (state_in order self.new)
@@ -43,8 +41,7 @@ impl CachedDisk {
         lba: u64,
         block: &mut Block,
     ) -> Result<(), VolumeError>
-        requires left { IsLeft self.old (M.state media.old).contents }
-        requires up { kept.is_down self.old ≡ false }
+        requires may { MayServe self.old (M.state media.old).contents }
         requires lba { lba < self.old.options.geometry.size }
         requires absent { get (entries_of self.old.cache) lba ≡ None }
         ensures serves { Serves (Reads lba block.new) self.old self.new (M.state media.old) (M.state media.new) result }

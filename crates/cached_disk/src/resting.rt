@@ -4,7 +4,7 @@ ghost use Rattle.ft_base.specs.Table.{goes_back};
 ghost use Rattle.ft_volume.specs.Volume.{Costs, Flushes, Idles, Reports};
 ghost use Rattle.ft_volume.specs.Reported.{IsReport};
 ghost use Rattle.ssc.specs.CacheState.{entries_of, log_room, pending};
-ghost use Rattle.cached_disk.specs.Kept.{IsLeft, Loads, Serves, state_in, told_of};
+ghost use Rattle.cached_disk.specs.Kept.{Loads, MayServe, Serves, state_in, told_of};
 ghost use Rattle.cached_disk.specs.Kept as kept;
 
 use crate::CachedDisk;
@@ -15,8 +15,7 @@ use ft_volume::{Idled, Report, VolumeError};
 impl CachedDisk {
     /// Puts all that the cache buffers on the flash.
     pub fn flush<M: Media>(&mut self, media: &mut M) -> Result<(), VolumeError>
-        requires left { IsLeft self.old (M.state media.old).contents }
-        requires up { kept.is_down self.old ≡ false }
+        requires may { MayServe self.old (M.state media.old).contents }
         ensures serves { Serves Flushes self.old self.new (M.state media.old) (M.state media.new) result }
         ensures costs { (order : List ℕ) → Costs Flushes (state_in order self.old) (state_in order self.new) (M.state media.old)
             (M.state media.new) result }
@@ -33,8 +32,7 @@ impl CachedDisk {
     /// Puts all that the cache buffers on the flash, reads each page that is held, and says what there is.
     /// A write that is refused leaves it down; a page that can't be read leaves it up.
     pub fn report<M: Media>(&mut self, media: &mut M) -> Result<Report, VolumeError>
-        requires left { IsLeft self.old (M.state media.old).contents }
-        requires up { kept.is_down self.old ≡ false }
+        requires may { MayServe self.old (M.state media.old).contents }
         ensures serves { Serves Reports self.old self.new (M.state media.old) (M.state media.new) result }
         ensures costs { (order : List ℕ) → Costs Reports (state_in order self.old) (state_in order self.new) (M.state media.old)
             (M.state media.new) result }
@@ -62,8 +60,7 @@ impl CachedDisk {
     /// Makes a checkpoint where no more than half of the log is left. An idle step does this where no group
     /// is to be written back.
     pub fn checkpoint_if_due<M: Media>(&mut self, media: &mut M) -> Result<Idled, VolumeError>
-        requires left { IsLeft self.old (M.state media.old).contents }
-        requires up { kept.is_down self.old ≡ false }
+        requires may { MayServe self.old (M.state media.old).contents }
         ensures serves { Serves Idles self.old self.new (M.state media.old) (M.state media.new) result }
         ensures costs { (order : List ℕ) → goes_back self.old.mode self.old.options.dirty (length order) ≡ false
             → Costs Idles (state_in order self.old) (state_in order self.new) (M.state media.old) (M.state media.new) result }

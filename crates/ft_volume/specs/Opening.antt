@@ -1,5 +1,5 @@
 -- What an image is to a volume over a cache, and what an opening makes of the media.
-use Rattle.std.specs.Prelude.{◌≡◌, ◌<◌, ℕ, Bool, true, false, [], Some, ⊤}
+use Rattle.std.specs.Prelude.{◌≡◌, ◌<◌, ℕ, Bool, true, false, [], Some, Result, OnOk, IsErrOf, ⊤}
 use Rattle.std.specs.FinMap.{empty, get}
 use Rattle.std.specs.Option.{is_some}
 use Rattle.ft_base.specs.Contents.{Contents, HasValue, Image, flushed}
@@ -15,7 +15,13 @@ use Rattle.cache_model.specs.Cache.{dirty_between}
 use Rattle.cache_model.specs.CacheList.{Agrees, CacheList, Held, vol}
 use Rattle.cache_model.specs.Loading.{load}
 use Rattle.cache_model.specs.Stands.{FlashStandsFor, settled}
-use Rattle.ft_volume.specs.Volume.{VolumeState}
+use Rattle.ft_media.specs.Fitted.{KeepsReady}
+use Rattle.ft_media.specs.Passes.{Passes}
+use Rattle.ft_media.specs.State.{State}
+use Rattle.ft_volume.specs.Standing.{StandFor}
+use Rattle.ft_volume.specs.Volume.{HasCause, VolumeState, volume_lost}
+use Rattle.ft_volume.specs.declared.volume.VolumeError.{VolumeError}
+use Rattle.ft_volume.specs.declared.volume.VolumeError.TheVariants.{OutOfVolume}
 
 -- a cache that writes through has no block that the disk lacks
 abbrev pub Suits : Mode → CacheList → Type 0
@@ -50,6 +56,18 @@ IsNewestOnDisk g contents d = (a : ℕ) → a < g.size → (contents.disk a).new
 -- what a new volume holds
 abbrev pub nothing_held : CacheList
 nothing_held = empty
+
+-- a volume is made so over flash that is formatted first: the plain disk is then what the disk has
+pub record Creates {T : Type 0} (made : Told) (before after : State) (result : Result T VolumeError) : Type 0 where
+  pub stands : OnOk result ((d : PlainDisk) → IsNewestOnDisk made.geometry before.contents d
+      → StandFor (ImageIs made) after.contents d)
+  pub values : (lba : ℕ) (b : Block) → HasValue (after.contents.disk lba) b → HasValue (before.contents.disk lba) b
+  pub ready : OnOk result (KeepsReady before after)
+  pub within : IsErrOf result OutOfVolume → ⊥
+  pub disk_reads : after.counts.disk_reads ≡ before.counts.disk_reads
+  pub disk_writes : after.counts.disk_writes ≡ before.counts.disk_writes
+  pub cause : HasCause before.faults after.faults result
+  pub passes : Passes before after (volume_lost result)
 
 -- what an opening makes of the media, whatever it answers: the flash stands for what it stood for, and the disk is flushed
 pub record Opens (g : Geometry) (old new : Contents) (disk_failed was_lost : Bool) : Type 0 where

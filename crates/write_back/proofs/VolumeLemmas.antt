@@ -20,7 +20,7 @@ use Rattle.merge_engine.proofs.TakeLemmas.{agree_map}
 use Rattle.dirty_table.specs.Groups.{Groups, groups_in_order, has, touched}
 use Rattle.ssc.specs.CacheState.{Holds, entries_of}
 use Rattle.cached_disk.specs.declared.disk.CachedDisk.{CachedDisk}
-use Rattle.cached_disk.specs.Kept.{IsOrderOf, Loads, dirty_of, is_down, waiting_in, WritesDisk}
+use Rattle.cached_disk.specs.Kept.{IsOrderOf, Loads, MayServe, dirty_of, waiting_in, WritesDisk}
 use Rattle.cached_disk.specs.Kept as kept
 use Rattle.merge_engine.specs.Loaded.{AreAscending}
 use Rattle.cached_disk.proofs.AddressLemmas.{holds_lbas, holds_within, lbas_ascending, lbas_between}
@@ -40,15 +40,15 @@ pub record IsMade (g : Geometry) (lbas : List ℕ) (i : ℕ) (table : Groups) : 
 pub made_none : (g : Geometry) (lbas : List ℕ) (table : Groups) → table ≡ groups_in_order [] g.c → IsMade g lbas 0 table
 made_none g lbas table is = subst (λ (t : Groups). IsMade g lbas 0 t) (sym is) (record { limit = refl; so_far = so_far_none g.p lbas 0 [] refl refl })
 
-module _ (v : CachedDisk) (over : (contents : Contents) × kept.IsLeft v contents) (up : is_down v ≡ false) where
+module _ (v : CachedDisk) (over : (contents : Contents) × MayServe v contents) where
   abbrev held : CacheList
-  held = over.1.held
+  held = over.1.left.held
 
   holds : Holds v.cache over.0 held
-  holds = (over.1.up up).holds
+  holds = (over.1.left.up over.1.up).holds
 
   inside : (a : ℕ) (h : Held) → get held a ≡ Some h → a < v.options.geometry.size
-  inside a h at = subst (λ (g : Geometry). a < g.size) over.1.own (holds_within v.cache over.0 held holds a h at)
+  inside a h at = subst (λ (g : Geometry). a < g.size) over.1.left.own (holds_within v.cache over.0 held holds a h at)
 
   -- what the cache lists behind nothing
   pub listed : (lbas out before : List ℕ) (n : ℕ) → lbas ≡ out → before ≡ [] → n ≡ v.options.geometry.size → ((contents : Contents) (s : CacheList) → Holds v.cache contents s → out ≡ before ++ dirty_between 0 n s) → lbas ≡ dirty_of v
@@ -66,7 +66,7 @@ module _ (v : CachedDisk) (over : (contents : Contents) × kept.IsLeft v content
 
     few : length (each_once (map (λ a. a / v.options.geometry.p) lbas)) ≤ v.options.geometry.c
     few =
-        let own : IsMap v.options.geometry (entries_of v.cache) = subst (λ (g : Geometry). IsMap g (entries_of v.cache)) over.1.own (agree_map v.cache.parts over.0 holds.agree) in
+        let own : IsMap v.options.geometry (entries_of v.cache) = subst (λ (g : Geometry). IsMap g (entries_of v.cache)) over.1.left.own (agree_map v.cache.parts over.0 holds.agree) in
         subst (λ (l : List ℕ). length (each_once (map (λ a. a / v.options.geometry.p) l)) ≤ v.options.geometry.c) (sym is) (few_lbas v.options.geometry (entries_of v.cache) own)
 
     module _ (i : ℕ) (table : Groups) (made : IsMade v.options.geometry lbas i table) where

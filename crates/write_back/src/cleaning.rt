@@ -1,7 +1,7 @@
 ghost use Rattle.std.specs.Prelude.{◌≡◌, ◌<◌, ◌==◌, ◌*◌, ℕ, List, true, false, not, ◌&&◌, length, OnOk, OnErr, IfOk};
 ghost use Rattle.ft_base.specs.Contents.{Contents};
 ghost use Rattle.ft_base.specs.declared.told.Mode.TheVariants.{Back};
-ghost use Rattle.cached_disk.specs.Kept.{IsLeft, dirty_of};
+ghost use Rattle.cached_disk.specs.Kept.{MayServe, dirty_of};
 ghost use Rattle.cached_disk.specs.Kept as kept;
 ghost use Rattle.write_back.specs.Cleaning.{IsFlushed, IsOnDisk, Proceeds, is_among};
 ghost use Rattle.write_back.specs.Left.{in_group, out_of_group};
@@ -20,8 +20,7 @@ pub(crate) fn write_group_back<M: Media>(
     media: &mut M,
     group: u64,
 ) -> Result<(), VolumeError>
-    requires left { IsLeft disk.old (M.state media.old).contents }
-    requires up { kept.is_down disk.old ≡ false }
+    requires may { MayServe disk.old (M.state media.old).contents }
     requires back { disk.old.mode ≡ Back }
     requires group { group * disk.old.options.geometry.p < disk.old.options.geometry.size }
     ensures proceeds { Proceeds (length (in_group disk.old.options.geometry.p group (dirty_of disk.old))) disk.old disk.new
@@ -39,8 +38,7 @@ pub(crate) fn write_group_back<M: Media>(
 
 /// The dirty addresses of a group, ascending. It looks at the pages of the group alone.
 fn dirty_in_group(disk: &CachedDisk, group: u64) -> Result<Vec<u64>, AllocError>
-    requires left { (contents : Contents) × IsLeft disk.now contents }
-    requires up { kept.is_down disk.now ≡ false }
+    requires may { (contents : Contents) × MayServe disk.now contents }
     requires group { group * disk.now.options.geometry.p < disk.now.options.geometry.size }
     ensures { IfOk result (λ lbas. lbas.items ≡ in_group disk.now.options.geometry.p group (dirty_of disk.now)) }
 {
@@ -63,8 +61,7 @@ fn copy_blocks<M: Media>(
     media: &mut M,
     lbas: &[u64],
 ) -> Result<(), VolumeError>
-    requires left { IsLeft disk.old (M.state media.old).contents }
-    requires up { kept.is_down disk.old ≡ false }
+    requires may { MayServe disk.old (M.state media.old).contents }
     requires dirty { (a : ℕ) → is_among lbas.now a ≡ true → is_among (dirty_of disk.old) a ≡ true }
     ensures proceeds { Proceeds (length lbas.now) disk.old disk.new (M.state media.old) (M.state media.new) result }
     ensures same { disk.new ≡ record disk.old { down = disk.new.down } }
@@ -87,8 +84,7 @@ fn copy_block<M: Media>(
     lba: u64,
     block: &mut Block,
 ) -> Result<(), VolumeError>
-    requires left { IsLeft disk.old (M.state media.old).contents }
-    requires up { kept.is_down disk.old ≡ false }
+    requires may { MayServe disk.old (M.state media.old).contents }
     requires dirty { is_among (dirty_of disk.old) lba ≡ true }
     ensures proceeds { Proceeds 1 disk.old disk.new (M.state media.old) (M.state media.new) result }
     ensures same { disk.new ≡ record disk.old { down = disk.new.down } }
@@ -115,8 +111,7 @@ fn copy_block<M: Media>(
 /// Flushes the disk. Until that is done a crash may leave the older block of an address, so that none may
 /// be marked clean. Refused, the volume is down.
 fn flush_copies<M: Media>(disk: &mut CachedDisk, media: &mut M) -> Result<(), VolumeError>
-    requires left { IsLeft disk.old (M.state media.old).contents }
-    requires up { kept.is_down disk.old ≡ false }
+    requires may { MayServe disk.old (M.state media.old).contents }
     ensures proceeds { Proceeds 0 disk.old disk.new (M.state media.old) (M.state media.new) result }
     ensures same { disk.new ≡ record disk.old { down = disk.new.down } }
     ensures flushed { OnOk result (IsFlushed (M.state media.new).contents) }
@@ -139,8 +134,7 @@ fn clean_blocks<M: Media>(
     media: &mut M,
     lbas: &[u64],
 ) -> Result<(), VolumeError>
-    requires left { IsLeft disk.old (M.state media.old).contents }
-    requires up { kept.is_down disk.old ≡ false }
+    requires may { MayServe disk.old (M.state media.old).contents }
     requires back { disk.old.mode ≡ Back }
     requires lbas { (a : ℕ) → is_among lbas.now a ≡ true → a < disk.old.options.geometry.size }
     requires flushed { IsFlushed (M.state media.old).contents }
@@ -158,8 +152,7 @@ fn clean_blocks<M: Media>(
 
 /// Marks the block of an address clean. Refused, the cache was given up, and the volume is down.
 fn clean_block<M: Media>(disk: &mut CachedDisk, media: &mut M, lba: u64) -> Result<(), VolumeError>
-    requires left { IsLeft disk.old (M.state media.old).contents }
-    requires up { kept.is_down disk.old ≡ false }
+    requires may { MayServe disk.old (M.state media.old).contents }
     requires back { disk.old.mode ≡ Back }
     requires lba { lba < disk.old.options.geometry.size }
     requires flushed { IsFlushed (M.state media.old).contents }

@@ -1,7 +1,6 @@
-ghost use Rattle.std.specs.Prelude.{◌≡◌, false, IfOk};
+ghost use Rattle.std.specs.Prelude.{IfOk};
 ghost use Rattle.ft_base.specs.Contents.{Contents};
-ghost use Rattle.cached_disk.specs.Kept.{IsLeft, IsOrderOf, dirty_of};
-ghost use Rattle.cached_disk.specs.Kept as kept;
+ghost use Rattle.cached_disk.specs.Kept.{IsOrderOf, MayServe, dirty_of};
 ghost use Rattle.write_back.specs.Left.{IsExact, IsTable};
 
 use cached_disk::CachedDisk;
@@ -11,8 +10,7 @@ use std::alloc::AllocError;
 /// The table of the groups that have a dirty block in a cache. The group of the highest address is in
 /// front, since the flash doesn't say which was written last.
 pub(crate) fn dirty_table_of(disk: &CachedDisk) -> Result<DirtyTable, AllocError>
-    requires left { (contents : Contents) × IsLeft disk.now contents }
-    requires up { kept.is_down disk.now ≡ false }
+    requires may { (contents : Contents) × MayServe disk.now contents }
     ensures table { IfOk result (λ table. IsTable disk.now.options.geometry table) }
     ensures exact { IfOk result (λ table. IsExact disk.now.options.geometry.p table.order (dirty_of disk.now)) }
     ensures order { IfOk result (λ table. IsOrderOf table.order disk.now) }

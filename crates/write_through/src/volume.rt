@@ -1,21 +1,13 @@
-ghost use Rattle.std.specs.Prelude.{◌≡◌, ◌<◌, false, OnOk, Ok, IfOk, IfErr, IsErrOf, ℕ};
-ghost use Rattle.ft_base.specs.declared.block.Block.{Block};
+ghost use Rattle.std.specs.Prelude.{◌≡◌, false, OnOk, Ok, IfOk};
 ghost use Rattle.ft_base.specs.declared.told.Mode.TheVariants.{Through};
-ghost use Rattle.ft_base.specs.Contents.{HasValue};
-ghost use Rattle.ft_base.specs.PlainDisk.{PlainDisk};
-ghost use Rattle.ft_media.specs.Fitted.{KeepsReady};
-ghost use Rattle.ft_media.specs.Passes.{Passes};
-ghost use Rattle.ft_volume.specs.Opening.{ImageIs, IsNewestOnDisk, IsOpened, MayOpen, Opens, nothing_held};
-ghost use Rattle.ft_volume.specs.Volume.{ComesUp, HasCause, told_for, volume_lost};
-ghost use Rattle.ft_volume.specs.Standing.{StandFor};
+ghost use Rattle.ft_volume.specs.Opening.{Creates, ImageIs, IsOpened, MayOpen, nothing_held};
+ghost use Rattle.ft_volume.specs.Volume.{ComesUp, told_for};
 ghost use Rattle.cache_model.specs.CacheList.{CacheList};
 ghost use Rattle.cache_model.specs.Loading.{load};
 ghost use Rattle.cache_model.specs.Stands.{FlashStandsFor};
 ghost use Rattle.op_log.specs.Log.{FitsOn};
-ghost use Rattle.op_log.specs.Refusals.{open_lost};
 ghost use Rattle.ssc.specs.CacheState.{entries_of};
-ghost use Rattle.cached_disk.specs.Errors.{IsOpenRefusal, disk_failed};
-ghost use Rattle.cached_disk.specs.Kept.{IsVolume, Loads, OnlyOpens};
+ghost use Rattle.cached_disk.specs.Kept.{IsMadeAs, IsOpening, Loads, StandsOpened};
 ghost use Rattle.cached_disk.specs.Kept as kept;
 ghost use Rattle.write_through.specs.Left.{IsLeft, state_of};
 ghost use Rattle.write_through.specs.Left as left;
@@ -43,16 +35,7 @@ impl WriteThrough {
         requires shape { FitsOn options.now.geometry (R.state rig.old).contents.shape }
         ensures owns { IfOk result (λ v. IsLeft v (R.state rig.new).contents) }
         ensures opened { IfOk result (λ v. IsOpened (told_for Through options.now) nothing_held (state_of v)) }
-        ensures stands { OnOk result ((d : PlainDisk) → IsNewestOnDisk options.now.geometry (R.state rig.old).contents d
-            → StandFor (ImageIs (told_for Through options.now)) (R.state rig.new).contents d) }
-        ensures values { (lba : ℕ) (b : Block) → HasValue ((R.state rig.new).contents.disk lba) b
-            → HasValue ((R.state rig.old).contents.disk lba) b }
-        ensures ready { OnOk result (KeepsReady (R.state rig.old) (R.state rig.new)) }
-        ensures within { IsErrOf result VolumeError.OutOfVolume → ⊥ }
-        ensures disk_reads { (R.state rig.new).counts.disk_reads ≡ (R.state rig.old).counts.disk_reads }
-        ensures disk_writes { (R.state rig.new).counts.disk_writes ≡ (R.state rig.old).counts.disk_writes }
-        ensures cause { HasCause (R.state rig.old).faults (R.state rig.new).faults result }
-        ensures passes { Passes (R.state rig.old) (R.state rig.new) (volume_lost result) }
+        ensures creates { Creates (told_for Through options.now) (R.state rig.old) (R.state rig.new) result }
     {
         match CachedDisk::create(alloc, rig, options, Mode::Through) {
             Ok(disk) => Ok(WriteThrough { disk }),
@@ -73,17 +56,10 @@ impl WriteThrough {
         ensures opened { IfOk result (λ v. (s : CacheList) → FlashStandsFor options.now.geometry (R.state rig.old).contents.flash.page s
             → IsOpened (told_for Through options.now) s (state_of v)) }
         ensures up { IfOk result (λ v. ((state_of v).told ≡ told_for Through options.now) × ((state_of v).down ≡ false)) }
-        // Whatever is answered, and wherever power went off.
-        ensures opens { Opens options.now.geometry (R.state rig.old).contents (R.state rig.new).contents (disk_failed result)
-            (open_lost result) }
-        ensures stands { IfOk result (λ v. (s : CacheList) → FlashStandsFor options.now.geometry (R.state rig.old).contents.flash.page s
-            → (d : PlainDisk) → IsVolume options.now.geometry s (R.state rig.old).contents d
-            → StandFor (ImageIs (told_for Through options.now)) (R.state rig.new).contents d) }
+        ensures opening { IsOpening options.now.geometry (R.state rig.old) (R.state rig.new) result }
+        ensures stands { OnOk result (StandsOpened (told_for Through options.now) (R.state rig.old).contents (R.state rig.new).contents) }
         // Ok comes only where the flash stands for a list.
         ensures loads { IfOk result (λ v. load options.now.geometry (R.state rig.old).contents.flash.page ≡ Ok (entries_of v.disk.cache)) }
-        ensures refused { IfErr result (λ e. IsOpenRefusal options.now.geometry e
-            (load options.now.geometry (R.state rig.old).contents.flash.page)) }
-        ensures goes { OnlyOpens (R.state rig.old) (R.state rig.new) result }
     {
         let disk = CachedDisk::open(alloc, rig, options, Mode::Through)?;
         Ok(WriteThrough { disk })
@@ -93,7 +69,7 @@ impl WriteThrough {
     fn bring_up<M: Media>(&mut self, media: &mut M) -> Result<(), VolumeError>
         requires { IsLeft self.old (M.state media.old).contents }
         ensures left { IsLeft self.new (M.state media.new).contents }
-        ensures made { (self.new.disk.options ≡ self.old.disk.options) × (self.new.disk.mode ≡ self.old.disk.mode) }
+        ensures made { IsMadeAs self.old.disk self.new.disk }
         ensures comes { ComesUp ImageIs Loads (state_of self.old) (state_of self.new) (M.state media.old) (M.state media.new) result }
         ensures up { OnOk result (kept.is_down self.new.disk ≡ false) }
     {

@@ -9,7 +9,7 @@ ghost use Rattle.ft_media.specs.State.{failed, lost};
 ghost use Rattle.ft_volume.specs.Opening.{ImageIs};
 ghost use Rattle.ft_volume.specs.Volume.{Costs, FaultDowns, HoldsAfter, Programs, WasDone, Writes};
 ghost use Rattle.ft_volume.specs.Standing.{StandFor};
-ghost use Rattle.cached_disk.specs.Kept.{WritesDisk};
+ghost use Rattle.cached_disk.specs.Kept.{IsMadeAs, WritesDisk};
 ghost use Rattle.cached_disk.specs.Kept as kept;
 ghost use Rattle.write_through.specs.Left.{IsLeft, MayWrite, Steps, state_of};
 
@@ -49,7 +49,7 @@ impl WriteThrough {
     fn reserve(&mut self) -> Result<(), VolumeError>
         ensures left { (contents : Contents) → IsLeft self.old contents → IsLeft self.new contents }
         ensures same { state_of self.new ≡ state_of self.old }
-        ensures made { (self.new.disk.options ≡ self.old.disk.options) × (self.new.disk.mode ≡ self.old.disk.mode) }
+        ensures made { IsMadeAs self.old.disk self.new.disk }
         ensures ready { OnOk result (self.new.disk.cache.ready ≡ true) }
         ensures refused { IfErr result (λ e. e ≡ VolumeError.OutOfMemory) }
     {
@@ -67,7 +67,7 @@ impl WriteThrough {
             → StandFor (ImageIs (state_of self.old).told) (M.state media.new).contents d }
         ensures absent { OnOk result ((state_of self.new).held lba ≡ false) }
         ensures held { OnOk result ((a : ℕ) → (state_of self.new).held a ≡ (if a == lba then false else (state_of self.old).held a)) }
-        ensures made { (self.new.disk.options ≡ self.old.disk.options) × (self.new.disk.mode ≡ self.old.disk.mode) }
+        ensures made { IsMadeAs self.old.disk self.new.disk }
         ensures ready { self.new.disk.cache.ready ≡ self.old.disk.cache.ready }
         ensures refused { OnErr result (kept.is_down self.new.disk ≡ true) }
         ensures disk_reads { (M.state media.new).counts.disk_reads ≡ (M.state media.old).counts.disk_reads }
@@ -96,7 +96,7 @@ impl WriteThrough {
             → StandFor (ImageIs (state_of self.old).told) (M.state media.new).contents (set d lba block.now)) }
         ensures newest { OnOk result (block.now ≡ ((M.state media.new).contents.disk lba).newest) }
         ensures cache { self.new.disk.cache ≡ self.old.disk.cache }
-        ensures made { (self.new.disk.options ≡ self.old.disk.options) × (self.new.disk.mode ≡ self.old.disk.mode) }
+        ensures made { IsMadeAs self.old.disk self.new.disk }
         ensures faulted { FaultDowns result (kept.is_down self.new.disk) }
         ensures writes { WritesDisk 1 (M.state media.old) (M.state media.new) result }
     {

@@ -8,4 +8,4 @@ returns-in-Ok-create-clause-new g c =
     let volume = c.in-Ok-create.volume in
     let made = c.in-Ok-create.ensures in
     new_from Through c.args.options.now (IsLeft volume) (state_of volume) (g.R.Media.state c.args.rig.now) (g.R.Media.state c.fit_for.new.rig) (g.R.Media.state c.create.new.rig) c.in-Ok.ensures.fitted
-    made.owns made.opened made.stands made.ready made.disk_reads made.disk_writes made.cause.cuts made.passes
+    made.owns made.opened made.creates.stands made.creates.ready made.creates.disk_reads made.creates.disk_writes made.creates.cause.cuts made.creates.passes

@@ -1,4 +1,6 @@
-use Rattle.cached_disk.proofs.OpenLemmas.{open_cache_of, opens_after, opens_refused}
+use Rattle.std.proofs.Common.{rules}
+use Rattle.cache_model.specs.Loading.{load}
+use Rattle.cached_disk.proofs.OpenLemmas.{not_disk, only_opens, open_cache_of, opens_after, opens_refused}
 use Rattle.cached_disk.proofs.opening.open_cache.Goals as goal
 
 pub returns-in-Ok-clause-opened : goal.returns-in-Ok-clause-opened
@@ -6,12 +8,25 @@ returns-in-Ok-clause-opened g c =
     let e = c.open.ensures in
     open_cache_of c.args.geometry.now (g.M.Media.state c.args.media.now).contents (g.M.Media.state c.flush_disk.new.self).contents (g.M.Media.state c.open.new.media).contents c.flush_disk.ensures.flash.page c.open.result e.geometry e.holds e.loads e.opened e.is_up
 
-pub returns-in-Ok-clause-opens : goal.returns-in-Ok-clause-opens
-returns-in-Ok-clause-opens g c =
+pub returns-in-Ok-clause-opening : goal.returns-in-Ok-clause-opening
+returns-in-Ok-clause-opening g c =
     let e = c.open.ensures in
-    opens_after c.args.geometry.now (g.M.Media.state c.args.media.now).contents (g.M.Media.state c.flush_disk.new.self).contents (g.M.Media.state c.open.new.media).contents c.flush_disk.ensures.flash.page c.open.result c.in-Ok.ensures.ok e.same e.images e.refused e.drives.disk e.drives.crash
+    let d = c.in-Ok.ensures in
+    let before = g.M.Media.state c.args.media.now in
+    let mid = g.M.Media.state c.flush_disk.new.self in
+    let after = g.M.Media.state c.open.new.media in
+    let own = c.args.geometry.now in
+    record {
+      opens = opens_after own before.contents mid.contents after.contents c.flush_disk.ensures.flash.page c.open.result d.ok e.same e.images e.refused e.drives.disk e.drives.crash;
+      refused = search rules;
+      goes = only_opens before mid after d.device d.counts d.cause d.passes c.open.result (not_disk own before.contents mid.contents after.contents c.flush_disk.ensures.flash.page c.open.result (load own mid.contents.flash.page) e.refused) e.drives;
+    }
 
-pub returns-in-Err-clause-opens : goal.returns-in-Err-clause-opens
-returns-in-Err-clause-opens g c = opens_refused c.args.geometry.now (g.M.Media.state c.args.media.now).contents (g.M.Media.state c.flush_disk.new.self).contents
-    (g.M.Media.state c.flush_disk.new.self).contents c.flush_disk.ensures.flash.page c.in-Err.error c.flush_error.result c.flush_error.ensures c.flush_disk.ensures.values c.in-Err.ensures.failed
-    c.in-Err.ensures.memory c.in-Err.ensures.crash
+pub returns-in-Err-clause-opening : goal.returns-in-Err-clause-opening
+returns-in-Err-clause-opening g c = record {
+  opens = opens_refused c.args.geometry.now (g.M.Media.state c.args.media.now).contents (g.M.Media.state c.flush_disk.new.self).contents
+      (g.M.Media.state c.flush_disk.new.self).contents c.flush_disk.ensures.flash.page c.in-Err.error c.flush_error.result c.flush_error.ensures c.flush_disk.ensures.values c.in-Err.ensures.failed
+      c.in-Err.ensures.memory c.in-Err.ensures.crash;
+  refused = search rules;
+  goes = search rules;
+}

@@ -8,7 +8,7 @@ use Rattle.write_back.proofs.cleaning.clean_blocks.Goals as goal
 
 pub loop-lba-init : goal.loop-lba-init
 loop-lba-init g c = record {
-  proceeds = proceeds_none c.args.disk.now (g.M.Media.state c.args.media.now) c.requires.up c.requires.left;
+  proceeds = proceeds_none c.args.disk.now (g.M.Media.state c.args.media.now) c.requires.may.up c.requires.may.left;
   flushed = c.requires.flushed;
   copied = c.requires.copied;
   cleaned = λ a. none_cleaned (is_among (dirty_of c.args.disk.now) a);
@@ -20,8 +20,7 @@ clean_block-requires g c =
     let lba : ℕ = get_or c.args.lbas.now c.loop-lba.lba-index 0 in
     let here : is_among c.args.lbas.now lba ≡ true = among_here c.args.lbas.now c.loop-lba.lba-index c.loop-lba-test.true in
     record {
-      left = is.proceeds.left;
-      up = (is.proceeds.goes [] []).up;
+      may = record { left = is.proceeds.left; up = (is.proceeds.goes [] []).up };
       back = is.proceeds.mode ∙ c.requires.back;
       lba = subst (λ (o : Options). lba < o.geometry.size) (sym is.proceeds.options) (c.requires.lbas lba here);
       flushed = is.flushed;

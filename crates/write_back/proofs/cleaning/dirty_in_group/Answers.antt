@@ -13,7 +13,7 @@ loop-page-preserved c =
     let p = v.options.geometry.p in
     let lbas = c.loop-page.lbas.items in
     let low : page < p = omega (arith, c.loop-page-test.true, c.p-pages.ensures) in
-    let bit : c.contains.result ≡ is_among (dirty_of v) (group * p + page) = c.contains.ensures ∙ bit_dirty v c.requires.left.0 c.requires.left.1 c.requires.up group c.dirty_bits-dirty.result c.dirty_bits-dirty.ensures.list page low in
+    let bit : c.contains.result ≡ is_among (dirty_of v) (group * p + page) = c.contains.ensures ∙ bit_dirty v c.requires.may.0 c.requires.may.1.left c.requires.may.1.up group c.dirty_bits-dirty.result c.dirty_bits-dirty.ensures.list page low in
     elim c.if-contains.branch [
       | then-contains+in_ok-push w ↦
           let own : c.if-contains.lbas.items ≡ lbas ++ (group * p + page) ∷ [] = ap (λ (l : Vec ℕ Global). l.items) w.lbas-is ∙ w.in_ok-push.ensures.items ∙ ap (λ (n : ℕ). lbas ++ (group * n + page) ∷ []) c.p-pages.ensures in
@@ -28,5 +28,5 @@ returns c =
     let v = c.args.disk.now in
     let p = v.options.geometry.p in
     let all : c.loop-page.page ≡ p = omega (arith, c.loop-page-test.false, c.loop-page.auto.page-end, c.p-pages.ensures) in
-    group_listed v c.requires.left.0 c.requires.left.1 c.requires.up c.args.group c.loop-page.lbas.items
+    group_listed v c.requires.may.0 c.requires.may.1.left c.requires.may.1.up c.args.group c.loop-page.lbas.items
     (subst (λ (n : ℕ). GroupSoFar p c.args.group n (dirty_of v) c.loop-page.lbas.items) all c.loop-page.invariant)

@@ -21,11 +21,11 @@ returns-in_err-copy_blocks-clause-proceeds g c =
     copy_failed v c.copy_blocks.new.disk (g.M.Media.state c.args.media.now) (g.M.Media.state c.copy_blocks.new.media) c.as_slice.result.now c.in-Ok.lbas.items (in_group v.options.geometry.p c.args.group (dirty_of v)) c.as_slice.ensures.value c.in-Ok.ensures
     c.in_err-copy_blocks.field-0.0 result is c.in_err-copy_blocks.ensures.proceeds
 
-pub flush_copies-requires-clause-up : goal.flush_copies-requires-clause-up
-flush_copies-requires-clause-up g c = (c.in_ok-copy_blocks.ensures.proceeds.goes [] []).up
+pub flush_copies-requires : goal.flush_copies-requires
+flush_copies-requires g c = let is = c.in_ok-copy_blocks.ensures.proceeds in record { may = record { left = is.left; up = (is.goes [] []).up } }
 
-pub clean_blocks-requires-clause-up : goal.clean_blocks-requires-clause-up
-clean_blocks-requires-clause-up g c = (c.in_ok-flush_copies.ensures.proceeds.goes [] []).up
+pub clean_blocks-requires-clause-may : goal.clean_blocks-requires-clause-may
+clean_blocks-requires-clause-may g c = let is = c.in_ok-flush_copies.ensures.proceeds in record { left = is.left; up = (is.goes [] []).up }
 
 pub returns-in_err-flush_copies : goal.returns-in_err-flush_copies
 returns-in_err-flush_copies g c =
@@ -42,10 +42,10 @@ returns-in_err-flush_copies g c =
 pub clean_blocks-requires-clause-lbas : goal.clean_blocks-requires-clause-lbas
 clean_blocks-requires-clause-lbas g c = λ a among.
     let v = c.args.disk.now in
-    let left = c.requires.left in
+    let left = c.requires.may.left in
     let dirty = group_among v.options.geometry.p c.args.group (dirty_of v) c.as_slice-2.result.now c.in-Ok.lbas.items c.as_slice-2.ensures.value c.in-Ok.ensures a among in
     subst (λ (o : Options). a < o.geometry.size) (sym (c.in_ok-flush_copies.ensures.proceeds.options ∙ c.in_ok-copy_blocks.ensures.proceeds.options))
-    (dirty_within v (g.M.Media.state c.args.media.now).contents left.held (left.up c.requires.up) left.own a dirty)
+    (dirty_within v (g.M.Media.state c.args.media.now).contents left.held (left.up c.requires.may.up) left.own a dirty)
 
 pub clean_blocks-requires-clause-copied : goal.clean_blocks-requires-clause-copied
 clean_blocks-requires-clause-copied g c = λ a among.
@@ -65,7 +65,7 @@ returns g c =
     c.in_ok-copy_blocks.ensures.proceeds c.in_ok-flush_copies.ensures.proceeds w after c.clean_blocks.result c.clean_blocks.ensures.proceeds in
     record {
       proceeds = whole;
-      cleaned = back_cleaned (length lbas) v flushed w before after c.clean_blocks.result v.options.geometry.p c.args.group c.as_slice-2.result.now c.in-Ok.lbas.items c.requires.left c.requires.up
+      cleaned = back_cleaned (length lbas) v flushed w before after c.clean_blocks.result v.options.geometry.p c.args.group c.as_slice-2.result.now c.in-Ok.lbas.items c.requires.may.left c.requires.may.up
           (same_then v copied flushed c.copy_blocks.ensures.same c.flush_copies.ensures.same) c.as_slice-2.ensures.value c.in-Ok.ensures whole c.clean_blocks.ensures.cleaned;
       dirty = back_refused v w c.clean_blocks.result c.clean_blocks.ensures.refused;
     }

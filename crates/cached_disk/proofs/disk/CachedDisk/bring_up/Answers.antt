@@ -33,8 +33,8 @@ pub returns-in-Ok-clause-left : goal.returns-in-Ok-clause-left
 returns-in-Ok-clause-left g c =
     let v = c.args.self.now in
     let w : CachedDisk = record v { cache = c.in-Ok.cache; down = false } in
-    opened_left w (g.M.Media.state c.args.media.now).contents (g.M.Media.state c.open_cache.new.media).contents c.requires.list c.in-Ok.ensures.opened c.in-Ok.ensures.opens c.requires.beneath.flash c.requires.beneath.agrees c.requires.beneath.suits
-    (subst (λ (x : Shape). FitsOn v.options.geometry x) (sym c.in-Ok.ensures.goes.passes.shape) c.requires.shape)
+    opened_left w (g.M.Media.state c.args.media.now).contents (g.M.Media.state c.open_cache.new.media).contents c.requires.list c.in-Ok.ensures.opened c.in-Ok.ensures.opening.opens c.requires.beneath.flash c.requires.beneath.agrees c.requires.beneath.suits
+    (subst (λ (x : Shape). FitsOn v.options.geometry x) (sym c.in-Ok.ensures.opening.goes.passes.shape) c.requires.shape)
 
 pub returns-in-Ok-clause-reopens : goal.returns-in-Ok-clause-reopens
 returns-in-Ok-clause-reopens g c =
@@ -52,15 +52,15 @@ returns-in-Ok-clause-reopens g c =
       refused = tt;
       disk_reads = search rules;
       disk_writes = search rules;
-      fixed = one_left (told_of v) old new c.in-Ok.ensures.opens.lists c.in-Ok.ensures.opens.values (alone_now w old new c.requires.list c.in-Ok.ensures.opened c.in-Ok.ensures.opens c.requires.beneath.flash);
-      ready = c.in-Ok.ensures.goes.ready;
+      fixed = one_left (told_of v) old new c.in-Ok.ensures.opening.opens.lists c.in-Ok.ensures.opening.opens.values (alone_now w old new c.requires.list c.in-Ok.ensures.opened c.in-Ok.ensures.opening.opens c.requires.beneath.flash);
+      ready = c.in-Ok.ensures.opening.goes.ready;
       within = search rules;
       cause = search rules;
       passes = search rules;
     }
 
 pub returns-in-Err-clause-left : goal.returns-in-Err-clause-left
-returns-in-Err-clause-left g c = refused_left c.args.self.now (g.M.Media.state c.args.media.now).contents (g.M.Media.state c.open_cache.new.media).contents _ _ c.requires (search rules) c.in-Err.ensures.opens c.in-Err.ensures.goes.passes.shape
+returns-in-Err-clause-left g c = refused_left c.args.self.now (g.M.Media.state c.args.media.now).contents (g.M.Media.state c.open_cache.new.media).contents _ _ c.requires (search rules) c.in-Err.ensures.opening.opens c.in-Err.ensures.opening.goes.passes.shape
 
 pub returns-in-Err-clause-reopens : goal.returns-in-Err-clause-reopens
 returns-in-Err-clause-reopens g c =
@@ -75,7 +75,7 @@ returns-in-Err-clause-reopens g c =
       refused = (down, down);
       disk_reads = search rules;
       disk_writes = search rules;
-      fixed = refused_fixed (told_of v) (g.M.Media.state c.args.media.now).contents (g.M.Media.state c.open_cache.new.media).contents c.in-Err.error c.open_error.result c.open_error.ensures c.in-Err.ensures.opens;
+      fixed = refused_fixed (told_of v) (g.M.Media.state c.args.media.now).contents (g.M.Media.state c.open_cache.new.media).contents c.in-Err.error c.open_error.result c.open_error.ensures c.in-Err.ensures.opening.opens;
       ready = tt;
       within = search rules;
       cause = search rules;

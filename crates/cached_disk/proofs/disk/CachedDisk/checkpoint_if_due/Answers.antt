@@ -16,32 +16,32 @@ use Rattle.cached_disk.proofs.disk.CachedDisk.checkpoint_if_due.Goals as goal
 pub overflow_mul-log_room : goal.overflow_mul-log_room
 overflow_mul-log_room g c =
     let v = c.args.self.now in
-    let fits : 2 * c.log_room.result < 2 ^ 32 = room_fits (geometry_of v.cache) v.cache.parts.log.next c.log_room.result (c.log_room.ensures (g.M.Media.state c.args.media.now).contents c.requires.left.held (c.requires.left.up c.requires.up).holds) in
+    let fits : 2 * c.log_room.result < 2 ^ 32 = room_fits (geometry_of v.cache) v.cache.parts.log.next c.log_room.result (c.log_room.ensures (g.M.Media.state c.args.media.now).contents c.requires.may.left.held (c.requires.may.left.up c.requires.may.up).holds) in
     search rules
 
 pub returns-then-log_room-j-clause-idled : goal.returns-then-log_room-j-clause-idled
 returns-then-log_room-j-clause-idled g c =
     let v = c.args.self.now in
     let more : c.j.result * c.p.result < 2 * c.log_room.result = search rules in
-    not_due v.options.geometry (log_room v.cache) c.log_room.result c.j.result c.p.result (c.log_room.ensures (g.M.Media.state c.args.media.now).contents c.requires.left.held (c.requires.left.up c.requires.up).holds) c.j.ensures c.p.ensures more
+    not_due v.options.geometry (log_room v.cache) c.log_room.result c.j.result c.p.result (c.log_room.ensures (g.M.Media.state c.args.media.now).contents c.requires.may.left.held (c.requires.may.left.up c.requires.may.up).holds) c.j.ensures c.p.ensures more
 
 pub returns-in-Ok-clause-idled : goal.returns-in-Ok-clause-idled
 returns-in-Ok-clause-idled g c =
     let v = c.args.self.now in
     let few : 2 * c.log_room.result ≤ c.j.result * c.p.result = search rules in
-    due v.options.geometry (log_room v.cache) c.log_room.result c.j.result c.p.result (c.log_room.ensures (g.M.Media.state c.args.media.now).contents c.requires.left.held (c.requires.left.up c.requires.up).holds) c.j.ensures c.p.ensures few
+    due v.options.geometry (log_room v.cache) c.log_room.result c.j.result c.p.result (c.log_room.ensures (g.M.Media.state c.args.media.now).contents c.requires.may.left.held (c.requires.may.left.up c.requires.may.up).holds) c.j.ensures c.p.ensures few
 
 pub checkpoint-requires : goal.checkpoint-requires
-checkpoint-requires g c = record { up = is_up c.args.self.now (g.M.Media.state c.args.media.now).contents c.requires.left.held c.requires.up (c.requires.left.up c.requires.up) }
+checkpoint-requires g c = record { up = is_up c.args.self.now (g.M.Media.state c.args.media.now).contents c.requires.may.left.held c.requires.may.up (c.requires.may.left.up c.requires.may.up) }
 
 pub returns-in-Ok-clause-serves : goal.returns-in-Ok-clause-serves
 returns-in-Ok-clause-serves g c =
     let v = c.args.self.now in
     let old = (g.M.Media.state c.args.media.now).contents in
     let new = (g.M.Media.state c.checkpoint.new.media).contents in
-    let s = c.requires.left.held in
-    let is = c.requires.left.up c.requires.up in
-    let by = drove_held v c.checkpoint.new.self (g.M.Media.state c.args.media.now) (g.M.Media.state c.checkpoint.new.media) (ssc_failed c.checkpoint.result) (ssc_lost c.checkpoint.result) c.requires.left c.requires.up c.checkpoint.ensures.runs.geometry c.checkpoint.ensures.runs.drives in
+    let s = c.requires.may.left.held in
+    let is = c.requires.may.left.up c.requires.may.up in
+    let by = drove_held v c.checkpoint.new.self (g.M.Media.state c.args.media.now) (g.M.Media.state c.checkpoint.new.media) (ssc_failed c.checkpoint.result) (ssc_lost c.checkpoint.result) c.requires.may.left c.requires.may.up c.checkpoint.ensures.runs.geometry c.checkpoint.ensures.runs.drives in
     let w : CachedDisk = record v { cache = c.checkpoint.new.self } in
     record {
       left = done_left v c.checkpoint.new.self old new s by s (shows_itself v old s is) (c.in-Ok.ensures.done s is.holds) (λ a dirty. dirty) (may_none v.mode (pending c.checkpoint.new.self) c.in-Ok.ensures.nothing_waits);
@@ -58,9 +58,9 @@ returns-in-Ok-clause-costs g c = λ order none.
     let v = c.args.self.now in
     let old = (g.M.Media.state c.args.media.now).contents in
     let new = (g.M.Media.state c.checkpoint.new.media).contents in
-    let s = c.requires.left.held in
-    let is = c.requires.left.up c.requires.up in
-    let by = drove_held v c.checkpoint.new.self (g.M.Media.state c.args.media.now) (g.M.Media.state c.checkpoint.new.media) (ssc_failed c.checkpoint.result) (ssc_lost c.checkpoint.result) c.requires.left c.requires.up c.checkpoint.ensures.runs.geometry c.checkpoint.ensures.runs.drives in
+    let s = c.requires.may.left.held in
+    let is = c.requires.may.left.up c.requires.may.up in
+    let by = drove_held v c.checkpoint.new.self (g.M.Media.state c.args.media.now) (g.M.Media.state c.checkpoint.new.media) (ssc_failed c.checkpoint.result) (ssc_lost c.checkpoint.result) c.requires.may.left c.requires.may.up c.checkpoint.ensures.runs.geometry c.checkpoint.ensures.runs.drives in
     let holds = c.in-Ok.ensures.done s is.holds in
     let w : CachedDisk = record v { cache = c.checkpoint.new.self } in
     let idle = idle_same (told_of v) (waiting_in v.options.geometry.p order (dirty_of v)) (length order) (length-map order _) none in
@@ -73,10 +73,10 @@ returns-in-Err-clause-serves g c =
     let v = c.args.self.now in
     let old = (g.M.Media.state c.args.media.now).contents in
     let new = (g.M.Media.state c.checkpoint.new.media).contents in
-    let s = c.requires.left.held in
-    let is = c.requires.left.up c.requires.up in
-    let by = drove_held v c.checkpoint.new.self (g.M.Media.state c.args.media.now) (g.M.Media.state c.checkpoint.new.media) (ssc_failed c.checkpoint.result) (ssc_lost c.checkpoint.result) c.requires.left c.requires.up c.checkpoint.ensures.runs.geometry c.checkpoint.ensures.runs.drives in
-    let shown = commit_shows v old s c.requires.left.own is new.flash.page (c.checkpoint.ensures.images s is.holds (with_newest new) (newest_image new)) in
+    let s = c.requires.may.left.held in
+    let is = c.requires.may.left.up c.requires.may.up in
+    let by = drove_held v c.checkpoint.new.self (g.M.Media.state c.args.media.now) (g.M.Media.state c.checkpoint.new.media) (ssc_failed c.checkpoint.result) (ssc_lost c.checkpoint.result) c.requires.may.left c.requires.may.up c.checkpoint.ensures.runs.geometry c.checkpoint.ensures.runs.drives in
+    let shown = commit_shows v old s c.requires.may.left.own is new.flash.page (c.checkpoint.ensures.images s is.holds (with_newest new) (newest_image new)) in
     let w : CachedDisk = record v { cache = c.checkpoint.new.self } in
     record {
       left = refused_left v c.checkpoint.new.self old new s by shown.list shown.shows shown.stands

@@ -1,4 +1,4 @@
-use Rattle.std.proofs.Common.{refl, sym, subst, ◌∙◌, false, ap, ℕ}
+use Rattle.std.proofs.Common.{refl, rules, sym, subst, ◌∙◌, false, ap, ℕ}
 use Rattle.ft_base.specs.Contents.{Shape, Values}
 use Rattle.ft_volume.specs.Opening.{nothing_held}
 use Rattle.op_log.specs.Log.{FitsOn}
@@ -10,26 +10,51 @@ pub returns-in-Ok-clause-owns : goal.returns-in-Ok-clause-owns
 returns-in-Ok-clause-owns g c =
     let v : CachedDisk = record { alloc = c.args.alloc; options = c.args.options.now; mode = c.args.mode; cache = c.in-Ok.cache; down = false } in
     let mid = (g.M.Media.state c.format.new.media).contents in
-    opened_left v mid (g.M.Media.state c.open_cache.new.media).contents nothing_held c.in-Ok.ensures.opened c.in-Ok.ensures.opens c.in_default.ensures.done (none_agrees mid.disk) (none_suits v.mode)
-    (subst (λ (x : Shape). FitsOn c.args.options.now.geometry x) (sym (c.in-Ok.ensures.goes.passes.shape ∙ c.format.ensures.drives.passes.shape)) c.requires.shape)
+    opened_left v mid (g.M.Media.state c.open_cache.new.media).contents nothing_held c.in-Ok.ensures.opened c.in-Ok.ensures.opening.opens c.in_default.ensures.done (none_agrees mid.disk) (none_suits v.mode)
+    (subst (λ (x : Shape). FitsOn c.args.options.now.geometry x) (sym (c.in-Ok.ensures.opening.goes.passes.shape ∙ c.format.ensures.drives.passes.shape)) c.requires.shape)
 
 pub returns-in-Ok-clause-opened : goal.returns-in-Ok-clause-opened
 returns-in-Ok-clause-opened g c =
     let v : CachedDisk = record { alloc = c.args.alloc; options = c.args.options.now; mode = c.args.mode; cache = c.in-Ok.cache; down = false } in
-    opened_fresh v (g.M.Media.state c.format.new.media).contents (g.M.Media.state c.open_cache.new.media).contents nothing_held c.in-Ok.ensures.opened c.in-Ok.ensures.opens c.in_default.ensures.done refl
+    opened_fresh v (g.M.Media.state c.format.new.media).contents (g.M.Media.state c.open_cache.new.media).contents nothing_held c.in-Ok.ensures.opened c.in-Ok.ensures.opening.opens c.in_default.ensures.done refl
 
-pub returns-in-Ok-clause-stands : goal.returns-in-Ok-clause-stands
-returns-in-Ok-clause-stands g c = λ d is.
+pub returns-in-Ok-clause-creates : goal.returns-in-Ok-clause-creates
+returns-in-Ok-clause-creates g c =
     let v : CachedDisk = record { alloc = c.args.alloc; options = c.args.options.now; mode = c.args.mode; cache = c.in-Ok.cache; down = false } in
     let mid = (g.M.Media.state c.format.new.media).contents in
-    opened_stands v mid (g.M.Media.state c.open_cache.new.media).contents nothing_held c.in-Ok.ensures.opened c.in-Ok.ensures.opens c.in_default.ensures.done (none_agrees mid.disk) (none_suits v.mode) d
-    (empty_volume c.args.options.now.geometry mid (g.M.Media.state c.args.media.now).contents d (λ a. ap (λ (f : ℕ → Values). f a) (c.in_default.ensures.drives.disk.stays refl)) is)
+    record {
+      stands = λ d is.
+          opened_stands v mid (g.M.Media.state c.open_cache.new.media).contents nothing_held c.in-Ok.ensures.opened c.in-Ok.ensures.opening.opens c.in_default.ensures.done (none_agrees mid.disk) (none_suits v.mode) d
+          (empty_volume c.args.options.now.geometry mid (g.M.Media.state c.args.media.now).contents d (λ a. ap (λ (f : ℕ → Values). f a) (c.in_default.ensures.drives.disk.stays refl)) is);
+      values = λ lba b has. c.format.ensures.drives.disk.values lba b (c.open_cache.ensures.opening.opens.values lba b has);
+      ready = λ b there. c.in-Ok.ensures.opening.goes.ready b (c.in_default.ensures.drives.ready refl refl b there);
+      within = search rules;
+      disk_reads = search rules;
+      disk_writes = search rules;
+      cause = search rules;
+      passes = search rules;
+    }
 
-pub returns-in-Ok-clause-values : goal.returns-in-Ok-clause-values
-returns-in-Ok-clause-values g c = λ lba b has. c.format.ensures.drives.disk.values lba b (c.open_cache.ensures.opens.values lba b has)
+pub returns-in-Err-clause-creates : goal.returns-in-Err-clause-creates
+returns-in-Err-clause-creates g c = record {
+  stands = tt;
+  values = search rules;
+  ready = tt;
+  within = search rules;
+  disk_reads = search rules;
+  disk_writes = search rules;
+  cause = search rules;
+  passes = search rules;
+}
 
-pub returns-in-Err-open_cache-clause-values : goal.returns-in-Err-open_cache-clause-values
-returns-in-Err-open_cache-clause-values g c = λ lba b has. c.format.ensures.drives.disk.values lba b (c.open_cache.ensures.opens.values lba b has)
-
-pub returns-in-Ok-clause-ready : goal.returns-in-Ok-clause-ready
-returns-in-Ok-clause-ready g c = λ b there. c.in-Ok.ensures.goes.ready b (c.in_default.ensures.drives.ready refl refl b there)
+pub returns-in-Err-open_cache-clause-creates : goal.returns-in-Err-open_cache-clause-creates
+returns-in-Err-open_cache-clause-creates g c = record {
+  stands = tt;
+  values = λ lba b has. c.format.ensures.drives.disk.values lba b (c.open_cache.ensures.opening.opens.values lba b has);
+  ready = tt;
+  within = search rules;
+  disk_reads = search rules;
+  disk_writes = search rules;
+  cause = search rules;
+  passes = search rules;
+}

@@ -12,16 +12,16 @@ use Rattle.cached_disk.proofs.ReadLemmas.{commit_shows, done_dirty, done_left, d
 use Rattle.cached_disk.proofs.disk.CachedDisk.flush.Goals as goal
 
 pub commit-requires : goal.commit-requires
-commit-requires g c = record { up = is_up c.args.self.now (g.M.Media.state c.args.media.now).contents c.requires.left.held c.requires.up (c.requires.left.up c.requires.up) }
+commit-requires g c = record { up = is_up c.args.self.now (g.M.Media.state c.args.media.now).contents c.requires.may.left.held c.requires.may.up (c.requires.may.left.up c.requires.may.up) }
 
 pub returns-in-Ok-clause-serves : goal.returns-in-Ok-clause-serves
 returns-in-Ok-clause-serves g c =
     let v = c.args.self.now in
     let old = (g.M.Media.state c.args.media.now).contents in
     let new = (g.M.Media.state c.commit.new.media).contents in
-    let s = c.requires.left.held in
-    let is = c.requires.left.up c.requires.up in
-    let by = drove_held v c.commit.new.self (g.M.Media.state c.args.media.now) (g.M.Media.state c.commit.new.media) (ssc_failed c.commit.result) (ssc_lost c.commit.result) c.requires.left c.requires.up c.commit.ensures.runs.geometry c.commit.ensures.runs.drives in
+    let s = c.requires.may.left.held in
+    let is = c.requires.may.left.up c.requires.may.up in
+    let by = drove_held v c.commit.new.self (g.M.Media.state c.args.media.now) (g.M.Media.state c.commit.new.media) (ssc_failed c.commit.result) (ssc_lost c.commit.result) c.requires.may.left c.requires.may.up c.commit.ensures.runs.geometry c.commit.ensures.runs.drives in
     let w : CachedDisk = record v { cache = c.commit.new.self } in
     record {
       left = done_left v c.commit.new.self old new s by s (shows_itself v old s is) (c.in-Ok.ensures.done s is.holds) (λ a dirty. dirty) (may_none v.mode (pending c.commit.new.self) c.in-Ok.ensures.nothing_waits);
@@ -38,9 +38,9 @@ returns-in-Ok-clause-costs g c = λ order.
     let v = c.args.self.now in
     let old = (g.M.Media.state c.args.media.now).contents in
     let new = (g.M.Media.state c.commit.new.media).contents in
-    let s = c.requires.left.held in
-    let is = c.requires.left.up c.requires.up in
-    let by = drove_held v c.commit.new.self (g.M.Media.state c.args.media.now) (g.M.Media.state c.commit.new.media) (ssc_failed c.commit.result) (ssc_lost c.commit.result) c.requires.left c.requires.up c.commit.ensures.runs.geometry c.commit.ensures.runs.drives in
+    let s = c.requires.may.left.held in
+    let is = c.requires.may.left.up c.requires.may.up in
+    let by = drove_held v c.commit.new.self (g.M.Media.state c.args.media.now) (g.M.Media.state c.commit.new.media) (ssc_failed c.commit.result) (ssc_lost c.commit.result) c.requires.may.left c.requires.may.up c.commit.ensures.runs.geometry c.commit.ensures.runs.drives in
     let holds = c.in-Ok.ensures.done s is.holds in
     let w : CachedDisk = record v { cache = c.commit.new.self } in
     same_costs tt Flushes (state_in order v) (state_in order w) (g.M.Media.state c.args.media.now) (g.M.Media.state c.commit.new.media) (λ a own. own) refl
@@ -52,10 +52,10 @@ returns-in-Err-clause-serves g c =
     let v = c.args.self.now in
     let old = (g.M.Media.state c.args.media.now).contents in
     let new = (g.M.Media.state c.commit.new.media).contents in
-    let s = c.requires.left.held in
-    let is = c.requires.left.up c.requires.up in
-    let by = drove_held v c.commit.new.self (g.M.Media.state c.args.media.now) (g.M.Media.state c.commit.new.media) (ssc_failed c.commit.result) (ssc_lost c.commit.result) c.requires.left c.requires.up c.commit.ensures.runs.geometry c.commit.ensures.runs.drives in
-    let shown = commit_shows v old s c.requires.left.own is new.flash.page (c.commit.ensures.images s is.holds (with_newest new) (newest_image new)) in
+    let s = c.requires.may.left.held in
+    let is = c.requires.may.left.up c.requires.may.up in
+    let by = drove_held v c.commit.new.self (g.M.Media.state c.args.media.now) (g.M.Media.state c.commit.new.media) (ssc_failed c.commit.result) (ssc_lost c.commit.result) c.requires.may.left c.requires.may.up c.commit.ensures.runs.geometry c.commit.ensures.runs.drives in
+    let shown = commit_shows v old s c.requires.may.left.own is new.flash.page (c.commit.ensures.images s is.holds (with_newest new) (newest_image new)) in
     let w : CachedDisk = record v { cache = c.commit.new.self } in
     record {
       left = refused_left v c.commit.new.self old new s by shown.list shown.shows shown.stands

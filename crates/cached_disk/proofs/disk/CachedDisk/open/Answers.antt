@@ -17,13 +17,13 @@ returns-clause-owns g c =
     let s : CacheList = some.0 in
     let stands : FlashStandsFor c.args.options.now.geometry old.flash.page s = some.1 in
     let may = c.requires.agrees s stands in
-    opened_left v old (g.M.Media.state c.open_cache.new.media).contents s c.in_ok-cache.ensures.opened c.in_ok-cache.ensures.opens stands may.0 may.1
-    (subst (λ (x : Shape). FitsOn c.args.options.now.geometry x) (sym c.in_ok-cache.ensures.goes.passes.shape) c.requires.shape)
+    opened_left v old (g.M.Media.state c.open_cache.new.media).contents s c.in_ok-cache.ensures.opened c.in_ok-cache.ensures.opening.opens stands may.0 may.1
+    (subst (λ (x : Shape). FitsOn c.args.options.now.geometry x) (sym c.in_ok-cache.ensures.opening.goes.passes.shape) c.requires.shape)
 
 pub returns-clause-opened : goal.returns-clause-opened
 returns-clause-opened g c = λ s stands.
     let v : CachedDisk = record { alloc = c.args.alloc; options = c.args.options.now; mode = c.args.mode; cache = c.in_ok-cache.cache; down = false } in
-    opened_fresh v (g.M.Media.state c.args.media.now).contents (g.M.Media.state c.open_cache.new.media).contents s c.in_ok-cache.ensures.opened c.in_ok-cache.ensures.opens stands refl
+    opened_fresh v (g.M.Media.state c.args.media.now).contents (g.M.Media.state c.open_cache.new.media).contents s c.in_ok-cache.ensures.opened c.in_ok-cache.ensures.opening.opens stands refl
 
 pub returns-clause-up : goal.returns-clause-up
 returns-clause-up g c = (refl, refl, c.in_ok-cache.ensures.opened.goes)
@@ -32,4 +32,4 @@ pub returns-clause-stands : goal.returns-clause-stands
 returns-clause-stands g c = λ s stands.
     let v : CachedDisk = record { alloc = c.args.alloc; options = c.args.options.now; mode = c.args.mode; cache = c.in_ok-cache.cache; down = false } in
     let may = c.requires.agrees s stands in
-    opened_stands v (g.M.Media.state c.args.media.now).contents (g.M.Media.state c.open_cache.new.media).contents s c.in_ok-cache.ensures.opened c.in_ok-cache.ensures.opens stands may.0 may.1
+    opened_stands v (g.M.Media.state c.args.media.now).contents (g.M.Media.state c.open_cache.new.media).contents s c.in_ok-cache.ensures.opened c.in_ok-cache.ensures.opening.opens stands may.0 may.1

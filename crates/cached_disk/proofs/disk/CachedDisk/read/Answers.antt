@@ -16,23 +16,23 @@ use Rattle.cached_disk.proofs.disk.CachedDisk.read.Goals as goal
 
 pub read-requires-clause-up : goal.read-requires-clause-up
 read-requires-clause-up g c =
-    is_up c.args.self.now (g.M.Media.state c.args.media.now).contents c.requires.left.held c.requires.up (c.requires.left.up c.requires.up)
+    is_up c.args.self.now (g.M.Media.state c.args.media.now).contents c.requires.may.left.held c.requires.may.up (c.requires.may.left.up c.requires.may.up)
 
 -- the cache doesn't hold it
 
-pub read_missing-requires-clause-left : goal.read_missing-requires-clause-left
-read_missing-requires-clause-left g c =
+pub read_missing-requires-clause-may : goal.read_missing-requires-clause-may
+read_missing-requires-clause-may g c =
     let v = c.args.self.now in
     let old = (g.M.Media.state c.args.media.now).contents in
     let mid = (g.M.Media.state c.read.new.media).contents in
-    left_same v c.read.new.self old mid c.read.ensures.same c.read.ensures.reads.contents c.requires.left
+    record { left = left_same v c.read.new.self old mid c.read.ensures.same c.read.ensures.reads.contents c.requires.may.left; up = search rules }
 
 pub read_missing-requires-clause-absent : goal.read_missing-requires-clause-absent
 read_missing-requires-clause-absent g c =
     let v = c.args.self.now in
     let old = (g.M.Media.state c.args.media.now).contents in
-    let s = c.requires.left.held in
-    let holds = (c.requires.left.up c.requires.up).holds in
+    let s = c.requires.may.left.held in
+    let holds = (c.requires.may.left.up c.requires.may.up).holds in
     let is : c.in-Ok-false.field-0 ≡ false = search rules in
     let read : ReadOf (get s c.args.lba) false c.read.new.block = subst (λ (x : Bool). ReadOf (get s c.args.lba) x c.read.new.block) is (c.in-Ok-false.ensures.found s holds) in
     ap (λ (k : Ssc). get (entries_of k) c.args.lba) c.read.ensures.same ∙ absent_entry v.cache old s holds c.args.lba (read_absent (get s c.args.lba) c.read.new.block read)
@@ -77,15 +77,15 @@ returns-in-Ok-true-clause-serves g c =
     let old = (g.M.Media.state c.args.media.now).contents in
     let mid = (g.M.Media.state c.read.new.media).contents in
     let w : CachedDisk = record v { cache = c.read.new.self } in
-    let s = c.requires.left.held in
-    let held = c.requires.left.up c.requires.up in
+    let s = c.requires.may.left.held in
+    let held = c.requires.may.left.up c.requires.may.up in
     let is : c.in-Ok-true.field-0 ≡ true = search rules in
     let read : ReadOf (get s c.args.lba) true c.read.new.block = subst (λ (x : Bool). ReadOf (get s c.args.lba) x c.read.new.block) is (c.in-Ok-true.ensures.found s held.holds) in
     record {
-      left = left_same v c.read.new.self old mid c.read.ensures.same c.read.ensures.reads.contents c.requires.left;
+      left = left_same v c.read.new.self old mid c.read.ensures.same c.read.ensures.reads.contents c.requires.may.left;
       was = λ order base stand. answered_same (Reads c.args.lba c.read.new.block) (state_in order v) (state_in order w) mid base refl refl
           (subst (λ (x : Contents). StandFor (ImageIs (told_of v)) x base) (sym c.read.ensures.reads.contents) stand) tt refl
-          (found_held v old s c.requires.left.own held c.args.lba c.read.new.block c.requires.lba read base stand);
+          (found_held v old s c.requires.may.left.own held c.args.lba c.read.new.block c.requires.lba read base stand);
       goes = search rules;
       dirty = search rules;
       options = search rules;
@@ -101,7 +101,7 @@ returns-in-Err-clause-serves g c =
     let mid = (g.M.Media.state c.read.new.media).contents in
     let w : CachedDisk = record v { cache = c.read.new.self } in
     record {
-      left = left_same v c.read.new.self old mid c.read.ensures.same c.read.ensures.reads.contents c.requires.left;
+      left = left_same v c.read.new.self old mid c.read.ensures.same c.read.ensures.reads.contents c.requires.may.left;
       was = λ order base stand. refused_same (Reads c.args.lba c.read.new.block) (state_in order v) (state_in order w) mid base refl refl
           (subst (λ (x : Contents). StandFor (ImageIs (told_of v)) x base) (sym c.read.ensures.reads.contents) stand) c.cache_error.result;
       goes = search rules;

@@ -28,7 +28,7 @@ returns-then-is_err-clause-serves g c =
     let reserved : IsReserved v.cache k = record { geometry = c.reserve.ensures.same; holds = c.reserve.ensures.holds; pending = c.reserve.ensures.pending; stopped = c.reserve.ensures.stopped } in
     let old = (g.M.Media.state c.args.media.now).contents in
     record {
-      left = reserved_left v k reserved old old refl c.requires.left;
+      left = reserved_left v k reserved old old refl c.requires.may.left;
       was = search rules;
       goes = search rules;
       dirty = search rules;
@@ -47,7 +47,7 @@ returns-in-Err-clause-serves g c =
     let mid = g.M.Media.state c.read_block.new.self in
     let u : CachedDisk = record v { cache = k } in
     record {
-      left = reserved_left v k reserved before.contents mid.contents c.read_block.ensures.contents c.requires.left;
+      left = reserved_left v k reserved before.contents mid.contents c.read_block.ensures.contents c.requires.may.left;
       was = λ order base stand. refused_same (Reads c.args.lba c.args.block.now) (state_in order v) (state_in order u) mid.contents base refl refl (subst (λ (x : Contents). StandFor (ImageIs (told_of v)) x base) (sym c.read_block.ensures.contents) stand) c.disk_error.result;
       goes = search rules;
       dirty = search rules;
@@ -62,8 +62,8 @@ write_clean-requires-clause-up g c =
     let reserved : IsReserved v.cache k = record { geometry = c.reserve.ensures.same; holds = c.reserve.ensures.holds; pending = c.reserve.ensures.pending; stopped = c.reserve.ensures.stopped } in
     let before = g.M.Media.state c.args.media.now in
     let mid = g.M.Media.state c.read_block.new.self in
-    let up = reserved_up v k reserved c.requires.up in
-    let left = reserved_left v k reserved before.contents mid.contents c.read_block.ensures.contents c.requires.left in
+    let up = reserved_up v k reserved c.requires.may.up in
+    let left = reserved_left v k reserved before.contents mid.contents c.read_block.ensures.contents c.requires.may.left in
     let u : CachedDisk = record v { cache = k } in
     is_up u mid.contents left.held up (left.up up)
 
@@ -76,8 +76,8 @@ returns-in-Ok-clause-serves g c =
     let reserved : IsReserved v.cache k = record { geometry = c.reserve.ensures.same; holds = c.reserve.ensures.holds; pending = c.reserve.ensures.pending; stopped = c.reserve.ensures.stopped } in
     let before = g.M.Media.state c.args.media.now in
     let mid = g.M.Media.state c.read_block.new.self in
-    let up = reserved_up v k reserved c.requires.up in
-    let left = reserved_left v k reserved before.contents mid.contents c.read_block.ensures.contents c.requires.left in
+    let up = reserved_up v k reserved c.requires.may.up in
+    let left = reserved_left v k reserved before.contents mid.contents c.read_block.ensures.contents c.requires.may.left in
     let u : CachedDisk = record v { cache = k } in
     let after = g.M.Media.state c.write_clean.new.media in
     let put = c.write_clean.new.self in
@@ -93,7 +93,7 @@ returns-in-Ok-clause-serves g c =
           (put_stands u put mid.contents after.contents s by c.args.lba c.read_block.new.block absent newest h (c.in-Ok.ensures.at_absent s by.is.holds absent) base (subst (λ (x : Contents). StandFor (ImageIs (told_of v)) x base) (sym c.read_block.ensures.contents) stand)) tt refl
           (newest ∙ found_absent u mid.contents s left.own (left.up up) c.args.lba c.requires.lba absent base (subst (λ (x : Contents). StandFor (ImageIs (told_of v)) x base) (sym c.read_block.ensures.contents) stand));
       goes = λ order. goes_after before mid after c.read_block.ensures.contents (let x = c.in_default.ensures.cause.flash in omega (arith, x)) c.in_default.ensures.cause.disk c.in_default.ensures.cause.cuts c.in_default.ensures.passes (state_in order v) (state_in order w) (Ok tt)
-          (goes_driven tt mid after (state_in order v) (state_in order w) refl (still_up v put c.requires.up c.in-Ok.ensures.runs.stopped) c.in-Ok.ensures.runs.drives);
+          (goes_driven tt mid after (state_in order v) (state_in order w) refl (still_up v put c.requires.may.up c.in-Ok.ensures.runs.stopped) c.in-Ok.ensures.runs.drives);
       dirty = λ still. put_dirty u put mid.contents after.contents s by c.args.lba c.read_block.new.block absent newest h ∙ ap dirty_lbas c.reserve.ensures.entries;
       options = search rules;
       within = search rules;
@@ -106,8 +106,8 @@ returns-in-Ok-clause-costs g c = λ order.
     let reserved : IsReserved v.cache k = record { geometry = c.reserve.ensures.same; holds = c.reserve.ensures.holds; pending = c.reserve.ensures.pending; stopped = c.reserve.ensures.stopped } in
     let before = g.M.Media.state c.args.media.now in
     let mid = g.M.Media.state c.read_block.new.self in
-    let up = reserved_up v k reserved c.requires.up in
-    let left = reserved_left v k reserved before.contents mid.contents c.read_block.ensures.contents c.requires.left in
+    let up = reserved_up v k reserved c.requires.may.up in
+    let left = reserved_left v k reserved before.contents mid.contents c.read_block.ensures.contents c.requires.may.left in
     let u : CachedDisk = record v { cache = k } in
     let after = g.M.Media.state c.write_clean.new.media in
     let put = c.write_clean.new.self in
@@ -132,8 +132,8 @@ returns-in-Err-write_clean-clause-serves g c =
     let reserved : IsReserved v.cache k = record { geometry = c.reserve.ensures.same; holds = c.reserve.ensures.holds; pending = c.reserve.ensures.pending; stopped = c.reserve.ensures.stopped } in
     let before = g.M.Media.state c.args.media.now in
     let mid = g.M.Media.state c.read_block.new.self in
-    let up = reserved_up v k reserved c.requires.up in
-    let left = reserved_left v k reserved before.contents mid.contents c.read_block.ensures.contents c.requires.left in
+    let up = reserved_up v k reserved c.requires.may.up in
+    let left = reserved_left v k reserved before.contents mid.contents c.read_block.ensures.contents c.requires.may.left in
     let u : CachedDisk = record v { cache = k } in
     let after = g.M.Media.state c.write_clean.new.media in
     let put = c.write_clean.new.self in
