@@ -5,10 +5,10 @@ use Rattle.ft_base.specs.Count.{last_count}
 use Rattle.ft_base.specs.Layout.{k}
 use Rattle.ft_media.specs.declared.rig.Counts.{Counts}
 use Rattle.ft_media.specs.Media.{program_counted, erase_counted}
-use Rattle.ft_media.specs.Passes.{Passes}
+use Rattle.ft_media.specs.Passes.{Passes, ProgramsPages}
 use Rattle.ft_media.specs.State.{State}
 use Rattle.ft_media.proofs.PassesLemmas.{spends_after}
-use Rattle.checkpoint.specs.Counts.{ProgramsPages, raised, erases_counted, programs_counted, checkpoint_counted, format_counted}
+use Rattle.checkpoint.specs.Counts.{raised, erases_counted, programs_counted, checkpoint_counted, format_counted}
 
 raised_none : (c : ℕ) → c ≤ last_count → c ≡ raised 0 c
 raised_none c low = omega arith

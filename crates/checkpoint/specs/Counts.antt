@@ -1,11 +1,9 @@
 -- What checkpoints add to the counts of device writes.
 use Rattle.std.specs.Prelude.{ℕ, ◌+◌, ◌*◌, min}
 use Rattle.ft_base.specs.declared.geometry.Geometry.{Geometry}
-use Rattle.ft_base.specs.Count.{Rose, last_count}
+use Rattle.ft_base.specs.Count.{last_count}
 use Rattle.ft_base.specs.Layout.{k}
 use Rattle.ft_media.specs.declared.rig.Counts.{Counts}
-use Rattle.ft_media.specs.State.{State}
-use Rattle.ft_media.specs.Passes.{Spends}
 
 -- so many more, up to the last value
 abbrev pub raised : ℕ → ℕ → ℕ
@@ -25,8 +23,3 @@ checkpoint_counted g pages counts = programs_counted (pages + 1) (erases_counted
 -- formatting erases each block of both regions and of the first log, and programs a seal
 abbrev pub format_counted : Geometry → Counts → Counts
 format_counted g counts = programs_counted 1 (erases_counted (2 * k g + g.j) counts)
-
--- the count of programs tells of a new one, and so many device writes were spent at least
-pub record ProgramsPages (n : ℕ) (before after : State) : Type 0 where
-  pub count : Rose before.counts.programs after.counts.programs
-  pub spends : Spends n before after

@@ -2,7 +2,7 @@ ghost use Rattle.std.specs.Prelude.{◌≡◌, ◌≢◌, ◌<◌, ◌≤◌, []
 ghost use Rattle.ft_base.specs.Layout.{log_pages};
 ghost use Rattle.ft_media.specs.Drives.{OnlyDrives};
 ghost use Rattle.checkpoint.specs.Commits.{CanCheckpoint, LogGoesOn, LeavesPool, AddsLogPage, AddsCheckpoint};
-ghost use Rattle.checkpoint.specs.Counts.{ProgramsPages};
+ghost use Rattle.ft_media.specs.Passes.{ProgramsPages};
 ghost use Rattle.checkpoint.specs.Current.{IsOpenLog, IsCommitted, LogGoesLast, log_committed, log_checkpointed};
 
 use crate::asking::ROOM;

@@ -10,7 +10,8 @@ ghost use Rattle.cache_model.specs.Spelling.{may_stand_in};
 ghost use Rattle.mapping.specs.Checkpoint.{IsCheckpointOf};
 ghost use Rattle.op_log.specs.Log.{FitsOn};
 ghost use Rattle.checkpoint.specs.Asked.{asked_records};
-ghost use Rattle.checkpoint.specs.Counts.{ProgramsPages, checkpoint_counted, programs_counted};
+ghost use Rattle.checkpoint.specs.Counts.{checkpoint_counted, programs_counted};
+ghost use Rattle.ft_media.specs.Passes.{ProgramsPages};
 ghost use Rattle.checkpoint.specs.Regions.{AreBlank, CanProgram, IsReadyAt, IsMapPage, IsSealPage, Programmed, LeavesOne, MapsWritten, LeavesMaps, IsUnsealed, IsSealed, IsWritten, map_pages};
 
 use crate::asking::{ask, records_of};

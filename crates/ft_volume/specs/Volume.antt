@@ -21,7 +21,7 @@ use Rattle.ft_volume.specs.declared.volume.Idled.TheVariants.{Nothing, Cleaned, 
 use Rattle.ft_volume.specs.declared.volume.VolumeError.{VolumeError}
 use Rattle.ft_volume.specs.declared.volume.VolumeError.TheVariants.{FlashFault, DiskFault, PowerLost, OutOfMemory, OutOfVolume}
 use Rattle.ft_media.specs.Fitted.{KeepsReady}
-use Rattle.ft_media.specs.Passes.{Passes, Spends}
+use Rattle.ft_media.specs.Passes.{Passes}
 use Rattle.ft_media.specs.State.{State, Faults}
 use Rattle.ft_volume.specs.Standing.{StandFor}
 
@@ -261,13 +261,6 @@ pub record Costs {T : Type 0} (call : Call) (old new : VolumeState) (before afte
 abbrev pub idled_of : Told → ℕ → ℕ → Idled
 idled_of told groups room = if goes_back told.mode told.dirty groups then Cleaned else
     (if nat_le (2 * room) (log_pages told.geometry) then Checkpointed else Nothing)
-
--- ---- what a write costs the flash
-
--- a page was programmed: the count tells it, and it is one device write less before the front stop
-pub record Programs (before after : State) : Type 0 where
-  pub count : Rose before.counts.programs after.counts.programs
-  pub spends : Spends 1 before after
 
 -- ---- an opening within a call
 

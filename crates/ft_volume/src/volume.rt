@@ -7,7 +7,8 @@ ghost use Rattle.ft_base.specs.declared.block.Page.{Page};
 ghost use Rattle.ft_base.specs.declared.block.Place.{Place};
 ghost use Rattle.cache_model.specs.Records.{Entries};
 ghost use Rattle.ft_media.specs.Rig.{CutThrough};
-ghost use Rattle.ft_volume.specs.Volume.{Costs, Done, FaultDowns, Fixes, Flushes, Goes, Idles, Programs, Reads, Reports, VolumeState, Writes, idled_of, opened_of};
+ghost use Rattle.ft_volume.specs.Volume.{Costs, Done, FaultDowns, Fixes, Flushes, Goes, Idles, Reads, Reports, VolumeState, Writes, idled_of, opened_of};
+ghost use Rattle.ft_media.specs.Passes.{ProgramsPages};
 ghost use Rattle.ft_volume.specs.Reported.{IsReport};
 
 use ft_base::{Block, Outcome};
@@ -107,7 +108,7 @@ pub trait Volume<R: Rig> {
         ensures faulted { FaultDowns result (state self.new).down }
         ensures costs { (m : Entries) → loads (state self.old).told (R.state rig.old).contents.flash.page m
             → Costs (Writes lba block.now) (opened_of (state self.old) m) (state self.new) (R.state rig.old) (R.state rig.new) result }
-        ensures programs { OnOk result (Programs (R.state rig.old) (R.state rig.new)) }
+        ensures programs { OnOk result (ProgramsPages 1 (R.state rig.old) (R.state rig.new)) }
         ensures outside { IsErrOf result VolumeError.OutOfVolume ↔ ((state self.old).told.geometry.size ≤ lba) }
         ensures unchanged { IsErrOf result VolumeError.OutOfVolume → (self.new ≡ self.old) × (R.state rig.new ≡ R.state rig.old) };
 

@@ -2,7 +2,7 @@ ghost use Rattle.std.specs.Prelude.{◌≡◌, ◌≢◌, ◌<◌, [], OnOk, OnE
 ghost use Rattle.ft_base.specs.Layout.{log_pages};
 ghost use Rattle.ft_media.specs.Media.{program_counted};
 ghost use Rattle.ft_media.specs.Drives.{OnlyDrives};
-ghost use Rattle.checkpoint.specs.Counts.{ProgramsPages};
+ghost use Rattle.ft_media.specs.Passes.{ProgramsPages};
 ghost use Rattle.checkpoint.specs.Current.{PoolStays, PoolReadyStays, LoadsOneOf, log_committed, log_checkpointed};
 ghost use Rattle.merge_engine.specs.Agreement.{PartsAgree, ArePartsSound};
 ghost use Rattle.merge_engine.specs.Kept.{CommitsList};

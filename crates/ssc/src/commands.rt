@@ -8,7 +8,7 @@ ghost use Rattle.ft_media.specs.Media.{program_counted};
 ghost use Rattle.cache_model.specs.Cache.{Inserted, Cleaned, written_dirty, written_clean, evicted, made_clean, dirty_between, written_block};
 ghost use Rattle.cache_model.specs.CacheList.{CacheList};
 ghost use Rattle.cache_model.specs.declared.entry.Entry.{Entry};
-ghost use Rattle.checkpoint.specs.Counts.{ProgramsPages};
+ghost use Rattle.ft_media.specs.Passes.{ProgramsPages};
 ghost use Rattle.merge_engine.specs.Agreement.{PartsAgree, Lists};
 ghost use Rattle.ssc.specs.Errors.{ssc_failed, ssc_lost};
 ghost use Rattle.ssc.specs.CacheState.{HasMemory, Holds, IsUp, entries_of, geometry_of, log_room, open_room, pending};

@@ -2,7 +2,8 @@ ghost use Rattle.std.specs.Prelude.{◌≡◌, ◌<◌, ◌/◌, ℕ, length, tr
 ghost use Rattle.ft_base.specs.PlainDisk.{PlainDisk};
 ghost use Rattle.ft_base.specs.Table.{last_size, put_first, without_last};
 ghost use Rattle.ft_volume.specs.Opening.{ImageIs};
-ghost use Rattle.ft_volume.specs.Volume.{Costs, HoldsAfter, Programs, WasDone, Writes};
+ghost use Rattle.ft_volume.specs.Volume.{Costs, HoldsAfter, WasDone, Writes};
+ghost use Rattle.ft_media.specs.Passes.{ProgramsPages};
 ghost use Rattle.ft_volume.specs.Standing.{StandFor};
 ghost use Rattle.cached_disk.specs.Kept as kept;
 ghost use Rattle.cached_disk.specs.Kept.{WritesDisk};
@@ -31,7 +32,7 @@ impl WriteBack {
             → WasDone ImageIs (Writes lba block.now) (state_of self.old) (state_of self.new) (M.state media.new).contents result base }
         ensures costs { Costs (Writes lba block.now) (state_of self.old) (state_of self.new) (M.state media.old) (M.state media.new)
             result }
-        ensures programs { OnOk result (Programs (M.state media.old) (M.state media.new)) }
+        ensures programs { OnOk result (ProgramsPages 1 (M.state media.old) (M.state media.new)) }
     {
         let group = lba / self.disk.options.geometry.p() as u64;
         if self.disk.cache.reserve().is_err() {
@@ -112,7 +113,7 @@ impl WriteBack {
             (state_of self.new).held) }
         ensures disk_reads { (M.state media.new).counts.disk_reads ≡ (M.state media.old).counts.disk_reads }
         ensures disk_writes { (M.state media.new).counts.disk_writes ≡ (M.state media.old).counts.disk_writes }
-        ensures programs { OnOk result (Programs (M.state media.old) (M.state media.new)) }
+        ensures programs { OnOk result (ProgramsPages 1 (M.state media.old) (M.state media.new)) }
     {
         let group = lba / self.disk.options.geometry.p() as u64;
         if self.dirty.touch(group).is_err() {

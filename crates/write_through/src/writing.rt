@@ -4,10 +4,10 @@ ghost use Rattle.ft_base.specs.Count.{RoseBy};
 ghost use Rattle.ft_base.specs.PlainDisk.{PlainDisk};
 ghost use Rattle.ft_base.specs.declared.block.Block.{Block};
 ghost use Rattle.ft_media.specs.Media.{Crashed, DiskCause, FlashStays, after_write};
-ghost use Rattle.ft_media.specs.Passes.{Passes};
+ghost use Rattle.ft_media.specs.Passes.{Passes, ProgramsPages};
 ghost use Rattle.ft_media.specs.State.{failed, lost};
 ghost use Rattle.ft_volume.specs.Opening.{ImageIs};
-ghost use Rattle.ft_volume.specs.Volume.{Costs, FaultDowns, HoldsAfter, Programs, WasDone, Writes};
+ghost use Rattle.ft_volume.specs.Volume.{Costs, FaultDowns, HoldsAfter, WasDone, Writes};
 ghost use Rattle.ft_volume.specs.Standing.{StandFor};
 ghost use Rattle.cached_disk.specs.Kept.{IsMadeAs, WritesDisk};
 ghost use Rattle.cached_disk.specs.Kept as kept;
@@ -37,7 +37,7 @@ impl WriteThrough {
         ensures faulted { FaultDowns result (kept.is_down self.new.disk) }
         ensures costs { Costs (Writes lba block.now) (state_of self.old) (state_of self.new) (M.state media.old) (M.state media.new)
             result }
-        ensures programs { OnOk result (Programs (M.state media.old) (M.state media.new)) }
+        ensures programs { OnOk result (ProgramsPages 1 (M.state media.old) (M.state media.new)) }
     {
         self.reserve()?;
         self.take_out(media, lba)?;
@@ -133,7 +133,7 @@ impl WriteThrough {
         ensures refused { OnErr result (kept.is_down self.new.disk ≡ true) }
         ensures disk_reads { (M.state media.new).counts.disk_reads ≡ (M.state media.old).counts.disk_reads }
         ensures disk_writes { (M.state media.new).counts.disk_writes ≡ (M.state media.old).counts.disk_writes }
-        ensures programs { OnOk result (Programs (M.state media.old) (M.state media.new)) }
+        ensures programs { OnOk result (ProgramsPages 1 (M.state media.old) (M.state media.new)) }
         ensures memory { IsErrOf result VolumeError.OutOfMemory → ⊥ }
     {
         match self.disk.cache.write_clean(media, lba, block) {
