@@ -17,7 +17,6 @@ use Rattle.ft_volume.specs.Volume as volume
 use Rattle.cache_model.specs.declared.entry.Entry.{Entry}
 use Rattle.cache_model.specs.Cache.{Vanish, dirty_between, groups, with_group}
 use Rattle.cache_model.specs.CacheList.{CacheList, Held}
-use Rattle.cache_model.specs.Entries.{each_once}
 use Rattle.cache_model.proofs.CountLemmas.{all_members, each_once-le, member_of, member_once, once_few, same_number}
 use Rattle.cache_model.proofs.MapLemmas.{less_key, all_entries, by_get, get_insert, holds as true_of}
 use Rattle.mapping.proofs.MarksLemmas.{same_bools}

@@ -10,13 +10,11 @@ use Rattle.ft_base.specs.Contents.{Values, HasValue, set}
 use Rattle.ft_base.specs.PlainDisk.{PlainDisk}
 use Rattle.cache_model.specs.Cache.{Buffered, Inserted, Cleaned, MayWait, Vanish, address_of, written_block, marked_as, undo, written_clean, written_dirty}
 use Rattle.cache_model.specs.CacheList.{Agrees, CacheList, Held, held_or}
+use Rattle.cache_model.proofs.CountLemmas.{turned}
 use Rattle.cache_model.proofs.MapLemmas.{get_insert}
 use Rattle.cache_model.proofs.UndoLemmas.{back_at, get_undo, undone_at}
 use Rattle.cached_disk.specs.Kept.{IsDirtyIn}
 use Rattle.cached_disk.proofs.DiskLemmas.{IsOver}
-
-pub turned : (a b : ℕ) → (a == b) ≡ (b == a)
-turned a b = grind (arith, nat_tests)
 
 -- over whatever the disk may show, both lists show the same
 abbrev pub IsSameOver : (ℕ → Values) → CacheList → CacheList → Type 0

@@ -16,6 +16,7 @@ use Rattle.ft_base.specs.declared.geometry.Geometry.{Geometry}
 use Rattle.ft_base.specs.declared.record.Record.TheVariants.{SetPage, Remove, Clean, SetGroup, RemoveGroup}
 use Rattle.cache_model.specs.declared.entry.Entry.{Entry}
 use Rattle.cache_model.specs.Records.{Entries, no_entries, after, has_bit, in_log_block, page_of_group, cleaned}
+use Rattle.cache_model.proofs.CountLemmas.{taken}
 use Rattle.cache_model.proofs.StepLemmas.{and_of, get-after}
 use Rattle.cache_model.proofs.MapLemmas.{eq_key, get_insert, get_remove}
 use Rattle.block_map.specs.PageSets.{BlockPages, IsSoundBlock, IsLeftWithout, IsOnlyPage}
@@ -273,10 +274,6 @@ module _ (g : Geometry) where
     below = λ j c at. all.below j c (before j c at);
   }
     where
-      taken : (b : Bool) (o : Option BlockPages) (c : BlockPages) → cond b None o ≡ Some c → o ≡ Some c
-      taken true o c s = none_some c s
-      taken false o c s = s
-
       before : (j : ℕ) (c : BlockPages) → get blocks' j ≡ Some c → get blocks j ≡ Some c
       before j c at = taken (j == k) (get blocks j) c (sym (ap (λ m. get m j) is ∙ get_remove blocks k j) ∙ at)
 

@@ -5,7 +5,6 @@ use Rattle.std.specs.List.{AllByRecursion}
 use Rattle.std.specs.Cmp.{nat_cmp_total}
 use Rattle.std.specs.FinMap.{get, get-empty, same_map, nat_cmp-IsAntisymmetric}
 use Rattle.std.proofs.lemmas.Bool.{cases_Bool, or_left, or_right, both_ways, not-true}
-use Rattle.std.proofs.lemmas.Bool.Decides.{nat_tests}
 use Rattle.mapping.proofs.AscendingLemmas.{Items}
 use Rattle.std.proofs.lemmas.Nat.{div-mul-add, div-add-mod', mod_below}
 use Rattle.std.proofs.lemmas.Option.{none-some, same_Some}
@@ -17,16 +16,13 @@ use Rattle.cache_model.specs.Entries.{page_mapped, IsMap, fits}
 use Rattle.cache_model.specs.Loading.{after_all}
 use Rattle.cache_model.proofs.StepLemmas.{get-after}
 use Rattle.cache_model.proofs.FitsLemmas.{fits-from}
-use Rattle.cache_model.proofs.CountLemmas.{member, same_number, less-map}
+use Rattle.cache_model.proofs.CountLemmas.{member, same_number, less-map, turned}
 use Rattle.mapping.specs.declared.bits.Choice.TheVariants.{Mapped, MappedDirty}
 use Rattle.mapping.specs.Bits.{chosen_of, is_chosen}
 use Rattle.mapping.specs.Checkpoint.{set_group_of, set_page_of, block_below, ListsGroups, ListsPages, IsCheckpointOf}
 use Rattle.mapping.proofs.BitsLemmas.{bit_of_set, set_below}
 use Rattle.mapping.proofs.CountsLemmas.{div_mono}
 use Rattle.mapping.proofs.ChosenLemmas.{block_is}
-
-turned : (x y : ℕ) → (x == y) ≡ (y == x)
-turned x y = grind (arith, nat_tests)
 
 joined : (b c c' : Bool) (x y : Option Entry) → c ≡ c' → cond b x (cond c x y) ≡ cond (c' || b) x y
 joined true true c' x y e = ap (λ d. cond (d || true) x y) e

@@ -15,7 +15,7 @@ use Rattle.cache_model.specs.Records.{Entries, no_entries}
 use Rattle.cache_model.specs.Entries.{each_once, groups_with, blocks_with, page_mapped, IsMap}
 use Rattle.cache_model.proofs.MapLemmas.{holds, get_remove, less_key}
 use Rattle.cache_model.proofs.FitsLemmas.{no_entries-nil}
-use Rattle.cache_model.proofs.CountLemmas.{member, numbers, same_number, each_once-same, counts_beside, less-map, member_of, once_few}
+use Rattle.cache_model.proofs.CountLemmas.{member, numbers, same_number, each_once-same, counts_beside, less-map, member_of, once_few, taken}
 use Rattle.ft_base.specs.declared.record.Record.{Record}
 use Rattle.mapping.specs.Checkpoint.{IsCheckpointOf, set_group_of, set_page_of}
 use Rattle.mapping.specs.Numbers.{pool_pages, number_of}
@@ -162,10 +162,6 @@ no_groups g t = ap (λ (es : List (ℕ × Entry)). length (each_once (map (λ (x
 
 pub without_map : (g : Geometry) (m : Entries) (a : ℕ) → IsMap g m → IsMap g (remove m a)
 without_map g m a is_map = less-map g (remove m a) m (record { entry = λ q e is. (e, taken (q == a) (get m q) e (sym (get_remove m a q) ∙ is), (refl, refl, λ t. t)) }) is_map
-  where
-    taken : (b : Bool) (o : Option Entry) (e : Entry) → cond b None o ≡ Some e → o ≡ Some e
-    taken true o e s = none_some e s
-    taken false o e s = s
 
 -- ---- the blocks that have mapped pages
 

@@ -13,7 +13,7 @@ use Rattle.ft_base.specs.Layout.{first_pool}
 use Rattle.cache_model.specs.declared.entry.Entry.{Entry}
 use Rattle.cache_model.specs.Records.{Entries}
 use Rattle.cache_model.specs.Entries.{InPool, IsMap, each_once, page_mapped}
-use Rattle.cache_model.proofs.CountLemmas.{member, each_once-le, same_number}
+use Rattle.cache_model.proofs.CountLemmas.{member, each_once-le, same_number, turned as equals_turned}
 use Rattle.block_map.specs.PageSets.{BlockPages}
 use Rattle.mapping.specs.Numbers.{number_of, HasNumber, HasNone, AreNumbered}
 use Rattle.mapping.specs.declared.bits.Choice.TheVariants.{Mapped}
@@ -167,10 +167,7 @@ distinct_count (x ∷ xs) distinct = ap (λ b. length (if b then each_once xs el
 
 in_from_member : (n : ℕ) (xs : List ℕ) → member n xs ≡ is_in n xs
 in_from_member n [] = refl
-in_from_member n (x ∷ xs) = ap (λ b. b || member n xs) (turned n x) ∙ ap (λ b. (n == x) || b) (in_from_member n xs)
-  where
-    turned : (n x : ℕ) → (x == n) ≡ (n == x)
-    turned n x = grind (arith, nat_tests)
+in_from_member n (x ∷ xs) = ap (λ b. b || member n xs) (equals_turned x n) ∙ ap (λ b. (n == x) || b) (in_from_member n xs)
 
 no_more_than : (xs ys : List ℕ) → IsDistinct nat_eq xs → ((n : ℕ) → is_in n xs ≡ true → member n ys ≡ true) → length xs ≤ length (each_once ys)
 no_more_than xs ys distinct within = subst (λ n. n ≤ length (each_once ys)) (distinct_count xs distinct) (each_once-le xs ys (λ n there. within n (sym (in_from_member n xs) ∙ there)))

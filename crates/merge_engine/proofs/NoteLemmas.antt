@@ -23,7 +23,7 @@ use Rattle.cache_model.specs.Stands.{held_at, held_in}
 use Rattle.cache_model.proofs.MapLemmas.{get_insert, get_remove}
 use Rattle.cache_model.proofs.StepLemmas.{get-after}
 use Rattle.cache_model.proofs.FitsLemmas.{fits-from}
-use Rattle.cache_model.proofs.CountLemmas.{same_number}
+use Rattle.cache_model.proofs.CountLemmas.{same_number, taken}
 use Rattle.cache_model.proofs.UndoLemmas.{get_marked}
 use Rattle.mapping.specs.MapValue.{MapValue}
 use Rattle.op_log.specs.Log.{LogValue, pushed}
@@ -145,10 +145,6 @@ module _ (g : Geometry) (m : Entries) (lba : ℕ) (at : Place) (dirty : Bool) wh
 
 pub less_removed : (g : Geometry) (lba : ℕ) (m : Entries) → IsLess (after g (Remove lba) m) m
 less_removed g lba m = record { entry = λ a e at. (e, taken (a == lba) (get m a) e (sym (get-after g (Remove lba) m a) ∙ at), (refl, refl, λ t. t)) }
-  where
-    taken : (b : Bool) (o : Option Entry) (e : Entry) → cond b None o ≡ Some e → o ≡ Some e
-    taken true o e is = absurd (cc)
-    taken false o e is = is
 
 pub less_cleaned : (g : Geometry) (lba : ℕ) (m : Entries) → IsLess (after g (Clean lba) m) m
 less_cleaned g lba m = record { entry = λ a e at. by (a == lba) (get m a) e (sym (get-after g (Clean lba) m a) ∙ at) }

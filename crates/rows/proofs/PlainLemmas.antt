@@ -1,5 +1,5 @@
 -- Lines that were run, one by one.
-use Rattle.std.proofs.Common.{◌<◌, ℕ, List, [], ◌∷◌, length, get_or, drop}
+use Rattle.std.proofs.Common.{◌<◌, List, [], ◌∷◌, length, get_or, drop}
 use Rattle.trace_model.specs.declared.ran.Ran.{Ran}
 use Rattle.trace_model.specs.Plain.{AreAddressed, AreRunLines, IsRunLine}
 

@@ -4,7 +4,6 @@ use Rattle.std.specs.Option.{option_and_then, option_map}
 use Rattle.std.specs.List.{list_all, AllByRecursion}
 use Rattle.std.specs.FinMap.{get}
 use Rattle.std.proofs.lemmas.Bool.{cases_Bool, and_parts, and_from, or_parts}
-use Rattle.std.proofs.lemmas.Bool.Decides.{nat_tests}
 use Rattle.ft_base.specs.declared.block.Block.{Block}
 use Rattle.ft_base.specs.declared.block.Place.{Place}
 use Rattle.ft_base.specs.declared.geometry.Geometry.{Geometry}
@@ -17,7 +16,7 @@ use Rattle.cache_model.specs.CacheList.{Held, held, CacheList}
 use Rattle.cache_model.specs.Stands.{held_at}
 use Rattle.cache_model.proofs.StandLemmas.{whole_held}
 use Rattle.cache_model.proofs.MapLemmas.{get_insert}
-use Rattle.cache_model.proofs.CountLemmas.{member, same_number}
+use Rattle.cache_model.proofs.CountLemmas.{member, same_number, turned}
 use Rattle.cache_model.proofs.UndoLemmas.{undone_at, undo_inserted, undo_cleaned, get_marked}
 use Rattle.mapping.proofs.CountsLemmas.{member_push}
 use Rattle.merge_engine.specs.declared.parts.Parts.{Parts}
@@ -60,9 +59,6 @@ not_waiting (b ∷ bs) s a never all = elim (cases_Bool (address_of b == a)) [
   | inl t ↦ absurd (never all.0.0 (ap (λ n. get s n) (sym (eqb-true _ _ t)) ∙ all.0.1) all.0.2)
   | inr f ↦ ap (λ x. x || member a (map address_of bs)) f ∙ not_waiting bs s a never all.1
 ]
-
-turned : (x y : ℕ) → (x == y) ≡ (y == x)
-turned x y = grind (arith, nat_tests)
 
 -- and nothing is changed back there
 pub undone_away : (q : List Buffered) (a : ℕ) → member a (map address_of q) ≡ false → (o : Option Held) → undone_at q a o ≡ o

@@ -34,7 +34,8 @@ use Rattle.cached_disk.specs.declared.disk.CachedDisk.{CachedDisk}
 use Rattle.cached_disk.specs.Errors.{IsOfCache}
 use Rattle.cached_disk.specs.Kept.{IsBeneath, IsDirtyIn, IsHeld, IsLeft, MayUndo, dirty_of, is_down, told_of, WritesDisk}
 use Rattle.cached_disk.proofs.DiskLemmas.{IsOver, one_value, over_stands}
-use Rattle.cached_disk.proofs.StepLemmas.{IsSameOver, over_same, turned, undo_agrees}
+use Rattle.cache_model.proofs.CountLemmas.{turned}
+use Rattle.cached_disk.proofs.StepLemmas.{IsSameOver, over_same, undo_agrees}
 use Rattle.cached_disk.proofs.HeldLemmas.{Stays, down_left, drove, goes_on, held_left, held_over, held_stands, step_beneath, step_over, stopped_down, undone_over}
 use Rattle.cached_disk.proofs.CallLemmas.{gives_up}
 use Rattle.write_back.specs.Left.{in_group, out_of_group}

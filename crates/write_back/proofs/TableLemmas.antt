@@ -15,14 +15,13 @@ use Rattle.cache_model.specs.Records.{Entries}
 use Rattle.cache_model.specs.Cache.{AreApart, IsFull, dirty_groups}
 use Rattle.cache_model.specs.CacheList.{CacheList, Held}
 use Rattle.cache_model.specs.Entries.{IsMap, each_once}
-use Rattle.cache_model.proofs.CountLemmas.{all_members, each_once-le, each_once-same, member, member_of, same_number, member_once}
+use Rattle.cache_model.proofs.CountLemmas.{all_members, each_once-le, each_once-same, member, member_of, member_once, same_number, turned}
 use Rattle.cache_model.proofs.MapLemmas.{all_entries, by_get}
 use Rattle.dirty_table.specs.Groups.{has, oldest_of, touched, without_first}
 use Rattle.mapping.proofs.MarksLemmas.{same_bools}
 use Rattle.merge_engine.specs.Loaded.{AreAscending}
 use Rattle.cached_disk.specs.Kept.{waiting_in}
 use Rattle.cached_disk.proofs.AddressLemmas.{ascending_same, filter_ascending, has_lba, has_lba-filter, has_lba-with, lbas_dirty, lbas_has, lbas_in, with_ascending}
-use Rattle.cached_disk.proofs.StepLemmas.{turned}
 use Rattle.write_back.specs.Left.{IsExact, in_group, out_of_group}
 
 -- ---- a list of distinct groups, one that is touched, and one that is taken out

@@ -25,8 +25,7 @@ use Rattle.ft_media.specs.State.{State}
 use Rattle.ft_volume.specs.declared.volume.VolumeError.{VolumeError}
 use Rattle.ft_volume.specs.declared.volume.VolumeError.TheVariants as error
 use Rattle.ft_volume.specs.Opening.{ImageIs, Suits}
-use Rattle.ft_volume.specs.Volume.{Call, Costs, FaultDowns, Goes, HasCause, VolumeState, WasDone, Writes, dirty_lbas, volume_lost}
-use Rattle.ft_media.specs.Passes.{ProgramsPages}
+use Rattle.ft_volume.specs.Volume.{Costs, VolumeState, WasDone, Writes, dirty_lbas}
 use Rattle.ft_volume.specs.Standing.{StandFor}
 use Rattle.ft_volume.specs.Volume as volume
 use Rattle.cache_model.specs.Records.{Entries}
