@@ -4,7 +4,7 @@ use Rattle.ft_base.specs.Told.{Told}
 use Rattle.ft_base.specs.declared.told.Ack.TheVariants.{Write}
 use Rattle.ft_base.specs.declared.told.Mode.TheVariants.{Back}
 
--- a volume that writes back, with these numbers; an idle step leaves half of the data blocks' groups dirty
+-- a volume that writes back, of these numbers; an idle step leaves half as many dirty groups alone as there may be
 pub record IsDefault (o : Told) : Type 0 where
   pub mode : o.mode ≡ Back
   pub ack : o.ack ≡ Write

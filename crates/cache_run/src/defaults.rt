@@ -5,8 +5,8 @@ ghost use Rattle.cache_run.specs.Default.{IsDefault};
 use ft_base::Geometry;
 use ft_volume::Options;
 
-/// What a volume is made with where no word says otherwise: 64 pages an erase block, 128 data blocks, 16 log blocks, 2
-/// erase blocks of a log region and 1,048,576 blocks, and an idle step leaves 64 groups dirty.
+/// What a volume is made with where no word says otherwise: 64 pages of an erase block, 128 data blocks and 16 log blocks
+/// at most, 2 erase blocks of a log region, 1,048,576 blocks, and 64 dirty groups that an idle step leaves alone.
 pub fn default_options() -> Options
     ensures { IsDefault (told_for Back result) }
 {

@@ -3,7 +3,7 @@ ghost use Rattle.cache_run.specs.Status as status;
 
 use trace_replay::Ended;
 
-/// The status with which the program ends.
+/// The status of a run that ended so.
 pub fn status_of(ended: Result<(), Ended>) -> u8
     ensures { result ≡ status.status_of ended }
 {

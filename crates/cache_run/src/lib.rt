@@ -1,7 +1,7 @@
 //! A run: a rig is fitted, a new volume of a mode is made on it, and a trace is run over it, printed or not.
 //!
-//! The program relies on the clauses of `replay_with`, `gen_with` and `inspect_with`, over any mode and options, and on
-//! `status_of`.
+//! The programs rely on the clauses of `replay_with`, `gen_with` and `inspect_with`, over any mode and options, on
+//! `status_of`, and on `default_options`.
 #![tactic(auto)]
 
 mod beginning;

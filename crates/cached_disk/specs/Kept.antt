@@ -44,7 +44,7 @@ is_down v = v.down || v.cache.stopped
 abbrev pub told_of : CachedDisk → Told
 told_of v = told_for v.mode v.options
 
--- it was made with the same numbers, and is written to alike
+-- it was made with the same numbers and mode
 abbrev pub IsMadeAs : CachedDisk → CachedDisk → Type 0
 IsMadeAs old new = (new.options ≡ old.options) × (new.mode ≡ old.mode)
 

@@ -4,7 +4,7 @@ use Rattle.ft_base.specs.declared.geometry.Geometry.{Geometry}
 use Rattle.ft_base.specs.declared.record.Record.{Record}
 use Rattle.ft_base.specs.Layout.{page_records}
 
--- the pages whose records are asked for at once, and how many records these have at most
+-- for how many pages the records are asked at once, and how many these have at most
 abbrev pub asked_pages : ℕ
 asked_pages = 16
 

@@ -16,7 +16,7 @@ IsFoundAs page (is.Records header) = said read_page_header page ≡ Some header
 IsFoundAs page (is.Sealed header seal) = (said read_page_header page ≡ None) × (said read_seal page ≡ Some (header, seal))
 IsFoundAs page is.Other = (said read_page_header page ≡ None) × (said read_seal page ≡ None)
 
--- the records of a page are few enough for a page
+-- a page of records says no more of them than a page may have
 abbrev pub IsFew : Found → Type 0
 IsFew (is.Records header) = header.count ≤ most_page_records
 IsFew (is.Sealed header seal) = Unit {0}

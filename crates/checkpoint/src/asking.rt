@@ -9,7 +9,7 @@ use crate::pages::MOST;
 use ft_base::Record;
 use mapping::Map;
 
-/// The pages whose records are asked for at once.
+/// For how many pages the records are asked at once.
 const PAGES: u32 = 16;
 
 /// The most records that these have.

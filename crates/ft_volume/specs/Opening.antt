@@ -1,4 +1,4 @@
--- What an image is to a volume over a cache, and what an opening makes of the media.
+-- What an image is to a volume over a cache, and what making a volume and opening one leave on the media.
 use Rattle.std.specs.Prelude.{◌≡◌, ◌<◌, ℕ, Bool, true, false, [], Some, Result, OnOk, IsErrOf, ⊤}
 use Rattle.std.specs.FinMap.{empty, get}
 use Rattle.std.specs.Option.{is_some}
@@ -57,7 +57,7 @@ IsNewestOnDisk g contents d = (a : ℕ) → a < g.size → (contents.disk a).new
 abbrev pub nothing_held : CacheList
 nothing_held = empty
 
--- a volume is made so over flash that is formatted first: the plain disk is then what the disk has
+-- what making a volume does to the media, whatever it answers: the flash is formatted, and after Ok the plain disk is what the disk has
 pub record Creates {T : Type 0} (made : Told) (before after : State) (result : Result T VolumeError) : Type 0 where
   pub stands : OnOk result ((d : PlainDisk) → IsNewestOnDisk made.geometry before.contents d
       → StandFor (ImageIs made) after.contents d)

@@ -1,4 +1,4 @@
--- How many buckets a reservation makes: those that the items and so many more ask, and no others. What other calls leave as it is.
+-- How many buckets a reservation makes: those that the items and so many more ask, and no others; and what other calls keep.
 use Rattle.std.specs.Prelude.{◌≡◌, ℕ, ◌+◌}
 use Rattle.sparse_map.specs.Home.{IsDoubledFor}
 use Rattle.mapping.specs.Counts.{page_mapped_count, data_block_count}
