@@ -1,5 +1,5 @@
 //! The plain programs: one block after another.
-ghost use Rattle.std.specs.Prelude.{◌≡◌, ◌↔◌, IsTrue};
+ghost use Rattle.std.specs.Prelude.{◌↔◌, IsTrue};
 ghost use Rattle.block_pool.specs.Pool.{IsFree, IsInPool, IsNextTaken};
 
 use crate::{Pool, Role};

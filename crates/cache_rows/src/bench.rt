@@ -1,6 +1,6 @@
 //! A cache on a rig in memory: the commands that the tests give it, and what they see of it.
 
-ghost use Rattle.std.specs.Prelude.{◌≡◌, ◌<◌, ◌≤◌, true, IfOk, IfSome};
+ghost use Rattle.std.specs.Prelude.{◌≡◌, ◌<◌, true, IfOk};
 ghost use Rattle.std.specs.Bool.{OnTrue};
 ghost use Rattle.mem_rig.specs.Rig.{state_of};
 ghost use Rattle.op_log.specs.Log.{FitsOn};

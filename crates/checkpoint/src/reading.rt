@@ -1,4 +1,4 @@
-ghost use Rattle.std.specs.Prelude.{◌≡◌, ◌<◌, IfOk, IsErrOf};
+ghost use Rattle.std.specs.Prelude.{◌<◌, IfOk, IsErrOf};
 ghost use Rattle.ft_base.specs.declared.block.Spare.{Spare as SpareValue};
 ghost use Rattle.ft_base.specs.declared.block.Page.TheVariants.{Whole};
 ghost use Rattle.ft_base.specs.Layout.{blocks};

@@ -1,4 +1,4 @@
-ghost use Rattle.std.specs.Prelude.{◌≡◌, ℕ, ◌<◌, ◌≤◌, length, count_by, slice_index_or, Some, None, OnOk, nat_eq, min, ◌+◌};
+ghost use Rattle.std.specs.Prelude.{◌≡◌, ℕ, ◌<◌, ◌≤◌, length, count_by, slice_index_or, Some, None, OnOk, nat_eq, ◌+◌};
 ghost use Rattle.std.specs.Option.{option_eq};
 
 use crate::keys::Keys;

@@ -26,7 +26,7 @@ pub record KeepsTables (old new : HeldValue) : Type 0 where
   pub group_buckets : new.group_buckets ≡ old.group_buckets
 
 -- so does the room for new pages and new data blocks
-pub record KeepsRoom (old new : HeldValue) : Type 0 where
+pub record KeepsReserved (old new : HeldValue) : Type 0 where
   pub tables : KeepsTables old new
   pub pages : new.spare_pages ≡ old.spare_pages
   pub blocks : new.spare_blocks ≡ old.spare_blocks

@@ -8,7 +8,7 @@ ghost use Rattle.sparse_map.specs.Packed.{map_of, buckets_of, IsSound};
 ghost use Rattle.mapping.specs.declared.bits.Choice.TheVariants.{Mapped};
 ghost use Rattle.mapping.specs.Bits.{chosen_of, IsDataBlock};
 ghost use Rattle.mapping.specs.Checkpoint.{IsCheckpointOf, HasWindow};
-ghost use Rattle.mapping.specs.Room.{LogsGrew, BlocksGrew, KeepsTables, KeepsRoom};
+ghost use Rattle.mapping.specs.Room.{LogsGrew, BlocksGrew, KeepsTables, KeepsReserved};
 ghost use Rattle.cache_model.specs.Buckets.{AreBucketsFor};
 ghost use Rattle.mapping.specs.Packed.{page_in, IsLeftOut};
 
@@ -148,7 +148,7 @@ impl Held {
 
     /// Takes out the entry of an address.
     pub fn remove(&mut self, lba: u64)
-        ensures room { KeepsRoom self.old self.new }
+        ensures room { KeepsReserved self.old self.new }
         ensures entries { self.new.entries ≡ after self.old.geometry (Remove lba) self.old.entries }
     {
         let pages = self.geometry.p as u64;
@@ -163,7 +163,7 @@ impl Held {
 
     /// Makes the entry of an address clean, if there is one.
     pub fn clean(&mut self, lba: u64)
-        ensures room { KeepsRoom self.old self.new }
+        ensures room { KeepsReserved self.old self.new }
         ensures entries { self.new.entries ≡ after self.old.geometry (Clean lba) self.old.entries }
     {
         let pages = self.geometry.p as u64;
@@ -188,7 +188,7 @@ impl Held {
     /// Takes out the entries of a group.
     pub fn remove_group(&mut self, group: u64)
         requires { group ≤ (self.old.geometry.size - 1) / self.old.geometry.p }
-        ensures room { KeepsRoom self.old self.new }
+        ensures room { KeepsReserved self.old self.new }
         ensures entries { self.new.entries ≡ after self.old.geometry (RemoveGroup group) self.old.entries }
     {
         remove_pages(&mut self.pages, &self.geometry, group);

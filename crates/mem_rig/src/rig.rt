@@ -1,4 +1,4 @@
-ghost use Rattle.std.specs.Prelude.{◌≡◌, ◌≤◌, ℕ, false, []};
+ghost use Rattle.std.specs.Prelude.{◌≡◌, ◌≤◌, false, []};
 ghost use Rattle.ft_base.specs.Count.{last_count};
 ghost use Rattle.nand_model.specs.Nand.{flash_of, nand_blocks, nand_pages, HasRoom};
 ghost use Rattle.nand_model.specs.Nand as nand_numbers;
@@ -31,7 +31,7 @@ pub struct MemRig {
 }
 
 impl MemRig {
-    ghost use Rattle.std.specs.Prelude.{◌<◌, ◌^◌, true, length, Some, OnOk, OnErr, IfOk};
+    ghost use Rattle.std.specs.Prelude.{◌<◌, true, length, Some, OnOk, OnErr, IfOk};
     ghost use Rattle.std.specs.Result.{result_err};
     ghost use Rattle.ft_media.specs.Media.{Found, UnlessWhole};
     ghost use Rattle.ft_media.specs.Rig.{powered};

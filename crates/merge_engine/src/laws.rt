@@ -1,5 +1,5 @@
 //! Laws of the lists that the layer above rests on.
-ghost use Rattle.std.specs.Prelude.{◌≡◌, ℕ};
+ghost use Rattle.std.specs.Prelude.{ℕ};
 ghost use Rattle.ft_base.specs.declared.geometry.Geometry.{Geometry};
 ghost use Rattle.cache_model.specs.Cache.{Vanish};
 ghost use Rattle.cache_model.specs.CacheList.{CacheList};

@@ -28,7 +28,6 @@ pub(crate) struct EraseBlock {
 
 impl EraseBlock {
     ghost use Rattle.std.specs.Prelude.{None, Some, IfOk, if◌then◌else◌};
-    ghost use Rattle.ft_base.specs.declared.block.Page.{Page};
     ghost use Rattle.ft_base.specs.declared.block.Page.TheVariants as content;
     ghost use Rattle.ft_base.specs.Contents.{set};
     ghost use Rattle.ft_media.specs.Media.{Found, UnlessWhole};

@@ -1,5 +1,5 @@
 ghost use Rattle.std.specs.Prelude.{◌≡◌, IsTrue, slice_index};
-ghost use Rattle.cache_model.specs.Spelling.{spelled_record, has_widths, is_sound, goes_on, flag as flag_of};
+ghost use Rattle.cache_model.specs.Spelling.{spelled_record, has_widths, is_sound, goes_on};
 ghost use Rattle.cache_model.specs.Reading.{record_in};
 ghost use Rattle.record_codec.specs.Lines.{spelled_line, FitsWidths, HasShortPage, read_record as record_read};
 

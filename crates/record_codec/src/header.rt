@@ -1,4 +1,4 @@
-ghost use Rattle.std.specs.Prelude.{◌≡◌, ◌↔◌, ◌≤◌, ◌<◌, ◌^◌, ◌&&◌, IsTrue, MatchOption};
+ghost use Rattle.std.specs.Prelude.{◌≡◌, ◌↔◌, ◌<◌, ◌^◌, ◌&&◌, IsTrue, MatchOption};
 ghost use Rattle.cache_model.specs.declared.format.Header.{Header as HeaderValue};
 ghost use Rattle.cache_model.specs.Spelling.{spelled_header, header_in_range, is_log_or_map, kind_byte, IsHeaderOf, IsPageHeaderOf};
 ghost use Rattle.cache_model.specs.Reading.{header_in, kind_of, read_header, read_page_header};

@@ -1,5 +1,5 @@
 //! A group of 32 buckets: a number whose bit k says that bucket k is occupied, and the items of the occupied ones.
-ghost use Rattle.std.specs.Prelude.{insert, ◌≡◌, ◌+◌, ◌++◌, ◌^◌, ◌<◌, ◌≤◌, ◌↔◌, [], length, vec_len, Some, None, IfOk, IfSome, IsTrue, count_ones, option_map, option_copied, slice_set, ℕ};
+ghost use Rattle.std.specs.Prelude.{insert, ◌≡◌, ◌+◌, ◌++◌, ◌^◌, ◌<◌, ◌≤◌, ◌↔◌, length, vec_len, Some, None, IfOk, IfSome, IsTrue, count_ones, option_map, slice_set, ℕ};
 ghost use Rattle.std.specs.Vec.{vec_capacity};
 
 use std::alloc::{AllocError, Global};

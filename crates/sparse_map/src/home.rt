@@ -1,6 +1,6 @@
 //! Where a key is looked for first, and how buckets follow one another round the table.
 
-ghost use Rattle.std.specs.Prelude.{◌≡◌, ◌+◌, ◌*◌, ◌^◌, ◌<◌, ◌≤◌, if◌then◌else◌, nat_lt, ◌==◌, ◌⊎◌, ◌↔◌, IsTrue};
+ghost use Rattle.std.specs.Prelude.{◌≡◌, ◌+◌, ◌*◌, ◌^◌, ◌<◌, ◌≤◌, if◌then◌else◌, ◌==◌, ◌⊎◌, ◌↔◌, IsTrue};
 ghost use Rattle.sparse_map.specs.Home.{home, steps, IsTableSize, IsDoubledFor};
 
 /// 2^64 over the golden ratio, made odd: products with it spread neighbouring keys over the whole table.

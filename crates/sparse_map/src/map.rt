@@ -1,12 +1,9 @@
 //! The map.
-ghost use Rattle.std.specs.Prelude.{◌≡◌, ◌≢◌, ◌⊎◌, ◌↔◌, ℕ, ◌+◌, ◌-◌, ◌*◌, ◌/◌, ◌^◌, ◌<◌, ◌≤◌, ◌==◌, true, length, min, max, vec_len, [], Some, None, IsSome, IfSome, IfNone, IfOk, OnOk, OnErr, is_some, count_ones, option_map, option_copied, MatchOption, if◌then◌else◌};
-ghost use Rattle.std.specs.Int.{bit_at};
-ghost use Rattle.std.specs.Ordering.{nat_cmp};
+ghost use Rattle.std.specs.Prelude.{◌≡◌, ◌≢◌, ◌⊎◌, ℕ, ◌+◌, ◌-◌, ◌*◌, ◌/◌, ◌^◌, ◌<◌, ◌≤◌, ◌==◌, true, length, min, max, vec_len, Some, None, IfSome, IfNone, OnOk, OnErr, is_some, count_ones, option_copied, MatchOption, if◌then◌else◌};
 ghost use Rattle.std.specs.FinMap as map;
 ghost use Rattle.std.specs.FinMap.{find};
 ghost use Rattle.sparse_map.specs.Home.{IsDoubledFor, IsTableSize};
-ghost use Rattle.sparse_map.specs.Slots.{slot_at, key_at, items_of, unpacked, group};
-ghost use Rattle.sparse_map.specs.Groups.{slots_of};
+ghost use Rattle.sparse_map.specs.Slots.{slot_at, items_of, unpacked, group};
 ghost use Rattle.sparse_map.specs.Packed.{map_of, len_of, buckets_of, memory_of, IsSound};
 ghost use Rattle.sparse_map.specs.Probe.{IsPut, IsReplaced};
 ghost use Rattle.sparse_map.specs.Removal.{IsItemTaken};

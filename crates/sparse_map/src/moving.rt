@@ -1,5 +1,5 @@
 //! The groups of a wider table, and how the items of the old groups move there.
-ghost use Rattle.std.specs.Prelude.{◌≡◌, ◌≢◌, ℕ, ◌+◌, ◌*◌, ◌/◌, ◌^◌, ◌<◌, ◌≤◌, [], ◌∷◌, length, vec_len, map, replicate, Some, None, IfOk, slice_index_or, slice_set};
+ghost use Rattle.std.specs.Prelude.{◌≡◌, ℕ, ◌+◌, ◌*◌, ◌/◌, ◌^◌, ◌<◌, [], ◌∷◌, length, vec_len, map, replicate, Some, None, IfOk, slice_index_or, slice_set};
 ghost use Rattle.sparse_map.specs.Home.{IsTableSize};
 ghost use Rattle.sparse_map.specs.Slots.{slot_at};
 ghost use Rattle.sparse_map.specs.Groups.{slots_of};

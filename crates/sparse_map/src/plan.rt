@@ -1,5 +1,5 @@
 //! How many items each group of a wider table gets, counted before any item moves, so that lists are made that fit.
-ghost use Rattle.std.specs.Prelude.{◌≡◌, ◌+◌, ◌*◌, ◌^◌, ◌<◌, ◌≤◌, length, IfOk};
+ghost use Rattle.std.specs.Prelude.{◌≡◌, ◌+◌, ◌*◌, ◌^◌, ◌<◌, length, IfOk};
 ghost use Rattle.sparse_map.specs.Home.{home, IsTableSize};
 ghost use Rattle.sparse_map.specs.Moved.{items_in};
 ghost use Rattle.sparse_map.specs.Plan.{first_unmarked, planned, with_key, with_items, blank_plan, CanCount};

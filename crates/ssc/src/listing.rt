@@ -1,4 +1,4 @@
-ghost use Rattle.std.specs.Prelude.{◌≡◌, ◌++◌, Option, OnOk, OnErr, length, take};
+ghost use Rattle.std.specs.Prelude.{◌≡◌, Option, OnOk, OnErr, length, take};
 ghost use Rattle.ssc.specs.CacheState.{entries_of};
 ghost use Rattle.ssc.specs.Listed.{AddsListed, AddsNumber, IsListedAt};
 

@@ -1,5 +1,5 @@
 //! Reading every page that is held, and its spare bytes.
-ghost use Rattle.std.specs.Prelude.{◌≡◌, None, ◌+◌, ◌<◌, ◌^◌, ◌↔◌, ℕ, IfOk, IsErrOf, IsTrue};
+ghost use Rattle.std.specs.Prelude.{◌≡◌, None, ◌+◌, ◌<◌, ◌↔◌, ℕ, IfOk, IsErrOf, IsTrue};
 ghost use Rattle.ft_media.specs.Reads.{ReadsFlash};
 ghost use Rattle.ssc.specs.Errors.{ssc_failed, ssc_lost};
 ghost use Rattle.cache_model.specs.Cache.{AreOwn};

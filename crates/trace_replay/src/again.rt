@@ -1,5 +1,5 @@
 //! Calls of a volume that go on after a stop cut them.
-ghost use Rattle.std.specs.Prelude.{◌≡◌, ◌≢◌, ◌≤◌, ◌<◌, ◌∷◌, [], true, false, OnOk, OnErr, IfOk, IfErr};
+ghost use Rattle.std.specs.Prelude.{◌≡◌, ◌≢◌, ◌≤◌, ◌<◌, ◌∷◌, [], true, false, OnOk, IfOk, IfErr};
 ghost use Rattle.ft_base.specs.Contents.{set};
 ghost use Rattle.ft_base.specs.PlainDisk.{PlainDisk};
 ghost use Rattle.ft_volume.specs.declared.volume.VolumeError.TheVariants as volume_error;

@@ -1,4 +1,4 @@
-ghost use Rattle.std.specs.Prelude.{◌≡◌, ◌<◌, ◌==◌, ◌*◌, ℕ, List, true, false, not, ◌&&◌, length, OnOk, OnErr, IfOk};
+ghost use Rattle.std.specs.Prelude.{◌≡◌, ◌<◌, ◌==◌, ◌*◌, ℕ, true, false, not, ◌&&◌, length, OnOk, OnErr, IfOk};
 ghost use Rattle.ft_base.specs.Contents.{Contents};
 ghost use Rattle.ft_base.specs.declared.told.Mode.TheVariants.{Back};
 ghost use Rattle.cached_disk.specs.Kept.{MayServe, dirty_of};

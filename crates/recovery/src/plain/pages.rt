@@ -1,4 +1,4 @@
-ghost use Rattle.std.specs.Prelude.{◌≡◌, ◌<◌, ◌≤◌, IfSome, option_map};
+ghost use Rattle.std.specs.Prelude.{◌≡◌, ◌<◌, ◌≤◌, IfSome};
 ghost use Rattle.ft_base.specs.Layout.{most_page_records};
 ghost use Rattle.cache_model.specs.Loading as loading;
 ghost use Rattle.recovery.specs.Plain as plain;

@@ -1,4 +1,4 @@
-ghost use Rattle.std.specs.Prelude.{◌≡◌, ◌<◌, ◌≤◌, option_map};
+ghost use Rattle.std.specs.Prelude.{◌≡◌, ◌<◌, option_map};
 ghost use Rattle.cache_model.specs.Loading as loading;
 ghost use Rattle.recovery.specs.Plain.{page_listed, complete_of, complete_in};
 
