@@ -106,8 +106,7 @@ module _ {V : Type 0} where
     pub kept_free_bucket : (us : List (Group V)) → us ≡ groups → 0 < bits → HasFreeBucket bits us
     kept_free_bucket us is some =
         record {
-          many = kept.many some;
-          few = kept.few;
+          size = record { many = kept.many some; few = kept.few };
           buckets = ap (λ vs. length (slots_of vs)) is ∙ kept_buckets some;
           packed = subst (λ vs. IsPacked (slots_of vs)) (sym is) kept.packed;
           room = find_room us is some;

@@ -3,6 +3,7 @@ use Rattle.std.specs.Prelude.{◌≡◌, ℕ, ◌+◌, ◌*◌, ◌^◌, ◌<◌
 use Rattle.sparse_map.specs.declared.group.Group.{Group}
 use Rattle.sparse_map.specs.declared.table.Touched.{Touched}
 use Rattle.sparse_map.specs.declared.table.Touched.TheVariants.{Nowhere}
+use Rattle.sparse_map.specs.Home.{IsTableSize}
 use Rattle.sparse_map.specs.Slots.{items_of}
 use Rattle.sparse_map.specs.Groups.{slots_of}
 use Rattle.sparse_map.specs.Places.{sizes_of, lacking}
@@ -22,8 +23,7 @@ pub record KeepsTable {V : Type 0} (bits len spare blanks : ℕ) (touched : Touc
 
 -- 2^bits buckets under the packed law, of which at least one is free
 pub record HasFreeBucket {V : Type 0} (bits : ℕ) (groups : List (Group V)) : Type 0 where
-  pub many : 5 ≤ bits
-  pub few : bits ≤ 31
+  pub size : IsTableSize bits
   pub buckets : length (slots_of groups) ≡ 2 ^ bits
   pub packed : IsPacked (slots_of groups)
   pub room : length (items_of (slots_of groups)) < 2 ^ bits
