@@ -22,7 +22,7 @@ use Rattle.sparse_map.specs.Slots.{items_of}
 use Rattle.sparse_map.specs.Moved.{IsDistinct}
 use Rattle.sparse_map.specs.Packed.{PackedTable, map_of, len_of, buckets_of, IsSound}
 use Rattle.sparse_map.proofs.MapLemmas.{get-map_of, IsDistinct-items_of, len_of-items}
-use Rattle.mapping.specs.declared.mapped_page.MappedPage.{MappedPage}
+use Rattle.mapping.specs.MappedPages.{MappedPage}
 use Rattle.mapping.specs.Checkpoint.{set_group_of, set_page_of, IsCheckpointOf}
 use Rattle.mapping.specs.Bits.{IsDataBlock}
 use Rattle.mapping.specs.Counts.{page_mapped_count, data_block_count}

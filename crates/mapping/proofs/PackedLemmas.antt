@@ -20,7 +20,7 @@ use Rattle.cache_model.proofs.CountLemmas.{taken}
 use Rattle.cache_model.proofs.StepLemmas.{and_of, get-after}
 use Rattle.cache_model.proofs.MapLemmas.{eq_key, get_insert, get_remove}
 use Rattle.block_map.specs.PageSets.{BlockPages, IsSoundBlock, IsLeftWithout, IsOnlyPage}
-use Rattle.mapping.specs.declared.mapped_page.MappedPage.{MappedPage}
+use Rattle.mapping.specs.MappedPages.{MappedPage}
 use Rattle.mapping.specs.declared.bits.Choice.TheVariants.{Mapped, MappedDirty}
 use Rattle.mapping.specs.Checkpoint.{set_group_of}
 use Rattle.mapping.specs.Bits.{is_chosen, chosen_of, IsDataBlock}

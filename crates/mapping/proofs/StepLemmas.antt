@@ -7,12 +7,15 @@ use Rattle.std.proofs.lemmas.Nat.{div-mul-add}
 use Rattle.std.proofs.lemmas.Nat.Bits.{bit_at-zero, bit_at_above}
 use Rattle.ft_base.specs.declared.geometry.Geometry.{Geometry}
 use Rattle.ft_base.specs.declared.block.Place.{Place}
-use Rattle.ft_base.specs.declared.record.Record.TheVariants.{SetPage, Remove, SetGroup, RemoveGroup}
+use Rattle.ft_base.specs.declared.record.Record.{Record}
+use Rattle.ft_base.specs.declared.record.Record.TheVariants.{SetPage, Remove, Clean, SetGroup, RemoveGroup}
 use Rattle.cache_model.specs.declared.entry.Entry.{Entry}
+use Rattle.cache_model.specs.Entries.{Fits}
 use Rattle.cache_model.specs.Records.{Entries, after, has_bit, in_log_block, page_of_group}
 use Rattle.cache_model.proofs.StepLemmas.{get-after}
 use Rattle.cache_model.proofs.CountLemmas.{same_number}
 use Rattle.block_map.specs.PageSets.{IsWithin}
+use Rattle.mapping.specs.MappedPages.{NamesPage}
 use Rattle.mapping.proofs.GroupFits.{both_bits, from_both}
 use Rattle.mapping.proofs.MarksLemmas.{same_bools}
 
@@ -32,6 +35,14 @@ module _ (g : Geometry) (m : Entries) where
       ∙ ap (λ o. cond (q == lba) (Some (in_log_block at dirty)) o) (get-after g (Remove lba) m q)
       ∙ covered (q == lba) (Some (in_log_block at dirty)) (get m q)
       ∙ sym (get-after g (SetPage lba at dirty) m q))
+
+  pub names_page : (change : Record) → Fits g change m → NamesPage g change
+  names_page (SetPage lba place dirty) fits =
+      (fits.leaves.in_pool lba (in_log_block place dirty) (get-after g (SetPage lba place dirty) m lba ∙ ap (λ b. cond b (Some (in_log_block place dirty)) (get m lba)) (same_number lba))).page
+  names_page (Remove lba) fits = tt
+  names_page (Clean lba) fits = tt
+  names_page (SetGroup group block present dirty) fits = tt
+  names_page (RemoveGroup group) fits = tt
 
   -- ---- a group
 

@@ -2,7 +2,7 @@
 use Rattle.std.specs.Prelude.{Option, None, Some, List, ℕ, zero, suc, ◌+◌, Bool, if◌then◌else◌, ◌≡◌, true}
 use Rattle.cache_model.specs.declared.entry.Entry.{Entry}
 use Rattle.cache_model.specs.Records.{in_log_block}
-use Rattle.mapping.specs.declared.mapped_page.MappedPage.{MappedPage}
+use Rattle.mapping.specs.MappedPages.{MappedPage}
 use Rattle.std.specs.FinMap.{is_sorted}
 use Rattle.std.specs.Ordering.{nat_cmp}
 

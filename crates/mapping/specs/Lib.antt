@@ -4,6 +4,7 @@ pub mod Fitting
 pub mod Bits
 pub mod Checkpoint
 pub mod Numbers
+pub mod MappedPages
 pub mod Packed
 pub mod Index
 pub mod Ranges

@@ -9,7 +9,7 @@ use Rattle.cache_model.specs.declared.entry.Entry.{Entry}
 use Rattle.cache_model.specs.Records.{Entries, no_entries, after, has_bit, page_of_group}
 use Rattle.block_map.specs.PageSets.{BlockPages, IsSoundBlock}
 use Rattle.sparse_map.specs.Packed.{PackedTable, map_of, buckets_of, IsSound}
-use Rattle.mapping.specs.declared.mapped_page.MappedPage.{MappedPage}
+use Rattle.mapping.specs.MappedPages.{MappedPage}
 use Rattle.mapping.specs.Checkpoint.{set_group_of}
 
 -- mapped pages by address, and data blocks by group

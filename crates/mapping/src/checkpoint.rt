@@ -5,7 +5,7 @@ ghost use Rattle.sparse_map.specs.Slots.{items_of};
 ghost use Rattle.mapping.specs.Checkpoint.{HasWindow};
 ghost use Rattle.mapping.specs.Packed.{page_record, block_record};
 
-use crate::mapped_page::MappedPage;
+use crate::page_at::PageAt;
 use block_map::BlockAt;
 use ft_base::Record;
 use sparse_map::SparseMap;
@@ -29,13 +29,13 @@ fn is_outside(out: &[Record], from: usize, before: usize, count: usize) -> bool
 }
 
 /// What sets a page of a log block.
-fn page_record(item: &(u64, MappedPage)) -> Record
+fn page_record(item: &(u64, PageAt)) -> Record
     ensures { result ≡ page_record item.now }
 {
     Record::SetPage {
         lba: item.0,
-        place: item.1.place,
-        dirty: item.1.dirty,
+        place: item.1.place(),
+        dirty: item.1.is_dirty(),
     }
 }
 
@@ -52,7 +52,7 @@ fn block_record(item: &(u64, BlockAt)) -> Record
 }
 
 /// Offers the records of these mapped pages, which come after so many others.
-fn offer_pages(items: &[(u64, MappedPage)], before: usize, from: usize, out: &mut [Record])
+fn offer_pages(items: &[(u64, PageAt)], before: usize, from: usize, out: &mut [Record])
     requires { before + length items.now < 2 ^ 64 }
     ensures { (records : List RecordValue) → length records ≡ before → HasWindow records from out.old
         → HasWindow (records ++ map page_record items.now) from out.new }
@@ -85,7 +85,7 @@ fn offer_blocks(items: &[(u64, BlockAt)], before: usize, from: usize, out: &mut 
 
 /// Offers the records of all mapped pages, which come after so many others.
 pub fn offer_all_pages(
-    pages: &SparseMap<MappedPage>,
+    pages: &SparseMap<PageAt>,
     before: usize,
     from: usize,
     out: &mut [Record],

@@ -13,7 +13,7 @@ ghost use Rattle.cache_model.specs.Buckets.{AreBucketsFor};
 ghost use Rattle.mapping.specs.Packed.{page_in, IsLeftOut};
 
 use crate::checkpoint::{offer_all_blocks, offer_all_pages};
-use crate::mapped_page::MappedPage;
+use crate::page_at::PageAt;
 use block_map::BlockAt;
 use cache_model::Entry;
 use ft_base::{Geometry, Place, Record};
@@ -25,7 +25,7 @@ use std::marker::Model;
 #[derive(Drop)]
 pub struct Held {
     geometry: Geometry,
-    pages: SparseMap<MappedPage>,
+    pages: SparseMap<PageAt>,
     blocks: SparseMap<BlockAt>,
 }
 
@@ -75,8 +75,8 @@ impl Held {
     {
         match mapped_page(&self.pages, lba) {
             Some(page) => Some(Entry {
-                place: page.place,
-                dirty: page.dirty,
+                place: page.place(),
+                dirty: page.is_dirty(),
                 block_mapped: false,
             }),
             None => entry_in_block(&self.geometry, &self.blocks, lba),
@@ -122,13 +122,14 @@ impl Held {
     /// Puts in a mapped page of an address that has no entry.
     pub fn put_page(&mut self, lba: u64, place: Place, dirty: bool)
         requires absent { map.get self.old.entries lba ≡ None }
+        requires page { place.page < self.old.geometry.p }
         requires room { 1 ≤ self.old.spare_pages }
         ensures tables { KeepsTables self.old self.new }
         ensures entries { self.new.entries ≡ after self.old.geometry (SetPage lba place dirty) self.old.entries }
         ensures pages { self.new.spare_pages + 1 ≡ self.old.spare_pages }
         ensures blocks { self.new.spare_blocks ≡ self.old.spare_blocks }
     {
-        let _ = self.pages.insert_ready(lba, MappedPage { place, dirty });
+        let _ = self.pages.insert_ready(lba, PageAt::new(place, dirty));
     }
 
     /// Puts in the data block of a group that has no entry.
@@ -169,11 +170,7 @@ impl Held {
         let pages = self.geometry.p as u64;
         match mapped_page(&self.pages, lba) {
             Some(page) => {
-                let clean = MappedPage {
-                    place: page.place,
-                    dirty: false,
-                };
-                let _ = self.pages.insert_ready(lba, clean);
+                let _ = self.pages.insert_ready(lba, page.cleaned());
             }
             None => match block_at(&self.blocks, lba / pages) {
                 Some(block) => {
@@ -221,7 +218,7 @@ impl Held {
 }
 
 /// The mapped page of an address.
-fn mapped_page(pages: &SparseMap<MappedPage>, lba: u64) -> Option<MappedPage>
+fn mapped_page(pages: &SparseMap<PageAt>, lba: u64) -> Option<PageAt>
     ensures { result ≡ map.get (map_of pages.now) lba }
 {
     match pages.get(lba) {
@@ -283,7 +280,7 @@ fn take_out(geometry: &Geometry, blocks: &mut SparseMap<BlockAt>, group: u64, pa
 }
 
 /// Takes out the mapped pages of a group.
-fn remove_pages(pages: &mut SparseMap<MappedPage>, geometry: &Geometry, group: u64)
+fn remove_pages(pages: &mut SparseMap<PageAt>, geometry: &Geometry, group: u64)
     requires group { group ≤ (geometry.now.size - 1) / geometry.now.p }
     requires sound { IsSound pages.old }
     ensures pages { (q : ℕ) → map.get (map_of pages.new) q ≡ (if q / geometry.now.p == group then None else map.get (map_of pages.old) q) }

@@ -4,6 +4,7 @@ ghost use Rattle.ft_base.specs.declared.record.Record.TheVariants.{SetPage, SetG
 ghost use Rattle.cache_model.specs.Records.{after};
 ghost use Rattle.cache_model.specs.Entries.{IsInReach};
 ghost use Rattle.mapping.specs.MapValue.{pages_taken, groups_taken};
+ghost use Rattle.mapping.specs.MappedPages.{NamesPage};
 ghost use Rattle.mapping.specs.Room.{KeepsTables};
 
 use crate::held::Held;
@@ -13,6 +14,7 @@ use ft_base::{Place, Record};
 /// The step of a record. There is room for what it takes.
 pub fn step(held: &mut Held, change: &Record)
     requires reach { IsInReach held.old.geometry change.now }
+    requires page { NamesPage held.old.geometry change.now }
     requires pages { pages_taken change.now ≤ held.old.spare_pages }
     requires groups { groups_taken change.now ≤ held.old.spare_blocks }
     ensures tables { KeepsTables held.old held.new }
@@ -36,7 +38,8 @@ pub fn step(held: &mut Held, change: &Record)
 
 /// The block of an address stands in this mapped page from now on.
 fn set_page(held: &mut Held, lba: u64, place: Place, dirty: bool)
-    requires { 1 ≤ held.old.spare_pages }
+    requires page { place.page < held.old.geometry.p }
+    requires room { 1 ≤ held.old.spare_pages }
     ensures tables { KeepsTables held.old held.new }
     ensures entries { held.new.entries ≡ after held.old.geometry (SetPage lba place dirty) held.old.entries }
     ensures pages { held.new.spare_pages + 1 ≡ held.old.spare_pages }

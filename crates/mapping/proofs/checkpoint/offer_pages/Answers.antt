@@ -1,4 +1,4 @@
-use Rattle.std.proofs.Common.{[], ◌∷◌, ◌++◌, subst}
+use Rattle.std.proofs.Common.{[], ◌∷◌, ◌++◌, subst, ap, ◌∙◌}
 use Rattle.ft_base.specs.declared.record.Record.{Record}
 use Rattle.mapping.specs.Checkpoint.{HasWindow}
 use Rattle.mapping.specs.Packed.{page_record}
@@ -12,8 +12,8 @@ pub loop-item-init : goal.loop-item-init
 loop-item-init c = items_none page_record c.args.items.now c.args.before c.args.from c.args.out.now
 
 pub loop-item-preserved : goal.loop-item-preserved
-loop-item-preserved c = items_more page_record c.args.items.now c.args.before c.args.from c.args.out.now c.loop-item.out c.offer.new.out c.loop-item.item-index c.loop-item.at _ c.loop-item-test.true c.loop-item.invariant
-    (λ records long has. subst (λ (r : Record). HasWindow (records ++ r ∷ []) c.args.from c.offer.new.out) c.page_record.ensures (c.offer.ensures.window records long has))
+loop-item-preserved c = items_more page_record c.args.items.now c.args.before c.args.from c.args.out.now c.loop-item.out c.offer.new.out c.loop-item.item-index c.loop-item.at c.item-item.result c.loop-item-test.true c.loop-item.invariant
+    (λ records long has. subst (λ (r : Record). HasWindow (records ++ r ∷ []) c.args.from c.offer.new.out) (c.page_record.ensures ∙ ap page_record c.item-item.is) (c.offer.ensures.window records long has))
 
 pub returns : goal.returns
 returns c = items_all page_record c.args.items.now c.args.before c.args.from c.args.out.now c.loop-item.out c.loop-item.item-index c.loop-item.at c.loop-item-test.false c.loop-item.invariant

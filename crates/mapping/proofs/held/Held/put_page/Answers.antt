@@ -1,6 +1,9 @@
 use Rattle.std.proofs.Common.{◌≡◌, ◌≤◌, subst, ap, sym, ◌∙◌, None, ◌^◌}
 use Rattle.std.specs.FinMap.{get}
+use Rattle.ft_base.specs.declared.record.Record.TheVariants.{SetPage}
+use Rattle.cache_model.specs.Records.{after}
 use Rattle.sparse_map.specs.Packed.{map_of}
+use Rattle.mapping.specs.MappedPages.{MappedPage}
 use Rattle.mapping.specs.Packed.{HeldValue, packed_entries}
 use Rattle.mapping.proofs.PackedLemmas.{page_put, page_put_apart, page_absent, spare_less}
 use Rattle.mapping.proofs.held.Held.put_page.Goals as goal
@@ -19,7 +22,8 @@ invariant_of-self c = record {
 }
 
 pub returns-clause-entries : goal.returns-clause-entries
-returns-clause-entries c = rw (← c.self.view_is) (page_put c.self.inside.geometry (map_of c.self.inside.pages) (map_of c.insert_ready.new.self) (map_of c.self.inside.blocks) c.args.lba _ c.insert_ready.ensures.map)
+returns-clause-entries c = rw (← c.self.view_is) (page_put c.self.inside.geometry (map_of c.self.inside.pages) (map_of c.insert_ready.new.self) (map_of c.self.inside.blocks) c.args.lba c.new.result c.insert_ready.ensures.map
+    ∙ ap (λ (p : MappedPage). after c.self.inside.geometry (SetPage c.args.lba p.place p.dirty) (packed_entries c.self.inside.geometry (map_of c.self.inside.pages) (map_of c.self.inside.blocks))) c.new.ensures)
 
 pub returns-clause-pages : goal.returns-clause-pages
 returns-clause-pages c =
