@@ -6,9 +6,10 @@ ghost use Rattle.sparse_map.specs.Packed.{map_of, len_of, buckets_of, memory_of}
 use sparse_map::SparseMap;
 use std::alloc::{AllocError, Global};
 use std::collections::HashMap;
+use std::mem::size_of;
 
 /// Bytes of an item: a key and a value.
-const ITEM: u64 = 16;
+const ITEM: u64 = size_of::<(u64, u64)>() as u64;
 
 /// Bytes of a group of 32 buckets of the sparse map: 4 that say which are occupied and 24 of its list's header,
 /// aligned to 8.

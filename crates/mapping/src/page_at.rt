@@ -3,8 +3,12 @@ ghost use Rattle.std.specs.Prelude.{◌≡◌, ◌<◌, ◌^◌, false};
 
 use ft_base::Place;
 use std::marker::Model;
+use std::mem::size_of;
 
-/// Where the block of an address stands in a log block, and whether the disk lacks it: 8 bytes, and 16 with the address.
+// With its address an entry takes 16 bytes.
+const _: [(); 16] = [(); size_of::<(u64, PageAt)>()];
+
+/// Where the block of an address stands in a log block, and whether the disk lacks it.
 #[derive(Clone, Copy, Debug, PartialEq, Eq)]
 pub struct PageAt {
     block: u32,

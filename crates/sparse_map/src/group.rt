@@ -3,7 +3,7 @@ ghost use Rattle.std.specs.Prelude.{insert, ◌≡◌, ◌+◌, ◌++◌, ◌^�
 ghost use Rattle.std.specs.Vec.{vec_capacity};
 
 use std::alloc::{AllocError, Global};
-use std::mem;
+use std::mem::{self, size_of};
 
 /// Free places of a list when it is made to fit, so that not each insertion lengthens it.
 const SLACK: usize = 4;
@@ -36,6 +36,9 @@ pub struct Group<V> {
     ghost fits: { occupied < 2 ^ 32 },
     ghost counted: { length items.items ≡ count_ones occupied },
 }
+
+// What a group takes beside its items: 4 bytes for its bits, and 24 for the list's header, aligned to 8.
+const _: [(); 32] = [(); size_of::<Group<u64>>()];
 
 /// Moves items to the end of a list that has room for them.
 fn move_items<V: Drop>(items: Vec<(u64, V)>, list: &mut Vec<(u64, V)>)
