@@ -1,5 +1,6 @@
-ghost use Rattle.std.specs.Prelude.{◌≡◌, ◌<◌, IfSome, Some};
+ghost use Rattle.std.specs.Prelude.{◌<◌, IfSome};
 ghost use Rattle.std.specs.Bool.{OnTrue};
+ghost use Rattle.ft_media.specs.Media.{IsNextPage};
 ghost use Rattle.mem_rig.specs.Rig.{state_of};
 ghost use Rattle.block_pool.specs.Pool.{IsFree};
 
@@ -106,7 +107,7 @@ fn next_page(rig: &MemRig, block: u32) -> Option<u32> {
 
 /// Whether the page is the next one of an erase block that is ready.
 fn is_ready(rig: &MemRig, at: Place) -> bool
-    ensures next { OnTrue result ((state_of rig.now).contents.flash.next at.block ≡ Some at.page) }
+    ensures next { OnTrue result (IsNextPage at (state_of rig.now).contents.flash) }
     ensures page { OnTrue result (at.page < (state_of rig.now).contents.shape.pages) }
 {
     if at.block >= rig.flash_blocks() || at.page >= rig.flash_pages() {

@@ -182,13 +182,13 @@ module _ {T : Type 0} (old new : CachedDisk) (was is : List ℕ) (before after :
   opens_as : (r : Result T VolumeError) → Reopens old new before after r → (is_down old ≡ false → is ≡ was) → (is_down old ≡ true → OnOk r (IsOrderOf is new)) → OnOk r ((m : Entries) → Loads (told_of old) before.contents.flash.page m → state_in is new ≡ opened_of (state_in was old) m)
   opens_as (Err e) reopens same order = tt
   opens_as (Ok value) reopens same order = λ m loads. elim (cases_Bool (is_down old)) [
-    | inl down ↦ let has = reopens.opens down m loads in tells_opened old new was is m down reopens.options reopens.mode reopens.up has.0 has.1 (order down)
+    | inl down ↦ let has = reopens.opens down m loads in tells_opened old new was is m down reopens.made.0 reopens.made.1 reopens.up has.0 has.1 (order down)
     | inr up ↦ ap₂ state_in (same up) (reopens.same up).0 ∙ sym (opened_up (state_in was old) m up)
   ]
 
   pub comes_up : (result : Result T VolumeError) → Reopens old new before after result → (is_down old ≡ false → is ≡ was) → (is_down old ≡ true → OnOk result (IsOrderOf is new)) → ComesUp ImageIs Loads (state_in was old) (state_in is new) before after result
   comes_up result reopens same order =
-      let told : told_of new ≡ told_of old = ap₂ told_for reopens.mode reopens.options in
+      let told : told_of new ≡ told_of old = ap₂ told_for reopens.made.1 reopens.made.0 in
       record {
         told = told;
         owed = refl;
@@ -209,7 +209,7 @@ module _ {T : Type 0} (old new : CachedDisk) (was is : List ℕ) (before after :
 module _ {S T : Type 0} (old new : CachedDisk) (was is : List ℕ) (before after : State) (value : S) where
   pub refused_memory : Reopens {T = S} old new before after (Ok value) → is_down old ≡ true → ComesUp {T = T} ImageIs Loads (state_in was old) (state_in is (record new { down = true })) before after (Err volume.OutOfMemory)
   refused_memory reopens down =
-      let told : told_of new ≡ told_of old = ap₂ told_for reopens.mode reopens.options in
+      let told : told_of new ≡ told_of old = ap₂ told_for reopens.made.1 reopens.made.0 in
       record {
         told = told;
         owed = refl;

@@ -17,7 +17,7 @@ use Rattle.ft_base.specs.Layout.{log_pages}
 use Rattle.ft_base.specs.PlainDisk.{PlainDisk}
 use Rattle.ft_media.specs.State.{State}
 use Rattle.ft_media.specs.Drives.{DrivesFlash}
-use Rattle.ft_volume.specs.Opening.{ImageIs, Suits}
+use Rattle.ft_volume.specs.Opening.{ImageIs, KeepsPlainDisk, Suits}
 use Rattle.ft_volume.specs.Volume.{Reads}
 use Rattle.ft_volume.specs.Standing.{StandFor}
 use Rattle.ft_volume.specs.Volume as calls
@@ -214,7 +214,7 @@ module _ (v : CachedDisk) (c : Ssc) (old new : Contents) (s : CacheList) (by : D
     pub refused_left : is_down (record v { cache = c }) ≡ true → IsLeft (record v { cache = c }) new
     refused_left down = down_left (record v { cache = c }) new t by.own_after by.shape down beneath_after
 
-    pub refused_stands : (d : PlainDisk) → StandFor (ImageIs (told_of v)) old d → StandFor (ImageIs (told_of v)) new d
+    pub refused_stands : KeepsPlainDisk (told_of v) old new
     refused_stands d stand = over_stands (told_of v) new t beneath_after d (over_after d stand)
 
   -- done: the cache holds the list
@@ -226,7 +226,7 @@ module _ (v : CachedDisk) (c : Ssc) (old new : Contents) (s : CacheList) (by : D
       pub done_left : IsLeft (record v { cache = c }) new
       done_left = held_left (record v { cache = c }) new t by.own_after held_after by.shape
 
-      pub done_stands : (d : PlainDisk) → StandFor (ImageIs (told_of v)) old d → StandFor (ImageIs (told_of v)) new d
+      pub done_stands : KeepsPlainDisk (told_of v) old new
       done_stands d stand = held_stands (record v { cache = c }) new t by.own_after held_after d (over_after d stand)
 
     pub done_dirty : ((a : ℕ) → IsDirtyIn t a → IsDirtyIn s a) → dirty_of (record v { cache = c }) ≡ dirty_of v
@@ -259,7 +259,7 @@ module _ (v : CachedDisk) (c : Ssc) (old new : Contents) (s : CacheList) (by : D
       pub put_left : IsLeft (record v { cache = c }) new
       put_left = done_left v c old new s by (written_clean lba block h.left) put_shows h.holds put_keeps put_may
 
-      pub put_stands : (d : PlainDisk) → StandFor (ImageIs (told_of v)) old d → StandFor (ImageIs (told_of v)) new d
+      pub put_stands : KeepsPlainDisk (told_of v) old new
       put_stands = done_stands v c old new s by (written_clean lba block h.left) put_shows h.holds put_keeps put_may
 
     pub put_dirty : dirty_of (record v { cache = c }) ≡ dirty_of v
@@ -277,7 +277,7 @@ module _ (v : CachedDisk) (c : Ssc) (old new : Contents) (s : CacheList) (by : D
     pub cut_left : is_down (record v { cache = c }) ≡ true → IsLeft (record v { cache = c }) new
     cut_left = refused_left v c old new s by shown.list shown.shows shown.stands
 
-    pub cut_stands : (d : PlainDisk) → StandFor (ImageIs (told_of v)) old d → StandFor (ImageIs (told_of v)) new d
+    pub cut_stands : KeepsPlainDisk (told_of v) old new
     cut_stands = refused_stands v c old new s by shown.list shown.shows shown.stands
 
 -- ---- what is left of the log

@@ -10,7 +10,7 @@ use Rattle.ft_base.specs.Contents.{Values, HasValue, set}
 use Rattle.ft_base.specs.PlainDisk.{PlainDisk}
 use Rattle.cache_model.specs.Cache.{Buffered, Inserted, Cleaned, MayWait, Vanish, address_of, written_block, marked_as, undo, written_clean, written_dirty}
 use Rattle.cache_model.specs.CacheList.{Agrees, CacheList, Held, held_or}
-use Rattle.cache_model.proofs.CountLemmas.{turned}
+use Rattle.cache_model.proofs.CountLemmas.{equals_turned}
 use Rattle.cache_model.proofs.MapLemmas.{get_insert}
 use Rattle.cache_model.proofs.UndoLemmas.{back_at, get_undo, undone_at}
 use Rattle.cached_disk.specs.Kept.{IsDirtyIn}
@@ -184,7 +184,7 @@ module _ (s : CacheList) (lba : ℕ) (block : Block) where
   written_over g disk d over a within b has =
       ap (λ (o : Option Held). held_or o b) (get_insert s lba (written_block lba block true) a)
       ∙ read_choice (a == lba) b (get s a)
-      ∙ ap (λ c. cond c block (held_or (get s a) b)) (turned a lba)
+      ∙ ap (λ c. cond c block (held_or (get s a) b)) (equals_turned a lba)
       ∙ ap (λ (x : Block). cond (lba == a) block x) (over a within b has)
 
 -- ---- with a block that comes clean

@@ -177,8 +177,7 @@ IsOrderOf order v = waiting_in v.options.geometry.p order (dirty_of v) ≡ table
 
 -- it was opened again where it was down
 pub record Reopens {T : Type 0} (old new : CachedDisk) (before after : State) (result : Result T VolumeError) : Type 0 where
-  pub options : new.options ≡ old.options
-  pub mode : new.mode ≡ old.mode
+  pub made : IsMadeAs old new
   pub same : is_down old ≡ false → (new ≡ old) × (after ≡ before)
   pub up : OnOk result (is_down new ≡ false)
   pub opens : OnOk result (is_down old ≡ true → (m : Entries) → Loads (told_of old) before.contents.flash.page m

@@ -12,7 +12,8 @@ use Rattle.ft_base.specs.Layout.{k, page_from, checkpoint_at, checkpoint_pages}
 use Rattle.ft_base.proofs.Images.{set_other}
 use Rattle.cache_model.specs.Laws.{IsMapOrLost}
 use Rattle.cache_model.proofs.LoadLemmas.{set_page-other}
-use Rattle.checkpoint.specs.Regions.{InCheckpoint, AreBlank, IsBare, IsMapPage, Programmed, LeavesOne, IsReadyAt, MapsWritten, LeavesMaps, part}
+use Rattle.ft_media.specs.Media.{IsNextPage}
+use Rattle.checkpoint.specs.Regions.{InCheckpoint, AreBlank, IsBare, IsMapPage, Programmed, LeavesOne, MapsWritten, LeavesMaps, part}
 use Rattle.checkpoint.proofs.PlacesLemmas.{product, checkpoint_within, checkpoint_apart}
 use Rattle.checkpoint.proofs.ErasingLemmas.{map_or_lost}
 use Rattle.checkpoint.proofs.ProgramLemmas.{map_page_bare}
@@ -95,7 +96,7 @@ module _ (g : Geometry) (region era : ℕ) (rs : List Record) where
       beside = so_far.beside;
     }
 
-    pub maps_ready : n < checkpoint_pages g → IsReadyAt (checkpoint_at g region n) now
+    pub maps_ready : n < checkpoint_pages g → IsNextPage (checkpoint_at g region n) now
     maps_ready within = so_far.ready n (omega arith) within (inl refl)
 
     put_bare : (next : Flash) (v : Page) → n < checkpoint_pages g → IsMapOrLost v → next.page ≡ set_page now.page (checkpoint_at g region n) v → LeavesMaps g region old.page next.page

@@ -6,6 +6,7 @@ use Rattle.ft_base.specs.declared.block.Place.{Place}
 use Rattle.ft_base.specs.declared.block.Page.{Page}
 use Rattle.ft_base.specs.Contents.{Flash}
 use Rattle.ft_base.specs.Layout.{first_pool, log_at, log_pages}
+use Rattle.ft_media.specs.Media.{IsNextPage}
 use Rattle.cache_model.specs.declared.entry.Entry.{Entry}
 use Rattle.cache_model.specs.declared.format.PageKind.TheVariants.{Log}
 use Rattle.cache_model.specs.Records.{Entries}
@@ -31,7 +32,7 @@ pub record AreWhole (page : Place → Page) (m : Entries) : Type 0 where
 pub record IsOpenLog (flash : Flash) (log : LogValue) : Type 0 where
   pub before : ArePages Log log.era 0 (take log.next (log_region log.geometry flash.page log.region))
   pub ready : (i : ℕ) → log.next ≤ i → i < log_pages log.geometry → (i ≡ log.next) ⊎ ((log_at log.geometry log.region i).page ≡ 0)
-      → flash.next (log_at log.geometry log.region i).block ≡ Some (log_at log.geometry log.region i).page
+      → IsNextPage (log_at log.geometry log.region i) flash
 
 -- all that was buffered is on the flash, and the log can go on
 pub record IsCommitted (flash : Flash) (log : LogValue) (m : Entries) : Type 0 where

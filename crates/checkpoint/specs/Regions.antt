@@ -8,6 +8,7 @@ use Rattle.ft_base.specs.declared.block.Page.TheVariants.{Blank, Torn}
 use Rattle.ft_base.specs.declared.record.Record.{Record}
 use Rattle.ft_base.specs.Contents.{Contents, Flash, set, set_page}
 use Rattle.ft_base.specs.Layout.{checkpoint_at, checkpoint_pages, first_log, k, page_records, rounded_up}
+use Rattle.ft_media.specs.Media.{IsNextPage}
 use Rattle.cache_model.specs.declared.format.Header.{Header}
 use Rattle.cache_model.specs.declared.format.PageKind.TheVariants.{Map, Seal as SealPage}
 use Rattle.cache_model.specs.declared.format.SpareKind.TheVariants.{Map as MapSpare, Seal as SealSpare}
@@ -121,16 +122,12 @@ abbrev pub LeavesOne : (Page → Type 0) → Place → Flash → Flash → Type 
 LeavesOne kind at old new = (new.page ≡ old.page) ⊎ (new.page ≡ set_page old.page at Torn)
     ⊎ ((page : Page) × kind page × (new.page ≡ set_page old.page at page))
 
--- the place is the next one of an erase block that is ready
-abbrev pub IsReadyAt : Place → Flash → Type 0
-IsReadyAt at flash = flash.next at.block ≡ Some at.page
-
 -- the first n map pages stand in the region, and the pages after them are blank and ready; nothing else changed
 pub record MapsWritten (g : Geometry) (region era : ℕ) (records : List Record) (n : ℕ) (old new : Flash) : Type 0 where
   pub maps : (i : ℕ) → i < n → IsMapPage era i (part g records i) (new.page (checkpoint_at g region i))
   pub blank : (i : ℕ) → n ≤ i → i < checkpoint_pages g → new.page (checkpoint_at g region i) ≡ Blank
   pub ready : (i : ℕ) → n ≤ i → i < checkpoint_pages g → (i ≡ n) ⊎ ((checkpoint_at g region i).page ≡ 0)
-      → IsReadyAt (checkpoint_at g region i) new
+      → IsNextPage (checkpoint_at g region i) new
   pub beside : (at : Place) → ¬ InCheckpoint g region at.block → new.page at ≡ old.page at
   pub next : (b : ℕ) → ¬ InCheckpoint g region b → new.next b ≡ old.next b
 

@@ -2,7 +2,7 @@ ghost use Rattle.std.specs.Prelude.{true, ◌≡◌, ◌⊎◌, ◌<◌, ◌≤�
 ghost use Rattle.std.specs.List.{list_all};
 ghost use Rattle.ft_base.specs.Count.{Rose};
 ghost use Rattle.ft_base.specs.Layout.{checkpoint_at, checkpoint_pages, k, page_records};
-ghost use Rattle.ft_media.specs.Media.{program_counted};
+ghost use Rattle.ft_media.specs.Media.{IsNextPage, program_counted};
 ghost use Rattle.ft_media.specs.Drives.{OnlyDrives};
 ghost use Rattle.cache_model.specs.declared.format.PageKind.TheVariants as PageKind;
 ghost use Rattle.cache_model.specs.Entries.{IsMap};
@@ -12,7 +12,7 @@ ghost use Rattle.op_log.specs.Log.{FitsOn};
 ghost use Rattle.checkpoint.specs.Asked.{asked_records};
 ghost use Rattle.checkpoint.specs.Counts.{checkpoint_counted, programs_counted};
 ghost use Rattle.ft_media.specs.Passes.{ProgramsPages};
-ghost use Rattle.checkpoint.specs.Regions.{AreBlank, CanProgram, IsReadyAt, IsMapPage, IsSealPage, Programmed, LeavesOne, MapsWritten, LeavesMaps, IsUnsealed, IsSealed, IsWritten, map_pages};
+ghost use Rattle.checkpoint.specs.Regions.{AreBlank, CanProgram, IsMapPage, IsSealPage, Programmed, LeavesOne, MapsWritten, LeavesMaps, IsUnsealed, IsSealed, IsWritten, map_pages};
 
 use crate::asking::{ask, records_of};
 use crate::erasing::erase_regions;
@@ -48,7 +48,7 @@ fn program_map<M: Media>(
     requires some { 1 ≤ length records.now }
     requires few { length records.now ≤ page_records geometry.now }
     requires room { sequence < checkpoint_pages geometry.now }
-    requires ready { IsReadyAt (checkpoint_at geometry.now target.now.region sequence) (M.state media.old).contents.flash }
+    requires ready { IsNextPage (checkpoint_at geometry.now target.now.region sequence) (M.state media.old).contents.flash }
     ensures done { OnOk result (Programmed (IsMapPage target.now.era sequence records.now)
         (checkpoint_at geometry.now target.now.region sequence) (M.state media.old).contents.flash (M.state media.new).contents.flash) }
     ensures counts { OnOk result ((M.state media.new).counts ≡ program_counted (M.state media.old).counts) }
@@ -106,7 +106,7 @@ pub(crate) fn program_seal<M: Media>(
 ) -> Result<(), MediaError>
     requires shape { FitsOn geometry.now (M.state media.old).contents.shape }
     requires room { pages < checkpoint_pages geometry.now }
-    requires ready { IsReadyAt (checkpoint_at geometry.now target.now.region pages) (M.state media.old).contents.flash }
+    requires ready { IsNextPage (checkpoint_at geometry.now target.now.region pages) (M.state media.old).contents.flash }
     ensures done { OnOk result (Programmed (IsSealPage geometry.now target.now.era pages records)
         (checkpoint_at geometry.now target.now.region pages) (M.state media.old).contents.flash (M.state media.new).contents.flash) }
     ensures counts { OnOk result ((M.state media.new).counts ≡ program_counted (M.state media.old).counts) }

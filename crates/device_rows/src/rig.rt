@@ -1,4 +1,5 @@
-ghost use Rattle.std.specs.Prelude.{◌≡◌, ◌<◌};
+ghost use Rattle.std.specs.Prelude.{◌<◌};
+ghost use Rattle.ft_media.specs.Media.{IsNextPage};
 
 use crate::plain_rig::{Kept, Plain};
 use device_calls::Ending;
@@ -561,7 +562,7 @@ fn answer(ending: Ending) -> Result<(), MediaError> {
 
 /// Programs the next page of a block that is ready, with this number.
 fn program_at<R: Rig>(rig: &mut R, at: Place, number: u64) -> Result<(), MediaError>
-    requires ready { (R.state rig.old).contents.flash.next at.block ≡ Some at.page }
+    requires ready { IsNextPage at (R.state rig.old).contents.flash }
     requires page { at.page < (R.state rig.old).contents.shape.pages }
 {
     rig.program(at, &tagged(number), &SPARE)

@@ -36,6 +36,10 @@ pub record ImageIs (told : Told) (image : Image) (d : PlainDisk) : Type 0 where
   pub suits : Suits told.mode list
   pub volume : (a : ℕ) → a < told.geometry.size → vol list image.block a ≡ d a
 
+-- whatever a crash leaves afterwards stands for the plain disk that it stood for before
+abbrev pub KeepsPlainDisk : Told → Contents → Contents → Type 0
+KeepsPlainDisk told before after = (d : PlainDisk) → StandFor (ImageIs told) before d → StandFor (ImageIs told) after d
+
 -- where flash stands for a list, a volume of this mode may be opened over it and this disk
 abbrev pub MayOpen : Told → Contents → Type 0
 MayOpen told contents = (s : CacheList) → FlashStandsFor told.geometry contents.flash.page s → Agrees s contents.disk × Suits told.mode s

@@ -1,7 +1,7 @@
 ghost use Rattle.std.specs.Prelude.{◌≡◌, ◌<◌, ◌≤◌, ◌-◌, [], length, slice_get, Some, None, IfOk, IfSome, OnOk, OnErr, IsErrOf};
 ghost use Rattle.std.specs.Vec.{vec_capacity};
 ghost use Rattle.ft_base.specs.Contents.{set};
-ghost use Rattle.ft_media.specs.Media.{LeavesPage, after_program, if_ok, program_counted};
+ghost use Rattle.ft_media.specs.Media.{IsNextPage, LeavesPage, after_program, if_ok, program_counted};
 ghost use Rattle.ft_media.specs.Passes.{Spends};
 ghost use Rattle.ft_media.specs.Drives.{OnlyDrives};
 ghost use Rattle.log_blocks.specs.Logs.{IsInUse, AreSoundLogs, TakesNext, without_block, block_begun, adopted, released, append_place};
@@ -133,7 +133,7 @@ impl LogBlocks {
     ) -> Result<Place, MediaError>
         requires room { 1 ≤ self.old.room }
         requires shape { (M.state media.old).contents.shape.pages ≡ self.old.geometry.p }
-        requires ready { (M.state media.old).contents.flash.next (append_place self.old).block ≡ Some (append_place self.old).page }
+        requires ready { IsNextPage (append_place self.old) (M.state media.old).contents.flash }
         ensures taken { IfOk result (TakesNext self.old self.new) }
         ensures programmed { OnOk result ((M.state media.new).contents.flash ≡ after_program (M.state media.old).contents.flash
             (append_place self.old) block.now (data_spare lba)) }

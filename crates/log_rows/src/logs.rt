@@ -1,7 +1,8 @@
 //! The log: the pages that it writes, and how far a walk over them goes.
 
-ghost use Rattle.std.specs.Prelude.{◌≡◌, ◌<◌, Some};
+ghost use Rattle.std.specs.Prelude.{◌≡◌, ◌<◌};
 ghost use Rattle.std.specs.Bool.{OnTrue};
+ghost use Rattle.ft_media.specs.Media.{IsNextPage};
 ghost use Rattle.mem_rig.specs.Rig.{state_of};
 
 use crate::flash::{At, arm, assert_none, fit, fits_on, read};
@@ -73,7 +74,7 @@ enum Line {
 
 /// Whether the page is the next one of an erase block that is ready.
 fn is_ready(rig: &MemRig, at: Place) -> bool
-    ensures next { OnTrue result ((state_of rig.now).contents.flash.next at.block ≡ Some at.page) }
+    ensures next { OnTrue result (IsNextPage at (state_of rig.now).contents.flash) }
     ensures page { OnTrue result (at.page < (state_of rig.now).contents.shape.pages) }
 {
     if at.block >= rig.flash_blocks() || at.page >= rig.flash_pages() {

@@ -94,11 +94,11 @@ module _ (g : Geometry) (m : Entries) (group : ℕ) where
   pub own_address : (a : ℕ) → a / g.p ≡ group → group * g.p + a % g.p ≡ a
   own_address a in_group = own_page (a / g.p) g.p (a % g.p) a in_group (div-add-mod a g.p)
     where
-      turned : (q p r : ℕ) → q * p + r ≡ p * q + r
-      turned q p r = omega arith
+      product_turned : (q p r : ℕ) → q * p + r ≡ p * q + r
+      product_turned q p r = omega arith
 
       own_page : (q p r a : ℕ) → q ≡ group → p * q + r ≡ a → group * p + r ≡ a
-      own_page q p r a same is = ap (λ n. n * p + r) (sym same) ∙ turned q p r ∙ is
+      own_page q p r a same is = ap (λ n. n * p + r) (sym same) ∙ product_turned q p r ∙ is
 
   -- a chosen address of the group is in the set
   not_empty : (choice : Choice) (a : ℕ) (e : Entry) → get m a ≡ Some e → a / g.p ≡ group → is_chosen choice (Some e) ≡ true → has_page (chosen_of choice g m group) (a % g.p) ≡ true

@@ -16,7 +16,7 @@ use Rattle.cache_model.specs.Entries.{page_mapped, IsMap, fits}
 use Rattle.cache_model.specs.Loading.{after_all}
 use Rattle.cache_model.proofs.StepLemmas.{get-after}
 use Rattle.cache_model.proofs.FitsLemmas.{fits-from}
-use Rattle.cache_model.proofs.CountLemmas.{member, same_number, less-map, turned}
+use Rattle.cache_model.proofs.CountLemmas.{member, same_number, less-map, equals_turned}
 use Rattle.mapping.specs.declared.bits.Choice.TheVariants.{Mapped, MappedDirty}
 use Rattle.mapping.specs.Bits.{chosen_of, is_chosen}
 use Rattle.mapping.specs.Checkpoint.{set_group_of, set_page_of, block_below, ListsGroups, ListsPages, IsCheckpointOf}
@@ -143,7 +143,7 @@ module _ (g : Geometry) (m : Entries) (is_map : IsMap g m) where
         record {
           built = ap (λ b. cond b (after_all g (map (set_group_of g m) groups) (after g (set_group_of g m group) n)) None) (group_may group first.0 first.1 n first.2 first.3 part) ∙ rest.1.built;
           part = rest.1.part;
-          has = λ a. rest.1.has a ∙ ap (λ o. cond (member (a / g.p) groups) (only_mapped (get m a)) o) (after_group group n a) ∙ joined (member (a / g.p) groups) (a / g.p == group) (group == a / g.p) (only_mapped (get m a)) (get n a) (turned (a / g.p) group);
+          has = λ a. rest.1.has a ∙ ap (λ o. cond (member (a / g.p) groups) (only_mapped (get m a)) o) (after_group group n a) ∙ joined (member (a / g.p) groups) (a / g.p == group) (group == a / g.p) (only_mapped (get m a)) (get n a) (equals_turned (a / g.p) group);
         },
       )
 
@@ -188,7 +188,7 @@ module _ (g : Geometry) (m : Entries) (is_map : IsMap g m) where
                 ∙ ap (λ b. cond b (after_all g (map set_page_of (filter (λ x. page_mapped x.1) es)) (after g (set_page_of x) n)) None) (page_may x n all.0 t part) ∙ rest.1.built;
             has = λ a.
                 rest.1.has a ∙ ap (λ o. cond (member a (pages_of es)) (get m a) o) (after_page x n a all.0 t)
-                ∙ joined (member a (pages_of es)) (a == x.0) (x.0 == a) (get m a) (get n a) (turned a x.0)
+                ∙ joined (member a (pages_of es)) (a == x.0) (x.0 == a) (get m a) (get n a) (equals_turned a x.0)
                 ∙ ap (λ b. cond (member a (map (λ (x : ℕ × Entry). x.0) (cond b (x ∷ filter (λ x. page_mapped x.1) es) (filter (λ x. page_mapped x.1) es)))) (get m a) (get n a)) (sym t);
           },
         )

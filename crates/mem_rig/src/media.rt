@@ -9,13 +9,13 @@ use ft_media::{Counts, Media, MediaError, PageRead, Rig};
 use std::alloc::{AllocError, Global};
 
 impl Media for MemRig {
-    ghost use Rattle.std.specs.Prelude.{◌<◌, ◌⊎◌, ℕ, true, Some, None, IfOk, IsErrOf};
+    ghost use Rattle.std.specs.Prelude.{◌<◌, ◌⊎◌, ℕ, true, None, IfOk, IsErrOf};
     ghost use Rattle.std.specs.Result.{result_err};
     ghost use Rattle.ft_base.specs.declared.block.Block.{Block};
     ghost use Rattle.ft_base.specs.Contents.{HasValue, flushed, set};
     ghost use Rattle.ft_media.specs.State.{lost, failed};
     ghost use Rattle.ft_media.specs.Passes.{Passes};
-    ghost use Rattle.ft_media.specs.Media.{Found, LeavesPage, PagesErased, after_program, after_erase, after_write, if_ok, program_counted, erase_counted, read_counted, write_counted, flush_counted, DiskStays, FlashStays, Crashed, FlashCause, DiskCause, ReadPower, DeviceWrite, OnlyCutsRose, UnlessWhole};
+    ghost use Rattle.ft_media.specs.Media.{Found, IsNextPage, LeavesPage, PagesErased, after_program, after_erase, after_write, if_ok, program_counted, erase_counted, read_counted, write_counted, flush_counted, DiskStays, FlashStays, Crashed, FlashCause, DiskCause, ReadPower, DeviceWrite, OnlyCutsRose, UnlessWhole};
     ghost use Rattle.ft_media.specs.Rig.{SettledByStop};
     ghost use Rattle.device_calls.specs.Calls.{faults_small};
     ghost use Rattle.nand_model.specs.Steps.{program_left, erase_left};
@@ -89,7 +89,7 @@ impl Media for MemRig {
     }
 
     fn program(&mut self, at: Place, block: &Block, spare: &Spare) -> Result<(), MediaError>
-        requires ready { (state_of self.old).contents.flash.next at.block ≡ Some at.page }
+        requires ready { IsNextPage at (state_of self.old).contents.flash }
         requires page { at.page < (state_of self.old).contents.shape.pages }
         ensures ok { OnOk result ((state_of self.new).contents.flash ≡ after_program
             (state_of self.old).contents.flash at block.now spare.now) }

@@ -31,9 +31,9 @@ pub struct MemRig {
 }
 
 impl MemRig {
-    ghost use Rattle.std.specs.Prelude.{◌<◌, true, length, Some, OnOk, OnErr, IfOk};
+    ghost use Rattle.std.specs.Prelude.{◌<◌, true, length, OnOk, OnErr, IfOk};
     ghost use Rattle.std.specs.Result.{result_err};
-    ghost use Rattle.ft_media.specs.Media.{Found, UnlessWhole};
+    ghost use Rattle.ft_media.specs.Media.{Found, IsNextPage, UnlessWhole};
     ghost use Rattle.ft_media.specs.Rig.{powered};
     ghost use Rattle.ft_media.specs.Fitted.{new_contents, fitted};
     ghost use Rattle.device_calls.specs.Calls.{failing_numbers, calls_made};
@@ -129,7 +129,7 @@ impl MemRig {
     /// Programs the next page of a block that is ready, and says how that ends.
     #[tactic(auto, using(crate::proofs::PowerLemmas::power_left))]
     pub fn program_page(&mut self, at: Place, block: &Block, spare: &Spare) -> Ending
-        requires ready { (state_of self.old).contents.flash.next at.block ≡ Some at.page }
+        requires ready { IsNextPage at (state_of self.old).contents.flash }
         requires page { at.page < (state_of self.old).contents.shape.pages }
         ensures ending { result ≡ flash_ending self.old }
         ensures written { FlashWritten result (state_of self.old) (state_of self.new)

@@ -7,7 +7,7 @@ use Rattle.ft_base.specs.Layout.{first_pool, blocks}
 use Rattle.cache_model.specs.declared.entry.Entry.{Entry}
 use Rattle.cache_model.specs.Records.{Entries}
 use Rattle.cache_model.specs.Entries.{IsMap, each_once}
-use Rattle.cache_model.proofs.CountLemmas.{member, numbers, others, same_number, member_others, length_others, each_once-le, member_of, all_members}
+use Rattle.cache_model.proofs.CountLemmas.{member, numbers, others, equals_turned, same_number, member_others, length_others, each_once-le, member_of, all_members}
 use Rattle.cache_model.proofs.MapLemmas.{all_entries, by_get}
 use Rattle.log_blocks.specs.Logs as list
 use Rattle.block_pool.specs.Pool.{PoolValue, IsFree, IsInPool, role_of}
@@ -63,12 +63,9 @@ each_once-append (x ∷ xs) ys = by (member x xs) (member x (xs ++ ys)) (member-
 pub member-used : (n : ℕ) (xs : List ℕ) → list.is_in n xs ≡ true → member n xs ≡ true
 member-used n [] t = absurd (cc)
 member-used n (x ∷ xs) t = elim (or_cases (n == x) (list.is_in n xs) t) [
-  | inl here ↦ or_left (x == n) (member n xs) (turned x (eqb-true n x here))
+  | inl here ↦ or_left (x == n) (member n xs) (equals_turned x n ∙ here)
   | inr later ↦ or_right (x == n) (member n xs) (member-used n xs later)
 ]
-  where
-    turned : (x : ℕ) → n ≡ x → (x == n) ≡ true
-    turned x same = ap (λ k. x == k) same ∙ same_number x
 
 -- so many numbers from one on
 numbers_from : ℕ → ℕ → List ℕ

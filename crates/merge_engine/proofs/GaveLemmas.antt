@@ -14,6 +14,7 @@ use Rattle.cache_model.specs.CacheList.{CacheList, Held}
 use Rattle.cache_model.specs.Cache.{IsWhollyClean, groups}
 use Rattle.cache_model.specs.Stands.{held_at}
 use Rattle.cache_model.proofs.StandLemmas.{whole_held}
+use Rattle.cache_model.proofs.StepLemmas.{cond-not}
 use Rattle.cache_model.proofs.MapLemmas.{by_get, get_retain}
 use Rattle.cache_model.proofs.CountLemmas.{member, numbers, all_members, each_once-le, others, length_others, member_others, member_self}
 use Rattle.checkpoint.specs.Current.{AreWhole}
@@ -117,11 +118,7 @@ module _ (g : Geometry) (m : Entries) (page : Place → Page) (s : CacheList) (w
       omega (arith, longer, few, full)
 
   pub get_without : (gone a : ℕ) → get (list_without g gone s) a ≡ cond (a / g.p == gone) None (get s a)
-  get_without gone a = get_retain s (λ a. not (is_in_group g gone a)) a ∙ turned (a / g.p == gone) (get s a)
-    where
-      turned : (b : Bool) (o : Option Held) → cond (not b) o None ≡ cond b None o
-      turned true o = refl
-      turned false o = refl
+  get_without gone a = get_retain s (λ a. not (is_in_group g gone a)) a ∙ cond-not (a / g.p == gone) (get s a) None
 
   -- the group of an entry that stays is one of the list without another
   still_listed : (gone a : ℕ) (e : Entry) → get m a ≡ Some e → (a / g.p ≡ gone → ⊥) → member (a / g.p) (group_numbers g (list_without g gone s)) ≡ true

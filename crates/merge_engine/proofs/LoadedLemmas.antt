@@ -3,7 +3,6 @@ use Rattle.std.proofs.Common.{◌≡◌, ◌≢◌, ◌⊎◌, ℕ, suc, ◌+◌
 use Rattle.std.specs.List.{AllByRecursion, IsDistinct}
 use Rattle.std.specs.FinMap.{get, entries}
 use Rattle.std.proofs.lemmas.Bool.{cases_Bool, cases_eq, cases_lt, or_cases, false_from_ne_true}
-use Rattle.std.proofs.lemmas.Bool.Decides.{nat_tests}
 use Rattle.std.proofs.lemmas.Nat.{div-mul-add}
 use Rattle.std.proofs.lemmas.Map.Keys.{IsDistinct-push}
 use Rattle.std.specs.Cmp.{nat_eq_equiv}
@@ -13,7 +12,7 @@ use Rattle.ft_base.specs.Layout.{first_pool}
 use Rattle.cache_model.specs.declared.entry.Entry.{Entry}
 use Rattle.cache_model.specs.Records.{Entries}
 use Rattle.cache_model.specs.Entries.{InPool, IsMap, each_once, page_mapped}
-use Rattle.cache_model.proofs.CountLemmas.{member, each_once-le, same_number, turned as equals_turned}
+use Rattle.cache_model.proofs.CountLemmas.{member, each_once-le, same_number, equals_turned}
 use Rattle.block_map.specs.PageSets.{BlockPages}
 use Rattle.mapping.specs.Numbers.{number_of, HasNumber, HasNone, AreNumbered}
 use Rattle.mapping.specs.declared.bits.Choice.TheVariants.{Mapped}
@@ -154,10 +153,7 @@ pub record AdoptedBelow (g : Geometry) (pool : PoolValue) (logs : LogBlocksValue
 
 absent_from : (x : ℕ) (xs : List ℕ) → AllByRecursion (λ y. nat_eq x y ≡ false) xs → member x xs ≡ false
 absent_from x [] all = refl
-absent_from x (y ∷ ys) all = ap (λ b. b || member x ys) (turned x y all.0) ∙ absent_from x ys all.1
-  where
-    turned : (x y : ℕ) → nat_eq x y ≡ false → (y == x) ≡ false
-    turned x y f = grind (arith, nat_tests)
+absent_from x (y ∷ ys) all = ap (λ b. b || member x ys) (equals_turned y x ∙ all.0) ∙ absent_from x ys all.1
 
 -- distinct numbers are each counted
 distinct_count : (xs : List ℕ) → IsDistinct nat_eq xs → length (each_once xs) ≡ length xs

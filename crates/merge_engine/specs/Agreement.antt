@@ -6,6 +6,7 @@ use Rattle.ft_base.specs.declared.geometry.Geometry.{Geometry}
 use Rattle.ft_base.specs.declared.block.Place.{Place}
 use Rattle.ft_base.specs.declared.block.Page.{Page}
 use Rattle.ft_base.specs.Contents.{Contents, Flash}
+use Rattle.ft_media.specs.Media.{IsNextPage}
 use Rattle.cache_model.specs.declared.entry.Entry.{Entry}
 use Rattle.cache_model.specs.Records.{Entries}
 use Rattle.cache_model.specs.CacheList.{CacheList}
@@ -45,7 +46,7 @@ pub record RolesAgree (parts : Parts) : Type 0 where
 
 -- where the open log block has a page left, that page is the next one of an erase block that is ready
 abbrev pub IsOpenBlock : LogBlocksValue → Flash → Type 0
-IsOpenBlock logs flash = 1 ≤ logs.room → flash.next (append_place logs).block ≡ Some (append_place logs).page
+IsOpenBlock logs flash = 1 ≤ logs.room → IsNextPage (append_place logs) flash
 
 -- the parts agree with the flash, but for the pages of the log that are left
 pub record ArePartsSound (parts : Parts) (contents : Contents) : Type 0 where

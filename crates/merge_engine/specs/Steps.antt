@@ -7,6 +7,7 @@ use Rattle.ft_base.specs.declared.block.Page.{Page}
 use Rattle.ft_base.specs.declared.block.Page.TheVariants.{Whole}
 use Rattle.ft_base.specs.declared.geometry.Geometry.{Geometry}
 use Rattle.ft_base.specs.Contents.{Flash, zero_block}
+use Rattle.ft_media.specs.Media.{IsNextPage}
 use Rattle.cache_model.specs.declared.format.SpareKind.TheVariants.{Filler}
 use Rattle.cache_model.specs.Spelling.{data_spare, spelled_spare, spare_fields}
 use Rattle.cache_model.specs.Loading.{is_whole}
@@ -17,7 +18,6 @@ use Rattle.cache_model.specs.CacheList.{CacheList}
 use Rattle.cache_model.specs.Entries.{groups_with}
 use Rattle.mapping.specs.Numbers.{StandsNoneIn}
 use Rattle.op_log.specs.Log.{LogValue}
-use Rattle.checkpoint.specs.Regions.{IsReadyAt}
 use Rattle.log_blocks.specs.Logs.{IsInUse}
 use Rattle.merge_engine.specs.declared.parts.Parts.{Parts}
 use Rattle.block_pool.specs.Pool.{PoolValue, IsFree, IsInPool, role_of}
@@ -97,7 +97,7 @@ HasRoomFor g m a = dirty_groups_with g m a ≤ g.c
 -- the page is the next one of a free erase block that is ready
 pub record IsNextFreePage (parts : Parts) (flash : Flash) (at : Place) : Type 0 where
   pub free : IsFree parts.pool at.block
-  pub ready : IsReadyAt at flash
+  pub ready : IsNextPage at flash
   pub in_block : at.page < parts.geometry.p
 
 -- no entry stands at the place

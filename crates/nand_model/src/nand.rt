@@ -26,8 +26,8 @@ pub struct MemNand {
 }
 
 impl MemNand {
-    ghost use Rattle.std.specs.Prelude.{Some, IfOk, OnOk, OnErr, IsErr, IfErr, ◌↔◌, true};
-    ghost use Rattle.ft_media.specs.Media.{Found, UnlessWhole};
+    ghost use Rattle.std.specs.Prelude.{IfOk, OnOk, OnErr, IsErr, IfErr, ◌↔◌, true};
+    ghost use Rattle.ft_media.specs.Media.{Found, IsNextPage, UnlessWhole};
     ghost use Rattle.ft_media.specs.Fitted.{new_contents};
     ghost use Rattle.device_calls.specs.Calls.{calls_made, fault_count, failing_numbers, is_listed, ending_of, bumped_if_done, CountsRead, CountsWrite};
     ghost use Rattle.nand_model.specs.Nand.{nand_blocks, nand_pages, flash_of, calls_of, programs_of, erases_of, HasRoom, SameNumbers};
@@ -120,7 +120,7 @@ impl MemNand {
 
     /// Programs the next page of a block that is ready.
     pub fn program(&mut self, at: Place, block: &Block, spare: &Spare, current: Current) -> Ending
-        requires ready { (flash_of self.old).next at.block ≡ Some at.page }
+        requires ready { IsNextPage at (flash_of self.old) }
         requires page { at.page < nand_pages self.old }
         ensures ending { result ≡ ending_of current (is_listed (calls_of self.old)) }
         ensures flash { flash_of self.new ≡ program_left result (flash_of self.old) at block.now spare.now }

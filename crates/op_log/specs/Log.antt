@@ -52,10 +52,6 @@ if_buffered (change ∷ changes) some none = some
 abbrev pub log_flushed : LogValue → LogValue
 log_flushed log = if_buffered log.buffered (record log { next = log.next + 1; buffered = [] }) log
 
--- the page to program next is the next one of an erase block that is ready
-abbrev pub IsNextReady : LogValue → Flash → Type 0
-IsNextReady log flash = flash.next (next_place log).block ≡ Some (next_place log).page
-
 -- a whole page of a log with these records
 pub record IsLogPage (era sequence : ℕ) (changes : List Record) (page : Page) : Type 0 where
   pub header : Header

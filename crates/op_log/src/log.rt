@@ -1,11 +1,11 @@
 ghost use Rattle.std.specs.Prelude.{◌≡◌, ◌≢◌, ◌<◌, ◌≤◌, ◌-◌, [], length, IfOk, OnOk, OnErr, IsOk, IsTrue};
 ghost use Rattle.ft_base.specs.Layout.{log_pages, page_records};
-ghost use Rattle.ft_media.specs.Media.{if_ok};
+ghost use Rattle.ft_media.specs.Media.{IsNextPage, if_ok};
 ghost use Rattle.ft_media.specs.Passes.{Spends};
 ghost use Rattle.ft_media.specs.Drives.{OnlyDrives};
 ghost use Rattle.cache_model.specs.declared.format.PageKind.TheVariants.{Log as log_page};
 ghost use Rattle.cache_model.specs.Spelling.{may_stand_in, IsPage};
-ghost use Rattle.op_log.specs.Log.{FitsOn, IsNextReady, LeavesLog, AppendedReady, log_header, next_place, log_spare, HasSpare, restarted, pushed, log_flushed, log_flush_counted};
+ghost use Rattle.op_log.specs.Log.{FitsOn, LeavesLog, AppendedReady, log_header, next_place, log_spare, HasSpare, restarted, pushed, log_flushed, log_flush_counted};
 
 use crate::ring::{MOST, Ring};
 use cache_model::{Header, PageKind, SpareKind};
@@ -122,7 +122,7 @@ impl OpLog {
     pub fn flush<M: Media>(&mut self, media: &mut M) -> Result<(), MediaError>
         requires shape { FitsOn self.old.geometry (M.state media.old).contents.shape }
         requires room { self.old.buffered ≢ [] → self.old.next < log_pages self.old.geometry }
-        requires ready { self.old.buffered ≢ [] → IsNextReady self.old (M.state media.old).contents.flash }
+        requires ready { self.old.buffered ≢ [] → IsNextPage (next_place self.old) (M.state media.old).contents.flash }
         ensures nothing { self.old.buffered ≡ [] → IsOk result × (M.state media.new ≡ M.state media.old) }
         ensures done { OnOk result (self.old.buffered ≢ []
             → AppendedReady self.old (M.state media.old).contents.flash (M.state media.new).contents.flash) }

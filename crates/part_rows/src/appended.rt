@@ -1,5 +1,6 @@
-ghost use Rattle.std.specs.Prelude.{◌≡◌, ◌<◌, ◌≤◌, length, Some, IfSome};
+ghost use Rattle.std.specs.Prelude.{◌≡◌, ◌<◌, ◌≤◌, length, IfSome};
 ghost use Rattle.std.specs.Bool.{OnTrue};
+ghost use Rattle.ft_media.specs.Media.{IsNextPage};
 ghost use Rattle.mem_rig.specs.Rig.{state_of};
 ghost use Rattle.log_blocks.specs.Logs.{IsInUse, is_in, append_place};
 
@@ -135,7 +136,7 @@ fn append_place(logs: &LogBlocks, geometry: &Geometry) -> Option<Place>
 
 /// Whether the page is the next one of an erase block that is ready.
 fn is_ready(rig: &MemRig, at: Place) -> bool
-    ensures { OnTrue result ((state_of rig.now).contents.flash.next at.block ≡ Some at.page) }
+    ensures { OnTrue result (IsNextPage at (state_of rig.now).contents.flash) }
 {
     if at.block >= rig.flash_blocks() {
         return false;

@@ -16,7 +16,7 @@ use Rattle.cache_model.specs.CacheList.{Held, held, CacheList}
 use Rattle.cache_model.specs.Stands.{held_at}
 use Rattle.cache_model.proofs.StandLemmas.{whole_held}
 use Rattle.cache_model.proofs.MapLemmas.{get_insert}
-use Rattle.cache_model.proofs.CountLemmas.{member, same_number, turned}
+use Rattle.cache_model.proofs.CountLemmas.{member, same_number, equals_turned}
 use Rattle.cache_model.proofs.UndoLemmas.{undone_at, undo_inserted, undo_cleaned, get_marked}
 use Rattle.mapping.proofs.CountsLemmas.{member_push}
 use Rattle.merge_engine.specs.declared.parts.Parts.{Parts}
@@ -65,16 +65,16 @@ pub undone_away : (q : List Buffered) (a : ℕ) → member a (map address_of q) 
 undone_away [] a f o = refl
 undone_away (Inserted k ∷ bs) a f o =
     let p = or_parts (k == a) (member a (map address_of bs)) f in
-    ap (λ x. undone_at bs a (cond x None o)) (turned a k ∙ p.0) ∙ undone_away bs a p.1 o
+    ap (λ x. undone_at bs a (cond x None o)) (equals_turned a k ∙ p.0) ∙ undone_away bs a p.1 o
 undone_away (Cleaned k ∷ bs) a f o =
     let p = or_parts (k == a) (member a (map address_of bs)) f in
-    ap (λ x. undone_at bs a (cond x (option_map (marked_as true) o) o)) (turned a k ∙ p.0) ∙ undone_away bs a p.1 o
+    ap (λ x. undone_at bs a (cond x (option_map (marked_as true) o) o)) (equals_turned a k ∙ p.0) ∙ undone_away bs a p.1 o
 
 apart_push : (ns : List ℕ) (n : ℕ) → member n ns ≡ false → AreApart ns → AreApart (ns ++ n ∷ [])
 apart_push [] n f apart = (refl, tt)
 apart_push (k ∷ ks) n f apart =
     let p = or_parts (k == n) (member n ks) f in
-    (member_push k n ks ∙ ap (λ x. x || (n == k)) apart.0 ∙ turned n k ∙ p.0, apart_push ks n p.1 apart.1)
+    (member_push k n ks ∙ ap (λ x. x || (n == k)) apart.0 ∙ equals_turned n k ∙ p.0, apart_push ks n p.1 apart.1)
 
 all_push : {A : Type 0} (P Q : A → Type 0) (xs : List A) (x : A) → ((y : A) → P y → Q y) → AllByRecursion P xs → Q x → AllByRecursion Q (xs ++ x ∷ [])
 all_push P Q [] x more all own = (own, tt)

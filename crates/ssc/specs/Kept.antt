@@ -3,11 +3,10 @@ use Rattle.std.specs.Prelude.{◌≡◌, ◌≤◌, ◌+◌, ◌++◌, ◌∷◌
 use Rattle.std.specs.FinMap.{get}
 use Rattle.ft_base.specs.declared.geometry.Geometry.{Geometry}
 use Rattle.ft_base.specs.Contents.{Contents}
-use Rattle.ft_base.specs.Count.{Rose}
 use Rattle.ft_base.specs.Layout.{log_pages, page_records}
 use Rattle.ft_media.specs.State.{State}
 use Rattle.ft_media.specs.Drives.{DrivesFlash}
-use Rattle.ft_media.specs.Passes.{Spends}
+use Rattle.ft_media.specs.Passes.{ProgramsPages}
 use Rattle.ft_media.specs.Media.{program_counted}
 use Rattle.cache_model.specs.Cache.{Inserted}
 use Rattle.cache_model.specs.CacheList.{CacheList}
@@ -54,8 +53,7 @@ pub record KeepsInRoom {T : Type 0} (old new : Ssc) (before after : State) (step
 -- a dirty write spends two device writes at least; it programs just two pages where the open log block and the log have room
 pub record CostsDirty {T : Type 0} (old : Ssc) (before after : State) (result : Result T SscError) : Type 0 where
   pub two_programs : OnOk result (1 ≤ open_room old → 1 ≤ log_room old → after.counts ≡ program_counted (program_counted before.counts))
-  pub programs : OnOk result (Rose before.counts.programs after.counts.programs)
-  pub spends : OnOk result (Spends 2 before after)
+  pub programs : OnOk result (ProgramsPages 2 before after)
 
 -- a clean write spends a device write at least; it programs one page where the address is absent and the open log block and the buffer
 -- have room
@@ -63,8 +61,7 @@ pub record CostsClean {T : Type 0} (old new : Ssc) (lba : ℕ) (before after : S
   pub one_program : OnOk result ((s : CacheList) → Holds old before.contents s → get s lba ≡ None → 1 ≤ open_room old
       → length (pending old) + 2 ≤ page_records (geometry_of old)
       → (after.counts ≡ program_counted before.counts) × (pending new ≡ pending old ++ Inserted lba ∷ []))
-  pub programs : OnOk result (Rose before.counts.programs after.counts.programs)
-  pub spends : OnOk result (Spends 1 before after)
+  pub programs : OnOk result (ProgramsPages 1 before after)
 
 -- ---- the opening
 

@@ -1,7 +1,7 @@
 ghost use Rattle.std.specs.Prelude.{◌≡◌, ◌<◌, ◌≤◌, false, Ok, IfOk, IfErr, OnOk};
-ghost use Rattle.ft_base.specs.Count.{Rose};
 ghost use Rattle.ft_base.specs.Contents.{Image, Now};
 ghost use Rattle.ft_media.specs.Drives.{DrivesFlash};
+ghost use Rattle.ft_media.specs.Passes.{ProgramsPages};
 ghost use Rattle.cache_model.specs.CacheList.{CacheList};
 ghost use Rattle.cache_model.specs.Entries.{IsMap};
 ghost use Rattle.cache_model.specs.Loading.{load};
@@ -46,7 +46,7 @@ impl Ssc {
             → HoldsOwn c (M.state media.new).contents) }
         ensures same { load geometry.now (M.state media.new).contents.flash.page ≡ load geometry.now
             (M.state media.old).contents.flash.page }
-        ensures programs { OnOk result (Rose (M.state media.old).counts.programs (M.state media.new).counts.programs) }
+        ensures programs { OnOk result (ProgramsPages 1 (M.state media.old) (M.state media.new)) }
         ensures drives { DrivesFlash (M.state media.old) (M.state media.new) (open_failed result) (open_lost result) }
     {
         let loaded = load(alloc, media, geometry)?;

@@ -34,7 +34,7 @@ use Rattle.cached_disk.specs.declared.disk.CachedDisk.{CachedDisk}
 use Rattle.cached_disk.specs.Errors.{IsOfCache}
 use Rattle.cached_disk.specs.Kept.{IsBeneath, IsDirtyIn, IsHeld, IsLeft, MayUndo, dirty_of, is_down, told_of, WritesDisk}
 use Rattle.cached_disk.proofs.DiskLemmas.{IsOver, one_value, over_stands}
-use Rattle.cache_model.proofs.CountLemmas.{turned}
+use Rattle.cache_model.proofs.CountLemmas.{equals_turned}
 use Rattle.cached_disk.proofs.StepLemmas.{IsSameOver, over_same, undo_agrees}
 use Rattle.cached_disk.proofs.HeldLemmas.{Stays, down_left, drove, goes_on, held_left, held_over, held_stands, step_beneath, step_over, stopped_down, undone_over}
 use Rattle.cached_disk.proofs.CallLemmas.{gives_up}
@@ -154,8 +154,7 @@ module _ (v : CachedDisk) (k : Ssc) (s t : State) (list : CacheList) (lba : ℕ)
     clean_done up reserved answers writes = record {
       left = held_left (record v { cache = k }) t.contents after_clean own_now held_clean fits_now;
       stands = λ d stand. held_stands (record v { cache = k }) t.contents after_clean own_now held_clean d (step_over v k s.contents t.contents stays after_clean d (cleaned_over d (held_over v s.contents list own is d stand)));
-      options = refl;
-      mode = refl;
+      made = (refl, refl);
       reserved = reserved;
       held = λ now a. holds_held k t.contents after_clean holds a ∙ cleaned_held lba list a ∙ sym (holds_held v.cache s.contents list is.holds a);
       goes = λ before_order after_order. record {
@@ -206,7 +205,7 @@ module _ (v : CachedDisk) (k : Ssc) (s t : State) (list : CacheList) (lba : ℕ)
                 marked_clean (Some h) at = let same : marked_as false h ≡ d.0 = cc in false≢true (ap (λ (y : Held). y.dirty) same ∙ d.2)
 
         stays_dirty : IsDirtyIn list a → (lba == a) ≡ false → is_among (dirty_of (record v { cache = k })) a ≡ true
-        stays_dirty dirty other = is_dirty (record v { cache = k }) t.contents after_clean held_clean a (dirty.0, cleaned_other lba list a (turned a lba ∙ other) ∙ dirty.1, dirty.2)
+        stays_dirty dirty other = is_dirty (record v { cache = k }) t.contents after_clean held_clean a (dirty.0, cleaned_other lba list a (equals_turned a lba ∙ other) ∙ dirty.1, dirty.2)
 
     pub clean_on_disk : t.contents.disk ≡ s.contents.disk → (a : ℕ) → IsOnDisk v s.contents a → IsOnDisk (record v { cache = k }) t.contents a
     clean_on_disk disk a on_a l now h at =

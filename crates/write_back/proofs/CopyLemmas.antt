@@ -16,8 +16,7 @@ use Rattle.ft_media.specs.declared.rig.Counts.{Counts}
 use Rattle.ft_media.specs.State.{State, lost}
 use Rattle.ft_media.specs.Media.{FlashStays, after_write, flush_counted, write_counted}
 use Rattle.ft_media.specs.Reads.{ReadsFlash}
-use Rattle.ft_volume.specs.Opening.{ImageIs}
-use Rattle.ft_volume.specs.Standing.{StandFor}
+use Rattle.ft_volume.specs.Opening.{KeepsPlainDisk}
 use Rattle.ft_volume.specs.declared.volume.VolumeError.{VolumeError}
 use Rattle.ft_volume.specs.declared.volume.VolumeError.TheVariants as volume
 use Rattle.cache_model.specs.Cache.{undo}
@@ -118,7 +117,7 @@ module _ (v : CachedDisk) (old new : Contents) (s : CacheList) (own : geometry_o
         suits = was.suits;
       }
 
-  pub stands_now : (d : PlainDisk) → StandFor (ImageIs (told_of v)) old d → StandFor (ImageIs (told_of v)) new d
+  pub stands_now : KeepsPlainDisk (told_of v) old new
   stands_now d stand = over_stands (told_of v) new without_buffered beneath_now d
       (over_same v.options.geometry new.disk s without_buffered d (undo_same new.disk s agrees_now (geometry_of v.cache) (pending v.cache) is.holds.waits) (over_now d (held_over v old s own is d stand)))
 
@@ -142,12 +141,11 @@ module _ (v : CachedDisk) (old new : Contents) (s : CacheList) (own : geometry_o
 
 -- Ok was answered
 module _ (v : CachedDisk) (k : Ssc) (same : k ≡ v.cache) (s t : State) (n : ℕ) (up : is_down v ≡ false) where
-  pub proceeds_up : Answers s t → WritesDisk n s t (Ok tt) → IsLeft v t.contents → ((x : PlainDisk) → StandFor (ImageIs (told_of v)) s.contents x → StandFor (ImageIs (told_of v)) t.contents x) → Proceeds n v (record v { cache = k }) s t (Ok tt)
+  pub proceeds_up : Answers s t → WritesDisk n s t (Ok tt) → IsLeft v t.contents → KeepsPlainDisk (told_of v) s.contents t.contents → Proceeds n v (record v { cache = k }) s t (Ok tt)
   proceeds_up answers writes left stands = subst (λ (c : Ssc). Proceeds n v (record v { cache = c }) s t (Ok tt)) (sym same) (record {
     left = left;
     stands = stands;
-    options = refl;
-    mode = refl;
+    made = (refl, refl);
     reserved = refl;
     held = λ now a. refl;
     goes = λ before_order after_order. record {

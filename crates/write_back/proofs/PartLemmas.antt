@@ -4,7 +4,6 @@ use Rattle.std.specs.Prelude.{OnOk}
 use Rattle.std.proofs.lemmas.Bool.{both_ways}
 use Rattle.ft_base.specs.Contents.{Contents}
 use Rattle.ft_base.specs.Count.{RoseBy, bumped}
-use Rattle.ft_base.specs.PlainDisk.{PlainDisk}
 use Rattle.ft_base.specs.Told.{Told}
 use Rattle.ft_media.specs.declared.media.MediaError.{MediaError}
 use Rattle.ft_media.specs.declared.media.MediaError.TheVariants as media
@@ -17,7 +16,7 @@ use Rattle.ft_media.specs.Reads.{ReadsFlash}
 use Rattle.ft_media.specs.Passes.{Passes}
 use Rattle.ft_media.proofs.PassesLemmas.{passes_none, passes_then}
 use Rattle.ft_volume.proofs.UpLemmas.{cause_then}
-use Rattle.ft_volume.specs.Opening.{ImageIs}
+use Rattle.ft_volume.specs.Opening.{ImageIs, KeepsPlainDisk}
 use Rattle.ft_volume.specs.Volume.{FaultDowns, Goes, HasCause, volume_lost}
 use Rattle.ft_volume.specs.Standing.{StandFor}
 use Rattle.ft_volume.specs.declared.volume.VolumeError.{VolumeError}
@@ -67,8 +66,7 @@ module _ (a b c : CachedDisk) (s t u : State) (m n : ℕ) (first : Proceeds m a 
   joined k r writes then = record {
     left = then.left;
     stands = λ d stand. subst (λ (x : Told). StandFor (ImageIs x) u.contents d) (first.goes [] []).told (then.stands d (subst (λ (x : Told). StandFor (ImageIs x) t.contents d) (sym (first.goes [] []).told) (first.stands d stand)));
-    options = then.options ∙ first.options;
-    mode = then.mode ∙ first.mode;
+    made = (then.made.0 ∙ first.made.0, then.made.1 ∙ first.made.1);
     reserved = then.reserved ∙ first.reserved;
     held = λ up x. then.held up x ∙ first.held (first.goes [] []).up x;
     goes = λ was is. goes_first was is r (then.goes [] is) then.faulted;
@@ -101,8 +99,7 @@ module _ (v : CachedDisk) (s : State) (up : is_down v ≡ false) (left : IsLeft 
   proceeds_none = record {
     left = left;
     stands = λ d stand. stand;
-    options = refl;
-    mode = refl;
+    made = (refl, refl);
     reserved = refl;
     held = λ now a. refl;
     goes = λ before_order after_order. record {
@@ -124,8 +121,7 @@ module _ (v : CachedDisk) (s : State) (up : is_down v ≡ false) (left : IsLeft 
   lacks_memory n = record {
     left = left;
     stands = λ d stand. stand;
-    options = refl;
-    mode = refl;
+    made = (refl, refl);
     reserved = refl;
     held = λ now a. refl;
     goes = λ before_order after_order. record {
@@ -281,12 +277,11 @@ module _ (v : CachedDisk) (k : Ssc) (d : Bool) (s t : State) (r : VolumeError) w
   abbrev refused_disk : CachedDisk
   refused_disk = record v { cache = k; down = d }
 
-  pub proceeds_down : (n : ℕ) → is_down refused_disk ≡ true → k.ready ≡ v.cache.ready → Refuses s t r → IsLeft refused_disk t.contents → ((x : PlainDisk) → StandFor (ImageIs (told_of v)) s.contents x → StandFor (ImageIs (told_of v)) t.contents x) → Proceeds n v refused_disk s t (Err r)
+  pub proceeds_down : (n : ℕ) → is_down refused_disk ≡ true → k.ready ≡ v.cache.ready → Refuses s t r → IsLeft refused_disk t.contents → KeepsPlainDisk (told_of v) s.contents t.contents → Proceeds n v refused_disk s t (Err r)
   proceeds_down n down reserved refuses left stands = record {
     left = left;
     stands = stands;
-    options = refl;
-    mode = refl;
+    made = (refl, refl);
     reserved = reserved;
     held = λ up a. absurd (both_ways (is_down refused_disk) up down);
     goes = λ before_order after_order. record {

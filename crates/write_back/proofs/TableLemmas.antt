@@ -15,7 +15,7 @@ use Rattle.cache_model.specs.Records.{Entries}
 use Rattle.cache_model.specs.Cache.{AreApart, IsFull, dirty_groups}
 use Rattle.cache_model.specs.CacheList.{CacheList, Held}
 use Rattle.cache_model.specs.Entries.{IsMap, each_once}
-use Rattle.cache_model.proofs.CountLemmas.{all_members, each_once-le, each_once-same, member, member_of, member_once, same_number, turned}
+use Rattle.cache_model.proofs.CountLemmas.{all_members, each_once-le, each_once-same, member, member_of, member_once, same_number, equals_turned}
 use Rattle.cache_model.proofs.MapLemmas.{all_entries, by_get}
 use Rattle.dirty_table.specs.Groups.{has, oldest_of, touched, without_first}
 use Rattle.mapping.proofs.MarksLemmas.{same_bools}
@@ -28,7 +28,7 @@ use Rattle.write_back.specs.Left.{IsExact, in_group, out_of_group}
 
 pub has_member : (n : ℕ) (xs : List ℕ) → has n xs ≡ member n xs
 has_member n [] = refl
-has_member n (x ∷ xs) = ap (λ b. b || has n xs) (turned n x) ∙ ap (λ b. (x == n) || b) (has_member n xs)
+has_member n (x ∷ xs) = ap (λ b. b || has n xs) (equals_turned n x) ∙ ap (λ b. (x == n) || b) (has_member n xs)
 
 -- a list of distinct groups has each once
 pub once_apart : (xs : List ℕ) → AreApart xs → each_once xs ≡ xs
@@ -62,7 +62,7 @@ pub without_apart : (n : ℕ) (xs : List ℕ) → AreApart xs → AreApart (with
 without_apart n [] apart = tt
 without_apart n (x ∷ xs) apart = elim (cases_Bool (n == x)) [
   | inl here ↦ subst (λ b. AreApart (cond b xs (x ∷ without_first n xs))) (sym here) apart.1
-  | inr later ↦ subst (λ b. AreApart (cond b xs (x ∷ without_first n xs))) (sym later) (sym (has_member x (without_first n xs)) ∙ has_without n x xs (turned x n ∙ later) ∙ has_member x xs ∙ apart.0, without_apart n xs apart.1)
+  | inr later ↦ subst (λ b. AreApart (cond b xs (x ∷ without_first n xs))) (sym later) (sym (has_member x (without_first n xs)) ∙ has_without n x xs (equals_turned x n ∙ later) ∙ has_member x xs ∙ apart.0, without_apart n xs apart.1)
 ]
 
 pub touched_apart : (n : ℕ) (xs : List ℕ) → AreApart xs → AreApart (touched n xs)
@@ -104,7 +104,7 @@ length_waiting p (n ∷ order) lbas = ap suc (length_waiting p order lbas)
 
 any_waiting : (p n : ℕ) (order lbas : List ℕ) → list_any (is_of n) (waiting_in p order lbas) ≡ has n order
 any_waiting p n [] lbas = refl
-any_waiting p n (x ∷ order) lbas = ap (λ b. b || list_any (is_of n) (waiting_in p order lbas)) (turned x n) ∙ ap (λ b. (n == x) || b) (any_waiting p n order lbas)
+any_waiting p n (x ∷ order) lbas = ap (λ b. b || list_any (is_of n) (waiting_in p order lbas)) (equals_turned x n) ∙ ap (λ b. (n == x) || b) (any_waiting p n order lbas)
 
 pub full_waiting : (p c n : ℕ) (order lbas : List ℕ) → is_full c n (waiting_in p order lbas) ≡ (if has n order then false else nat_le c (length order))
 full_waiting p c n order lbas = ap (λ b. cond b false (nat_le c (length (waiting_in p order lbas)))) (any_waiting p n order lbas) ∙ ap (λ k. cond (has n order) false (nat_le c k)) (length_waiting p order lbas)
@@ -149,7 +149,7 @@ last_waiting p (x ∷ []) lbas n apart is = ap (λ b. waiting_in p (cond b [] (x
 last_waiting p (x ∷ y ∷ order) lbas n apart is =
     let later : oldest_of (y ∷ order) ≡ Some n = sym (oldest_next x y order) ∙ is in
     let other : (x == n) ≡ false = false_from_ne_true (x == n) (λ here. false≢true (sym apart.0 ∙ ap (λ k. member k (y ∷ order)) (eqb-true x n here) ∙ oldest_has n (y ∷ order) later)) in
-    ap (λ b. waiting_in p (cond b (y ∷ order) (x ∷ without_first n (y ∷ order))) (out_of_group p n lbas)) (turned n x ∙ other)
+    ap (λ b. waiting_in p (cond b (y ∷ order) (x ∷ without_first n (y ∷ order))) (out_of_group p n lbas)) (equals_turned n x ∙ other)
     ∙ ap (λ l. row x l ∷ waiting_in p (without_first n (y ∷ order)) (out_of_group p n lbas)) (others_kept p x n lbas other)
     ∙ ap (λ t. row x (in_group p x lbas) ∷ t) (last_waiting p (y ∷ order) lbas n apart.1 later)
 
@@ -174,12 +174,12 @@ module _ (p n : ℕ) (lbas new : List ℕ) (same : (m : ℕ) → (m == n) ≡ fa
     | inl here ↦
         ap (λ b. cond (not b) (row x (in_group p x lbas) ∷ others order) (others order)) here
         ∙ none_filtered order (ap (λ k. member k order) (sym (eqb-true x n here)) ∙ apart.0)
-        ∙ sym (ap (λ b. waiting_in p (cond b order (x ∷ without_first n order)) new) (turned n x ∙ here))
+        ∙ sym (ap (λ b. waiting_in p (cond b order (x ∷ without_first n order)) new) (equals_turned n x ∙ here))
     | inr other ↦
         ap (λ b. cond (not b) (row x (in_group p x lbas) ∷ others order) (others order)) other
         ∙ ap (λ l. row x l ∷ others order) (same x other)
         ∙ ap (λ t. row x (in_group p x new) ∷ t) (one_filtered order apart.1)
-        ∙ sym (ap (λ b. waiting_in p (cond b order (x ∷ without_first n order)) new) (turned n x ∙ other))
+        ∙ sym (ap (λ b. waiting_in p (cond b order (x ∷ without_first n order)) new) (equals_turned n x ∙ other))
   ]
 
 -- the addresses of a group
@@ -187,14 +187,14 @@ lbas_there : (p n : ℕ) (order lbas : List ℕ) → has n order ≡ true → lb
 lbas_there p n [] lbas there = absurd (false≢true there)
 lbas_there p n (x ∷ order) lbas there = elim (cases_Bool (x == n)) [
   | inl here ↦ ap (λ b. cond b (in_group p x lbas) (lbas_of n (waiting_in p order lbas))) here ∙ ap (λ k. in_group p k lbas) (eqb-true x n here)
-  | inr other ↦ ap (λ b. cond b (in_group p x lbas) (lbas_of n (waiting_in p order lbas))) other ∙ lbas_there p n order lbas (sym (ap (λ b. b || has n order) (turned n x ∙ other)) ∙ there)
+  | inr other ↦ ap (λ b. cond b (in_group p x lbas) (lbas_of n (waiting_in p order lbas))) other ∙ lbas_there p n order lbas (sym (ap (λ b. b || has n order) (equals_turned n x ∙ other)) ∙ there)
 ]
 
 lbas_nowhere : (p n : ℕ) (order lbas : List ℕ) → has n order ≡ false → lbas_of n (waiting_in p order lbas) ≡ []
 lbas_nowhere p n [] lbas none = refl
 lbas_nowhere p n (x ∷ order) lbas none =
     let parts = or_parts (n == x) (has n order) none in
-    ap (λ b. cond b (in_group p x lbas) (lbas_of n (waiting_in p order lbas))) (turned x n ∙ parts.0) ∙ lbas_nowhere p n order lbas parts.1
+    ap (λ b. cond b (in_group p x lbas) (lbas_of n (waiting_in p order lbas))) (equals_turned x n ∙ parts.0) ∙ lbas_nowhere p n order lbas parts.1
 
 filter_none : (t : ℕ → Bool) (ns : List ℕ) → ((a : ℕ) → has_lba a ns ≡ true → t a ≡ false) → filter t ns ≡ []
 filter_none t [] never = refl
@@ -230,7 +230,7 @@ filter_with_other t a (n ∷ ns) fail = by (nat_cmp a n) (filter_with_other t a 
 
 pub put_waiting : (p : ℕ) (order lbas : List ℕ) (a : ℕ) → AreApart order → IsExact p order lbas → AreAscending lbas → put_first (a / p) a (waiting_in p order lbas) ≡ waiting_in p (touched (a / p) order) (with_lba a lbas)
 put_waiting p order lbas a apart exact up =
-    let same = λ (m : ℕ) (other : (m == a / p) ≡ false). sym (filter_with_other (λ x. x / p == m) a lbas (turned (a / p) m ∙ other)) in
+    let same = λ (m : ℕ) (other : (m == a / p) ≡ false). sym (filter_with_other (λ x. x / p == m) a lbas (equals_turned (a / p) m ∙ other)) in
     ap (λ l. row (a / p) (with_lba a l) ∷ filter (λ w. not (is_of (a / p) w)) (waiting_in p order lbas)) (lbas_are p (a / p) order lbas exact)
     ∙ ap (λ l. row (a / p) l ∷ filter (λ w. not (is_of (a / p) w)) (waiting_in p order lbas)) (sym (filter_with (λ x. x / p == a / p) a lbas up (same_number (a / p))))
     ∙ ap (λ t. row (a / p) (in_group p (a / p) (with_lba a lbas)) ∷ t) (one_filtered p (a / p) lbas (with_lba a lbas) same order apart)

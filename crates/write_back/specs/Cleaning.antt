@@ -4,17 +4,15 @@ use Rattle.std.specs.List.{list_any}
 use Rattle.std.specs.FinMap.{get}
 use Rattle.std.specs.Option.{is_some}
 use Rattle.ft_base.specs.Contents.{Contents}
-use Rattle.ft_base.specs.PlainDisk.{PlainDisk}
 use Rattle.ft_media.specs.State.{State}
-use Rattle.ft_volume.specs.Opening.{ImageIs}
+use Rattle.ft_volume.specs.Opening.{KeepsPlainDisk}
 use Rattle.ft_volume.specs.Volume.{FaultDowns, Goes}
-use Rattle.ft_volume.specs.Standing.{StandFor}
 use Rattle.ft_volume.specs.declared.volume.VolumeError.{VolumeError}
 use Rattle.ft_volume.specs.declared.volume.VolumeError.TheVariants.{OutOfVolume}
 use Rattle.cache_model.specs.CacheList.{CacheList, Held}
 use Rattle.ssc.specs.CacheState.{Holds, entries_of}
 use Rattle.cached_disk.specs.declared.disk.CachedDisk.{CachedDisk}
-use Rattle.cached_disk.specs.Kept.{IsLeft, is_down, state_in, told_of, WritesDisk}
+use Rattle.cached_disk.specs.Kept.{IsLeft, IsMadeAs, is_down, state_in, told_of, WritesDisk}
 
 -- the address is one of these
 abbrev pub is_among : List ℕ → ℕ → Bool
@@ -31,9 +29,8 @@ IsFlushed contents = (a : ℕ) → (contents.disk a).earlier ≡ []
 -- a part of a write-back, in which so many blocks went to the disk: the plain disk is as before, and what was held is
 pub record Proceeds (n : ℕ) (old new : CachedDisk) (before after : State) (result : Result (Unit {0}) VolumeError) : Type 0 where
   pub left : IsLeft new after.contents
-  pub stands : (d : PlainDisk) → StandFor (ImageIs (told_of old)) before.contents d → StandFor (ImageIs (told_of old)) after.contents d
-  pub options : new.options ≡ old.options
-  pub mode : new.mode ≡ old.mode
+  pub stands : KeepsPlainDisk (told_of old) before.contents after.contents
+  pub made : IsMadeAs old new
   pub reserved : new.cache.ready ≡ old.cache.ready
   pub held : is_down new ≡ false → (a : ℕ) → is_some (get (entries_of new.cache) a) ≡ is_some (get (entries_of old.cache) a)
   pub goes : (was is : List ℕ) → Goes (state_in was old) (state_in is new) before after result

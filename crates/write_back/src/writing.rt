@@ -1,7 +1,7 @@
 ghost use Rattle.std.specs.Prelude.{◌≡◌, ◌<◌, ◌/◌, ℕ, length, true, false, OnOk};
 ghost use Rattle.ft_base.specs.PlainDisk.{PlainDisk};
 ghost use Rattle.ft_base.specs.Table.{last_size, put_first, without_last};
-ghost use Rattle.ft_volume.specs.Opening.{ImageIs};
+ghost use Rattle.ft_volume.specs.Opening.{ImageIs, KeepsPlainDisk};
 ghost use Rattle.ft_volume.specs.Volume.{Costs, HoldsAfter, WasDone, Writes};
 ghost use Rattle.ft_media.specs.Passes.{ProgramsPages};
 ghost use Rattle.ft_volume.specs.Standing.{StandFor};
@@ -49,8 +49,7 @@ impl WriteBack {
         requires left { IsLeft self.old (M.state media.old).contents }
         requires up { kept.is_down self.old.disk ≡ false }
         ensures steps { Steps self.old self.new (M.state media.old) (M.state media.new) result }
-        ensures stands { (d : PlainDisk) → StandFor (ImageIs (state_of self.old).told) (M.state media.old).contents d
-            → StandFor (ImageIs (state_of self.old).told) (M.state media.new).contents d }
+        ensures stands { KeepsPlainDisk (state_of self.old).told (M.state media.old).contents (M.state media.new).contents }
         ensures room { OnOk result (HasTableRoom self.new.dirty group) }
         ensures table { OnOk result ((state_of self.new).table ≡ room_made self.old.disk.options.geometry.c group
             (state_of self.old).table) }
@@ -74,8 +73,7 @@ impl WriteBack {
         requires up { kept.is_down self.old.disk ≡ false }
         requires some { 0 < length self.old.dirty.order }
         ensures steps { Steps self.old self.new (M.state media.old) (M.state media.new) result }
-        ensures stands { (d : PlainDisk) → StandFor (ImageIs (state_of self.old).told) (M.state media.old).contents d
-            → StandFor (ImageIs (state_of self.old).told) (M.state media.new).contents d }
+        ensures stands { KeepsPlainDisk (state_of self.old).told (M.state media.old).contents (M.state media.new).contents }
         ensures table { OnOk result ((state_of self.new).table ≡ without_last (state_of self.old).table) }
         ensures held { kept.is_down self.new.disk ≡ false → (a : ℕ) → (state_of self.new).held a ≡ (state_of self.old).held a }
         ensures ready { self.new.disk.cache.ready ≡ self.old.disk.cache.ready }

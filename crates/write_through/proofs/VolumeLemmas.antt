@@ -19,7 +19,7 @@ through_opened options s v contents left fresh = fresh_opened Through options s 
 
 -- it was opened again where it was down
 pub through_comes : {T : Type 0} (old new : CachedDisk) (before after : State) (r : Result T VolumeError) → old.mode ≡ Through → IsLeft new after.contents → Reopens old new before after r → ComesUp ImageIs Loads (state_in [] old) (state_in [] new) before after r
-through_comes old new before after r through left reopens = comes_up old new [] [] before after r reopens (λ up. refl) (λ down. order_through r new after.contents (reopens.mode ∙ through) left reopens.up)
+through_comes old new before after r through left reopens = comes_up old new [] [] before after r reopens (λ up. refl) (λ down. order_through r new after.contents (reopens.made.1 ∙ through) left reopens.up)
 
 -- a cut changes nothing that it tells but that it is down
 pub cut_one : (old new : CachedDisk) (contents : Contents) (bases : List PlainDisk) → new ≡ record old { down = true } → StandForOneOf (ImageIs (told_of old)) contents bases → StandForOneOf (ImageIs (told_of new)) contents bases

@@ -6,7 +6,7 @@ ghost use Rattle.ft_base.specs.declared.block.Block.{Block};
 ghost use Rattle.ft_media.specs.Media.{Crashed, DiskCause, FlashStays, after_write};
 ghost use Rattle.ft_media.specs.Passes.{Passes, ProgramsPages};
 ghost use Rattle.ft_media.specs.State.{failed, lost};
-ghost use Rattle.ft_volume.specs.Opening.{ImageIs};
+ghost use Rattle.ft_volume.specs.Opening.{ImageIs, KeepsPlainDisk};
 ghost use Rattle.ft_volume.specs.Volume.{Costs, FaultDowns, HoldsAfter, WasDone, Writes};
 ghost use Rattle.ft_volume.specs.Standing.{StandFor};
 ghost use Rattle.cached_disk.specs.Kept.{IsMadeAs, WritesDisk};
@@ -63,8 +63,7 @@ impl WriteThrough {
     fn take_out<M: Media>(&mut self, media: &mut M, lba: u64) -> Result<(), VolumeError>
         requires may { MayWrite self.old (M.state media.old).contents lba }
         ensures steps { Steps self.old self.new (M.state media.old) (M.state media.new) result }
-        ensures stands { (d : PlainDisk) → StandFor (ImageIs (state_of self.old).told) (M.state media.old).contents d
-            → StandFor (ImageIs (state_of self.old).told) (M.state media.new).contents d }
+        ensures stands { KeepsPlainDisk (state_of self.old).told (M.state media.old).contents (M.state media.new).contents }
         ensures absent { OnOk result ((state_of self.new).held lba ≡ false) }
         ensures held { OnOk result ((a : ℕ) → (state_of self.new).held a ≡ (if a == lba then false else (state_of self.old).held a)) }
         ensures made { IsMadeAs self.old.disk self.new.disk }
@@ -126,8 +125,7 @@ impl WriteThrough {
         requires newest { block.now ≡ ((M.state media.old).contents.disk lba).newest }
         requires ready { self.old.disk.cache.ready ≡ true }
         ensures steps { Steps self.old self.new (M.state media.old) (M.state media.new) result }
-        ensures stands { (d : PlainDisk) → StandFor (ImageIs (state_of self.old).told) (M.state media.old).contents d
-            → StandFor (ImageIs (state_of self.old).told) (M.state media.new).contents d }
+        ensures stands { KeepsPlainDisk (state_of self.old).told (M.state media.old).contents (M.state media.new).contents }
         ensures held { OnOk result (HoldsAfter (state_of self.old).told (Writes lba block.now) (state_of self.old).held
             (state_of self.new).held) }
         ensures refused { OnErr result (kept.is_down self.new.disk ≡ true) }

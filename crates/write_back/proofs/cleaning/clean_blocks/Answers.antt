@@ -21,8 +21,8 @@ clean_block-requires g c =
     let here : is_among c.args.lbas.now lba ≡ true = among_here c.args.lbas.now c.loop-lba.lba-index c.loop-lba-test.true in
     record {
       may = record { left = is.proceeds.left; up = (is.proceeds.goes [] []).up };
-      back = is.proceeds.mode ∙ c.requires.back;
-      lba = subst (λ (o : Options). lba < o.geometry.size) (sym is.proceeds.options) (c.requires.lbas lba here);
+      back = is.proceeds.made.1 ∙ c.requires.back;
+      lba = subst (λ (o : Options). lba < o.geometry.size) (sym is.proceeds.made.0) (c.requires.lbas lba here);
       flushed = is.flushed;
       copied = is.copied lba here;
     }

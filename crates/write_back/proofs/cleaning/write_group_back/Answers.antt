@@ -44,7 +44,7 @@ clean_blocks-requires-clause-lbas g c = λ a among.
     let v = c.args.disk.now in
     let left = c.requires.may.left in
     let dirty = group_among v.options.geometry.p c.args.group (dirty_of v) c.as_slice-2.result.now c.in-Ok.lbas.items c.as_slice-2.ensures.value c.in-Ok.ensures a among in
-    subst (λ (o : Options). a < o.geometry.size) (sym (c.in_ok-flush_copies.ensures.proceeds.options ∙ c.in_ok-copy_blocks.ensures.proceeds.options))
+    subst (λ (o : Options). a < o.geometry.size) (sym (c.in_ok-flush_copies.ensures.proceeds.made.0 ∙ c.in_ok-copy_blocks.ensures.proceeds.made.0))
     (dirty_within v (g.M.Media.state c.args.media.now).contents left.held (left.up c.requires.may.up) left.own a dirty)
 
 pub clean_blocks-requires-clause-copied : goal.clean_blocks-requires-clause-copied

@@ -14,8 +14,7 @@ returns-then-not-is_down-clause-reopens g c =
     let v = c.args.self.now in
     let up : is_down v ≡ false = search rules in
     record {
-      options = refl;
-      mode = refl;
+      made = (refl, refl);
       same = λ was. (refl, refl);
       up = up;
       opens = λ down. absurd (both_ways (is_down v) up down);
@@ -44,8 +43,7 @@ returns-in-Ok-clause-reopens g c =
     let w : CachedDisk = record v { cache = c.in-Ok.cache; down = false } in
     let down : is_down v ≡ true = search rules in
     record {
-      options = refl;
-      mode = refl;
+      made = (refl, refl);
       same = λ up. absurd (both_ways (is_down v) up down);
       up = c.in-Ok.ensures.opened.goes;
       opens = λ was. opened_entries w v.options.geometry old new c.in-Ok.ensures.opened;
@@ -67,8 +65,7 @@ returns-in-Err-clause-reopens g c =
     let v = c.args.self.now in
     let down : is_down v ≡ true = search rules in
     record {
-      options = refl;
-      mode = refl;
+      made = (refl, refl);
       same = λ up. absurd (both_ways (is_down v) up down);
       up = tt;
       opens = tt;

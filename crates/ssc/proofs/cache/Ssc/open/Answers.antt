@@ -6,6 +6,7 @@ use Rattle.ft_media.specs.declared.media.MediaError.{MediaError}
 use Rattle.ft_media.specs.State.{failed, lost}
 use Rattle.ft_media.specs.Drives.{DrivesFlash}
 use Rattle.ft_media.proofs.DrivesLemmas.{drives_then}
+use Rattle.ft_media.proofs.PassesLemmas.{spends_after}
 use Rattle.op_log.specs.Log.{LogValue}
 use Rattle.merge_engine.specs.declared.parts.Parts.{Parts}
 use Rattle.ssc.proofs.OpenLemmas.{full_room, loaded_era, reads_drives, sound_loaded, lists_loaded, images_loaded, load-loaded}
@@ -61,7 +62,10 @@ returns-in-Err-PowerLost-clause-same g c = load-loaded c.args.geometry.now (g.M.
     (g.M.Media.state c.make_checkpoint.new.media).contents c.make_checkpoint.ensures.loads
 
 pub returns-in-Ok-clause-programs : goal.returns-in-Ok-clause-programs
-returns-in-Ok-clause-programs g c = subst (λ (k : Counts). Rose k.programs (g.M.Media.state c.make_checkpoint.new.media).counts.programs) c.in_ok-loaded.ensures.reads.counts c.in-Ok.ensures.programs.count
+returns-in-Ok-clause-programs g c = record {
+  count = subst (λ (k : Counts). Rose k.programs (g.M.Media.state c.make_checkpoint.new.media).counts.programs) c.in_ok-loaded.ensures.reads.counts c.in-Ok.ensures.programs.count;
+  spends = spends_after (g.M.Media.state c.args.media.now) (g.M.Media.state c.load.new.media) (g.M.Media.state c.make_checkpoint.new.media) 1 c.in_ok-loaded.ensures.reads.passes c.in-Ok.ensures.programs.spends;
+}
 
 pub returns-in-Ok-clause-is_up : goal.returns-in-Ok-clause-is_up
 returns-in-Ok-clause-is_up g c =

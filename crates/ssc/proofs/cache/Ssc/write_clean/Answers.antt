@@ -101,5 +101,4 @@ returns-in-Ok-clause-costs g c = record {
       (c.reserve.ensures.holds (g.M.Media.state c.args.media.now).contents s holds) absent) (room_left c.args.self.now c.reserve.new.self c.reserve.ensures.parts room)
       (few_left c.args.self.now c.reserve.new.self c.reserve.ensures.parts few));
   programs = search rules;
-  spends = search rules;
 }

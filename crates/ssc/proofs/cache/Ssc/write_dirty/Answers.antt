@@ -99,5 +99,4 @@ pub returns-in-Ok-clause-costs : goal.returns-in-Ok-clause-costs
 returns-in-Ok-clause-costs g c = record {
   two_programs = λ room left. c.in-Ok.ensures.two_programs (room_left c.args.self.now c.reserve.new.self c.reserve.ensures.parts room) (log_left c.args.self.now c.reserve.new.self c.reserve.ensures.parts left);
   programs = search rules;
-  spends = search rules;
 }

@@ -16,7 +16,7 @@ returns-in-Ok-clause-steps g c =
     let to = c.write_group_back.ensures in
     record {
       left = cleaned_left v c.write_group_back.new.disk c.remove-was_there.new.self (g.M.Media.state c.args.media.now).contents (g.M.Media.state c.write_group_back.new.media).contents
-          c.in-Some.group c.requires.left c.requires.up to.proceeds.left (to.proceeds.options, to.proceeds.mode) c.in-Ok.ensures.cleaned c.remove-was_there.ensures.order;
+          c.in-Some.group c.requires.left c.requires.up to.proceeds.left to.proceeds.made c.in-Ok.ensures.cleaned c.remove-was_there.ensures.order;
       goes = c.in-Ok.ensures.proceeds.goes c.args.self.now.dirty.order c.remove-was_there.new.self.order;
       faulted = c.in-Ok.ensures.proceeds.faulted;
       within = c.in-Ok.ensures.proceeds.within;
@@ -27,7 +27,7 @@ returns-in-Ok-clause-table g c =
     let v = c.args.self.now in
     let p = v.disk.options.geometry.p in
     let disk = c.write_group_back.new.disk in
-    ap (λ o. waiting_in o.geometry.p c.remove-was_there.new.self.order (dirty_of disk)) c.write_group_back.ensures.proceeds.options
+    ap (λ o. waiting_in o.geometry.p c.remove-was_there.new.self.order (dirty_of disk)) c.write_group_back.ensures.proceeds.made.0
     ∙ ap (λ (t : Groups). waiting_in p t.order (dirty_of disk)) c.remove-was_there.ensures.order
     ∙ ap (λ (l : List ℕ). waiting_in p (without_first c.in-Some.group v.dirty.order) l) c.in-Ok.ensures.cleaned
     ∙ last_waiting p v.dirty.order (dirty_of v.disk) c.in-Some.group c.requires.left.table.apart (sym c.in-Some.ensures)
