@@ -1,13 +1,9 @@
-ghost use Rattle.std.specs.Prelude.{◌≡◌, false, Ok, OnOk, IfOk};
-ghost use Rattle.ft_volume.specs.Opening.{Creates, MayOpen, nothing_held};
+ghost use Rattle.std.specs.Prelude.{OnOk, IfOk};
+ghost use Rattle.ft_volume.specs.Opening.{Creates, MayOpen, OpensOver, nothing_held};
 ghost use Rattle.ft_volume.specs.Volume.{told_for};
-ghost use Rattle.cache_model.specs.CacheList.{CacheList};
-ghost use Rattle.cache_model.specs.Loading.{load};
-ghost use Rattle.cache_model.specs.Stands.{FlashStandsFor};
 ghost use Rattle.op_log.specs.Log.{FitsOn};
 ghost use Rattle.ssc.specs.CacheState.{entries_of};
-ghost use Rattle.cached_disk.specs.Kept.{IsFresh, IsLeft, IsOpenCache, IsOpening, Reopens, StandsOpened};
-ghost use Rattle.cached_disk.specs.Kept as kept;
+ghost use Rattle.cached_disk.specs.Kept.{IsFresh, IsLeft, IsOpenCache, IsOpening, Reopens, StandsOpened, is_down, told_of};
 
 use crate::CachedDisk;
 use crate::errors::{cache_error, flush_error, open_error};
@@ -57,13 +53,10 @@ impl CachedDisk {
         requires shape { FitsOn options.now.geometry (M.state media.old).contents.shape }
         requires agrees { MayOpen (told_for mode options.now) (M.state media.old).contents }
         ensures owns { IfOk result (λ v. IsLeft v (M.state media.new).contents) }
-        ensures opened { IfOk result (λ v. (s : CacheList) → FlashStandsFor options.now.geometry (M.state media.old).contents.flash.page s
-            → IsFresh mode options.now s v) }
-        ensures up { IfOk result (λ v. (v.options ≡ options.now) × (v.mode ≡ mode) × (kept.is_down v ≡ false)) }
+        ensures opened { IfOk result (λ v. OpensOver (told_for mode options.now) (M.state media.old).contents.flash.page
+            (λ s. IsFresh mode options.now s v) (told_of v) (is_down v) (entries_of v.cache)) }
         ensures opening { IsOpening options.now.geometry (M.state media.old) (M.state media.new) result }
         ensures stands { OnOk result (StandsOpened (told_for mode options.now) (M.state media.old).contents (M.state media.new).contents) }
-        // Ok comes only where the flash stands for a list.
-        ensures loads { IfOk result (λ v. load options.now.geometry (M.state media.old).contents.flash.page ≡ Ok (entries_of v.cache)) }
     {
         let cache = open_cache(alloc, media, &options.geometry)?;
         Ok(CachedDisk {

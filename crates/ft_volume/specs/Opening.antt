@@ -1,5 +1,5 @@
 -- What an image is to a volume over a cache, and what making a volume and opening one leave on the media.
-use Rattle.std.specs.Prelude.{◌≡◌, ◌<◌, ℕ, Bool, true, false, [], Some, Result, OnOk, IsErrOf, ⊤}
+use Rattle.std.specs.Prelude.{◌≡◌, ◌<◌, ℕ, Bool, true, false, [], Some, Ok, Result, OnOk, IsErrOf, ⊤}
 use Rattle.std.specs.FinMap.{empty, get}
 use Rattle.std.specs.Option.{is_some}
 use Rattle.ft_base.specs.Contents.{Contents, HasValue, Image, flushed}
@@ -8,12 +8,15 @@ use Rattle.ft_base.specs.PlainDisk.{PlainDisk}
 use Rattle.ft_base.specs.Table.{table_of}
 use Rattle.ft_base.specs.Told.{Told}
 use Rattle.ft_base.specs.declared.block.Block.{Block}
+use Rattle.ft_base.specs.declared.block.Page.{Page}
+use Rattle.ft_base.specs.declared.block.Place.{Place}
 use Rattle.ft_base.specs.declared.geometry.Geometry.{Geometry}
 use Rattle.ft_base.specs.declared.told.Mode.{Mode}
 use Rattle.ft_base.specs.declared.told.Mode.TheVariants.{Back, Through}
 use Rattle.cache_model.specs.Cache.{dirty_between}
 use Rattle.cache_model.specs.CacheList.{Agrees, CacheList, Held, vol}
 use Rattle.cache_model.specs.Loading.{load}
+use Rattle.cache_model.specs.Records.{Entries}
 use Rattle.cache_model.specs.Stands.{FlashStandsFor, settled}
 use Rattle.ft_media.specs.Fitted.{KeepsReady}
 use Rattle.ft_media.specs.Passes.{Passes}
@@ -52,6 +55,20 @@ pub record IsOpened (made : Told) (s : CacheList) (v : VolumeState) : Type 0 whe
   pub held : (a : ℕ) → v.held a ≡ is_some (get s a)
   pub table : v.table ≡ table_of made.geometry.p [] (dirty_between 0 made.geometry.size s)
   pub log_room : v.log_room ≡ log_pages made.geometry
+
+-- what was opened over this flash: it holds whatever list the flash stands for, it tells that it was made so, it is up, and it has the
+-- entries that the flash loads
+pub record OpensOver (made : Told) (page : Place → Page) (holds : CacheList → Type 0) (tells : Told) (down : Bool) (m : Entries)
+    : Type 0 where
+  pub opened : (s : CacheList) → FlashStandsFor made.geometry page s → holds s
+  pub told : tells ≡ made
+  pub up : down ≡ false
+  -- it is opened only where the flash stands for a list
+  pub loads : load made.geometry page ≡ Ok m
+
+-- a volume was so
+abbrev pub OpensVolume : Told → (Place → Page) → VolumeState → Entries → Type 0
+OpensVolume made page v m = OpensOver made page (λ s. IsOpened made s v) v.told v.down m
 
 -- the plain disk is what the disk has, below the size
 abbrev pub IsNewestOnDisk : Geometry → Contents → PlainDisk → Type 0

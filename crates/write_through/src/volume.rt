@@ -1,10 +1,7 @@
-ghost use Rattle.std.specs.Prelude.{◌≡◌, false, OnOk, Ok, IfOk};
+ghost use Rattle.std.specs.Prelude.{◌≡◌, false, OnOk, IfOk};
 ghost use Rattle.ft_base.specs.declared.told.Mode.TheVariants.{Through};
-ghost use Rattle.ft_volume.specs.Opening.{Creates, ImageIs, IsOpened, MayOpen, nothing_held};
+ghost use Rattle.ft_volume.specs.Opening.{Creates, ImageIs, IsOpened, MayOpen, OpensVolume, nothing_held};
 ghost use Rattle.ft_volume.specs.Volume.{ComesUp, told_for};
-ghost use Rattle.cache_model.specs.CacheList.{CacheList};
-ghost use Rattle.cache_model.specs.Loading.{load};
-ghost use Rattle.cache_model.specs.Stands.{FlashStandsFor};
 ghost use Rattle.op_log.specs.Log.{FitsOn};
 ghost use Rattle.ssc.specs.CacheState.{entries_of};
 ghost use Rattle.cached_disk.specs.Kept.{IsMadeAs, IsOpening, Loads, StandsOpened};
@@ -53,13 +50,10 @@ impl WriteThrough {
         requires shape { FitsOn options.now.geometry (R.state rig.old).contents.shape }
         requires agrees { MayOpen (told_for Through options.now) (R.state rig.old).contents }
         ensures owns { IfOk result (λ v. IsLeft v (R.state rig.new).contents) }
-        ensures opened { IfOk result (λ v. (s : CacheList) → FlashStandsFor options.now.geometry (R.state rig.old).contents.flash.page s
-            → IsOpened (told_for Through options.now) s (state_of v)) }
-        ensures up { IfOk result (λ v. ((state_of v).told ≡ told_for Through options.now) × ((state_of v).down ≡ false)) }
+        ensures opened { IfOk result (λ v. OpensVolume (told_for Through options.now) (R.state rig.old).contents.flash.page (state_of v)
+            (entries_of v.disk.cache)) }
         ensures opening { IsOpening options.now.geometry (R.state rig.old) (R.state rig.new) result }
         ensures stands { OnOk result (StandsOpened (told_for Through options.now) (R.state rig.old).contents (R.state rig.new).contents) }
-        // Ok comes only where the flash stands for a list.
-        ensures loads { IfOk result (λ v. load options.now.geometry (R.state rig.old).contents.flash.page ≡ Ok (entries_of v.disk.cache)) }
     {
         let disk = CachedDisk::open(alloc, rig, options, Mode::Through)?;
         Ok(WriteThrough { disk })

@@ -21,12 +21,14 @@ returns-clause-owns g c =
     (subst (λ (x : Shape). FitsOn c.args.options.now.geometry x) (sym c.in_ok-cache.ensures.opening.goes.passes.shape) c.requires.shape)
 
 pub returns-clause-opened : goal.returns-clause-opened
-returns-clause-opened g c = λ s stands.
+returns-clause-opened g c =
     let v : CachedDisk = record { alloc = c.args.alloc; options = c.args.options.now; mode = c.args.mode; cache = c.in_ok-cache.cache; down = false } in
-    opened_fresh v (g.M.Media.state c.args.media.now).contents (g.M.Media.state c.open_cache.new.media).contents s c.in_ok-cache.ensures.opened c.in_ok-cache.ensures.opening.opens stands refl
-
-pub returns-clause-up : goal.returns-clause-up
-returns-clause-up g c = (refl, refl, c.in_ok-cache.ensures.opened.goes)
+    record {
+      opened = λ s stands. opened_fresh v (g.M.Media.state c.args.media.now).contents (g.M.Media.state c.open_cache.new.media).contents s c.in_ok-cache.ensures.opened c.in_ok-cache.ensures.opening.opens stands refl;
+      told = refl;
+      up = c.in_ok-cache.ensures.opened.goes;
+      loads = c.in_ok-cache.ensures.opened.loads;
+    }
 
 pub returns-clause-stands : goal.returns-clause-stands
 returns-clause-stands g c = λ s stands.
