@@ -6,9 +6,9 @@ ghost use Rattle.ft_base.specs.declared.told.Ack.TheVariants as ack;
 ghost use Rattle.ft_base.specs.declared.block.Page.{Page};
 ghost use Rattle.ft_base.specs.declared.block.Place.{Place};
 ghost use Rattle.cache_model.specs.Records.{Entries};
+ghost use Rattle.ft_media.specs.Passes.{ProgramsPages};
 ghost use Rattle.ft_media.specs.Rig.{CutThrough};
 ghost use Rattle.ft_volume.specs.Volume.{Costs, Done, FaultDowns, Fixes, Flushes, Goes, Idles, Reads, Reports, VolumeState, Writes, idled_of, opened_of};
-ghost use Rattle.ft_media.specs.Passes.{ProgramsPages};
 ghost use Rattle.ft_volume.specs.Reported.{IsReport};
 
 use ft_base::{Block, Outcome};

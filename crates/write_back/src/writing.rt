@@ -1,9 +1,9 @@
 ghost use Rattle.std.specs.Prelude.{◌≡◌, ◌<◌, ◌/◌, ℕ, length, true, false, OnOk};
 ghost use Rattle.ft_base.specs.PlainDisk.{PlainDisk};
 ghost use Rattle.ft_base.specs.Table.{last_size, put_first, without_last};
+ghost use Rattle.ft_media.specs.Passes.{ProgramsPages};
 ghost use Rattle.ft_volume.specs.Opening.{ImageIs, KeepsPlainDisk};
 ghost use Rattle.ft_volume.specs.Volume.{Costs, HoldsAfter, WasDone, Writes};
-ghost use Rattle.ft_media.specs.Passes.{ProgramsPages};
 ghost use Rattle.ft_volume.specs.Standing.{StandFor};
 ghost use Rattle.cached_disk.specs.Kept as kept;
 ghost use Rattle.cached_disk.specs.Kept.{WritesDisk};
