@@ -6,6 +6,7 @@ ghost use Rattle.std.specs.String.{string_bytes};
 ghost use Rattle.ft_base.specs.Count.{Rose};
 ghost use Rattle.ft_media.specs.Fitted.{KeepsReady};
 ghost use Rattle.ft_media.specs.Rig.{powered};
+ghost use Rattle.ft_volume.specs.Volume.{StaysOwner};
 ghost use Rattle.ft_volume.specs.declared.volume.VolumeError.TheVariants as volume_error;
 ghost use Rattle.trace_replay.specs.Causes.{EndHasCauseUntraced};
 ghost use Rattle.trace_replay.specs.MayRun.{CanCall};
@@ -40,8 +41,7 @@ fn power_again<R: Rig>(rig: &mut R, error: VolumeError) -> Result<(), Ended>
 /// Asks a volume for its report. Where a stop cut that, it gives none, and power is on again.
 fn report_once<R: Rig, V: Volume<R>>(rig: &mut R, volume: &mut V) -> Result<Option<Report>, Ended>
     requires can { CanCall (V.owns volume.old) (V.state volume.old).told (R.state rig.old) }
-    ensures owns { V.owns volume.new (R.state rig.new).contents }
-    ensures told { (V.state volume.new).told ≡ (V.state volume.old).told }
+    ensures owner { StaysOwner (V.owns volume.new) (R.state rig.new).contents (V.state volume.old) (V.state volume.new) }
     ensures kept { Keeps (V.stands (V.state volume.old).told) (V.stands (V.state volume.new).told) (R.state rig.old).contents
         (R.state rig.new).contents }
     ensures asks { Asks (cuts_by result) (R.state rig.old) (R.state rig.new) }
@@ -67,8 +67,7 @@ pub(crate) fn report_through<R: Rig, V: Volume<R>>(
     volume: &mut V,
 ) -> Result<Report, Ended>
     requires can { CanCall (V.owns volume.old) (V.state volume.old).told (R.state rig.old) }
-    ensures owns { V.owns volume.new (R.state rig.new).contents }
-    ensures told { (V.state volume.new).told ≡ (V.state volume.old).told }
+    ensures owner { StaysOwner (V.owns volume.new) (R.state rig.new).contents (V.state volume.old) (V.state volume.new) }
     ensures kept { Keeps (V.stands (V.state volume.old).told) (V.stands (V.state volume.new).told) (R.state rig.old).contents
         (R.state rig.new).contents }
     ensures asks { (cuts : ℕ) × Asks cuts (R.state rig.old) (R.state rig.new)

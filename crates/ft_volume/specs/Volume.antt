@@ -15,14 +15,14 @@ use Rattle.ft_base.specs.declared.block.Place.{Place}
 use Rattle.ft_base.specs.declared.told.Mode.{Mode}
 use Rattle.ft_base.specs.declared.told.Ack.TheVariants.{Write as AtWrite}
 use Rattle.cache_model.specs.Records.{Entries}
+use Rattle.ft_media.specs.Fitted.{KeepsReady}
+use Rattle.ft_media.specs.Passes.{Passes}
+use Rattle.ft_media.specs.State.{State, Faults}
 use Rattle.ft_volume.specs.declared.options.Options.{Options}
 use Rattle.ft_volume.specs.declared.volume.Idled.{Idled}
 use Rattle.ft_volume.specs.declared.volume.Idled.TheVariants.{Nothing, Cleaned, Checkpointed}
 use Rattle.ft_volume.specs.declared.volume.VolumeError.{VolumeError}
 use Rattle.ft_volume.specs.declared.volume.VolumeError.TheVariants.{FlashFault, DiskFault, PowerLost, OutOfMemory, OutOfVolume}
-use Rattle.ft_media.specs.Fitted.{KeepsReady}
-use Rattle.ft_media.specs.Passes.{Passes}
-use Rattle.ft_media.specs.State.{State, Faults}
 use Rattle.ft_volume.specs.Standing.{StandFor}
 
 -- what a volume of this mode tells that is made with these options; each write is on the media when it answers
@@ -180,6 +180,10 @@ pub record Goes {T : Type 0} (old new : VolumeState) (before after : State) (res
   pub disk : IsErrOf result DiskFault → old.down ≡ false → new.down ≡ false → after.contents.disk ≡ before.contents.disk
   pub cause : HasCause before.faults after.faults result
   pub passes : Passes before after (volume_lost result)
+
+-- after calls the volume owns what the media contain, and tells the same of what it was made with
+abbrev pub StaysOwner : (Contents → Type 0) → Contents → VolumeState → VolumeState → Type 0
+StaysOwner owns after old new = owns after × (new.told ≡ old.told)
 
 -- a device write that was refused leaves it down
 pub record FaultDowns {T : Type 0} (result : Result T VolumeError) (down : Bool) : Type 0 where

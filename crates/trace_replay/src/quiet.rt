@@ -1,13 +1,13 @@
 //! A quiet run: of all that becomes of a trace a refused line alone is printed.
 ghost use Rattle.std.specs.Prelude.{◌≡◌, ◌≢◌, ◌∷◌, ◌++◌, [], length, true, OnOk, IfErr, IsErrOf};
 ghost use Rattle.std.specs.Io.KnownBytes as known;
+ghost use Rattle.ft_volume.specs.Volume.{StaysOwner};
 ghost use Rattle.trace_model.specs.Readings.{Reads};
 ghost use Rattle.trace_replay.specs.Causes.{EndHasCause, KeepsStreams};
 ghost use Rattle.trace_replay.specs.Commands as commands;
 ghost use Rattle.trace_replay.specs.Commands.{TellsRefusal, TellsRefusalPart};
 ghost use Rattle.trace_replay.specs.AsMade.{IsAsMade};
 ghost use Rattle.trace_replay.specs.Theorem.{EndsPart, EndsRefused, EndsUnread, RunsWhole};
-ghost use Rattle.trace_replay.specs.Went.{StaysOwner};
 
 use crate::Ended;
 use crate::output::say;

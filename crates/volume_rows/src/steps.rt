@@ -1,5 +1,5 @@
 //! Calls of a volume one after another, each with what it must answer.
-ghost use Rattle.std.specs.Prelude.{◌≡◌};
+ghost use Rattle.ft_volume.specs.Volume.{StaysOwner};
 
 use ft_base::{Block, Outcome, pattern, tag_of, zero_block};
 use ft_media::{Media, Rig};
@@ -55,8 +55,7 @@ fn write<R: Rig, V: Volume<R>>(
     tag: u64,
 ) -> Result<(), VolumeError>
     requires { V.owns volume.old (R.state rig.old).contents }
-    ensures owns { V.owns volume.new (R.state rig.new).contents }
-    ensures told { (V.state volume.new).told ≡ (V.state volume.old).told }
+    ensures owner { StaysOwner (V.owns volume.new) (R.state rig.new).contents (V.state volume.old) (V.state volume.new) }
 {
     volume.write(rig, lba, &block_of(lba, tag))
 }
@@ -68,8 +67,7 @@ fn read<R: Rig, V: Volume<R>>(
     lba: u64,
 ) -> Result<Option<u64>, VolumeError>
     requires { V.owns volume.old (R.state rig.old).contents }
-    ensures owns { V.owns volume.new (R.state rig.new).contents }
-    ensures told { (V.state volume.new).told ≡ (V.state volume.old).told }
+    ensures owner { StaysOwner (V.owns volume.new) (R.state rig.new).contents (V.state volume.old) (V.state volume.new) }
 {
     let mut block = zero_block();
     match volume.read(rig, lba, &mut block) {
@@ -81,8 +79,7 @@ fn read<R: Rig, V: Volume<R>>(
 /// Whether a write and a read of an address are refused, and no count of the rig rises.
 fn refuses<R: Rig, V: Volume<R>>(volume: &mut V, rig: &mut R, lba: u64) -> bool
     requires { V.owns volume.old (R.state rig.old).contents }
-    ensures owns { V.owns volume.new (R.state rig.new).contents }
-    ensures told { (V.state volume.new).told ≡ (V.state volume.old).told }
+    ensures owner { StaysOwner (V.owns volume.new) (R.state rig.new).contents (V.state volume.old) (V.state volume.new) }
 {
     let before = rig.counts();
     let refused = write(volume, rig, lba, 7);
@@ -94,32 +91,28 @@ fn refuses<R: Rig, V: Volume<R>>(volume: &mut V, rig: &mut R, lba: u64) -> bool
 
 fn flush<R: Rig, V: Volume<R>>(volume: &mut V, rig: &mut R) -> Result<(), VolumeError>
     requires { V.owns volume.old (R.state rig.old).contents }
-    ensures owns { V.owns volume.new (R.state rig.new).contents }
-    ensures told { (V.state volume.new).told ≡ (V.state volume.old).told }
+    ensures owner { StaysOwner (V.owns volume.new) (R.state rig.new).contents (V.state volume.old) (V.state volume.new) }
 {
     volume.flush(rig)
 }
 
 fn cut<R: Rig, V: Volume<R>>(volume: &mut V, rig: &mut R, outcome: Outcome)
     requires { V.owns volume.old (R.state rig.old).contents }
-    ensures owns { V.owns volume.new (R.state rig.new).contents }
-    ensures told { (V.state volume.new).told ≡ (V.state volume.old).told }
+    ensures owner { StaysOwner (V.owns volume.new) (R.state rig.new).contents (V.state volume.old) (V.state volume.new) }
 {
     volume.cut(rig, outcome);
 }
 
 fn idle<R: Rig, V: Volume<R>>(volume: &mut V, rig: &mut R) -> Result<Idled, VolumeError>
     requires { V.owns volume.old (R.state rig.old).contents }
-    ensures owns { V.owns volume.new (R.state rig.new).contents }
-    ensures told { (V.state volume.new).told ≡ (V.state volume.old).told }
+    ensures owner { StaysOwner (V.owns volume.new) (R.state rig.new).contents (V.state volume.old) (V.state volume.new) }
 {
     volume.idle(rig)
 }
 
 fn report<R: Rig, V: Volume<R>>(volume: &mut V, rig: &mut R) -> Result<Report, VolumeError>
     requires { V.owns volume.old (R.state rig.old).contents }
-    ensures owns { V.owns volume.new (R.state rig.new).contents }
-    ensures told { (V.state volume.new).told ≡ (V.state volume.old).told }
+    ensures owner { StaysOwner (V.owns volume.new) (R.state rig.new).contents (V.state volume.old) (V.state volume.new) }
 {
     volume.report(rig)
 }
@@ -127,8 +120,7 @@ fn report<R: Rig, V: Volume<R>>(volume: &mut V, rig: &mut R) -> Result<Report, V
 /// Whether a report tells these numbers.
 fn reports<R: Rig, V: Volume<R>>(volume: &mut V, rig: &mut R, wanted: (u64, u32, u64)) -> bool
     requires { V.owns volume.old (R.state rig.old).contents }
-    ensures owns { V.owns volume.new (R.state rig.new).contents }
-    ensures told { (V.state volume.new).told ≡ (V.state volume.old).told }
+    ensures owner { StaysOwner (V.owns volume.new) (R.state rig.new).contents (V.state volume.old) (V.state volume.new) }
 {
     match report(volume, rig) {
         Ok(told) => (told.held, told.dirty_groups, told.scrubbed) == wanted,
@@ -139,8 +131,7 @@ fn reports<R: Rig, V: Volume<R>>(volume: &mut V, rig: &mut R, wanted: (u64, u32,
 /// Makes a step, and says whether it answers that.
 fn agrees<R: Rig, V: Volume<R>>(volume: &mut V, rig: &mut R, step: Step) -> bool
     requires { V.owns volume.old (R.state rig.old).contents }
-    ensures owns { V.owns volume.new (R.state rig.new).contents }
-    ensures told { (V.state volume.new).told ≡ (V.state volume.old).told }
+    ensures owner { StaysOwner (V.owns volume.new) (R.state rig.new).contents (V.state volume.old) (V.state volume.new) }
 {
     match step {
         Step::Write(lba, tag) => write(volume, rig, lba, tag) == Ok(()),
@@ -172,8 +163,7 @@ pub(crate) fn first_wrong<R: Rig, V: Volume<R>>(
     steps: &[Step],
 ) -> Option<usize>
     requires { V.owns volume.old (R.state rig.old).contents }
-    ensures owns { V.owns volume.new (R.state rig.new).contents }
-    ensures told { (V.state volume.new).told ≡ (V.state volume.old).told }
+    ensures owner { StaysOwner (V.owns volume.new) (R.state rig.new).contents (V.state volume.old) (V.state volume.new) }
 {
     for i in 0..steps.len() {
         if !agrees(volume, rig, steps[i]) {

@@ -22,9 +22,9 @@ again-preserved g c =
     let asks = c.again.invariant.asks in
     let cut : Asks 1 (g.R.Media.state c.again.rig) (g.R.Media.state c.report_once.new.rig) = subst (λ (f : Option Report). Asks (cuts_by (Ok f)) (g.R.Media.state c.again.rig) (g.R.Media.state c.report_once.new.rig)) c.in-Ok-None.field-0-is c.in-Ok-None.ensures.asks in
     record {
-      owns = c.report_once.ensures.owns;
-      told = c.report_once.ensures.told ∙ c.again.invariant.told;
-      ack = ap (λ (t : Told). t.ack) c.report_once.ensures.told ∙ c.again.invariant.ack;
+      owns = c.report_once.ensures.owner.0;
+      told = c.report_once.ensures.owner.1 ∙ c.again.invariant.told;
+      ack = ap (λ (t : Told). t.ack) c.report_once.ensures.owner.1 ∙ c.again.invariant.ack;
       kept = λ d stood. c.report_once.ensures.kept d (c.again.invariant.kept d stood);
       asks = (asks.0 + 1, asks_then asks.0 1 _ _ _ asks.1 cut, λ none. absurd (omega (arith, none)));
     }
