@@ -3,25 +3,24 @@ use Rattle.std.proofs.Common.{◌≡◌, ◌+◌, ◌++◌, ℕ, Bool, true, fal
 use Rattle.std.specs.Io.KnownBytes.{Appends, Keeps}
 use Rattle.std.proofs.lemmas.List.{append-nil}
 use Rattle.std.proofs.lemmas.List.Elements.{filter-append}
+use Rattle.sha2.specs.Hashers.{Holds256}
+use Rattle.sha2.specs.declared.Sha256.{Sha256}
 use Rattle.ft_base.specs.StreamState.{SinkState, SourceState}
 use Rattle.trace_model.specs.declared.answer.Answer.{Answer}
 use Rattle.trace_model.specs.declared.answer.Answer.TheVariants as answer
 use Rattle.trace_model.specs.declared.line.Line.{Line}
 use Rattle.trace_model.specs.declared.line.LineError.{LineError}
 use Rattle.trace_model.specs.declared.ran.Ran.{Ran}
-use Rattle.trace_model.specs.Readings.{Reads, accepted}
+use Rattle.trace_model.specs.Readings.{Reading, Reads, accepted}
 use Rattle.trace_model.specs.Run.{end_answers, end_of, stopped}
 use Rattle.trace_model.specs.Text.{text, text_of}
 use Rattle.trace_replay.specs.declared.reader.Reader.{Reader}
 use Rattle.trace_replay.specs.Commands.{TellsRefusalPart, is_refusal, refusals_in}
-use Rattle.trace_replay.specs.Events.{Event, answers_in, events_of, lines_given, refusal_after, taking}
+use Rattle.trace_replay.specs.Events.{Event, NextRefused, answers_in, events_of, lines_given, refusal_after, taking, told_bytes}
 use Rattle.trace_replay.specs.Events.Event.{Gave, Took, Touched}
-use Rattle.trace_replay.specs.Quiet.{BrokeQuiet, heard, is_heard, lines_heard}
-use Rattle.trace_replay.specs.Reader.{CameTo, RefusesNext}
+use Rattle.trace_replay.specs.Quiet.{given_heard, heard, is_heard, lines_heard}
 use Rattle.trace_replay.specs.Said.{Said, SaidPart}
 use Rattle.trace_replay.specs.Stream.{BrokeStream, CameStream}
-use Rattle.trace_replay.proofs.SaidLemmas.{said_none}
-use Rattle.trace_replay.proofs.StreamLemmas.{broke_refused, came_broke, came_gave, came_refused, came_silent, came_took}
 use Rattle.trace_replay.proofs.ToldLemmas.{SkipsLines, none_stopped, said_of}
 
 -- ---- what is heard
@@ -43,45 +42,42 @@ refusal_heard e cause = ap (λ (lines : List Line). answer.Refused (length lines
 pub reads_heard : (size : ℕ) (s a : SourceState) (e : List Event) (whole : Bool) → Reads size s a (map accepted (lines_given (heard e))) whole → Reads size s a (map accepted (lines_given e)) whole
 reads_heard size s a e whole reads = subst (λ (lines : List Line). Reads size s a (map accepted lines) whole) (lines_heard e) reads
 
-pub refuses_heard : (size : ℕ) (s a : SourceState) (e : List Event) (armed : ℕ) (cause : LineError) → RefusesNext size s a (lines_given (heard e)) armed cause → RefusesNext size s a (lines_given e) armed cause
-refuses_heard size s a e armed cause refuses = subst (λ (lines : List Line). RefusesNext size s a lines armed cause) (lines_heard e) refuses
+-- the next line is refused of all where it is of those that were heard
+pub refused_heard : {P Q : Type 0} {knows : SourceState → P → List Reading → Bool → Type 0} {knew : SourceState → Q → List Reading → Bool → Type 0} {now : P} {was : Q} (s : SourceState) (e : List Event) (armed : ℕ) (cause : LineError)
+    → ((all : List Reading) (whole : Bool) → knew s was all whole → knows s now all whole) → NextRefused knew s was (heard e) armed cause → NextRefused knows s now e armed cause
+refused_heard s e armed cause known refused = record {
+  all = refused.all;
+  whole = refused.whole;
+  next = refused.next;
+  left = refused.left;
+  known = known _ _ refused.known;
+  front = given_heard refused.all (refused.next ∷ refused.left) e refused.front;
+  why = refused.why;
+}
 
--- ---- where it stands then
+-- ---- where the stream stands that takes what is heard
 
-module _ (r : Reader) (a : SourceState) (x : SinkState) (s : SourceState) (b : SinkState) (e : List Event) (came : CameStream r a x s b (heard e)) where
-  pub quiet_gave : (q : Reader) (z : SourceState) (l : Line) → CameTo s (lines_given (heard e) ++ l ∷ []) z q → CameStream q z x s b (heard (e ++ Gave l ∷ []))
-  quiet_gave q z l read = subst (λ (es : List Event). CameStream q z x s b es) (sym (heard_more e (Gave l ∷ []))) (came_gave r a x s b (heard e) came q z l read)
+-- it came by these events
+abbrev pub Stands : Reader → SourceState → SinkState → Sha256 → SourceState → SinkState → List Event → Type 0
+Stands r a x h s b es = CameStream r a x s b es × Holds256 h (told_bytes es)
 
-  -- nothing was said, and what was read may be more
-  pub quiet_silent : (q : Reader) (z : SourceState) (y : SinkState) → CameTo s (lines_given (heard e)) z q → Said x y [] → CameStream q z y s b (heard (e ++ []))
-  quiet_silent q z y read said = subst (λ (es : List Event). CameStream q z y s b es) (sym (heard_more e [])) (came_silent r a x s b (heard e) came q z y read said)
+module _ (r : Reader) (a : SourceState) (x : SinkState) (h : Sha256) (s : SourceState) (b : SinkState) (e : List Event) where
+  pub stands_heard : (more : List Event) → Stands r a x h s b (heard e ++ heard more) → Stands r a x h s b (heard (e ++ more))
+  stands_heard more is = subst (λ (es : List Event). Stands r a x h s b es) (sym (heard_more e more)) is
 
-  pub quiet_read : (q : Reader) (z : SourceState) → CameTo s (lines_given (heard e)) z q → CameStream q z x s b (heard (e ++ []))
-  quiet_read q z read = quiet_silent q z x read (said_none x)
+  pub stands_unheard : (event : Event) → is_heard event ≡ false → Stands r a x h s b (heard e) → Stands r a x h s b (heard (e ++ event ∷ []))
+  stands_unheard event not is = stands_heard (event ∷ []) (subst (λ (es : List Event). Stands r a x h s b es) (sym (ap (λ (es : List Event). heard e ++ es) (unheard_alone event not) ∙ append-nil (heard e))) is)
 
-  pub quiet_unheard : (event : Event) → is_heard event ≡ false → CameStream r a x s b (heard (e ++ event ∷ []))
-  quiet_unheard event is =
-      subst (λ (es : List Event). CameStream r a x s b es) (sym (heard_more e (event ∷ []) ∙ ap (λ (es : List Event). heard e ++ es) (unheard_alone event is) ∙ append-nil (heard e))) came
+  pub stands_took : (given : Answer) → is_refusal given ≡ true → Stands r a x h s b (heard e ++ Took given ∷ []) → Stands r a x h s b (heard (e ++ Took given ∷ []))
+  stands_took given is took = stands_heard (Took given ∷ []) (subst (λ (es : List Event). Stands r a x h s b (heard e ++ es)) (sym (heard_alone (Took given) is)) took)
 
-  pub quiet_said : (y : SinkState) (given : Answer) → is_refusal given ≡ true → Said x y (given ∷ []) → CameStream r a y s b (heard (e ++ Took given ∷ []))
-  quiet_said y given is said =
-      subst (λ (es : List Event). CameStream r a y s b es) (sym (heard_more e (Took given ∷ []) ∙ ap (λ (es : List Event). heard e ++ es) (heard_alone (Took given) is)))
-      (came_took r a x s b (heard e) came r a y given came.read said)
+  -- the next line is refused, and that was said
+  pub stands_refused : (cause : LineError) → Stands r a x h s b (heard e ++ taking (refusal_after (heard e) cause ∷ [])) → Stands r a x h s b (heard (e ++ taking (refusal_after e cause ∷ [])))
+  stands_refused cause said = stands_took (refusal_after e cause) refl (subst (λ (given : Answer). Stands r a x h s b (heard e ++ Took given ∷ [])) (refusal_heard e cause) said)
 
-  pub quiet_broke : (y : SinkState) (given : Answer) → is_refusal given ≡ true → SaidPart x y [] (Some given) → BrokeQuiet b y e (Took given)
-  quiet_broke y given is part = (is, came_broke r a x s b (heard e) came y given part)
-
-  -- the next line is refused, and that was said, all or a part
-  pub quiet_refused : (q : Reader) (z : SourceState) (y : SinkState) (n : ℕ) (cause : LineError) → CameTo s (lines_given (heard e)) z q → n ≡ q.lines + 1 → Said x y (answer.Refused n cause ∷ [])
-      → CameStream q z y s b (heard (e ++ taking (refusal_after e cause ∷ [])))
-  quiet_refused q z y n cause read is said =
-      subst (λ (es : List Event). CameStream q z y s b es) (sym (heard_more e (Took (refusal_after e cause) ∷ [])))
-      (subst (λ (given : Answer). CameStream q z y s b (heard e ++ Took given ∷ [])) (refusal_heard e cause) (came_refused r a x s b (heard e) came q z y n cause read is said))
-
-  pub quiet_broke-refused : (q : Reader) (z : SourceState) (y : SinkState) (n : ℕ) (cause : LineError) → CameTo s (lines_given (heard e)) z q → n ≡ q.lines + 1 → SaidPart x y [] (Some (answer.Refused n cause))
-      → BrokeQuiet b y e (Took (refusal_after e cause))
-  quiet_broke-refused q z y n cause read is part =
-      (refl, subst (λ (given : Answer). BrokeStream b y (heard e) (Took given)) (refusal_heard e cause) (broke_refused r a x s b (heard e) came q z y n cause read is part))
+-- or a part of that
+pub broke_refusal : (b y : SinkState) (e : List Event) (cause : LineError) → BrokeStream b y (heard e) (Took (refusal_after (heard e) cause)) → BrokeStream b y (heard e) (Took (refusal_after e cause))
+broke_refusal b y e cause broke = subst (λ (given : Answer). BrokeStream b y (heard e) (Took given)) (refusal_heard e cause) broke
 
 -- ---- what a run says
 
@@ -106,7 +102,7 @@ told_refusal x y taken same run answers more is said =
 -- a part of one more answer, where the sink failed
 abbrev pub BrokenBy : SinkState → SinkState → List Ran → List Answer → Option Answer → Type 0
 BrokenBy x y run answers None = ⊥
-BrokenBy x y run answers (Some next) = (more : List Event) × (answers_in more ≡ answers) × BrokeQuiet x y (events_of run ++ more) (Took next)
+BrokenBy x y run answers (Some next) = (more : List Event) × (answers_in more ≡ answers) × ((is_refusal next ≡ true) × BrokeStream x y (heard (events_of run ++ more)) (Took next))
 
 pub shown_refusal : (x y : SinkState) (taken : Option (List ℕ)) → y.taken ≡ taken → (run : List Ran) (answers : List Answer) (next : Option Answer) → BrokenBy x y run answers next
     → TellsRefusalPart x (record { taken = taken; faults = 0; lent = [] }) run answers next

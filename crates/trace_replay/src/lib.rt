@@ -34,7 +34,7 @@ mod writing;
 
 pub use ended::{Ended, end_at};
 pub use made::{MadeScript, replay_made};
-pub use quiet::{QuietScript, replay_quiet};
+pub use quiet::replay_quiet;
 pub use replaying::replay;
 pub use running::replay_script;
 pub use script::Script;
