@@ -17,7 +17,7 @@ use Rattle.ft_volume.specs.Volume as volume
 use Rattle.cache_model.specs.declared.entry.Entry.{Entry}
 use Rattle.cache_model.specs.Cache.{Vanish, dirty_between, groups, with_group}
 use Rattle.cache_model.specs.CacheList.{CacheList, Held}
-use Rattle.cache_model.proofs.CountLemmas.{all_members, each_once-le, member_of, member_once, once_few, same_number}
+use Rattle.cache_model.proofs.CountLemmas.{all_members, each_once-le, member_of, member_once, each_once-no_longer, same_number}
 use Rattle.cache_model.proofs.MapLemmas.{less_key, all_entries, by_get, get_insert, holds as true_of}
 use Rattle.mapping.proofs.MarksLemmas.{same_bools}
 use Rattle.merge_engine.specs.Loaded.{AreAscending}
@@ -240,7 +240,7 @@ few_groups g s group gs own all =
       | inl here ↦ ap (λ k. has_lba k gs) (sym (eqb-true group n here)) ∙ own
       | inr later ↦ all_groups gs g.p (entries s) along n (sym (member_once n (map (λ x. x.0 / g.p) (entries s))) ∙ later)
     ]) in
-    let short = once_few gs in
+    let short = each_once-no_longer gs in
     omega (arith, fewer, short)
 
 module _ (told : Told) (call : Call) (s v : CacheList) (lba : ℕ) (h : Held) (vanish : Vanish told.geometry s lba v) (own : IsOwn call lba) (alone : (a : ℕ) → IsOwn call a → a ≡ lba) where

@@ -13,7 +13,7 @@ use Rattle.ft_base.specs.Layout.{rounded_up, most_records, page_records, pages_f
 use Rattle.cache_model.specs.declared.entry.Entry.{Entry}
 use Rattle.cache_model.specs.Records.{Entries}
 use Rattle.cache_model.specs.Entries.{each_once, groups_with, blocks_with, page_mapped, IsMap}
-use Rattle.cache_model.proofs.CountLemmas.{member, numbers, each_once-le, member_of, member_once, once_few}
+use Rattle.cache_model.proofs.CountLemmas.{member, numbers, each_once-le, member_of, member_once, each_once-no_longer}
 use Rattle.cache_model.proofs.MapLemmas.{all_entries, holds}
 use Rattle.ft_base.proofs.LayoutLemmas.{k_holds}
 use Rattle.ft_base.specs.declared.record.Record.{Record}
@@ -134,7 +134,7 @@ module _ (g : Geometry) (m : Entries) (is_map : IsMap g m) where
       let all : length (numbers (place_number g.p) page_mapped (entries m)) ≡ length (filter (λ x. page_mapped x.1) (entries m)) = length-map (filter (λ x. page_mapped x.1) (entries m)) (place_number g.p) in
       let once = numbers_once (entries m) (holds _ (entries_sorted m)) each_there in
       let less = each_once-le (numbers (place_number g.p) page_mapped (entries m)) (pages_of g.p (blocks_with page_mapped m)) within_blocks in
-      let few = once_few (pages_of g.p (blocks_with page_mapped m)) in
+      let few = each_once-no_longer (pages_of g.p (blocks_with page_mapped m)) in
       let long = length-pages_of g.p (blocks_with page_mapped m) in
       let blocks = product (length (blocks_with page_mapped m)) g.l g.p is_map.log_blocks in
       omega arith

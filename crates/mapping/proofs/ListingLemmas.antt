@@ -14,7 +14,7 @@ use Rattle.cache_model.specs.declared.entry.Entry.{Entry}
 use Rattle.cache_model.specs.Records.{has_bit, in_log_block}
 use Rattle.cache_model.specs.Entries.{each_once, groups_with, page_mapped}
 use Rattle.cache_model.proofs.MapLemmas.{eq_key}
-use Rattle.cache_model.proofs.CountLemmas.{member, numbers, same_number, each_once-same, once_few}
+use Rattle.cache_model.proofs.CountLemmas.{member, numbers, same_number, each_once-same, each_once-no_longer}
 use Rattle.block_map.specs.PageSets.{BlockPages}
 use Rattle.block_map.proofs.PageSetLemmas.{empty_set}
 use Rattle.sparse_map.specs.Home.{IsDoubledFor}
@@ -250,7 +250,7 @@ module _ (g : Geometry) (pages : PackedTable MappedPage) (blocks : PackedTable B
 
   pub few_data_blocks : len_of blocks ≤ length (entries (packed_entries g (map_of pages) (map_of blocks)))
   few_data_blocks =
-      let once = once_few (numbers (λ x. x.0 / g.p) (λ e. e.block_mapped) (entries (packed_entries g (map_of pages) (map_of blocks)))) in
+      let once = each_once-no_longer (numbers (λ x. x.0 / g.p) (λ e. e.block_mapped) (entries (packed_entries g (map_of pages) (map_of blocks)))) in
       let keys = length-map (filter (λ (x : ℕ × Entry). x.1.block_mapped) (entries (packed_entries g (map_of pages) (map_of blocks)))) (λ (x : ℕ × Entry). x.0 / g.p) in
       let few = filter_few (λ x. x.1.block_mapped) (entries (packed_entries g (map_of pages) (map_of blocks))) in
       let long = len_of-items blocks packed.blocks_sound.packed.once in

@@ -15,7 +15,7 @@ use Rattle.cache_model.specs.Records.{Entries, no_entries}
 use Rattle.cache_model.specs.Entries.{each_once, groups_with, blocks_with, page_mapped, IsMap}
 use Rattle.cache_model.proofs.MapLemmas.{holds, get_remove, less_key}
 use Rattle.cache_model.proofs.FitsLemmas.{no_entries-nil}
-use Rattle.cache_model.proofs.CountLemmas.{member, numbers, same_number, each_once-same, counts_beside, less-map, member_of, once_few, taken}
+use Rattle.cache_model.proofs.CountLemmas.{member, numbers, same_number, each_once-same, counts_beside, less-map, member_of, each_once-no_longer, taken}
 use Rattle.ft_base.specs.declared.record.Record.{Record}
 use Rattle.mapping.specs.Checkpoint.{IsCheckpointOf, set_group_of, set_page_of}
 use Rattle.mapping.specs.Numbers.{pool_pages, number_of}
@@ -100,7 +100,7 @@ key_count (x ∷ es) = ap suc (key_count es)
 
 pub tally_few : (g : Geometry) (t : Entry → Bool) (m : Entries) → IsMap g m → tally t m ≤ 36928
 tally_few g t m is_map =
-    let once = once_few (numbers (λ x. x.0) t (entries m)) in
+    let once = each_once-no_longer (numbers (λ x. x.0) t (entries m)) in
     let keys = key_count (filter (λ x. t x.1) (entries m)) in
     let few = filter_few t (entries m) in
     omega (arith, few_held g m is_map)
