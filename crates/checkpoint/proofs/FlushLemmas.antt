@@ -6,9 +6,10 @@ use Rattle.ft_base.specs.declared.block.Place.{Place}
 use Rattle.ft_base.specs.declared.block.Page.{Page}
 use Rattle.ft_base.specs.declared.block.Page.TheVariants.{Blank, Torn}
 use Rattle.ft_base.specs.declared.record.Record.{Record}
-use Rattle.ft_base.specs.Contents.{Flash, set_page}
+use Rattle.ft_base.specs.Contents.{Contents, Flash, set_page}
 use Rattle.ft_base.specs.Layout.{first_log, first_pool, checkpoint_at, log_at, checkpoint_pages, log_pages}
 use Rattle.ft_base.proofs.Images.{set_other}
+use Rattle.ft_media.specs.Media.{IsBlankAhead}
 use Rattle.cache_model.specs.declared.format.Header.{Header}
 use Rattle.cache_model.specs.declared.format.PageKind.TheVariants.{Log}
 use Rattle.cache_model.specs.Records.{Entries}
@@ -53,16 +54,16 @@ first_of p i some =
     let whole = div-add-mod' (i / p * p) p in
     (row, omega arith)
 
-log_ahead : (log : LogValue) (flash : Flash) → IsOpenLog flash log → ((at : Place) (next : ℕ) → flash.next at.block ≡ Some next → next ≤ at.page → flash.page at ≡ Blank)
-    → log.next < log_pages log.geometry → (i : ℕ) → log.next ≤ i → i < log_pages log.geometry → flash.page (log_at log.geometry log.region i) ≡ Blank
-log_ahead log flash opened ahead room i low high = elim (cases_eq (log.next / log.geometry.p) (i / log.geometry.p)) [
+log_ahead : (log : LogValue) (contents : Contents) → IsOpenLog contents.flash log → IsBlankAhead contents
+    → log.next < log_pages log.geometry → (i : ℕ) → log.next ≤ i → i < log_pages log.geometry → contents.flash.page (log_at log.geometry log.region i) ≡ Blank
+log_ahead log contents opened ahead room i low high = elim (cases_eq (log.next / log.geometry.p) (i / log.geometry.p)) [
   | inl row ↦ ahead (log_at log.geometry log.region i) (log.next % log.geometry.p)
-      (ap (λ n. flash.next (first_log log.geometry + log.region * log.geometry.j + n)) (sym row) ∙ opened.ready log.next (omega arith) room (inl refl))
+      (ap (λ n. contents.flash.next (first_log log.geometry + log.region * log.geometry.j + n)) (sym row) ∙ opened.ready log.next (omega arith) room (inl refl))
       (column row)
   | inr apart ↦
       let first = first_of log.geometry.p i some in
       ahead (log_at log.geometry log.region i) 0
-      (ap (λ n. flash.next (first_log log.geometry + log.region * log.geometry.j + n)) (sym first.0) ∙ opened.ready (i / log.geometry.p * log.geometry.p) (later apart) (before) (inr first.1) ∙ ap Some first.1)
+      (ap (λ n. contents.flash.next (first_log log.geometry + log.region * log.geometry.j + n)) (sym first.0) ∙ opened.ready (i / log.geometry.p * log.geometry.p) (later apart) (before) (inr first.1) ∙ ap Some first.1)
       (omega arith)
 ]
   where
@@ -98,7 +99,10 @@ log_ahead log flash opened ahead room i low high = elim (cases_eq (log.next / lo
 
 -- ---- what a flush leaves, whatever it answers
 
-module _ (log : LogValue) (m : Entries) (old new : Flash) (current : IsCurrent old.page log m) (opened : IsOpenLog old log) (ahead : (at : Place) (next : ℕ) → old.next at.block ≡ Some next → next ≤ at.page → old.page at ≡ Blank) (room : log.next < log_pages log.geometry) where
+module _ (log : LogValue) (m : Entries) (before : Contents) (new : Flash) (current : IsCurrent before.flash.page log m) (opened : IsOpenLog before.flash log) (ahead : IsBlankAhead before) (room : log.next < log_pages log.geometry) where
+  abbrev old : Flash
+  old = before.flash
+
   abbrev checkpoint_now : ℕ × Complete
   checkpoint_now = (log.region, current.newest)
 
@@ -110,7 +114,7 @@ module _ (log : LogValue) (m : Entries) (old new : Flash) (current : IsCurrent o
     there = current.chosen;
     room = omega arith;
     before = subst (λ e. ArePages Log e 0 (take log.next (log_region log.geometry old.page log.region))) (sym current.era) opened.before;
-    blank = log_ahead log old opened ahead room;
+    blank = log_ahead log before opened ahead room;
   }
 
   module _ (v : Page) (pages : new.page ≡ set_page old.page (next_place log) v) where

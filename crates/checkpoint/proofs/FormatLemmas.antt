@@ -1,8 +1,7 @@
 -- An empty checkpoint, sealed where the regions are erased.
-use Rattle.std.proofs.Common.{◌≡◌, ℕ, ◌+◌, ◌-◌, ◌*◌, ◌/◌, ◌<◌, false, true, List, [], length, map, filter, Some, refl, sym, ◌∙◌, ap, subst, arith, nat_cmp}
-use Rattle.std.specs.FinMap.{get, get-empty}
+use Rattle.std.proofs.Common.{◌≡◌, ℕ, ◌+◌, ◌-◌, ◌*◌, ◌/◌, ◌<◌, false, true, List, [], length, map, filter, refl, sym, ◌∙◌, ap, subst, arith}
+use Rattle.std.specs.FinMap.{get}
 use Rattle.std.proofs.lemmas.Nat.{mul-le, le-div}
-use Rattle.std.proofs.lemmas.Option.{none-some}
 use Rattle.ft_base.specs.declared.geometry.Geometry.{Geometry}
 use Rattle.ft_base.specs.declared.block.Place.{Place}
 use Rattle.ft_base.specs.declared.block.Page.{Page}
@@ -11,7 +10,7 @@ use Rattle.ft_base.specs.Layout.{rounded_up, k, checkpoint_at, checkpoint_pages,
 use Rattle.cache_model.specs.declared.entry.Entry.{Entry}
 use Rattle.cache_model.specs.Records.{Entries, no_entries}
 use Rattle.cache_model.specs.Entries.{each_once, page_mapped}
-use Rattle.cache_model.proofs.FitsLemmas.{no_entries-map, no_entries-nil}
+use Rattle.cache_model.proofs.FitsLemmas.{no_entries-map, no_entries-nil, none_in_no_entries}
 use Rattle.mapping.specs.Checkpoint.{IsCheckpointOf}
 use Rattle.checkpoint.specs.Current.{AreWhole, IsCommitted, log_formatted}
 use Rattle.checkpoint.specs.Regions.{IsBlockWithin, InCheckpoint, InLog, AreBlank, IsPrepared, IsSealPage, Programmed}
@@ -22,11 +21,8 @@ use Rattle.checkpoint.proofs.SealedLemmas.{formatted}
 
 -- ---- a map of nothing
 
-no_entry : (a : ℕ) (e : Entry) → get no_entries a ≡ Some e → ⊥
-no_entry a e at = none-some e (sym (get-empty nat_cmp a) ∙ at)
-
 pub empty_whole : (page : Place → Page) (m : Entries) → m ≡ no_entries → AreWhole page m
-empty_whole page m none = record { whole = λ a e at. absurd (no_entry a e (sym (ap (λ (n : Entries). get n a) none) ∙ at)) }
+empty_whole page m none = record { whole = λ a e at. absurd (none_in_no_entries a e (sym (ap (λ (n : Entries). get n a) none) ∙ at)) }
 
 -- it has a checkpoint of no records
 nothing_listed : (g : Geometry) → IsCheckpointOf g no_entries []
@@ -36,12 +32,12 @@ nothing_listed g = record {
   are = refl;
   of_groups = record {
     each = λ k there. absurd (no_true there);
-    all = λ a e at mapped. absurd (no_entry a e at);
+    all = λ a e at mapped. absurd (none_in_no_entries a e at);
     once = subst (λ (es : List (ℕ × Entry)). 0 ≡ length (each_once (map (λ x. x.0 / g.p) (filter (λ x. x.1.block_mapped) es)))) (sym no_entries-nil) refl;
   };
   of_pages = record {
     each = tt;
-    all = λ a e at mapped. absurd (no_entry a e at);
+    all = λ a e at mapped. absurd (none_in_no_entries a e at);
     once = subst (λ (es : List (ℕ × Entry)). 0 ≡ length (filter (λ x. page_mapped x.1) es)) (sym no_entries-nil) refl;
   };
 }

@@ -2,6 +2,7 @@
 use Rattle.std.proofs.Common.{◌≡◌, ◌⊎◌, ℕ, ◌+◌, ◌*◌, ◌/◌, ◌%◌, ◌<◌, ◌≤◌, Bool, true, false, cond, Option, List, Some, refl, sym, ◌∙◌, ap, subst, arith, inl, inr, eq-eqb}
 use Rattle.std.proofs.lemmas.Bool.{cases_eq, cases_lt}
 use Rattle.std.proofs.lemmas.Nat.{div-add-mod', mod_below}
+use Rattle.std.proofs.Math.Nat.{add_left_cancel}
 use Rattle.ft_base.specs.declared.geometry.Geometry.{Geometry}
 use Rattle.ft_base.specs.declared.block.Place.{Place}
 use Rattle.ft_base.specs.declared.block.Page.{Page}
@@ -52,11 +53,8 @@ pub ready_after : (g : Geometry) (base i j : ℕ) (next : ℕ → Option ℕ) �
     → set next (page_from g base i).block (Some ((page_from g base i).page + 1)) (page_from g base j).block ≡ Some (page_from g base j).page
 ready_after g base i j next lt which was = elim (cases_eq (i / g.p) (j / g.p)) [
   | inl row ↦ set-here next _ _ _ (ap (λ n. base + n) row) ∙ ap Some (same_row g.p i j lt which row)
-  | inr apart ↦ set_other next _ _ _ (λ e. apart (by_number base e)) ∙ was (other_row g.p i j (omega (arith, g.in_range.p_low)) lt which apart)
+  | inr apart ↦ set_other next _ _ _ (λ e. apart (add_left_cancel base e)) ∙ was (other_row g.p i j (omega (arith, g.in_range.p_low)) lt which apart)
 ]
-  where
-    by_number : (n : ℕ) → n + i / g.p ≡ n + j / g.p → i / g.p ≡ j / g.p
-    by_number n e = omega arith
 
 -- ---- one page more
 

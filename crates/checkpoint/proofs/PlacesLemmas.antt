@@ -1,6 +1,7 @@
 -- Where the pages of the regions lie.
 use Rattle.std.proofs.Common.{◌≡◌, ℕ, zero, suc, ◌+◌, ◌-◌, ◌*◌, ◌/◌, ◌%◌, ◌<◌, ◌≤◌, sym, ◌∙◌, ap, ap₂, arith}
 use Rattle.std.proofs.lemmas.Nat.{div-add-mod', div_below}
+use Rattle.std.proofs.Math.Nat.{add_left_cancel}
 use Rattle.ft_base.specs.declared.geometry.Geometry.{Geometry}
 use Rattle.ft_base.specs.declared.block.Place.{Place}
 use Rattle.ft_base.specs.Layout.{k, first_log, first_pool, checkpoint_at, log_at, checkpoint_pages, log_pages}
@@ -73,9 +74,6 @@ other_low region = omega arith
 -- two pages of a region differ
 pub checkpoint_apart : (g : Geometry) (region i j : ℕ) → checkpoint_at g region i ≡ checkpoint_at g region j → i ≡ j
 checkpoint_apart g region i j e =
-    let row : i / g.p ≡ j / g.p = by_number (region * k g) (ap (λ (x : Place). x.block) e) in
+    let row : i / g.p ≡ j / g.p = add_left_cancel (region * k g) (ap (λ (x : Place). x.block) e) in
     let column : i % g.p ≡ j % g.p = ap (λ (x : Place). x.page) e in
     sym (div-add-mod' i g.p) ∙ ap₂ (λ a b. a * g.p + b) row column ∙ div-add-mod' j g.p
-  where
-    by_number : (n : ℕ) → n + i / g.p ≡ n + j / g.p → i / g.p ≡ j / g.p
-    by_number n e = omega arith

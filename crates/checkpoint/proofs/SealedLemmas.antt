@@ -23,6 +23,7 @@ use Rattle.cache_model.proofs.CountLemmas.{same_number}
 use Rattle.cache_model.proofs.MapLemmas.{all_entries}
 use Rattle.cache_model.proofs.LogLemmas.{after_pages-one}
 use Rattle.cache_model.proofs.LoadLemmas.{newest_is, newest_below}
+use Rattle.cache_model.proofs.RegionLemmas.{none_if_never_some}
 use Rattle.cache_model.proofs.FitsLemmas.{load-map, after_all-map}
 use Rattle.cache_model.proofs.CheckpointLemmas.{checkpoint_from, sealed_chosen, sealed_entries}
 use Rattle.mapping.specs.Checkpoint.{IsCheckpointOf as IsListing}
@@ -196,11 +197,7 @@ pub formatted : (g : Geometry) (era : ℕ) (m : Entries) (records : List Record)
 formatted g era m records old new is_map listed written bare whole = written_stands g 0 era m records old new (omega arith) is_map listed written (ap₂ chosen (sealed_complete g 0 era m records old.page new.page (omega arith) is_map listed written.sealed) none) whole
   where
     none : checkpoint_in (checkpoint_region g new.page 1) ≡ None
-    none = ap checkpoint_in (checkpoint_stays g 1 old.page new.page (omega arith) written.sealed.beside) ∙ none_of (checkpoint_in (checkpoint_region g old.page 1)) (λ d is. bare_incomplete g 1 old.page d bare is)
-      where
-        none_of : (o : Option Complete) → ((d : Complete) → o ≡ Some d → ⊥) → o ≡ None
-        none_of None never = refl
-        none_of (Some d) never = absurd (never d refl)
+    none = ap checkpoint_in (checkpoint_stays g 1 old.page new.page (omega arith) written.sealed.beside) ∙ none_if_never_some (checkpoint_in (checkpoint_region g old.page 1)) (λ d is. bare_incomplete g 1 old.page d bare is)
 
 -- ---- what a checkpoint leaves, whatever it answers
 

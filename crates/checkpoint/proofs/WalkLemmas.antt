@@ -11,7 +11,7 @@ use Rattle.cache_model.specs.declared.format.Seal.{Seal}
 use Rattle.cache_model.specs.declared.format.PageKind.TheVariants.{Map}
 use Rattle.cache_model.specs.Reading.{read_page_header, read_seal}
 use Rattle.cache_model.specs.Loading.{Complete, complete, said, when, is_page, is_seal_of, era_in, sealed_from, checkpoint_in, checkpoint_region, pages_from}
-use Rattle.cache_model.proofs.RegionLemmas.{no_seal}
+use Rattle.cache_model.proofs.RegionLemmas.{no_seal, none_if_never_some}
 use Rattle.cache_model.proofs.LoadLemmas.{checkpoint_below}
 use Rattle.ft_base.specs.declared.block.Block.{Block}
 use Rattle.ft_base.specs.declared.block.Spare.{Spare}
@@ -26,11 +26,7 @@ use Rattle.ft_base.specs.Contents.{Contents}
 pub unsealed : (page : Page) (h : Header) → said read_page_header page ≡ Some h → said read_seal page ≡ None
 unsealed Blank h is = refl
 unsealed Torn h is = refl
-unsealed (Whole block spare) h is = none_of (read_seal block.0) (λ s there. no_seal (Whole block spare) s (h, is) there)
-  where
-    none_of : {A : Type 0} (o : Option A) → ((x : A) → o ≡ Some x → ⊥) → o ≡ None
-    none_of None never = refl
-    none_of (Some x) never = absurd (never x refl)
+unsealed (Whole block spare) h is = none_if_never_some (read_seal block.0) (λ s there. no_seal (Whole block spare) s (h, is) there)
 
 abbrev of_header : Header → ℕ
 of_header h = h.era

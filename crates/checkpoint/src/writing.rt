@@ -1,6 +1,5 @@
 ghost use Rattle.std.specs.Prelude.{true, ◌≡◌, ◌⊎◌, ◌<◌, ◌≤◌, ◌+◌, ◌*◌, length, OnOk};
 ghost use Rattle.std.specs.List.{list_all};
-ghost use Rattle.ft_base.specs.Count.{Rose};
 ghost use Rattle.ft_base.specs.Layout.{checkpoint_at, checkpoint_pages, k, page_records};
 ghost use Rattle.ft_media.specs.Media.{IsNextPage, program_counted};
 ghost use Rattle.ft_media.specs.Drives.{OnlyDrives};
@@ -54,7 +53,7 @@ fn program_map<M: Media>(
     ensures counts { OnOk result ((M.state media.new).counts ≡ program_counted (M.state media.old).counts) }
     ensures pages { LeavesOne (IsMapPage target.now.era sequence records.now)
         (checkpoint_at geometry.now target.now.region sequence) (M.state media.old).contents.flash (M.state media.new).contents.flash }
-    ensures programs { OnOk result (Rose (M.state media.old).counts.programs (M.state media.new).counts.programs) }
+    ensures programs { OnOk result (ProgramsPages 1 (M.state media.old) (M.state media.new)) }
     ensures drives { OnlyDrives (M.state media.old) (M.state media.new) result }
 {
     write_map(page, records, target.era, sequence);
