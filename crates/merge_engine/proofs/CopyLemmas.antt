@@ -1,10 +1,10 @@
 -- The pages of a group are copied into an erase block in which nothing stands.
-use Rattle.std.proofs.Common.{◌≡◌, ℕ, zero, suc, ◌+◌, ◌-◌, ◌*◌, ◌/◌, ◌%◌, ◌^◌, ◌<◌, ◌≤◌, inl, inr, Bool, true, false, cond, Option, Some, None, Ok, refl, sym, ◌∙◌, ap, subst, arith, pow-suc}
+use Rattle.std.proofs.Common.{◌≡◌, ℕ, zero, suc, ◌+◌, ◌-◌, ◌*◌, ◌/◌, ◌%◌, ◌^◌, ◌<◌, ◌≤◌, inl, inr, Bool, true, cond, Option, Some, None, Ok, refl, sym, ◌∙◌, ap, subst, arith, pow-suc}
 use Rattle.std.specs.Option.{option_map}
 use Rattle.std.specs.FinMap.{get}
 use Rattle.std.specs.Int.Count.{count_leading_zeros}
 use Rattle.std.proofs.Math.Nat.{pow-le-pow_right}
-use Rattle.std.proofs.lemmas.Bool.{cases_Bool, cases_lt, both_ways}
+use Rattle.std.proofs.lemmas.Bool.{cases_Bool, cases_lt}
 use Rattle.std.proofs.lemmas.Nat.{div-add-mod', div-mul-add, mod_below, pow_pos, leading_length}
 use Rattle.ft_base.specs.declared.geometry.Geometry.{Geometry}
 use Rattle.ft_base.specs.declared.block.Block.{Block}
@@ -14,7 +14,7 @@ use Rattle.ft_base.specs.declared.block.Page.{Page}
 use Rattle.ft_base.specs.declared.block.Page.TheVariants.{Blank, Whole}
 use Rattle.ft_base.specs.Contents.{Contents, Flash, zero_block}
 use Rattle.ft_base.proofs.Images.{set_other}
-use Rattle.ft_media.specs.Media.{IsBlankAhead, LeavesPage, after_program}
+use Rattle.ft_media.specs.Media.{IsBlankAhead, IsNextPage, LeavesPage, after_program}
 use Rattle.cache_model.specs.declared.entry.Entry.{Entry}
 use Rattle.cache_model.specs.Records.{Entries}
 use Rattle.cache_model.specs.Entries.{IsMap, InPool}
@@ -33,6 +33,7 @@ use Rattle.merge_engine.specs.declared.parts.Parts.{Parts}
 use Rattle.merge_engine.specs.Agreement.{PartsAgree, AreOfOne, Lists}
 use Rattle.merge_engine.specs.Merges.{ReachesTo}
 use Rattle.merge_engine.specs.Steps.{IsCopyOf, filler_page}
+use Rattle.merge_engine.proofs.MovedLemmas.{held_is_some}
 use Rattle.merge_engine.proofs.BesideLemmas.{ChangedBeside, leaves_beside, lists_beside, agree_beside}
 use Rattle.checkpoint.proofs.SealedLemmas.{current_map}
 use Rattle.cache_model.proofs.StandLemmas.{entry_whole}
@@ -41,7 +42,7 @@ use Rattle.merge_engine.proofs.RoleLemmas.{free_in_pool, free_not_in_use, open_i
 
 -- ---- the next page of a free erase block is programmed
 
-module _ (parts : Parts) (old new : Contents) (agree : PartsAgree parts old) (at : Place) (block : Block) (spare : Spare) (free : IsFree parts.pool at.block) (ready : old.flash.next at.block ≡ Some at.page) (ahead : IsBlankAhead old) where
+module _ (parts : Parts) (old new : Contents) (agree : PartsAgree parts old) (at : Place) (block : Block) (spare : Spare) (free : IsFree parts.pool at.block) (ready : IsNextPage at old.flash) (ahead : IsBlankAhead old) where
   in_pool : IsInPool parts.geometry at.block
   in_pool = free_in_pool parts agree.sound.of_one at.block free
 
@@ -92,7 +93,7 @@ readable parts contents lba from dirty agree is =
 whole_apart : (page : Place → Page) (at to : Place) → is_whole (page at) ≡ true → page to ≡ Blank → at ≡ to → ⊥
 whole_apart page at to whole blank same = let both : is_whole Blank ≡ true = ap is_whole (sym blank) ∙ ap (λ q. is_whole (page q)) (sym same) ∙ whole in absurd (cc)
 
-pub copy_is : (parts : Parts) (old new : Contents) (agree : PartsAgree parts old) (lba : ℕ) (from to : Place) (dirty : Bool) (block : Block) (spare : Spare) → old.flash.next to.block ≡ Some to.page → IsBlankAhead old → Some (from, dirty) ≡ option_map place_and_mark (get parts.map.entries lba)
+pub copy_is : (parts : Parts) (old new : Contents) (agree : PartsAgree parts old) (lba : ℕ) (from to : Place) (dirty : Bool) (block : Block) (spare : Spare) → IsNextPage to old.flash → IsBlankAhead old → Some (from, dirty) ≡ option_map place_and_mark (get parts.map.entries lba)
     → old.flash.page from ≡ Whole block spare → new.flash ≡ after_program old.flash to block spare → (e : Entry) → get parts.map.entries lba ≡ Some e → IsCopyOf new.flash.page e.place to
 copy_is parts old new agree lba from to dirty block spare ready ahead is read ok e there =
     let x = placed_entry (get parts.map.entries lba) from dirty is in
@@ -112,7 +113,7 @@ pub record IsCopiedBelow (g : Geometry) (m : Entries) (group block n : ℕ) (pag
   pub each : (a : ℕ) (e : Entry) → get m a ≡ Some e → a / g.p ≡ group → a % g.p < n → IsCopyOf page e.place (record { block = block; page = a % g.p })
 
 -- one more page was copied, and no other one changed
-pub copied_more : (parts : Parts) (old : Contents) (new : Flash) (group block lba n : ℕ) (to : Place) → PartsAgree parts old → IsBlankAhead old → lba ≡ group * parts.geometry.p + n → to ≡ record { block = block; page = n } → old.flash.next block ≡ Some n
+pub copied_more : (parts : Parts) (old : Contents) (new : Flash) (group block lba n : ℕ) (to : Place) → PartsAgree parts old → IsBlankAhead old → lba ≡ group * parts.geometry.p + n → to ≡ record { block = block; page = n } → IsNextPage (record { block = block; page = n }) old.flash
     → IsCopiedBelow parts.geometry parts.map.entries group block n old.flash.page
     → ((at : Place) → (at ≡ to → ⊥) → new.page at ≡ old.flash.page at)
     → ((e : Entry) → get parts.map.entries lba ≡ Some e → IsCopyOf new.page e.place to)
@@ -203,10 +204,6 @@ page_from_on test (suc n) page worth = elim (cases_lt n page) [
   ]
 ]
 
-held_entry : (o : Option Entry) → is_chosen Held o ≡ true → (e : Entry) × (o ≡ Some e)
-held_entry None t = absurd (let f : is_chosen Held None ≡ false = refl in both_ways (is_chosen Held None) f t)
-held_entry (Some e) t = (e, refl)
-
 module _ (g : Geometry) (m : Entries) (group held : ℕ) (is : held ≡ chosen_of Held g m group) where
   -- so many bits as there are below the leading zeros
   bits : (n : ℕ) × (64 - count_leading_zeros 64 held ≡ n) × (held < 2 ^ n) × (2 ^ n ≤ 2 * held + 1)
@@ -239,7 +236,7 @@ module _ (g : Geometry) (m : Entries) (group held : ℕ) (is : held ≡ chosen_o
       let most = n.3 in
       let worth : 2 ^ page ≤ held = omega (arith, most, powers (suc page) n.0 (omega (arith, count)), twice page) in
       let at = page_from_on (λ i. is_chosen Held (get m (group * g.p + i))) g.p page (subst (λ k. 2 ^ page ≤ k) is worth) in
-      (at.0, at.1, at.2, held_entry (get m (group * g.p + at.0)) at.3)
+      (at.0, at.1, at.2, held_is_some (get m (group * g.p + at.0)) at.3)
 
   -- and a page below that first one is one of the group's, and none past the last that is held
   pub page_below : (page : ℕ) → IsMap g m → page < 64 - count_leading_zeros 64 held → (page < g.p) × (group * g.p + page < g.size)

@@ -2,6 +2,7 @@
 use Rattle.std.proofs.Common.{◌≡◌, ℕ, zero, suc, ◌+◌, ◌/◌, ◌<◌, ◌≤◌, ◌==◌, ◌||◌, Bool, true, false, cond, List, [], ◌∷◌, ◌++◌, length, Some, refl, sym, ◌∙◌, ap, subst, arith, inl, inr, ◌⊎◌, eqb-true, ne_eqb}
 use Rattle.std.specs.FinMap.{get, entries}
 use Rattle.std.proofs.lemmas.Bool.{cases_Bool, cases_eq, or_cases, or_left, or_right}
+use Rattle.std.proofs.Math.Bool.{or_assoc}
 use Rattle.ft_base.specs.declared.geometry.Geometry.{Geometry}
 use Rattle.ft_base.specs.Layout.{first_pool, blocks}
 use Rattle.cache_model.specs.declared.entry.Entry.{Entry}
@@ -38,11 +39,7 @@ related-le R one (x ∷ xs) ys within = elim (cases_Bool (member x xs)) [
 
 member-append : (n : ℕ) (xs ys : List ℕ) → member n (xs ++ ys) ≡ (member n xs || member n ys)
 member-append n [] ys = refl
-member-append n (x ∷ xs) ys = ap (λ b. (x == n) || b) (member-append n xs ys) ∙ regrouped (x == n) (member n xs) (member n ys)
-  where
-    regrouped : (a b c : Bool) → (a || (b || c)) ≡ ((a || b) || c)
-    regrouped true b c = refl
-    regrouped false b c = refl
+member-append n (x ∷ xs) ys = ap (λ b. (x == n) || b) (member-append n xs ys) ∙ sym (or_assoc (x == n) (member n xs) (member n ys))
 
 each_once-append : (xs ys : List ℕ) → length (each_once (xs ++ ys)) ≤ length (each_once xs) + length ys
 each_once-append [] [] = omega arith

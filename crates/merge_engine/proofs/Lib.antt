@@ -11,6 +11,7 @@ pub mod AppendLemmas
 pub mod TakeLemmas
 pub mod MovedLemmas
 pub mod FollowLemmas
+pub mod MoveEntriesLemmas
 pub mod PutLemmas
 pub mod MoveLemmas
 pub mod GaveLemmas

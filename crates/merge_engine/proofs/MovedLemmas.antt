@@ -3,7 +3,7 @@ use Rattle.std.proofs.Common.{◌≡◌, ℕ, suc, ◌+◌, ◌-◌, ◌*◌, �
 use Rattle.std.specs.Bool.{then_some}
 use Rattle.std.specs.FinMap.{get, entries}
 use Rattle.std.proofs.lemmas.Bool.{cases_eq, and_parts, and_from, both_ways}
-use Rattle.std.proofs.lemmas.Nat.{div-add-mod', mod_below, and_comm}
+use Rattle.std.proofs.lemmas.Nat.{mod_below, and_comm}
 use Rattle.std.proofs.lemmas.Nat.Bits.{bit_at-zero}
 use Rattle.std.proofs.lemmas.Option.{same_Some}
 use Rattle.ft_base.specs.declared.geometry.Geometry.{Geometry}
@@ -22,6 +22,7 @@ use Rattle.mapping.specs.declared.bits.Choice.{Choice}
 use Rattle.mapping.specs.declared.bits.Choice.TheVariants.{Held, Dirty}
 use Rattle.mapping.specs.Bits.{is_chosen, chosen_of}
 use Rattle.mapping.proofs.BitsLemmas.{bit_of_set, set_below}
+use Rattle.mapping.proofs.ChosenLemmas.{own_address}
 use Rattle.mapping.proofs.CountsLemmas.{div_mono}
 use Rattle.mapping.proofs.FittingLemmas.{group_fits}
 use Rattle.mapping.proofs.MarksLemmas.{member_from, member_to}
@@ -33,12 +34,14 @@ use Rattle.mapping.proofs.SeekingLemmas.{none_some}
 abbrev pub dropped : Geometry → Entries → ℕ → Entries
 dropped g m group = after g (RemoveGroup group) m
 
+-- what is chosen as held is there
+pub held_is_some : (o : Option Entry) → is_chosen Held o ≡ true → (e : Entry) × (o ≡ Some e)
+held_is_some None t = absurd (let f : is_chosen Held None ≡ false = refl in both_ways (is_chosen Held None) f t)
+held_is_some (Some e) t = (e, refl)
+
 module _ (g : Geometry) (m : Entries) (group : ℕ) where
   some_pages : 0 < g.p
   some_pages = omega (arith, g.in_range.p_low)
-
-  whole : (a : ℕ) → a / g.p ≡ group → group * g.p + a % g.p ≡ a
-  whole a same = ap (λ n. n * g.p + a % g.p) (sym same) ∙ div-add-mod' a g.p
 
   -- ---- the sets of the group
 
@@ -47,17 +50,13 @@ module _ (g : Geometry) (m : Entries) (group : ℕ) where
   bit_is choice a same =
       bit_of_set (λ i. is_chosen choice (get m (group * g.p + i))) g.p (a % g.p)
       ∙ ap (λ b. b && is_chosen choice (get m (group * g.p + a % g.p))) (lt-ltb _ _ (mod_below a g.p some_pages))
-      ∙ ap (λ n. is_chosen choice (get m n)) (whole a same)
+      ∙ ap (λ n. is_chosen choice (get m n)) (own_address g m group a same)
 
   -- an address of the set is held
   in_set : (i : ℕ) → i < g.p → has_bit (chosen_of Held g m group) i ≡ true → (e : Entry) × (get m (group * g.p + i) ≡ Some e)
   in_set i low t =
       let p = and_parts (nat_lt i g.p) (is_chosen Held (get m (group * g.p + i))) (sym (bit_of_set (λ i. is_chosen Held (get m (group * g.p + i))) g.p i) ∙ t) in
-      is_some (get m (group * g.p + i)) p.1
-    where
-      is_some : (o : Option Entry) → is_chosen Held o ≡ true → (e : Entry) × (o ≡ Some e)
-      is_some None t = absurd (let f : is_chosen Held None ≡ false = refl in both_ways (is_chosen Held None) f t)
-      is_some (Some e) t = (e, refl)
+      held_is_some (get m (group * g.p + i)) p.1
 
   not_nothing : IsGroupHeld g m group → 0 < chosen_of Held g m group
   not_nothing held = positive (chosen_of Held g m group) (bit_is Held held.0 held.3 ∙ ap (is_chosen Held) held.2)

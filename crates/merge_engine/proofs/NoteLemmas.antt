@@ -15,7 +15,7 @@ use Rattle.cache_model.specs.declared.entry.Entry.{Entry}
 use Rattle.cache_model.specs.Records.{Entries, after, cleaned, in_log_block}
 use Rattle.cache_model.specs.Entries.{IsMap, Fits, fits}
 use Rattle.cache_model.specs.Loading.{after_all, is_whole}
-use Rattle.cache_model.proofs.Alike.{IsLess, IsLessOf}
+use Rattle.cache_model.proofs.Alike.{IsLess}
 use Rattle.cache_model.specs.Cache.{written_block, marked_as, evicted, made_clean}
 use Rattle.cache_model.specs.CacheList.{CacheList}
 use Rattle.cache_model.specs.Spelling.{data_spare}
@@ -23,7 +23,7 @@ use Rattle.cache_model.specs.Stands.{held_at, held_in}
 use Rattle.cache_model.proofs.MapLemmas.{get_insert, get_remove}
 use Rattle.cache_model.proofs.StepLemmas.{get-after}
 use Rattle.cache_model.proofs.FitsLemmas.{fits-from}
-use Rattle.cache_model.proofs.CountLemmas.{same_number, taken}
+use Rattle.cache_model.proofs.CountLemmas.{same_number, taken, cleaned_is_less}
 use Rattle.cache_model.proofs.UndoLemmas.{get_marked}
 use Rattle.mapping.specs.MapValue.{MapValue}
 use Rattle.op_log.specs.Log.{LogValue, pushed}
@@ -147,12 +147,7 @@ pub less_removed : (g : Geometry) (lba : ℕ) (m : Entries) → IsLess (after g 
 less_removed g lba m = record { entry = λ a e at. (e, taken (a == lba) (get m a) e (sym (get-after g (Remove lba) m a) ∙ at), (refl, refl, λ t. t)) }
 
 pub less_cleaned : (g : Geometry) (lba : ℕ) (m : Entries) → IsLess (after g (Clean lba) m) m
-less_cleaned g lba m = record { entry = λ a e at. by (a == lba) (get m a) e (sym (get-after g (Clean lba) m a) ∙ at) }
-  where
-    by : (b : Bool) (o : Option Entry) (e : Entry) → cond b (option_map cleaned o) o ≡ Some e → (f : Entry) × (o ≡ Some f) × IsLessOf e f
-    by true None e is = absurd (cc)
-    by true (Some f) e is = let same : cleaned f ≡ e = cc in (f, refl, (ap (λ (x : Entry). x.place) (sym same), ap (λ (x : Entry). x.block_mapped) (sym same), λ t. absurd (let no : e.dirty ≡ false = ap (λ (x : Entry). x.dirty) (sym same) in cc)))
-    by false o e is = (e, is, (refl, refl, λ t. t))
+less_cleaned g lba m = record { entry = λ a e at. cleaned_is_less (a == lba) (get m a) e (sym (get-after g (Clean lba) m a) ∙ at) }
 
 pub less_whole : (page : Place → Page) (new old : Entries) → IsLess new old → AreWhole page old → AreWhole page new
 less_whole page new old less are = record { whole = λ a e at. let f = less.entry a e at in ap (λ (p : Place). is_whole (page p)) f.2.0 ∙ are.whole a f.0 f.1 }

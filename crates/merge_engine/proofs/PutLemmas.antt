@@ -1,5 +1,5 @@
 -- A group that moves into an erase block, or that is dropped: the parts agree again.
-use Rattle.std.proofs.Common.{◌≡◌, ℕ, ◌/◌, ◌%◌, not, cond, true, Bool, ◌↔◌, eq-eqb, ne_eqb, IsTrue, Option, Some, None, refl, sym, ◌∙◌, ap, ap₂, subst, inl, inr}
+use Rattle.std.proofs.Common.{◌≡◌, ℕ, ◌/◌, ◌%◌, not, cond, true, Bool, ◌↔◌, eq-eqb, ne_eqb, IsTrue, Some, None, sym, ◌∙◌, ap, subst, inl, inr}
 use Rattle.std.specs.Option.{option_and_then}
 use Rattle.std.specs.FinMap.{get}
 use Rattle.std.proofs.lemmas.Bool.{cases_eq}
@@ -30,13 +30,14 @@ use Rattle.silent_evict.specs.Candidates.{IsGroupHeld}
 use Rattle.merge_engine.specs.declared.parts.Parts.{Parts}
 use Rattle.merge_engine.specs.Kept.{OnlyMapLogPoolChange}
 use Rattle.merge_engine.specs.Agreement.{PartsAgree, AreOfOne, IsDataBlockOf, RolesAgree, Lists}
-use Rattle.merge_engine.specs.Merges.{HasBlockOrRoom, OthersStay, move_record, moved, list_without}
+use Rattle.merge_engine.specs.Merges.{HasBlockOrRoom, OthersStay, moved, list_without}
 use Rattle.merge_engine.specs.Steps.{FollowsGroup, IsCopied, IsCopyOf}
 use Rattle.merge_engine.proofs.RoleLemmas.{free_in_pool, free_unheld, free_not_in_use}
 use Rattle.merge_engine.proofs.NoteLemmas.{current_pushed}
 use Rattle.merge_engine.proofs.TakeLemmas.{agree_map}
 use Rattle.merge_engine.proofs.FollowLemmas.{role_follows, page_mapped_follow, not_data_log}
-use Rattle.merge_engine.proofs.MovedLemmas.{drop_fits, move_fits, move_spelled, in_block, moved_here, moved_none, moved_from, moved_other, dropped_here, dropped_other, dropped}
+use Rattle.merge_engine.proofs.MovedLemmas.{drop_fits, move_fits, move_spelled, dropped_here, dropped_other, dropped}
+use Rattle.merge_engine.proofs.MoveEntriesLemmas.{change_is, moved_entries, kept_role, moved_others, moved_was, moved_mapped, moved_left, moved_there, moved_held}
 
 -- ---- one record more
 
@@ -137,48 +138,24 @@ copy_held page from to dirty copied = ap (held_in dirty) (sym copied.copy)
 module _ (parts : Parts) (group block present dirty : ℕ) (one : AreOfOne parts) (is_map : IsMap parts.geometry parts.map.entries) (roles : RolesAgree parts)
     (held : IsGroupHeld parts.geometry parts.map.entries group) (room : HasBlockOrRoom parts.geometry parts.map.entries group) (free : IsFree parts.pool block)
     (present_is : present ≡ chosen_of Held parts.map.geometry parts.map.entries group) (dirty_is : dirty ≡ chosen_of Dirty parts.map.geometry parts.map.entries group) where
-  change_is : SetGroup group block present dirty ≡ move_record parts.geometry parts.map.entries group block
-  change_is = ap₂ (λ p d. SetGroup group block p d) (present_is ∙ ap (λ (g : Geometry). chosen_of Held g parts.map.entries group) one.map) (dirty_is ∙ ap (λ (g : Geometry). chosen_of Dirty g parts.map.entries group) one.map)
-
   in_pool : IsInPool parts.geometry block
   in_pool = free_in_pool parts one block free
 
   pub putting_fits : Fits parts.geometry (SetGroup group block present dirty) parts.map.entries
-  putting_fits = subst (λ (r : Record). Fits parts.geometry r parts.map.entries) (sym change_is) (move_fits parts.geometry parts.map.entries group block is_map held room in_pool (free_unheld parts one roles block free))
+  putting_fits = subst (λ (r : Record). Fits parts.geometry r parts.map.entries) (sym (change_is parts group block present dirty one present_is dirty_is)) (move_fits parts.geometry parts.map.entries group block is_map held room in_pool (free_unheld parts one roles block free))
 
   pub putting_spelled : IsTrue (may_stand_in log_page (SetGroup group block present dirty))
-  putting_spelled = subst (λ (r : Record). IsTrue (may_stand_in log_page r)) (sym change_is) (move_spelled parts.geometry parts.map.entries group block held)
-
-  pub put_entries : (n : Entries) → n ≡ after parts.geometry (SetGroup group block present dirty) parts.map.entries → n ≡ moved parts.geometry parts.map.entries group block
-  put_entries n is = is ∙ ap (λ (r : Record). after parts.geometry r parts.map.entries) change_is
+  putting_spelled = subst (λ (r : Record). IsTrue (may_stand_in log_page r)) (sym (change_is parts group block present dirty one present_is dirty_is)) (move_spelled parts.geometry parts.map.entries group block held)
 
   module _ (map : MapValue) (pool pool' : PoolValue) (is : map.entries ≡ after parts.geometry (SetGroup group block present dirty) parts.map.entries)
       (one' : AreOfOne (noted parts map (SetGroup group block present dirty) pool'))
       (follows : FollowsGroup parts.geometry group parts.map.entries map.entries parts.pool pool)
       (own : role_of pool' block ≡ Data) (rest : (b : ℕ) → IsInPool pool.geometry b → (b ≡ block → ⊥) → role_of pool' b ≡ role_of pool b) where
     entries_are : map.entries ≡ moved parts.geometry parts.map.entries group block
-    entries_are = put_entries map.entries is
-
-    others : OthersStay parts.geometry group parts.map.entries map.entries
-    others a other = ap (λ n. get n a) entries_are ∙ moved_other parts.geometry parts.map.entries group block a other
-
-    from : (a : ℕ) (f : Entry) → get map.entries a ≡ Some f → a / parts.geometry.p ≡ group → (e : Entry) × (get parts.map.entries a ≡ Some e) × (f ≡ in_block parts.geometry parts.map.entries group block (a % parts.geometry.p) e)
-    from a f at same = moved_from parts.geometry parts.map.entries group block a f (sym (ap (λ n. get n a) entries_are) ∙ at) same
-
-    mapped : (a : ℕ) (e : Entry) → get map.entries a ≡ Some e → a / parts.geometry.p ≡ group → e.block_mapped ≡ true
-    mapped a e at same = ap (λ (x : Entry). x.block_mapped) (from a e at same).2
-
-    left : (b : ℕ) → (b ≡ block → ⊥) → (a : ℕ) (e : Entry) → get map.entries a ≡ Some e → a / parts.geometry.p ≡ group → e.place.block ≡ b → ⊥
-    left b other a e at same here = other (sym here ∙ ap (λ (x : Entry). x.place.block) (from a e at same).2)
-
-    kept : (b : ℕ) → IsInPool parts.geometry b → (b ≡ block → ⊥) → role_of pool' b ≡ role_of pool b
-    kept b inside other = rest b (subst (λ (g : Geometry). IsInPool g b) (sym (follows.geometry ∙ one.pool)) inside) other
-
-    there : IsDataBlockOf map.entries block
-    there = (held.0, in_block parts.geometry parts.map.entries group block (held.0 % parts.geometry.p) held.1, ap (λ n. get n held.0) entries_are ∙ moved_here parts.geometry parts.map.entries group block held.0 held.1 held.2 held.3, refl, refl)
+    entries_are = moved_entries parts group block present dirty one present_is dirty_is map.entries is
 
     data_here : (b : ℕ) → b ≡ block → (role_of pool' b ≡ Data) ↔ IsDataBlockOf map.entries b
-    data_here b same = (λ r. subst (λ n. IsDataBlockOf map.entries n) (sym same) there, λ d. ap (role_of pool') same ∙ own)
+    data_here b same = (λ r. subst (λ n. IsDataBlockOf map.entries n) (sym same) (moved_there parts.geometry parts.map.entries map.entries group block entries_are held), λ d. ap (role_of pool') same ∙ own)
 
     log_here : (b : ℕ) → b ≡ block → (role_of pool' b ≡ Log) ↔ IsInUse parts.log_blocks b
     log_here b same = (
@@ -187,52 +164,48 @@ module _ (parts : Parts) (group block present dirty : ℕ) (one : AreOfOne parts
     )
 
     roles_put : RolesAgree (noted parts map (SetGroup group block present dirty) pool')
-    roles_put = record {
-      data_blocks = λ b inside. elim (cases_eq b block) [
-        | inl same ↦ data_here b same
-        | inr other ↦
-            let f = (role_follows parts is_map roles group map.entries pool others mapped follows b inside (left b other)).0 in
-            let k = kept b inside other in
-            (λ r. f.0 (sym k ∙ r), λ d. k ∙ f.1 d)
-      ];
-      log_blocks = λ b inside. elim (cases_eq b block) [
-        | inl same ↦ log_here b same
-        | inr other ↦
-            let f = (role_follows parts is_map roles group map.entries pool others mapped follows b inside (left b other)).1 in
-            let k = kept b inside other in
-            (λ r. f.0 (sym k ∙ r), λ d. k ∙ f.1 d)
-      ];
-      in_pool = roles.in_pool;
-      page_mapped = page_mapped_follow parts is_map roles group map.entries pool others mapped follows;
-    }
+    roles_put =
+        let others = moved_others parts.geometry parts.map.entries map.entries group block entries_are in
+        let mapped = moved_mapped parts.geometry parts.map.entries map.entries group block entries_are in
+        let left = moved_left parts.geometry parts.map.entries map.entries group block entries_are in
+        let kept = kept_role parts pool pool' block one follows.geometry rest in
+        record {
+          data_blocks = λ b inside. elim (cases_eq b block) [
+            | inl same ↦ data_here b same
+            | inr other ↦
+                let f = (role_follows parts is_map roles group map.entries pool others mapped follows b inside (left b other)).0 in
+                let k = kept b inside other in
+                (λ r. f.0 (sym k ∙ r), λ d. k ∙ f.1 d)
+          ];
+          log_blocks = λ b inside. elim (cases_eq b block) [
+            | inl same ↦ log_here b same
+            | inr other ↦
+                let f = (role_follows parts is_map roles group map.entries pool others mapped follows b inside (left b other)).1 in
+                let k = kept b inside other in
+                (λ r. f.0 (sym k ∙ r), λ d. k ∙ f.1 d)
+          ];
+          in_pool = roles.in_pool;
+          page_mapped = page_mapped_follow parts is_map roles group map.entries pool others mapped follows;
+        }
 
     pub agree_put : (contents : Contents) → IsCopied parts.geometry parts.map.entries group block contents.flash.page → PartsAgree parts contents → PartsAgree (noted parts map (SetGroup group block present dirty) pool') contents
     agree_put contents copied agree = agree_noted parts contents map (SetGroup group block present dirty) pool' agree putting_fits is one'
         (record {
           whole = λ a f at. elim (cases_eq (a / parts.geometry.p) group) [
             | inl same ↦
-                let x = from a f at same in
+                let x = moved_was parts.geometry parts.map.entries map.entries group block entries_are a f at same in
                 ap (λ (y : Entry). is_whole (contents.flash.page y.place)) x.2 ∙ copy_whole contents.flash.page x.0.place (record { block = block; page = a % parts.geometry.p }) (copied a x.0 x.1 same)
-            | inr other ↦ agree.sound.whole.whole a f (sym (others a other) ∙ at)
+            | inr other ↦ agree.sound.whole.whole a f (sym (moved_others parts.geometry parts.map.entries map.entries group block entries_are a other) ∙ at)
           ];
         })
         roles_put
 
     pub lists_put : (contents : Contents) (list durable : CacheList) → IsCopied parts.geometry parts.map.entries group block contents.flash.page → Lists parts contents.flash.page list durable → Lists (noted parts map (SetGroup group block present dirty) pool') contents.flash.page list durable
     lists_put contents list durable copied lists = record {
-      held = λ a. lists.held a ∙ elim (cases_eq (a / parts.geometry.p) group) [
-        | inl same ↦ by_entry a same (get parts.map.entries a) refl
-        | inr other ↦ ap (option_and_then (held_at contents.flash.page)) (sym (others a other))
-      ];
+      held = λ a. lists.held a ∙ moved_held parts.geometry parts.map.entries map.entries group block entries_are contents.flash.page
+          (λ a e at same. copy_held contents.flash.page e.place (record { block = block; page = a % parts.geometry.p }) e.dirty (copied a e at same)) a;
       stands = lists.stands;
     }
-      where
-        by_entry : (a : ℕ) → a / parts.geometry.p ≡ group → (o : Option Entry) → get parts.map.entries a ≡ o → option_and_then (held_at contents.flash.page) (get parts.map.entries a) ≡ option_and_then (held_at contents.flash.page) (get map.entries a)
-        by_entry a same None at = ap (option_and_then (held_at contents.flash.page)) (at ∙ sym (ap (λ n. get n a) entries_are ∙ moved_none parts.geometry parts.map.entries group block a at same))
-        by_entry a same (Some e) at =
-            ap (option_and_then (held_at contents.flash.page)) at
-            ∙ copy_held contents.flash.page e.place (record { block = block; page = a % parts.geometry.p }) e.dirty (copied a e at same)
-            ∙ sym (ap (option_and_then (held_at contents.flash.page)) (ap (λ n. get n a) entries_are ∙ moved_here parts.geometry parts.map.entries group block a e at same))
 
 -- ---- the same of parts that are known by equations
 

@@ -1,6 +1,5 @@
 -- A log block becomes the data block of the group that it holds in order: the parts agree again.
-use Rattle.std.proofs.Common.{◌≡◌, ℕ, ◌/◌, ◌%◌, true, false, IsTrue, Option, None, Some, refl, sym, ◌∙◌, ap, ap₂, subst, inl, inr}
-use Rattle.std.specs.Option.{option_and_then}
+use Rattle.std.proofs.Common.{◌≡◌, ℕ, ◌/◌, ◌%◌, false, IsTrue, Some, sym, ◌∙◌, ap, subst, inl, inr}
 use Rattle.std.specs.FinMap.{get}
 use Rattle.std.proofs.lemmas.Bool.{cases_eq, both_ways}
 use Rattle.ft_base.specs.declared.geometry.Geometry.{Geometry}
@@ -15,7 +14,7 @@ use Rattle.cache_model.specs.Entries.{IsMap, Fits}
 use Rattle.cache_model.specs.Spelling.{may_stand_in}
 use Rattle.cache_model.specs.Loading.{is_whole}
 use Rattle.cache_model.specs.CacheList.{CacheList}
-use Rattle.cache_model.specs.Stands.{held_at, held_in}
+use Rattle.cache_model.specs.Stands.{held_in}
 use Rattle.op_log.specs.Log.{LogValue, pushed}
 use Rattle.checkpoint.specs.Current.{IsCurrent}
 use Rattle.mapping.specs.declared.bits.Choice.TheVariants.{Held, Dirty}
@@ -29,12 +28,13 @@ use Rattle.silent_evict.specs.Candidates.{IsGroupHeld}
 use Rattle.merge_engine.specs.declared.parts.Parts.{Parts}
 use Rattle.merge_engine.specs.Kept.{OnlyMapLogPoolChange}
 use Rattle.merge_engine.specs.Agreement.{PartsAgree, AreOfOne, IsDataBlockOf, RolesAgree, Lists}
-use Rattle.merge_engine.specs.Merges.{HasBlockOrRoom, OthersStay, move_record, moved}
+use Rattle.merge_engine.specs.Merges.{HasBlockOrRoom, moved}
 use Rattle.merge_engine.specs.Steps.{FollowsGroup}
 use Rattle.merge_engine.specs.Switch.{CanSwitch}
 use Rattle.merge_engine.proofs.FollowLemmas.{role_follows, page_mapped_follow, not_data_log}
 use Rattle.merge_engine.proofs.GiveBackLemmas.{still_in_use, was_in_use, not_in_use, open_still}
-use Rattle.merge_engine.proofs.MovedLemmas.{switch_fits, move_spelled, in_block, moved_here, moved_none, moved_from, moved_other}
+use Rattle.merge_engine.proofs.MovedLemmas.{switch_fits, move_spelled}
+use Rattle.merge_engine.proofs.MoveEntriesLemmas.{change_is, moved_entries, kept_role, moved_others, moved_was, moved_mapped, moved_left, moved_there, moved_held}
 use Rattle.merge_engine.proofs.NoteLemmas.{current_pushed}
 use Rattle.merge_engine.proofs.SwitchLemmas.{own_page, only_group}
 
@@ -45,20 +45,14 @@ switched_to parts map change pool block = record parts { map = map; log = pushed
 module _ (parts : Parts) (group block present dirty : ℕ) (one : AreOfOne parts) (is_map : IsMap parts.geometry parts.map.entries) (roles : RolesAgree parts)
     (is_held : IsGroupHeld parts.geometry parts.map.entries group) (room : HasBlockOrRoom parts.geometry parts.map.entries group) (switch : CanSwitch parts group block)
     (present_is : present ≡ chosen_of Held parts.map.geometry parts.map.entries group) (dirty_is : dirty ≡ chosen_of Dirty parts.map.geometry parts.map.entries group) where
-  change_is : SetGroup group block present dirty ≡ move_record parts.geometry parts.map.entries group block
-  change_is = ap₂ (λ p d. SetGroup group block p d) (present_is ∙ ap (λ (g : Geometry). chosen_of Held g parts.map.entries group) one.map) (dirty_is ∙ ap (λ (g : Geometry). chosen_of Dirty g parts.map.entries group) one.map)
-
   no_other : (a : ℕ) (e : Entry) → get parts.map.entries a ≡ Some e → (a / parts.geometry.p ≡ group → ⊥) → e.place.block ≡ block → ⊥
   no_other = only_group parts.geometry parts.map.entries group block switch.in_order is_map
 
   pub switching_fits : Fits parts.geometry (SetGroup group block present dirty) parts.map.entries
-  switching_fits = subst (λ (r : Record). Fits parts.geometry r parts.map.entries) (sym change_is) (switch_fits parts.geometry parts.map.entries group block is_map is_held room (roles.in_pool block switch.in_use) no_other)
+  switching_fits = subst (λ (r : Record). Fits parts.geometry r parts.map.entries) (sym (change_is parts group block present dirty one present_is dirty_is)) (switch_fits parts.geometry parts.map.entries group block is_map is_held room (roles.in_pool block switch.in_use) no_other)
 
   pub switching_spelled : IsTrue (may_stand_in log_page (SetGroup group block present dirty))
-  switching_spelled = subst (λ (r : Record). IsTrue (may_stand_in log_page r)) (sym change_is) (move_spelled parts.geometry parts.map.entries group block is_held)
-
-  pub switch_entries : (n : Entries) → n ≡ after parts.geometry (SetGroup group block present dirty) parts.map.entries → n ≡ moved parts.geometry parts.map.entries group block
-  switch_entries n is = is ∙ ap (λ (r : Record). after parts.geometry r parts.map.entries) change_is
+  switching_spelled = subst (λ (r : Record). IsTrue (may_stand_in log_page r)) (sym (change_is parts group block present dirty one present_is dirty_is)) (move_spelled parts.geometry parts.map.entries group block is_held)
 
   module _ (map : MapValue) (pool pool' : PoolValue) (is : map.entries ≡ after parts.geometry (SetGroup group block present dirty) parts.map.entries)
       (one' : AreOfOne (switched_to parts map (SetGroup group block present dirty) pool' block))
@@ -66,57 +60,44 @@ module _ (parts : Parts) (group block present dirty : ℕ) (one : AreOfOne parts
       (own : role_of pool' block ≡ Data) (rest : (b : ℕ) → IsInPool pool.geometry b → (b ≡ block → ⊥) → role_of pool' b ≡ role_of pool b)
       (sound : list.AreSoundLogs (released block parts.log_blocks)) where
     entries_are : map.entries ≡ moved parts.geometry parts.map.entries group block
-    entries_are = switch_entries map.entries is
-
-    others : OthersStay parts.geometry group parts.map.entries map.entries
-    others a other = ap (λ n. get n a) entries_are ∙ moved_other parts.geometry parts.map.entries group block a other
-
-    from : (a : ℕ) (f : Entry) → get map.entries a ≡ Some f → a / parts.geometry.p ≡ group → (e : Entry) × (get parts.map.entries a ≡ Some e) × (f ≡ in_block parts.geometry parts.map.entries group block (a % parts.geometry.p) e)
-    from a f at same = moved_from parts.geometry parts.map.entries group block a f (sym (ap (λ n. get n a) entries_are) ∙ at) same
-
-    mapped : (a : ℕ) (e : Entry) → get map.entries a ≡ Some e → a / parts.geometry.p ≡ group → e.block_mapped ≡ true
-    mapped a e at same = ap (λ (x : Entry). x.block_mapped) (from a e at same).2
-
-    left : (b : ℕ) → (b ≡ block → ⊥) → (a : ℕ) (e : Entry) → get map.entries a ≡ Some e → a / parts.geometry.p ≡ group → e.place.block ≡ b → ⊥
-    left b other a e at same here = other (sym here ∙ ap (λ (x : Entry). x.place.block) (from a e at same).2)
-
-    kept : (b : ℕ) → IsInPool parts.geometry b → (b ≡ block → ⊥) → role_of pool' b ≡ role_of pool b
-    kept b inside other = rest b (subst (λ (g : Geometry). IsInPool g b) (sym (follows.geometry ∙ one.pool)) inside) other
+    entries_are = moved_entries parts group block present dirty one present_is dirty_is map.entries is
 
     -- what stays stands at the same place
     stays_at : (a : ℕ) (e : Entry) → get parts.map.entries a ≡ Some e → a / parts.geometry.p ≡ group → e.place ≡ record { block = block; page = a % parts.geometry.p }
     stays_at = own_page parts.geometry parts.map.entries group block switch.in_order
 
-    there : IsDataBlockOf map.entries block
-    there = (is_held.0, in_block parts.geometry parts.map.entries group block (is_held.0 % parts.geometry.p) is_held.1, ap (λ n. get n is_held.0) entries_are ∙ moved_here parts.geometry parts.map.entries group block is_held.0 is_held.1 is_held.2 is_held.3, refl, refl)
-
     roles_switched : RolesAgree (switched_to parts map (SetGroup group block present dirty) pool' block)
-    roles_switched = record {
-      data_blocks = λ b inside. elim (cases_eq b block) [
-        | inl same ↦ (λ r. subst (λ n. IsDataBlockOf map.entries n) (sym same) there, λ d. ap (role_of pool') same ∙ own)
-        | inr other ↦
-            let f = (role_follows parts is_map roles group map.entries pool others mapped follows b inside (left b other)).0 in
-            let k = kept b inside other in
-            (λ r. f.0 (sym k ∙ r), λ d. k ∙ f.1 d)
-      ];
-      log_blocks = λ b inside. elim (cases_eq b block) [
-        | inl same ↦ (
-          λ r. not_data_log (role_of pool' b) (ap (role_of pool') same ∙ own) r,
-          λ used. absurd (not_in_use parts.log_blocks block (subst (λ n. IsInUse (released block parts.log_blocks) n) same used)),
-        )
-        | inr other ↦
-            let f = (role_follows parts is_map roles group map.entries pool others mapped follows b inside (left b other)).1 in
-            let k = kept b inside other in
-            (λ r. still_in_use parts.log_blocks block b other (f.0 (sym k ∙ r)), λ used. k ∙ f.1 (was_in_use parts.log_blocks block b used))
-      ];
-      in_pool = λ b used. roles.in_pool b (was_in_use parts.log_blocks block b used);
-      page_mapped = λ a e at f. still_in_use parts.log_blocks block e.place.block (apart a e at f) (page_mapped_follow parts is_map roles group map.entries pool others mapped follows a e at f);
-    }
+    roles_switched =
+        let others = moved_others parts.geometry parts.map.entries map.entries group block entries_are in
+        let mapped = moved_mapped parts.geometry parts.map.entries map.entries group block entries_are in
+        let left = moved_left parts.geometry parts.map.entries map.entries group block entries_are in
+        let kept = kept_role parts pool pool' block one follows.geometry rest in
+        record {
+          data_blocks = λ b inside. elim (cases_eq b block) [
+            | inl same ↦ (λ r. subst (λ n. IsDataBlockOf map.entries n) (sym same) (moved_there parts.geometry parts.map.entries map.entries group block entries_are is_held), λ d. ap (role_of pool') same ∙ own)
+            | inr other ↦
+                let f = (role_follows parts is_map roles group map.entries pool others mapped follows b inside (left b other)).0 in
+                let k = kept b inside other in
+                (λ r. f.0 (sym k ∙ r), λ d. k ∙ f.1 d)
+          ];
+          log_blocks = λ b inside. elim (cases_eq b block) [
+            | inl same ↦ (
+              λ r. not_data_log (role_of pool' b) (ap (role_of pool') same ∙ own) r,
+              λ used. absurd (not_in_use parts.log_blocks block (subst (λ n. IsInUse (released block parts.log_blocks) n) same used)),
+            )
+            | inr other ↦
+                let f = (role_follows parts is_map roles group map.entries pool others mapped follows b inside (left b other)).1 in
+                let k = kept b inside other in
+                (λ r. still_in_use parts.log_blocks block b other (f.0 (sym k ∙ r)), λ used. k ∙ f.1 (was_in_use parts.log_blocks block b used))
+          ];
+          in_pool = λ b used. roles.in_pool b (was_in_use parts.log_blocks block b used);
+          page_mapped = λ a e at f. still_in_use parts.log_blocks block e.place.block (apart a e at f) (page_mapped_follow parts is_map roles group map.entries pool others mapped follows a e at f);
+        }
       where
         apart : (a : ℕ) (e : Entry) → get map.entries a ≡ Some e → e.block_mapped ≡ false → e.place.block ≡ block → ⊥
         apart a e at f here = elim (cases_eq (a / parts.geometry.p) group) [
-          | inl same ↦ both_ways e.block_mapped f (mapped a e at same)
-          | inr other ↦ no_other a e (sym (others a other) ∙ at) other here
+          | inl same ↦ both_ways e.block_mapped f (moved_mapped parts.geometry parts.map.entries map.entries group block entries_are a e at same)
+          | inr other ↦ no_other a e (sym (moved_others parts.geometry parts.map.entries map.entries group block entries_are a other) ∙ at) other here
         ]
 
     pub agree_switched : (contents : Contents) → PartsAgree parts contents → PartsAgree (switched_to parts map (SetGroup group block present dirty) pool' block) contents
@@ -133,10 +114,10 @@ module _ (parts : Parts) (group block present dirty : ℕ) (one : AreOfOne parts
             whole = record {
               whole = λ a f at. elim (cases_eq (a / parts.geometry.p) group) [
                 | inl same ↦
-                    let x = from a f at same in
+                    let x = moved_was parts.geometry parts.map.entries map.entries group block entries_are a f at same in
                     let place : f.place ≡ x.0.place = ap (λ (y : Entry). y.place) x.2 ∙ sym (stays_at a x.0 x.1 same) in
                     ap (λ (p : Place). is_whole (contents.flash.page p)) place ∙ s.whole.whole a x.0 x.1
-                | inr other ↦ s.whole.whole a f (sym (others a other) ∙ at)
+                | inr other ↦ s.whole.whole a f (sym (moved_others parts.geometry parts.map.entries map.entries group block entries_are a other) ∙ at)
               ];
             };
             roles = roles_switched;
@@ -148,19 +129,10 @@ module _ (parts : Parts) (group block present dirty : ℕ) (one : AreOfOne parts
 
     pub lists_switched : (contents : Contents) (list durable : CacheList) → Lists parts contents.flash.page list durable → Lists (switched_to parts map (SetGroup group block present dirty) pool' block) contents.flash.page list durable
     lists_switched contents list durable lists = record {
-      held = λ a. lists.held a ∙ elim (cases_eq (a / parts.geometry.p) group) [
-        | inl same ↦ by_entry a same (get parts.map.entries a) refl
-        | inr other ↦ ap (option_and_then (held_at contents.flash.page)) (sym (others a other))
-      ];
+      held = λ a. lists.held a ∙ moved_held parts.geometry parts.map.entries map.entries group block entries_are contents.flash.page
+          (λ a e at same. ap (λ (p : Place). held_in e.dirty (contents.flash.page p)) (stays_at a e at same)) a;
       stands = lists.stands;
     }
-      where
-        by_entry : (a : ℕ) → a / parts.geometry.p ≡ group → (o : Option Entry) → get parts.map.entries a ≡ o → option_and_then (held_at contents.flash.page) (get parts.map.entries a) ≡ option_and_then (held_at contents.flash.page) (get map.entries a)
-        by_entry a same None at = ap (option_and_then (held_at contents.flash.page)) (at ∙ sym (ap (λ n. get n a) entries_are ∙ moved_none parts.geometry parts.map.entries group block a at same))
-        by_entry a same (Some e) at =
-            ap (option_and_then (held_at contents.flash.page)) at
-            ∙ ap (λ (p : Place). held_in e.dirty (contents.flash.page p)) (stays_at a e at same)
-            ∙ sym (ap (option_and_then (held_at contents.flash.page)) (ap (λ n. get n a) entries_are ∙ moved_here parts.geometry parts.map.entries group block a e at same))
 
 -- ---- the same of parts that are known by equations
 

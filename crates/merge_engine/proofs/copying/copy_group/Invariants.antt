@@ -1,4 +1,5 @@
-use Rattle.std.proofs.Common.{◌≡◌, Some, false}
+use Rattle.std.proofs.Common.{◌≡◌, false}
+use Rattle.ft_media.specs.Media.{IsNextPage}
 use Rattle.ft_media.specs.Drives.{DrivesFlash}
 use Rattle.cache_model.specs.CacheList.{CacheList}
 use Rattle.merge_engine.specs.Agreement.{PartsAgree, Lists}
@@ -13,7 +14,7 @@ invariant-loop-page g l =
     record {
       agree : PartsAgree l.cache now.contents;
       lists : (list durable : CacheList) → Lists l.cache old.contents.flash.page list durable → Lists l.cache now.contents.flash.page list durable;
-      next : now.contents.flash.next l.block ≡ Some l.page;
+      next : IsNextPage (record { block = l.block; page = l.page }) now.contents.flash;
       copied : IsCopiedBelow l.cache.geometry l.cache.map.entries l.group l.block l.page now.contents.flash.page;
       filled : IsFilledBelow l.cache.geometry l.cache.map.entries l.group l.block l.page now.contents.flash.page;
       counts : now.counts ≡ programs_counted l.page old.counts;

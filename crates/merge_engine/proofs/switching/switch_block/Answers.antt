@@ -1,7 +1,8 @@
 use Rattle.std.proofs.Common.{sym, ◌∙◌, ap}
 use Rattle.op_log.specs.Log.{LogValue}
 use Rattle.merge_engine.proofs.MoveLemmas.{pushed_some}
-use Rattle.merge_engine.proofs.SwitchedLemmas.{switching_fits, switching_spelled, switch_entries, agree_switch, lists_switch}
+use Rattle.merge_engine.proofs.SwitchedLemmas.{switching_fits, switching_spelled, agree_switch, lists_switch}
+use Rattle.merge_engine.proofs.MoveEntriesLemmas.{moved_entries}
 use Rattle.merge_engine.proofs.switching.switch_block.Goals as goal
 
 pub note-requires-clause-fits : goal.note-requires-clause-fits
@@ -17,7 +18,7 @@ note-requires-clause-sound c =
 pub returns-clause-map : goal.returns-clause-map
 returns-clause-map c = record {
   entries = let r = c.requires in
-      switch_entries c.args.cache.now c.args.group c.args.block c.held_bits.result c.dirty_bits.result r.of_one r.is_map r.roles r.held r.block r.switch c.held_bits.ensures c.dirty_bits.ensures c.note.new.cache.map.entries c.note.ensures.map.entries;
+      moved_entries c.args.cache.now c.args.group c.args.block c.held_bits.result c.dirty_bits.result r.of_one c.held_bits.ensures c.dirty_bits.ensures c.note.new.cache.map.entries c.note.ensures.map.entries;
   pages = c.note.ensures.map.pages;
   groups = c.note.ensures.map.groups;
   buckets = c.note.ensures.map.buckets;
