@@ -1,5 +1,5 @@
 -- A new page of a log block may take an address.
-use Rattle.std.proofs.Common.{◌≡◌, ℕ, suc, ◌/◌, ◌<◌, ◌≤◌, ◌==◌, Bool, true, false, cond, List, [], ◌∷◌, length, Some, refl, sym, ◌∙◌, ap, subst, arith, inl, inr, eq-eqb}
+use Rattle.std.proofs.Common.{◌≡◌, ℕ, ◌/◌, ◌<◌, ◌≤◌, ◌==◌, Bool, true, ◌∷◌, length, Some, refl, sym, ◌∙◌, ap, subst, arith, inl, inr, eq-eqb}
 use Rattle.std.specs.FinMap.{get, entries}
 use Rattle.std.proofs.lemmas.Bool.{cases_Bool, or_left, or_right, both_ways, not-true}
 use Rattle.ft_base.specs.declared.geometry.Geometry.{Geometry}
@@ -11,7 +11,7 @@ use Rattle.ft_base.specs.Contents.{Contents}
 use Rattle.cache_model.specs.declared.entry.Entry.{Entry}
 use Rattle.cache_model.specs.Records.{Entries, after}
 use Rattle.cache_model.specs.Entries.{each_once, groups_with, blocks_with, page_mapped, Fits, IsMap, InPool}
-use Rattle.cache_model.proofs.CountLemmas.{member, numbers, each_once-le, count_le, member_once}
+use Rattle.cache_model.proofs.CountLemmas.{member, numbers, each_once-le, each_once-no_longer, count_le, member_once}
 use Rattle.mapping.proofs.FittingLemmas.{page_cases, page_fits}
 use Rattle.log_blocks.specs.Logs.{IsInUse}
 use Rattle.merge_engine.specs.declared.parts.Parts.{Parts}
@@ -22,15 +22,6 @@ use Rattle.merge_engine.proofs.TakeLemmas.{agree_map}
 use Rattle.merge_engine.proofs.RoleLemmas.{log_page_mapped}
 use Rattle.ssc.proofs.DirtyLemmas.{member_from, member_to}
 use Rattle.merge_engine.proofs.GaveLemmas.{dirty_numbers}
-
--- a list has no fewer numbers than each of them once
-once_most : (ns : List ℕ) → length (each_once ns) ≤ length ns
-once_most [] = omega arith
-once_most (n ∷ ns) = by (member n ns) (once_most ns)
-  where
-    by : (b : Bool) → length (each_once ns) ≤ length ns → length (cond b (each_once ns) (n ∷ each_once ns)) ≤ suc (length ns)
-    by true rest = omega arith
-    by false rest = omega arith
 
 module _ (parts : Parts) (contents : Contents) (agree : PartsAgree parts contents) (page : Place → Page) (at : Place) (lba : ℕ) (block : Block) (fresh : IsNewPage parts page at lba block) (dirty : Bool) where
   abbrev g : Geometry
@@ -60,7 +51,7 @@ module _ (parts : Parts) (contents : Contents) (agree : PartsAgree parts content
       let within = each_once-le (numbers (λ (x : ℕ × Entry). x.1.place.block) page_mapped (entries new)) parts.log_blocks.used (λ n mem.
       let x = member_to (λ (x : ℕ × Entry). x.1.place.block) page_mapped new n mem in
       member-used n parts.log_blocks.used (subst (λ k. IsInUse parts.log_blocks k) x.3 (in_log_blocks x.0.0 x.0.1 x.1 x.2))) in
-      let most = once_most parts.log_blocks.used in
+      let most = each_once-no_longer parts.log_blocks.used in
       let few : length parts.log_blocks.used ≤ g.l = subst (λ (h : Geometry). length parts.log_blocks.used ≤ h.l) agree.sound.of_one.log_blocks agree.sound.log_blocks.few in
       omega arith
 

@@ -32,6 +32,7 @@ use Rattle.ssc.specs.Steps.{IsPushed, LeftOf, ListsAfter, ListsWritten, PutsBloc
 use Rattle.ssc.proofs.DirtyLemmas.{member_from, member_to}
 use Rattle.merge_engine.proofs.GaveLemmas.{dirty_numbers}
 use Rattle.cache_model.proofs.StandLemmas.{held_of, whole_held}
+use Rattle.cache_model.proofs.UndoLemmas.{none_either_way}
 use Rattle.ssc.proofs.ListLemmas.{list_some, stands_some}
 
 -- ---- lists that gave room, on the flash
@@ -48,11 +49,7 @@ was_held g list v (inr gave) a h is = left_there (gave.gone (a / g.p)) (get list
 -- what is absent stays so
 pub stays_absent : (g : Geometry) (list v : CacheList) → GivesRoom g list v → (a : ℕ) → get list a ≡ None → get v a ≡ None
 stays_absent g list v (inl same) a none = ap (λ (s : CacheList). get s a) same ∙ none
-stays_absent g list v (inr gave) a none = gave.stays a ∙ ap (λ o. cond (gave.gone (a / g.p)) None o) none ∙ either (gave.gone (a / g.p))
-  where
-    either : (b : Bool) → cond {A = Option Held} b None None ≡ None
-    either true = refl
-    either false = refl
+stays_absent g list v (inr gave) a none = gave.stays a ∙ ap (λ o. cond (gave.gone (a / g.p)) None o) none ∙ none_either_way (gave.gone (a / g.p))
 
 module _ (g : Geometry) (page page' : Place → Page) (m m' : Entries) (list v : CacheList) (whole : AreWhole page m) (whole' : AreWhole page' m') (on : IsListOn page m list) (on' : IsListOn page' m' v) (gives : GivesRoom g list v) where
   -- what is dirty was dirty before
