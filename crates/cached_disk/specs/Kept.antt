@@ -122,7 +122,7 @@ pub record Serves {T : Type 0} (call : Call) (old new : CachedDisk) (before afte
       → WasDone ImageIs call (state_in order old) (state_in order new) after.contents result base
   pub goes : (order : List ℕ) → Goes (state_in order old) (state_in order new) before after result
   pub dirty : is_down new ≡ false → dirty_of new ≡ dirty_of old
-  pub options : IsMadeAs old new
+  pub made : IsMadeAs old new
   pub within : IsErrOf result OutOfVolume → ⊥
 
 -- with Ok so many blocks were written to the disk; else no more; and none was read from it

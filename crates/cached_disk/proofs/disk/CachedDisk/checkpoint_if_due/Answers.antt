@@ -49,7 +49,7 @@ returns-in-Ok-clause-serves g c =
           (done_stands v c.checkpoint.new.self old new s by s (shows_itself v old s is) (c.in-Ok.ensures.done s is.holds) (λ a dirty. dirty) (may_none v.mode (pending c.checkpoint.new.self) c.in-Ok.ensures.nothing_waits) base stand) Checkpointed refl tt;
       goes = search rules;
       dirty = λ still. done_dirty v c.checkpoint.new.self old new s by s (shows_itself v old s is) (c.in-Ok.ensures.done s is.holds) (λ a dirty. dirty) (λ a dirty. dirty);
-      options = search rules;
+      made = search rules;
       within = search rules;
     }
 
@@ -84,6 +84,6 @@ returns-in-Err-clause-serves g c =
       was = λ order base stand. refused_same Idles (state_in order v) (state_in order w) new base refl refl (refused_stands v c.checkpoint.new.self old new s by shown.list shown.shows shown.stands base stand) c.cache_error.result;
       goes = search rules;
       dirty = search rules;
-      options = search rules;
+      made = search rules;
       within = search rules;
     }

@@ -29,7 +29,7 @@ returns-in-Ok-clause-serves g c =
           (done_stands v c.commit.new.self old new s by s (shows_itself v old s is) (c.in-Ok.ensures.done s is.holds) (λ a dirty. dirty) (may_none v.mode (pending c.commit.new.self) c.in-Ok.ensures.nothing_waits) base stand) tt refl tt;
       goes = search rules;
       dirty = λ still. done_dirty v c.commit.new.self old new s by s (shows_itself v old s is) (c.in-Ok.ensures.done s is.holds) (λ a dirty. dirty) (λ a dirty. dirty);
-      options = search rules;
+      made = search rules;
       within = search rules;
     }
 
@@ -63,6 +63,6 @@ returns-in-Err-clause-serves g c =
       was = λ order base stand. refused_same Flushes (state_in order v) (state_in order w) new base refl refl (refused_stands v c.commit.new.self old new s by shown.list shown.shows shown.stands base stand) c.cache_error.result;
       goes = search rules;
       dirty = search rules;
-      options = search rules;
+      made = search rules;
       within = search rules;
     }

@@ -52,7 +52,7 @@ returns-in-Ok-false-clause-serves g c =
           (goes_after before between after c.read.ensures.reads.contents c.in-Ok-false.ensures.reads.cause.flash (let x = c.in-Ok-false.ensures.reads.cause.disk in omega (arith, x))
           c.in-Ok-false.ensures.reads.cause.cuts c.in-Ok-false.ensures.reads.passes (state_in order u) (state_in order c.read_missing.new.self) c.read_missing.result (c.read_missing.ensures.serves.goes order));
       dirty = search rules;
-      options = search rules;
+      made = search rules;
       within = search rules;
     }
 
@@ -88,7 +88,7 @@ returns-in-Ok-true-clause-serves g c =
           (found_held v old s c.requires.may.left.own held c.args.lba c.read.new.block c.requires.lba read base stand);
       goes = search rules;
       dirty = search rules;
-      options = search rules;
+      made = search rules;
       within = search rules;
     }
 
@@ -106,6 +106,6 @@ returns-in-Err-clause-serves g c =
           (subst (λ (x : Contents). StandFor (ImageIs (told_of v)) x base) (sym c.read.ensures.reads.contents) stand) c.cache_error.result;
       goes = search rules;
       dirty = search rules;
-      options = search rules;
+      made = search rules;
       within = search rules;
     }

@@ -32,7 +32,7 @@ returns-then-is_err-clause-serves g c =
       was = search rules;
       goes = search rules;
       dirty = search rules;
-      options = search rules;
+      made = search rules;
       within = search rules;
     }
 
@@ -51,7 +51,7 @@ returns-in-Err-clause-serves g c =
       was = λ order base stand. refused_same (Reads c.args.lba c.args.block.now) (state_in order v) (state_in order u) mid.contents base refl refl (subst (λ (x : Contents). StandFor (ImageIs (told_of v)) x base) (sym c.read_block.ensures.contents) stand) c.disk_error.result;
       goes = search rules;
       dirty = search rules;
-      options = search rules;
+      made = search rules;
       within = search rules;
     }
 
@@ -95,7 +95,7 @@ returns-in-Ok-clause-serves g c =
       goes = λ order. goes_after before mid after c.read_block.ensures.contents (let x = c.in_default.ensures.cause.flash in omega (arith, x)) c.in_default.ensures.cause.disk c.in_default.ensures.cause.cuts c.in_default.ensures.passes (state_in order v) (state_in order w) (Ok tt)
           (goes_driven tt mid after (state_in order v) (state_in order w) refl (still_up v put c.requires.may.up c.in-Ok.ensures.runs.stopped) c.in-Ok.ensures.runs.drives);
       dirty = λ still. put_dirty u put mid.contents after.contents s by c.args.lba c.read_block.new.block absent newest h ∙ ap dirty_lbas c.reserve.ensures.entries;
-      options = search rules;
+      made = search rules;
       within = search rules;
     }
 
@@ -152,6 +152,6 @@ returns-in-Err-write_clean-clause-serves g c =
       goes = λ order. goes_after before mid after c.read_block.ensures.contents (let x = c.in_default.ensures.cause.flash in omega (arith, x)) c.in_default.ensures.cause.disk c.in_default.ensures.cause.cuts c.in_default.ensures.passes (state_in order v) (state_in order w) (Err c.cache_error.result)
           (goes_down mid after (state_in order v) (state_in order w) c.in-Err-write_clean.error c.cache_error.result refl down c.cache_error.ensures memory c.in-Err-write_clean.ensures.runs.drives);
       dirty = search rules;
-      options = search rules;
+      made = search rules;
       within = search rules;
     }

@@ -27,7 +27,7 @@ returns-in-Err-clause-serves g c =
       was = λ order base stand. refused_same Reports (state_in order v) (state_in order u) mid base refl refl (flushed_stands (state_in order v) (state_in order u) mid c.flush.result base refl (c.flush.ensures.serves.was order base stand)) c.in-Err.error;
       goes = λ order. goes_at {S = Unit {0}} {T = Report} (state_in order c.args.self.now) (state_in order c.flush.new.self) (g.M.Media.state c.args.media.now) (g.M.Media.state c.flush.new.media) c.in-Err.error (c.in-Err.ensures.serves.goes order);
       dirty = search rules;
-      options = search rules;
+      made = search rules;
       within = search rules;
     }
 
@@ -69,7 +69,7 @@ returns-in-Ok-clause-serves g c =
           let up : is_down w ≡ false = ap (λ (k : Ssc). is_down (record u { cache = k })) c.scrub.ensures.same ∙ first.up in
           goes_both (state_in order v) (state_in order u) (state_in order w) before mid after tt (Ok _) first (goes_read Report (state_in order u) (state_in order w) same mid after up _ c.in-Ok.ensures.reads) (λ is. absurd (cc));
       dirty = λ still. ap (λ (k : Ssc). dirty_lbas (entries_of k)) c.scrub.ensures.same ∙ c.in_default.ensures.serves.dirty (c.in_default.ensures.serves.goes []).up;
-      options = search rules;
+      made = search rules;
       within = search rules;
     }
 
@@ -88,7 +88,7 @@ returns-in-Ok-clause-report g c =
     let after = (g.M.Media.state c.scrub.new.media).contents in
     let left = left_same u c.scrub.new.self mid after c.scrub.ensures.same c.scrub.ensures.reads.contents c.flush.ensures.serves.left in
     let up : is_down w ≡ false = ap (λ (k : Ssc). is_down (record u { cache = k })) c.scrub.ensures.same ∙ (c.in_default.ensures.serves.goes []).up in
-    report_is c.args.self.now w after c.flush.ensures.serves.options.0 left up (ap pending c.scrub.ensures.same ∙ c.in_default.ensures.nothing_waits) _ c.held.ensures.count c.dirty_groups.ensures c.buckets.ensures.bound
+    report_is c.args.self.now w after c.flush.ensures.serves.made.0 left up (ap pending c.scrub.ensures.same ∙ c.in_default.ensures.nothing_waits) _ c.held.ensures.count c.dirty_groups.ensures c.buckets.ensures.bound
     (c.in-Ok.ensures.found.pages ∙ ap (λ (k : Ssc). held_count (entries_of k)) (sym c.scrub.ensures.same))
 
 pub returns-in-Ok-clause-loads : goal.returns-in-Ok-clause-loads
@@ -99,7 +99,7 @@ returns-in-Ok-clause-loads g c =
     let after = (g.M.Media.state c.scrub.new.media).contents in
     let left = left_same u c.scrub.new.self mid after c.scrub.ensures.same c.scrub.ensures.reads.contents c.flush.ensures.serves.left in
     let up : is_down w ≡ false = ap (λ (k : Ssc). is_down (record u { cache = k })) c.scrub.ensures.same ∙ (c.in_default.ensures.serves.goes []).up in
-    loads_left c.args.self.now w after c.flush.ensures.serves.options.0 left up (ap pending c.scrub.ensures.same ∙ c.in_default.ensures.nothing_waits)
+    loads_left c.args.self.now w after c.flush.ensures.serves.made.0 left up (ap pending c.scrub.ensures.same ∙ c.in_default.ensures.nothing_waits)
 
 pub returns-in-Ok-clause-nothing_waits : goal.returns-in-Ok-clause-nothing_waits
 returns-in-Ok-clause-nothing_waits g c = λ up. ap pending c.scrub.ensures.same ∙ c.in_default.ensures.nothing_waits
@@ -129,7 +129,7 @@ returns-in-Err-scrub-clause-serves g c =
           (goes_unread Report (state_in order u) (state_in order w) same mid after up c.in-Err-scrub.error c.cache_error.result c.cache_error.ensures c.in-Err-scrub.ensures.reads)
           (λ is. not_disk c.in-Err-scrub.error c.cache_error.result c.cache_error.ensures (cc));
       dirty = λ still. ap (λ (k : Ssc). dirty_lbas (entries_of k)) c.scrub.ensures.same ∙ c.in_default.ensures.serves.dirty (c.in_default.ensures.serves.goes []).up;
-      options = search rules;
+      made = search rules;
       within = search rules;
     }
 
