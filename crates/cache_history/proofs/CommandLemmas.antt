@@ -1,5 +1,5 @@
 -- What a command leaves of the two lists.
-use Rattle.std.proofs.Common.{◌≡◌, ◌⊎◌, ℕ, ◌==◌, Bool, true, false, cond, List, [], ◌∷◌, ◌++◌, Option, Some, None, Result, Ok, Err, OnOk, IfOk, refl, sym, ◌∙◌, ap, subst, inl, inr}
+use Rattle.std.proofs.Common.{◌≡◌, ◌⊎◌, ℕ, true, false, List, [], ◌∷◌, ◌++◌, Option, Some, None, Result, Ok, Err, OnOk, IfOk, refl, sym, ◌∙◌, ap, subst, inl, inr}
 use Rattle.std.specs.FinMap.{get}
 use Rattle.std.proofs.lemmas.Bool.{cases_Bool, false≢true}
 use Rattle.ft_base.specs.declared.block.Block.{Block}
@@ -10,7 +10,7 @@ use Rattle.ft_base.specs.Contents.{Contents, Image, Now}
 use Rattle.cache_model.specs.Cache.{Buffered, Inserted, Cleaned, Vanish, undo, written_dirty, written_clean, evicted, made_clean, marked, IsFull}
 use Rattle.cache_model.specs.CacheList.{Held, held, CacheList}
 use Rattle.cache_model.specs.Stands.{FlashStandsFor}
-use Rattle.cache_model.proofs.UndoLemmas.{undone_at, get_undo, undo_inserted, undo_cleaned}
+use Rattle.cache_model.proofs.UndoLemmas.{undone_at, undone_none, get_undo, undo_inserted, undo_cleaned}
 use Rattle.ssc.specs.declared.error.SscError.{SscError}
 use Rattle.ssc.specs.declared.error.SscError.TheVariants as error
 use Rattle.ssc.specs.Errors.{stops}
@@ -68,19 +68,6 @@ made_answer c d contents contents' x made l moment = let own = made l.now moment
 -- nothing gave way
 loses_none : (q : List Buffered) (s durable : CacheList) → durable ≡ undo q s → LosesOf q s s durable
 loses_none q s durable is a = ap (λ (t : CacheList). get t a) is ∙ sym (unless_same (get s a) (get s a) (get (undo q s) a) refl)
-
-undone_none : (q : List Buffered) (a : ℕ) → undone_at q a None ≡ None
-undone_none [] a = refl
-undone_none (Inserted k ∷ q) a = ap (undone_at q a) (same (a == k)) ∙ undone_none q a
-  where
-    same : (b : Bool) → cond {A = Option Held} b None None ≡ None
-    same true = refl
-    same false = refl
-undone_none (Cleaned k ∷ q) a = ap (undone_at q a) (same (a == k)) ∙ undone_none q a
-  where
-    same : (b : Bool) → cond {A = Option Held} b None None ≡ None
-    same true = refl
-    same false = refl
 
 -- what gave way is gone from the list without what is buffered
 loses_undone : (g : Geometry) (q : List Buffered) (s : CacheList) (lba : ℕ) (v : CacheList) → Vanish g s lba v → LosesOf q s v (undo q v)
