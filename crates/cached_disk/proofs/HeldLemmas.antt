@@ -1,5 +1,5 @@
 -- What it leaves of its media while it is up, and once it is down.
-use Rattle.std.proofs.Common.{◌≡◌, ◌⊎◌, ℕ, ◌<◌, ◌==◌, Bool, true, false, cond, List, [], ◌∷◌, Option, Some, None, inl, inr, refl, sym, ◌∙◌, ap, ap₂, subst}
+use Rattle.std.proofs.Common.{◌≡◌, ◌⊎◌, ℕ, ◌<◌, ◌==◌, Bool, true, false, List, [], ◌∷◌, Option, Some, None, inl, inr, refl, sym, ◌∙◌, ap, ap₂, subst}
 use Rattle.std.specs.List.{AllByRecursion}
 use Rattle.std.specs.FinMap.{get}
 use Rattle.std.proofs.lemmas.Bool.{both_ways, false≢true, or_parts, or_right}
@@ -16,6 +16,7 @@ use Rattle.ft_volume.specs.Standing.{StandFor}
 use Rattle.cache_model.specs.Cache.{Buffered, Inserted, Cleaned, undo}
 use Rattle.cache_model.specs.CacheList.{Agrees, CacheList, Held, held_or}
 use Rattle.cache_model.specs.Stands.{FlashStandsFor}
+use Rattle.cache_model.proofs.CountLemmas.{taken}
 use Rattle.cache_model.proofs.UndoLemmas.{back_at, get_undo, undone_at}
 use Rattle.op_log.specs.Log.{FitsOn}
 use Rattle.ssc.specs.declared.cache.Ssc.{Ssc}
@@ -57,11 +58,7 @@ suits_less Through s t suits from = λ a h at. elim (from a h at) [ inl clean �
 -- what only came clean is undone without a mark
 module _ (a : ℕ) (h : Held) where
   back_was : (x : Buffered) → IsInserted x → (o : Option Held) → back_at x a o ≡ Some h → o ≡ Some h
-  back_was (Inserted k) is o at = by (a == k) at
-    where
-      by : (b : Bool) → cond b None o ≡ Some h → o ≡ Some h
-      by true at = absurd (cc)
-      by false at = at
+  back_was (Inserted k) is o at = taken (a == k) o h at
   back_was (Cleaned k) is o at = absurd is
 
   undone_was : (q : List Buffered) → AllByRecursion IsInserted q → (o : Option Held) → undone_at q a o ≡ Some h → o ≡ Some h

@@ -10,7 +10,7 @@ use Rattle.ft_base.specs.Contents.{Values, HasValue, set}
 use Rattle.ft_base.specs.PlainDisk.{PlainDisk}
 use Rattle.cache_model.specs.Cache.{Buffered, Inserted, Cleaned, MayWait, Vanish, address_of, written_block, marked_as, undo, written_clean, written_dirty}
 use Rattle.cache_model.specs.CacheList.{Agrees, CacheList, Held, held_or}
-use Rattle.cache_model.proofs.CountLemmas.{equals_turned}
+use Rattle.cache_model.proofs.CountLemmas.{equals_turned, taken}
 use Rattle.cache_model.proofs.MapLemmas.{get_insert}
 use Rattle.cache_model.proofs.UndoLemmas.{back_at, get_undo, undone_at}
 use Rattle.cached_disk.specs.Kept.{IsDirtyIn}
@@ -84,11 +84,7 @@ module _ (disk : ℕ → Values) (s : CacheList) (agrees : Agrees s disk) where
   undo_agrees q a h b at clean has = agrees a h b (undone_clean q (get s a) (sym (get_undo q s a) ∙ at)) clean has
     where
       back_clean : (x : Buffered) (o : Option Held) → back_at x a o ≡ Some h → o ≡ Some h
-      back_clean (Inserted k) o is = by_choice (a == k) is
-        where
-          by_choice : (t : Bool) → cond t None o ≡ Some h → o ≡ Some h
-          by_choice true is = absurd (cc)
-          by_choice false is = is
+      back_clean (Inserted k) o is = taken (a == k) o h is
       back_clean (Cleaned k) o is = by_choice (a == k) o is
         where
           by_choice : (t : Bool) (o : Option Held) → cond t (option_map (marked_as true) o) o ≡ Some h → o ≡ Some h

@@ -19,7 +19,7 @@ use Rattle.cache_model.specs.Records.{Entries}
 use Rattle.cache_model.specs.Entries.{each_once}
 use Rattle.cache_model.specs.CacheList.{CacheList, Held}
 use Rattle.cache_model.specs.Stands.{FlashStandsFor, held_at}
-use Rattle.cache_model.proofs.CountLemmas.{member, each_once-le, member_once}
+use Rattle.cache_model.proofs.CountLemmas.{member, each_once-le, member_once, taken}
 use Rattle.checkpoint.specs.Current.{AreWhole}
 use Rattle.op_log.specs.Log.{LogValue, pushed}
 use Rattle.merge_engine.specs.declared.parts.Parts.{Parts}
@@ -38,13 +38,9 @@ use Rattle.ssc.proofs.ListLemmas.{list_some, stands_some}
 -- ---- lists that gave room, on the flash
 
 -- what is left was there
-left_there : (b : Bool) (o : Option Held) (h : Held) → cond b None o ≡ Some h → o ≡ Some h
-left_there true o h is = absurd (cc)
-left_there false o h is = is
-
 was_held : (g : Geometry) (list v : CacheList) → GivesRoom g list v → (a : ℕ) (h : Held) → get v a ≡ Some h → get list a ≡ Some h
 was_held g list v (inl same) a h is = ap (λ (s : CacheList). get s a) (sym same) ∙ is
-was_held g list v (inr gave) a h is = left_there (gave.gone (a / g.p)) (get list a) h (sym (gave.stays a) ∙ is)
+was_held g list v (inr gave) a h is = taken (gave.gone (a / g.p)) (get list a) h (sym (gave.stays a) ∙ is)
 
 -- what is absent stays so
 pub stays_absent : (g : Geometry) (list v : CacheList) → GivesRoom g list v → (a : ℕ) → get list a ≡ None → get v a ≡ None

@@ -1,5 +1,5 @@
 -- A block that is put on the disk, of an address that the cache doesn't hold.
-use Rattle.std.proofs.Common.{◌≡◌, ◌⊎◌, ℕ, ◌<◌, ◌==◌, Bool, true, false, cond, List, [], ◌∷◌, Option, Some, None, Err, inl, inr, refl, sym, ◌∙◌, ap, subst}
+use Rattle.std.proofs.Common.{◌≡◌, ◌⊎◌, ℕ, ◌<◌, true, false, List, [], Option, Some, None, Err, inl, inr, refl, sym, ◌∙◌, ap, subst}
 use Rattle.std.specs.FinMap.{get}
 use Rattle.std.specs.Option.{is_some}
 use Rattle.std.proofs.lemmas.Bool.{cases_eq, false≢true}
@@ -16,10 +16,10 @@ use Rattle.ft_volume.specs.Volume.{StandForEither, StandForOne, VolumeState, Was
 use Rattle.ft_volume.specs.Standing.{StandFor}
 use Rattle.ft_volume.specs.declared.volume.VolumeError.TheVariants.{DiskFault, PowerLost}
 use Rattle.ft_volume.proofs.DoneLemmas.{done_of_one}
-use Rattle.cache_model.specs.Cache.{Buffered, Cleaned, Inserted, undo}
+use Rattle.cache_model.specs.Cache.{Buffered, undo}
 use Rattle.cache_model.specs.CacheList.{Agrees, CacheList, Held, held_or}
 use Rattle.cache_model.specs.Stands.{FlashStandsFor}
-use Rattle.cache_model.proofs.UndoLemmas.{back_at, get_undo, undone_at}
+use Rattle.cache_model.proofs.UndoLemmas.{get_undo, undone_at, undone_none}
 use Rattle.op_log.specs.Log.{FitsOn}
 use Rattle.ssc.specs.declared.cache.Ssc.{Ssc}
 use Rattle.ssc.specs.CacheState.{Holds, entries_of, pending}
@@ -49,19 +49,7 @@ absent_of c contents s holds a is = not_some (get s a) (sym (holds_held c conten
 
 -- it isn't held without what is buffered either
 undone_absent : (q : List Buffered) (s : CacheList) (a : ℕ) → get s a ≡ None → get (undo q s) a ≡ None
-undone_absent q s a none = get_undo q s a ∙ ap (undone_at q a) none ∙ by q
-  where
-    either : (t : Bool) → cond {A = Option Held} t None None ≡ None
-    either true = refl
-    either false = refl
-
-    back : (x : Buffered) → back_at x a None ≡ None
-    back (Inserted k) = either (a == k)
-    back (Cleaned k) = either (a == k)
-
-    by : (q : List Buffered) → undone_at q a None ≡ None
-    by [] = refl
-    by (x ∷ q) = ap (undone_at q a) (back x) ∙ by q
+undone_absent q s a none = get_undo q s a ∙ ap (undone_at q a) none ∙ undone_none q a
 
 -- ---- over a list that lacks the address
 

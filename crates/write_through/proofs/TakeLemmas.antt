@@ -13,6 +13,7 @@ use Rattle.ft_volume.specs.Opening.{Suits}
 use Rattle.cache_model.specs.Cache.{evicted, undo}
 use Rattle.cache_model.specs.CacheList.{Agrees, CacheList, Held, held_or}
 use Rattle.cache_model.specs.Stands.{FlashStandsFor}
+use Rattle.cache_model.proofs.CountLemmas.{taken}
 use Rattle.cache_model.proofs.MapLemmas.{get_remove}
 use Rattle.ssc.specs.declared.cache.Ssc.{Ssc}
 use Rattle.ssc.specs.CacheState.{Holds, entries_of, geometry_of, pending}
@@ -27,11 +28,7 @@ use Rattle.cached_disk.proofs.StepLemmas.{IsSameOver, not_dirty_beneath, over_sa
 module _ (s : CacheList) (lba : ℕ) where
   -- what is left was there
   evicted_was : (a : ℕ) (h : Held) → get (evicted lba s) a ≡ Some h → get s a ≡ Some h
-  evicted_was a h at = by (a == lba) (sym (get_remove s lba a) ∙ at)
-    where
-      by : (t : Bool) → cond t None (get s a) ≡ Some h → get s a ≡ Some h
-      by true is = absurd (cc)
-      by false is = is
+  evicted_was a h at = taken (a == lba) (get s a) h (sym (get_remove s lba a) ∙ at)
 
   -- a clean block gives way to the disk's own
   evicted_same : (disk : ℕ → Values) → Agrees s disk → (IsDirtyIn s lba → ⊥) → IsSameOver disk s (evicted lba s)
