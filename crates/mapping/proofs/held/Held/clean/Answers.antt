@@ -15,7 +15,8 @@ invariant_of-self c = record {
 }
 
 pub returns-in-Some-clause-entries : goal.returns-in-Some-clause-entries
-returns-in-Some-clause-entries c = rw (← c.self.view_is) (page_cleaned c.self.inside.geometry (map_of c.self.inside.pages) (map_of c.insert_ready.new.self) (map_of c.self.inside.blocks) c.args.lba _ c.insert_ready.ensures.map c.in-Some.page (sym c.in-Some.ensures) (ap (λ (p : MappedPage). p.place) c.cleaned.ensures) (ap (λ (p : MappedPage). p.dirty) c.cleaned.ensures))
+returns-in-Some-clause-entries c = rw (← c.self.view_is) (page_cleaned c.self.inside.geometry (map_of c.self.inside.pages) (map_of c.insert_ready.new.self) (map_of c.self.inside.blocks) c.args.lba _ c.insert_ready.ensures.map
+    c.in-Some.page (sym c.in-Some.ensures) (ap (λ (p : MappedPage). p.place) c.cleaned.ensures) (ap (λ (p : MappedPage). p.dirty) c.cleaned.ensures))
 
 pub invariant_of-self-in-Some-block_at : goal.invariant_of-self-in-Some-block_at
 invariant_of-self-in-Some-block_at c = record {
