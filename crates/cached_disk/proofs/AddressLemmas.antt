@@ -65,16 +65,13 @@ lbas_dirty s a there =
 
 -- ---- ascending lists of numbers
 
-above_apart : (n k : ℕ) → n < k → (k == n) ≡ false
-above_apart n k less = grind (arith, nat_tests)
-
 lower : (m n : ℕ) (ns : List ℕ) → m < n → AllByRecursion (λ k. n < k) ns → AllByRecursion (λ k. m < k) ns
 lower m n [] less all = tt
 lower m n (k ∷ ks) less all = (let above : n < k = all.0 in omega (arith, less, above), lower m n ks less all.1)
 
 pub not_above : (n : ℕ) (ns : List ℕ) → AllByRecursion (λ k. n < k) ns → has_lba n ns ≡ false
 not_above n [] all = refl
-not_above n (k ∷ ks) all = or_from (k == n) (has_lba n ks) (above_apart n k all.0) (not_above n ks all.1)
+not_above n (k ∷ ks) all = let above : n < k = all.0 in let other : (k == n) ≡ false = grind (arith, nat_tests) in or_from (k == n) (has_lba n ks) other (not_above n ks all.1)
 
 -- two with the same numbers are one
 pub ascending_same : (xs ys : List ℕ) → AreAscending xs → AreAscending ys → ((a : ℕ) → has_lba a xs ≡ has_lba a ys) → xs ≡ ys

@@ -4,6 +4,8 @@ use Rattle.std.specs.List.{AllByRecursion}
 use Rattle.std.specs.FinMap.{get}
 use Rattle.std.proofs.lemmas.Bool.{both_ways, false≢true, or_parts, or_right}
 use Rattle.ft_base.specs.declared.block.Block.{Block}
+use Rattle.ft_base.specs.declared.block.Page.{Page}
+use Rattle.ft_base.specs.declared.block.Place.{Place}
 use Rattle.ft_base.specs.declared.geometry.Geometry.{Geometry}
 use Rattle.ft_base.specs.declared.told.Mode.{Mode}
 use Rattle.ft_base.specs.declared.told.Mode.TheVariants.{Back, Through}
@@ -47,6 +49,10 @@ pub holds_over : (c : Ssc) (old new : Contents) (s : CacheList) → new.flash �
 holds_over c old new s flash shape holds =
     let same : new ≡ record old { disk = new.disk } = ap₂ (λ (x : Shape) (f : Flash). record { shape = x; flash = f; disk = new.disk }) shape flash in
     subst (λ (x : Contents). Holds c x s) (sym same) (holds_beside c old new.disk s holds)
+
+-- what stands for a list over the cache's geometry does so over that of the options, where they are one
+pub own_flash : (v : CachedDisk) → geometry_of v.cache ≡ v.options.geometry → (page : Place → Page) (list : CacheList) → FlashStandsFor (geometry_of v.cache) page list → FlashStandsFor v.options.geometry page list
+own_flash v own page list stands = subst (λ (g : Geometry). FlashStandsFor g page list) own stands
 
 -- ---- marks that suit the mode
 

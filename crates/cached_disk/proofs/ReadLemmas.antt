@@ -34,7 +34,7 @@ use Rattle.cached_disk.specs.Kept.{IsBeneath, IsDirtyIn, IsHeld, IsInserted, IsL
 use Rattle.cached_disk.proofs.AddressLemmas.{holds_held, holds_lbas, lbas_same, written_held}
 use Rattle.cached_disk.proofs.CallLemmas.{held_along}
 use Rattle.cached_disk.proofs.DiskLemmas.{IsOver, one_value, over_stands}
-use Rattle.cached_disk.proofs.HeldLemmas.{Stays, down_left, drove, goes_on, held_beneath, held_left, held_over, held_stands, step_beneath, step_held, step_over, suits_less, undone_over}
+use Rattle.cached_disk.proofs.HeldLemmas.{Stays, down_left, drove, goes_on, held_beneath, held_left, held_over, held_stands, own_flash, step_beneath, step_held, step_over, suits_less, undone_over}
 use Rattle.cached_disk.proofs.StepLemmas.{clean_agrees, clean_dirty, clean_dirty_was, clean_same, clean_was, left_there, over_same, vanish_agrees, vanish_dirty, vanish_same, vanish_was}
 
 -- ---- what a crash may undo
@@ -109,16 +109,13 @@ pub shows_itself : (v : CachedDisk) (contents : Contents) (s : CacheList) → Is
 shows_itself v contents s is = record { agrees = is.agrees; suits = is.suits; over = λ d over. over }
 
 module _ (v : CachedDisk) (contents : Contents) (s : CacheList) (own : geometry_of v.cache ≡ v.options.geometry) (is : IsHeld v contents s) where
-  own_flash : (page : Place → Page) (list : CacheList) → FlashStandsFor (geometry_of v.cache) page list → FlashStandsFor v.options.geometry page list
-  own_flash page list stands = subst (λ (g : Geometry). FlashStandsFor g page list) own stands
-
   undone_shown : (page : Place → Page) → FlashStandsFor (geometry_of v.cache) page (undo (pending v.cache) s) → IsShown v contents s page
   undone_shown page stands =
       let beneath = held_beneath v contents s own is in
-      record { list = undo (pending v.cache) s; stands = own_flash page (undo (pending v.cache) s) stands; shows = record { agrees = beneath.agrees; suits = beneath.suits; over = undone_over v contents s own is } }
+      record { list = undo (pending v.cache) s; stands = own_flash v own page (undo (pending v.cache) s) stands; shows = record { agrees = beneath.agrees; suits = beneath.suits; over = undone_over v contents s own is } }
 
   same_shown : (page : Place → Page) → FlashStandsFor (geometry_of v.cache) page s → IsShown v contents s page
-  same_shown page stands = record { list = s; stands = own_flash page s stands; shows = shows_itself v contents s is }
+  same_shown page stands = record { list = s; stands = own_flash v own page s stands; shows = shows_itself v contents s is }
 
   -- of a commit
   pub commit_shows : (page : Place → Page) → FlashStandsForOne (geometry_of v.cache) page (undo (pending v.cache) s) s s → IsShown v contents s page
@@ -158,8 +155,8 @@ module _ (v : CachedDisk) (contents : Contents) (s : CacheList) (own : geometry_
     -- wherever it was cut
     pub write_shows : (page : Place → Page) → FlashStandsForWrite (geometry_of v.cache) page (undo (pending v.cache) s) s lba (written_clean lba block) → IsShown v contents s page
     write_shows page (AsUndone x) = undone_shown page x
-    write_shows page (AsLeft w vanish x) = record { list = w; stands = own_flash page w x; shows = left_shows w (own_vanish w vanish) }
-    write_shows page (AsWritten w vanish x) = record { list = written_clean lba block w; stands = own_flash page (written_clean lba block w) x; shows = clean_shows w (own_vanish w vanish) }
+    write_shows page (AsLeft w vanish x) = record { list = w; stands = own_flash v own page w x; shows = left_shows w (own_vanish w vanish) }
+    write_shows page (AsWritten w vanish x) = record { list = written_clean lba block w; stands = own_flash v own page (written_clean lba block w) x; shows = clean_shows w (own_vanish w vanish) }
 
 -- an address that isn't held isn't dirty, so the disk has one value there
 module _ (v : CachedDisk) (contents : Contents) (s : CacheList) (is : IsHeld v contents s) (lba : ℕ) (absent : get s lba ≡ None) where

@@ -2,7 +2,7 @@
 use Rattle.std.proofs.Common.{◌≡◌, ◌≢◌, ◌⊎◌, ℕ, suc, ◌+◌, ◌-◌, ◌/◌, ◌<◌, ◌≤◌, ◌==◌, ◌||◌, nat_eq, Bool, true, false, not, List, [], ◌∷◌, ◌++◌, map, filter, length, length-append, Some, None, inl, inr, refl, sym, ◌∙◌, ap, subst, arith, eqb-true, if◌then◌else◌}
 use Rattle.std.specs.List.{AllByRecursion, IsDistinct}
 use Rattle.std.specs.FinMap.{get, entries}
-use Rattle.std.proofs.lemmas.Bool.{cases_Bool, cases_eq, cases_lt, or_cases, false_from_ne_true}
+use Rattle.std.proofs.lemmas.Bool.{cases_Bool, cases_eq, cases_lt, or_cases, or_right, false_from_ne_true}
 use Rattle.std.proofs.lemmas.Nat.{div-mul-add}
 use Rattle.std.proofs.lemmas.Map.Keys.{IsDistinct-push}
 use Rattle.std.specs.Cmp.{nat_eq_equiv}
@@ -196,11 +196,7 @@ ascending-push (x ∷ xs) block rise low = (below-push xs rise.0, ascending-push
     below-push (y ∷ ys) all = (all.0, below-push ys all.1)
 
     later : (n : ℕ) → is_in n xs ≡ true → is_in n (x ∷ xs) ≡ true
-    later n there = or_more (n == x) (is_in n xs) there
-      where
-        or_more : (a b : Bool) → b ≡ true → (a || b) ≡ true
-        or_more true b t = refl
-        or_more false b t = t
+    later n there = or_right (n == x) (is_in n xs) there
 
 pub adopted_none : (g : Geometry) (pool : PoolValue) (logs : LogBlocksValue) (block : ℕ) → logs ≡ record { geometry = g; used = []; open_block = None; room = 0 } → block ≡ first_pool g → AdoptedBelow g pool logs block
 adopted_none g pool logs block none first = subst (λ (l : LogBlocksValue). AdoptedBelow g pool l block) (sym none) (record {

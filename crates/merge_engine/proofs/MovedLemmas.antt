@@ -2,7 +2,7 @@
 use Rattle.std.proofs.Common.{◌≡◌, ℕ, suc, ◌+◌, ◌-◌, ◌*◌, ◌/◌, ◌%◌, ◌<◌, ◌≤◌, ◌==◌, ◌&&◌, nat_lt, Bool, true, false, cond, IsTrue, List, ◌∷◌, length, Option, Some, None, refl, sym, ◌∙◌, ap, subst, arith, inl, inr, bit_and, ◌||◌, eq-eqb, ne_eqb, lt-ltb}
 use Rattle.std.specs.Bool.{then_some}
 use Rattle.std.specs.FinMap.{get, entries}
-use Rattle.std.proofs.lemmas.Bool.{cases_eq, and_parts, and_from, both_ways}
+use Rattle.std.proofs.lemmas.Bool.{cases_eq, and_parts, and_from, or_right, both_ways}
 use Rattle.std.proofs.lemmas.Nat.{mod_below, and_comm}
 use Rattle.std.proofs.lemmas.Nat.Bits.{bit_at-zero}
 use Rattle.std.proofs.lemmas.Option.{same_Some}
@@ -139,14 +139,10 @@ module _ (g : Geometry) (m : Entries) (group block : ℕ) where
       let x = member_to (λ (x : ℕ × Entry). x.0 / g.p) (λ (e : Entry). e.block_mapped) (moved g m group block) n mem in
       elim (cases_eq (x.0.0 / g.p) group) [
         | inl same ↦ ap (λ b. b || member n (mapped_numbers m)) (eq-eqb group n (sym same ∙ x.3))
-        | inr other ↦ or_more (group == n) (member n (mapped_numbers m)) (ap (λ k. member k (mapped_numbers m)) (sym x.3) ∙ member_from (λ (x : ℕ × Entry). x.0 / g.p) (λ (e : Entry). e.block_mapped) m x.0.0 x.0.1 (sym (moved_other x.0.0 other) ∙ x.1) x.2)
+        | inr other ↦ or_right (group == n) (member n (mapped_numbers m)) (ap (λ k. member k (mapped_numbers m)) (sym x.3) ∙ member_from (λ (x : ℕ × Entry). x.0 / g.p) (λ (e : Entry). e.block_mapped) m x.0.0 x.0.1 (sym (moved_other x.0.0 other) ∙ x.1) x.2)
       ]) in
       with_room room with_it
     where
-      or_more : (a b : Bool) → b ≡ true → (a || b) ≡ true
-      or_more true b t = refl
-      or_more false b t = t
-
       with_room : HasBlockOrRoom g m group → length (each_once (mapped_numbers (moved g m group block))) ≤ length (each_once (group ∷ mapped_numbers m)) → length (each_once (mapped_numbers (moved g m group block))) ≤ g.c
       with_room (inl has) few =
           let there : member group (mapped_numbers m) ≡ true = ap (λ k. member k (mapped_numbers m)) (sym has.3) ∙ member_from (λ (x : ℕ × Entry). x.0 / g.p) (λ (e : Entry). e.block_mapped) m has.0 has.1 has.2 has.4 in

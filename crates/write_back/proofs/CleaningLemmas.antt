@@ -36,7 +36,7 @@ use Rattle.cached_disk.specs.Kept.{IsBeneath, IsDirtyIn, IsHeld, IsLeft, MayUndo
 use Rattle.cached_disk.proofs.DiskLemmas.{IsOver, one_value, over_stands}
 use Rattle.cache_model.proofs.CountLemmas.{equals_turned}
 use Rattle.cached_disk.proofs.StepLemmas.{IsSameOver, over_same, undo_agrees}
-use Rattle.cached_disk.proofs.HeldLemmas.{Stays, down_left, drove, goes_on, held_left, held_over, held_stands, step_beneath, step_over, stopped_down, undone_over}
+use Rattle.cached_disk.proofs.HeldLemmas.{Stays, down_left, drove, goes_on, held_left, held_over, held_stands, own_flash, step_beneath, step_over, stopped_down, undone_over}
 use Rattle.cached_disk.proofs.CallLemmas.{gives_up}
 use Rattle.write_back.specs.Left.{in_group, out_of_group}
 use Rattle.write_back.specs.Cleaning.{IsFlushed, IsOnDisk, Proceeds, is_among}
@@ -116,16 +116,13 @@ module _ (v : CachedDisk) (k : Ssc) (s t : State) (list : CacheList) (lba : ℕ)
     pub agrees : Agrees list_of s.contents.disk
     pub over : (d : PlainDisk) → IsOver v.options.geometry list s.contents.disk d → IsOver v.options.geometry list_of s.contents.disk d
 
-  own_stands : (page : Place → Page) (l : CacheList) → FlashStandsFor (geometry_of v.cache) page l → FlashStandsFor v.options.geometry page l
-  own_stands page l stands = subst (λ (g : Geometry). FlashStandsFor g page l) own stands
-
   cleaned_over : (d : PlainDisk) → IsOver v.options.geometry list s.contents.disk d → IsOver v.options.geometry after_clean s.contents.disk d
   cleaned_over d over = over_same v.options.geometry s.contents.disk list after_clean d (cleaned_same lba list s.contents.disk) over
 
   left_by : (page : Place → Page) → FlashStandsForOne (geometry_of v.cache) page (undo (pending v.cache) list) list after_clean → IsLeftBy page
-  left_by page (AsUndone x) = record { list_of = undo (pending v.cache) list; stands = own_stands page (undo (pending v.cache) list) x; agrees = undo_agrees s.contents.disk list is.agrees (pending v.cache); over = undone_over v s.contents list own is }
-  left_by page (AsBefore x) = record { list_of = list; stands = own_stands page list x; agrees = is.agrees; over = λ d over. over }
-  left_by page (AsAfter x) = record { list_of = after_clean; stands = own_stands page after_clean x; agrees = cleaned_agrees; over = cleaned_over }
+  left_by page (AsUndone x) = record { list_of = undo (pending v.cache) list; stands = own_flash v own page (undo (pending v.cache) list) x; agrees = undo_agrees s.contents.disk list is.agrees (pending v.cache); over = undone_over v s.contents list own is }
+  left_by page (AsBefore x) = record { list_of = list; stands = own_flash v own page list x; agrees = is.agrees; over = λ d over. over }
+  left_by page (AsAfter x) = record { list_of = after_clean; stands = own_flash v own page after_clean x; agrees = cleaned_agrees; over = cleaned_over }
 
   -- refused
   module _ (down : is_down (record v { cache = k }) ≡ true) (one : FlashStandsForOne (geometry_of v.cache) t.contents.flash.page (undo (pending v.cache) list) list after_clean) where

@@ -49,7 +49,7 @@ use Rattle.cached_disk.specs.Kept as kept
 use Rattle.cached_disk.proofs.AddressLemmas.{holds_held, holds_lbas, holds_within, lbas_ascending, lbas_dirty, lbas_in, lbas_with, written_held}
 use Rattle.cached_disk.proofs.CallLemmas.{answered_write, gives_up, refused_same, refused_write}
 use Rattle.cached_disk.proofs.DiskLemmas.{IsOver, over_stands}
-use Rattle.cached_disk.proofs.HeldLemmas.{Stays, down_left, drove, held_beneath, held_left, held_over, held_stands, step_beneath, step_held, step_over, stopped_down, undone, undone_over}
+use Rattle.cached_disk.proofs.HeldLemmas.{Stays, down_left, drove, held_beneath, held_left, held_over, held_stands, own_flash, step_beneath, step_held, step_over, stopped_down, undone, undone_over}
 use Rattle.cached_disk.proofs.StepLemmas.{over_same, vanish_agrees, vanish_dirty, vanish_same, vanish_was, written_agrees, written_dirty-keeps, written_here, written_over, written_was}
 use Rattle.write_back.specs.declared.volume.WriteBack.{WriteBack}
 use Rattle.write_back.specs.Left.{IsExact, IsLeft, IsTable, out_of_group, state_of}
@@ -182,9 +182,6 @@ may_back : (mode : Mode) → mode ≡ Back → (q : List Buffered) → MayUndo m
 may_back mode back q = subst (λ (m : Mode). MayUndo m q) (sym back) tt
 
 module _ (v : CachedDisk) (old : Contents) (s : CacheList) (own : geometry_of v.cache ≡ v.options.geometry) (is : IsHeld v old s) where
-  own_held : (page : Place → Page) (t : CacheList) → FlashStandsFor (geometry_of v.cache) page t → FlashStandsFor v.options.geometry page t
-  own_held page t stands = subst (λ (g : Geometry). FlashStandsFor g page t) own stands
-
   -- what a crash leaves: the flash stands for a list that shows what the one that is held shows
   pub record ShowsHeld (page : Place → Page) : Type 0 where
     pub list : CacheList
@@ -212,7 +209,7 @@ module _ (v : CachedDisk) (old : Contents) (s : CacheList) (own : geometry_of v.
       gave_agrees = vanish_agrees v.options.geometry s w lba own_vanish old.disk is.agrees
 
       shows_left : (page : Place → Page) → FlashStandsFor (geometry_of v.cache) page w → ShowsHeld page
-      shows_left page stands = record { list = w; stands = own_held page w stands; agrees = gave_agrees; over = gave_over }
+      shows_left page stands = record { list = w; stands = own_flash v own page w stands; agrees = gave_agrees; over = gave_over }
 
       abbrev after : CacheList
       after = written_dirty lba block w
@@ -231,9 +228,9 @@ module _ (v : CachedDisk) (old : Contents) (s : CacheList) (own : geometry_of v.
 
     -- wherever it was cut
     write_shows : (page : Place → Page) → FlashStandsForWrite (geometry_of v.cache) page (undo (pending v.cache) s) s lba (written_dirty lba block) → ShowsHeld page ⊎ ((t : CacheList) × FlashStandsFor v.options.geometry page t × HasBlock t)
-    write_shows page (AsUndone x) = inl (record { list = undone v old s own is; stands = own_held page (undo (pending v.cache) s) x; agrees = (held_beneath v old s own is).agrees; over = undone_over v old s own is })
+    write_shows page (AsUndone x) = inl (record { list = undone v old s own is; stands = own_flash v own page (undo (pending v.cache) s) x; agrees = (held_beneath v old s own is).agrees; over = undone_over v old s own is })
     write_shows page (AsLeft w vanish x) = inl (shows_left w vanish page x)
-    write_shows page (AsWritten w vanish x) = inr (after w vanish, own_held page (after w vanish) x, has_block w vanish)
+    write_shows page (AsWritten w vanish x) = inr (after w vanish, own_flash v own page (after w vanish) x, has_block w vanish)
 
 module _ (v : CachedDisk) (old new : Contents) (s : CacheList) (own : geometry_of v.cache ≡ v.options.geometry) (is : IsHeld v old s) (back : v.mode ≡ Back) (lba : ℕ) (block : Block)
     (c : Ssc) (geometry : geometry_of c ≡ geometry_of v.cache) (shape : FitsOn v.options.geometry new.shape) (stays : Stays old new) where
