@@ -1,7 +1,7 @@
-ghost use Rattle.std.specs.Prelude.{◌≡◌, ◌↔◌, ℕ, ◌+◌, ◌-◌, ◌*◌, ◌^◌, ◌≤◌, ◌==◌, min, Option, Some, None, OnOk, IsTrue, if◌then◌else◌, nat_eq};
+ghost use Rattle.std.specs.Prelude.{◌≡◌, ◌↔◌, ℕ, ◌+◌, ◌-◌, ◌*◌, ◌/◌, ◌^◌, ◌≤◌, ◌==◌, min, Option, Some, None, OnOk, IsTrue, if◌then◌else◌, nat_eq};
 ghost use Rattle.std.specs.FinMap as map;
 ghost use Rattle.std.specs.HashMap as hash_map;
-ghost use Rattle.sparse_map.specs.Packed.{map_of, len_of, buckets_of, memory_of};
+ghost use Rattle.sparse_map.specs.Packed.{map_of, len_of, buckets_of, lists_of, memory_of};
 
 use sparse_map::SparseMap;
 use std::alloc::{AllocError, Global};
@@ -11,9 +11,8 @@ use std::mem::size_of;
 /// Bytes of an item: a key and a value.
 const ITEM: u64 = size_of::<(u64, u64)>() as u64;
 
-/// Bytes of a group of 32 buckets of the sparse map: 4 that say which are occupied and 24 of its list's header,
-/// aligned to 8.
-const GROUP: u64 = 32;
+/// Bytes of a list of the sparse map beside its places: 8 that say which of its 64 buckets are occupied, and 24 of its header.
+const LIST: u64 = 32;
 
 /// How large a map is.
 #[derive(Clone, Copy, Debug, PartialEq, Eq)]
@@ -55,8 +54,18 @@ pub trait Measured: Drop {
     /// Whether one key more makes it move into new lists, while the old ones are still there.
     fn moves_next(&self) -> bool;
 
+    /// The bytes of old and new lists at once as it moved last, where it was that large before.
+    fn bytes_as_moved(&self, before: Size) -> u64;
+
     /// How large it is.
     fn size(&self) -> Size;
+}
+
+/// Bytes of the lists of a sparse map of so many buckets, beside their places: one for each 64 buckets, and one for 32.
+fn list_bytes(buckets: u64) -> u64
+    ensures { result ≡ 32 * (min (buckets + 32) (2 ^ 64 - 1) / 64) }
+{
+    buckets.saturating_add(32) / 64 * LIST
 }
 
 impl Measured for SparseMap<u64> {
@@ -93,18 +102,30 @@ impl Measured for SparseMap<u64> {
         24 * self.groups() <= self.len()
     }
 
+    /// The map counts the places that its lists had as they moved.
+    fn bytes_as_moved(&self, before: Size) -> u64
+        ensures { result ≡ min (16 * self.now.peak + (32 * (min (before.buckets + 32) (2 ^ 64 - 1) / 64)
+            + 32 * lists_of self.now)) (2 ^ 64 - 1) }
+    {
+        let lists = list_bytes(before.buckets) + list_bytes(self.buckets());
+        self.peak_places()
+            .saturating_mul(ITEM)
+            .saturating_add(lists)
+    }
+
     /// The map counts the places of its lists, the free ones and those of blank lists with them. No bucket has a place
     /// of its own.
     fn size(&self) -> Size
         ensures entries { result.entries ≡ len_of self.now }
         ensures buckets { result.buckets ≡ buckets_of self.now }
-        ensures bytes { result.bytes ≡ min (16 * memory_of self.now + buckets_of self.now) (2 ^ 64 - 1) }
+        ensures bytes { result.bytes ≡ min (16 * memory_of self.now + 32 * lists_of self.now) (2 ^ 64 - 1) }
     {
-        let groups = GROUP * self.groups();
+        let buckets = self.buckets();
+        let lists = list_bytes(buckets);
         Size {
             entries: self.len(),
-            buckets: self.buckets(),
-            bytes: self.places().saturating_mul(ITEM).saturating_add(groups),
+            buckets,
+            bytes: self.places().saturating_mul(ITEM).saturating_add(lists),
         }
     }
 }
@@ -134,6 +155,10 @@ impl Measured for HashMap<u64, u64> {
     /// Its lists grow where they are.
     fn moves_next(&self) -> bool {
         false
+    }
+
+    fn bytes_as_moved(&self, _before: Size) -> u64 {
+        self.size().bytes
     }
 
     /// Each place for an entry takes an item and 8 bytes with its hash and where it is indexed. The index has

@@ -60,15 +60,15 @@ pub fn peak<M: Measured>(alloc: Global, keys: &[u64]) -> Result<u64, AllocError>
     Ok(most.max(map.size().bytes))
 }
 
-/// Sets a key, and gives the bytes of the lists before and after where it makes the map move, else 0.
+/// Sets a key, and gives the bytes of old and new lists at once where it makes the map move, else 0.
 fn bytes_while_set<M: Measured>(map: &mut M, key: u64) -> Result<u64, AllocError> {
     if !map.moves_next() {
         map.set(key, key)?;
         return Ok(0);
     }
-    let before = map.size().bytes;
+    let before = map.size();
     map.set(key, key)?;
-    Ok(before.saturating_add(map.size().bytes))
+    Ok(map.bytes_as_moved(before))
 }
 
 /// Makes a map of the keys, looks each up and takes each out.

@@ -1,5 +1,5 @@
 -- The plain program, step by step.
-use Rattle.std.proofs.Common.{◌≡◌, ℕ, suc, ◌+◌, ◌-◌, ◌*◌, ◌<◌, ◌≤◌, Bool, true, false, cond, List, ◌∷◌, Option, Some, None, ok_or, Result, Ok, Err, sym, ◌∙◌, ap, ap₂, subst, arith}
+use Rattle.std.proofs.Common.{◌≡◌, ℕ, suc, ◌+◌, ◌-◌, ◌*◌, ◌%◌, ◌==◌, ◌<◌, ◌≤◌, Bool, true, false, cond, List, ◌∷◌, Option, Some, None, ok_or, Result, Ok, Err, sym, ◌∙◌, ap, ap₂, subst, arith}
 use Rattle.std.specs.Option.{MatchOption, option_map, option_or, option_and_then}
 use Rattle.std.specs.FinMap.{entries}
 use Rattle.ft_base.specs.declared.geometry.Geometry.{Geometry}
@@ -12,7 +12,7 @@ use Rattle.cache_model.specs.declared.format.Header.{Header}
 use Rattle.cache_model.specs.declared.format.Seal.{Seal}
 use Rattle.cache_model.specs.Records.{Entries, no_entries}
 use Rattle.cache_model.specs.Reading.{read_records}
-use Rattle.cache_model.specs.Loading.{Refusal, ◌>>=◌, Complete, complete, said, header_at, seal_at, sealed_from, era_in, checkpoint_in, checkpoint_region, pages_from, after_all, newest, is_wanted, wanted, checkpoint_of, replayed, all_whole, load}
+use Rattle.cache_model.specs.Loading.{Refusal, ◌>>=◌, Complete, complete, said, header_at, seal_at, sealed_from, era_in, checkpoint_in, checkpoint_region, pages_from, after_all, chosen, newest, is_wanted, wanted, checkpoint_of, replayed, all_whole, load}
 use Rattle.cache_model.specs.Loading.Refusal.{NotFormatted, OtherGeometry, Damaged as damaged}
 use Rattle.op_log.specs.Walk.{page_step}
 use Rattle.checkpoint.proofs.FormatLemmas.{some_pages}
@@ -99,6 +99,24 @@ module _ (g : Geometry) (page : Place → Page) (c : ℕ × Complete) (within : 
   pub log_answers : (m n : Entries) (d : Option Place) → maps_applied g page c none ≡ Ok m → MatchOption d (log_applied g page c m ≡ Ok n) (λ at. log_applied g page c m ≡ Err (damaged at)) → MatchOption d (replayed g page c ≡ Ok n) (λ at. replayed g page c ≡ Err (damaged at))
   log_answers m n None maps is = both_parts g page c within none empty ∙ ap (λ r. r >>= log_applied g page c) maps ∙ is
   log_answers m n (Some at) maps is = both_parts g page c within none empty ∙ ap (λ r. r >>= log_applied g page c) maps ∙ is
+
+-- the region that counts is one of two
+abbrev region_of : Option (ℕ × Complete) → ℕ
+region_of None = 0
+region_of (Some c) = c.0
+
+either_below : (b : Bool) (c d : Complete) → region_of (cond b (Some (1, d)) (Some (0, c))) < 2
+either_below true c d = omega arith
+either_below false c d = omega arith
+
+chosen_below : (a b : Option Complete) → region_of (chosen a b) < 2
+chosen_below None None = omega arith
+chosen_below (Some c) None = omega arith
+chosen_below None (Some d) = omega arith
+chosen_below (Some c) (Some d) = either_below (d.era == (c.era + 1) % 3) c d
+
+pub region_below : (g : Geometry) (page : Place → Page) (c : ℕ × Complete) → Some c ≡ newest g page → c.0 < 2
+region_below g page c is = omega (arith, ap region_of is, chosen_below (checkpoint_in (checkpoint_region g page 0)) (checkpoint_in (checkpoint_region g page 1)))
 
 -- no region counts, or its numbers are others
 pub never_sealed : (g : Geometry) (page : Place → Page) → None ≡ newest g page → load g page ≡ Err NotFormatted

@@ -1,9 +1,10 @@
 -- The home of a key as the code computes it, steps round the table, and the doubling of buckets.
-use Rattle.std.proofs.Common.{◌≡◌, ℕ, ◌+◌, ◌-◌, ◌*◌, ◌/◌, ◌%◌, ◌^◌, ◌<◌, ◌≤◌, ◌⊎◌, if◌then◌else◌, eqb, leb, refl, sym, ap, ◌∙◌, subst, inl, inr, arith}
+use Rattle.std.proofs.Common.{◌≡◌, ℕ, ◌+◌, ◌-◌, ◌*◌, ◌/◌, ◌%◌, ◌^◌, ◌<◌, ◌≤◌, ◌⊎◌, min, if◌then◌else◌, eqb, leb, refl, sym, ap, ◌∙◌, subst, inl, inr, arith}
 use Rattle.std.proofs.lemmas.Nat.{shl-shr, shr-shr, shr_below, pow-add, mod_below, one_shl, div_below}
 use Rattle.std.proofs.lemmas.Bool.{cases_lt, cases_eq, le-leb, lt-leb, eq-eqb, ne_eqb, cond-true, cond-false}
 use Rattle.std.proofs.Math.Nat.{mul_comm, mul_assoc, pow-le-pow_right, mul-lt-mul_of_pos_right}
-use Rattle.sparse_map.specs.Home.{home, steps, IsDoubledFor}
+use Rattle.sparse_map.specs.Home.{home, steps, buckets_for, IsTableSize, IsDoubledFor}
+use Rattle.sparse_map.specs.Groups.{lists_for}
 
 shift_is_scale : (p b c : ℕ) → p / 2 ^ c ≡ p * 2 ^ b / 2 ^ (b + c)
 shift_is_scale p b c = ap (λ x. x / 2 ^ c) (sym (shl-shr p b)) ∙ shr-shr (p * 2 ^ b) b c
@@ -99,5 +100,44 @@ pub home_below : (n key : ℕ) → 0 < n → home n key < n
 unfolding home
 home_below n key some = scaled_below (key * 0x9E37_79B9_7F4A_7C15 % 2 ^ 64) n (2 ^ 64) some (omega arith) (mod_below (key * 0x9E37_79B9_7F4A_7C15) (2 ^ 64) (omega arith))
 
-pub groups_of_32 : (bits : ℕ) → 5 ≤ bits → 32 * 2 ^ (bits - 5) ≡ 2 ^ bits
-groups_of_32 bits many = let e : 5 + (bits - 5) ≡ bits = omega arith in sym (pow-add 2 5 (bits - 5)) ∙ ap (λ n. 2 ^ n) e
+pub some_buckets : (bits : ℕ) → 0 < bits → buckets_for bits ≡ 2 ^ bits
+some_buckets bits some = cond-false (eqb bits 0) 0 (2 ^ bits) (ne_eqb bits 0 (λ e. omega arith))
+
+pub no_buckets : (bits : ℕ) → bits ≡ 0 → buckets_for bits ≡ 0
+no_buckets bits none = cond-true (eqb bits 0) 0 (2 ^ bits) (eq-eqb bits 0 none)
+
+pub has_buckets : (bits b : ℕ) → b < buckets_for bits → 0 < bits
+has_buckets bits b lt = elim (cases_eq bits 0) [ inl none ↦ absurd (omega (arith, no_buckets bits none)) | inr some ↦ omega arith ]
+
+-- ---- the sizes of tables: 32 buckets, or whole groups of 64
+pub record IsSized (n : ℕ) : Type 0 where
+  pub least : 32 ≤ n
+  pub whole : (n ≡ 32) ⊎ (n % 64 ≡ 0)
+
+pub sized : (bits : ℕ) → IsTableSize bits → IsSized (2 ^ bits)
+sized bits size =
+    record {
+      least = pow-le-pow_right {n = 2} (omega arith) size.many;
+      whole = elim (cases_eq bits 5) [
+        | inl five ↦ inl (ap (λ b. 2 ^ b) five)
+        | inr more ↦
+            let e : 6 + (bits - 6) ≡ bits = omega (arith, size.many, more) in
+            let is : 64 * 2 ^ (bits - 6) ≡ 2 ^ bits = sym (pow-add 2 6 (bits - 6)) ∙ ap (λ b. 2 ^ b) e in
+            inr (omega (arith, is))
+      ];
+    }
+
+module _ (n : ℕ) (size : IsSized n) where
+  -- the groups have a bucket for each of them
+  pub sized_long : n ≤ 64 * lists_for n
+  sized_long = elim size.whole [ inl half ↦ omega arith | inr whole ↦ omega (arith, size.least) ]
+
+  -- the buckets of a group end with the table, or before
+  pub width_within : (b : ℕ) → b < n → b - b % 64 + min n 64 ≤ n
+  width_within b lt = elim size.whole [ inl half ↦ omega arith | inr whole ↦ omega (arith, size.least) ]
+
+  pub below_width : (b : ℕ) → b < n → b % 64 < min n 64
+  below_width b lt = elim size.whole [ inl half ↦ omega arith | inr whole ↦ omega (arith, size.least) ]
+
+  pub halves : n % 32 ≡ 0
+  halves = elim size.whole [ inl half ↦ omega arith | inr whole ↦ omega arith ]

@@ -1,19 +1,19 @@
 -- The items of a group's buckets are its list, and the items of the table those of its groups.
-use Rattle.std.proofs.Common.{◌≡◌, ℕ, zero, suc, ◌+◌, ◌*◌, ◌^◌, ◌<◌, List, [], ◌∷◌, ◌++◌, Option, length, get_or, take, drop, map, count_ones, refl, sym, ap, ◌∙◌, subst, inl, inr, arith, add-one}
+use Rattle.std.proofs.Common.{◌≡◌, ℕ, zero, suc, ◌+◌, ◌^◌, ◌<◌, List, [], ◌∷◌, ◌++◌, Option, length, take, map, count_ones, refl, sym, ap, ◌∙◌, subst, inl, inr, arith, add-one}
 use Rattle.std.specs.Prelude.{slice_get}
 use Rattle.std.specs.Int.{bit_at}
 use Rattle.std.specs.List.{range_with_len, flat_map}
 use Rattle.std.specs.Option.{option_to_list}
-use Rattle.std.proofs.lemmas.List.{append-nil, take_all, take_at, drop_at, drop-drop}
+use Rattle.std.proofs.lemmas.List.{append-nil, take_all}
 use Rattle.std.proofs.lemmas.List.Concat.{flat_map-append}
 use Rattle.std.proofs.lemmas.List.FromFn.{map-range_with_len_more}
 use Rattle.std.proofs.lemmas.Bool.{cases_eq}
 use Rattle.std.proofs.lemmas.Nat.Bits.{bit_at-lt}
 use Rattle.sparse_map.specs.declared.group.Group.{Group}
-use Rattle.sparse_map.specs.Slots.{rank, unpacked, group_slots, items_of, group}
-use Rattle.sparse_map.specs.Groups.{slots_in, slots_of}
+use Rattle.sparse_map.specs.Slots.{rank, unpacked, group_slots, items_of}
+use Rattle.sparse_map.specs.Groups.{slots_in, all_slots}
 use Rattle.sparse_map.proofs.RankLemmas.{rank_zero, rank_suc, rank_of_all}
-use Rattle.sparse_map.proofs.GroupLemmas.{unpacked_occupied, unpacked_free, length-group_slots}
+use Rattle.sparse_map.proofs.GroupLemmas.{unpacked_occupied, unpacked_free}
 
 module _ {X : Type 0} where
   pub items_of-append : (s t : List (Option X)) → items_of (s ++ t) ≡ items_of s ++ items_of t
@@ -36,7 +36,7 @@ module _ {X : Type 0} where
       let more = take_one_more xs i in
       rw add-one (ap (λ r. x ∷ r) (rw add-one at more))
 
-  items_below : (n : ℕ) (xs : List X) (k : ℕ) → items_of (map (unpacked n xs) (range_with_len 0 k)) ≡ take (rank n k) xs
+  pub items_below : (n : ℕ) (xs : List X) (k : ℕ) → items_of (map (unpacked n xs) (range_with_len 0 k)) ≡ take (rank n k) xs
   unfolding items_of
   items_below n xs zero = sym (ap (λ r. take r xs) (rank_zero n))
   items_below n xs (suc k) =
@@ -59,31 +59,17 @@ module _ {X : Type 0} where
       ] in
       subst (λ m. items_of (map (unpacked n xs) (range_with_len 0 m)) ≡ take (rank n m) xs) (sym one) (step ∙ here)
 
-  pub items_of-group_slots : (n : ℕ) (xs : List X) → n < 2 ^ 32 → length xs ≡ count_ones n → items_of (group_slots n xs) ≡ xs
+  pub items_of-group_slots : (n : ℕ) (xs : List X) → n < 2 ^ 64 → length xs ≡ count_ones n → items_of (group_slots n xs) ≡ xs
   unfolding group_slots
   items_of-group_slots n xs fits counted =
-      items_below n xs 32 ∙ take_all (rank n 32) xs (omega (arith, counted, rank_of_all n fits))
+      items_below n xs 64 ∙ take_all (rank n 64) xs (omega (arith, counted, rank_of_all n fits))
 
 module _ {V : Type 0} where
   pub items_of-slots_in : (u : Group V) → items_of (slots_in u) ≡ u.items.items
   items_of-slots_in u = items_of-group_slots u.occupied u.items.items u.fits u.counted
 
-  pub items_of-slots_of : (us : List (Group V)) → items_of (slots_of us) ≡ flat_map (λ u. u.items.items) us
-  unfolding slots_of
-  items_of-slots_of [] = items_of-nil
-  items_of-slots_of (u ∷ us) =
-      items_of-append (slots_in u) (flat_map slots_in us) ∙ (λ i. items_of-slots_in u i ++ items_of-slots_of us i)
-
-  pub group-slots_of : (us : List (Group V)) (i : ℕ) (u e : Group V) → i < length us → u ≡ get_or us i e → group (slots_of us) i ≡ slots_in u
-  unfolding slots_of
-  group-slots_of [] i u e lt is = absurd (omega arith)
-  group-slots_of (v ∷ us) zero u e lt is =
-      let start : 32 * 0 ≡ 0 = omega arith in
-      ap (λ n. take 32 (drop n (slots_in v ++ flat_map slots_in us))) start
-      ∙ take_at (slots_in v) (flat_map slots_in us) 32 (length-group_slots v.occupied v.items.items)
-      ∙ ap slots_in (sym is)
-  group-slots_of (v ∷ us) (suc i) u e lt is =
-      let split : 32 * suc i ≡ 32 + 32 * i = omega arith in
-      ap (λ n. take 32 (drop n (slots_in v ++ flat_map slots_in us))) split
-      ∙ ap (take 32) (sym (drop-drop (32 * i) 32 (slots_in v ++ flat_map slots_in us)) ∙ ap (drop (32 * i)) (drop_at (slots_in v) (flat_map slots_in us) 32 (length-group_slots v.occupied v.items.items)))
-      ∙ group-slots_of us i u e (omega arith) is
+  pub items_of-all_slots : (us : List (Group V)) → items_of (all_slots us) ≡ flat_map (λ u. u.items.items) us
+  unfolding all_slots
+  items_of-all_slots [] = items_of-nil
+  items_of-all_slots (u ∷ us) =
+      items_of-append (slots_in u) (flat_map slots_in us) ∙ (λ i. items_of-slots_in u i ++ items_of-all_slots us i)

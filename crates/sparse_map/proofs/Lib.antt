@@ -10,6 +10,8 @@ pub mod PackedLemmas
 pub mod ShiftLemmas
 pub mod RemovalLemmas
 pub mod ItemLemmas
+pub mod HalfLemmas
+pub mod BucketLemmas
 pub mod MapLemmas
 pub mod ViewLemmas
 pub mod ChangeLemmas
@@ -17,5 +19,8 @@ pub mod MoveLemmas
 pub mod ReserveLemmas
 pub mod PlanLemmas
 pub mod TakingLemmas
+pub mod HeirLemmas
+pub mod TurnLemmas
 pub mod LendLemmas
 pub mod RankedLemmas
+pub mod RoomsLemmas

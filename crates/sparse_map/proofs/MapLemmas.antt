@@ -1,21 +1,27 @@
 -- The finite map that a table of buckets holds.
-use Rattle.std.proofs.Common.{◌≡◌, ℕ, ◌+◌, ◌^◌, ◌<◌, List, [], ◌∷◌, Option, Some, None, length, cond, eqb, refl, sym, ap, ◌∙◌, subst, inl, inr, arith, add-one, false}
+use Rattle.std.proofs.Common.{◌≡◌, ℕ, ◌+◌, ◌*◌, ◌/◌, ◌^◌, ◌<◌, ◌≤◌, List, [], ◌∷◌, Option, Some, None, length, cond, eqb, refl, sym, ap, ◌∙◌, subst, inl, inr, arith, add-one, false}
 use Rattle.std.specs.Prelude.{is_some}
 use Rattle.std.specs.Ordering.{nat_cmp}
 use Rattle.std.specs.Cmp.{unsigned_tied, nat_cmp_total}
 use Rattle.std.specs.FinMap as map
 use Rattle.std.specs.FinMap.{find, nat_cmp-IsAntisymmetric, same_map, get-from_entries, get-insert, get-remove, len-insert, len-empty}
-use Rattle.std.proofs.lemmas.Bool.{cases_eq, eq-eqb, ne_eqb, cond-true, cond-false}
+use Rattle.std.proofs.lemmas.List.{get_or_past}
+use Rattle.std.proofs.lemmas.Bool.{cases_eq, cond-false}
 use Rattle.sparse_map.specs.declared.group.Group.{Group}
 use Rattle.sparse_map.specs.declared.table.Touched.{Touched}
 use Rattle.sparse_map.specs.declared.table.Touched.TheVariants.{Nowhere}
 use Rattle.sparse_map.specs.Slots.{items_of}
-use Rattle.sparse_map.specs.Groups.{slots_of}
+use Rattle.sparse_map.specs.Home.{IsTableSize, buckets_for}
+use Rattle.sparse_map.specs.Groups.{all_slots, slots_of, lists_for, IsTable}
 use Rattle.sparse_map.specs.Packed.{IsPacked, PackedTable, map_of, len_of, IsSound}
 use Rattle.sparse_map.specs.Kept.{KeepsTable, HasFreeBucket}
+use Rattle.sparse_map.specs.Seen.{more_free}
 use Rattle.sparse_map.specs.Places.{lacks, lacking}
 use Rattle.sparse_map.proofs.PlacesLemmas.{sizes-new, no-untouched}
 use Rattle.sparse_map.specs.Moved.{IsDistinct}
+use Rattle.sparse_map.proofs.HomeLemmas.{IsSized, sized, some_buckets, no_buckets}
+use Rattle.sparse_map.proofs.TableLemmas.{length-all_slots}
+use Rattle.sparse_map.proofs.BucketLemmas.{length-slots_of, length-table}
 use Rattle.sparse_map.proofs.SlotLemmas.{Once, bucket_of_found, key_of_slot}
 use Rattle.std.proofs.lemmas.Nat.{pow_pos}
 
@@ -72,67 +78,92 @@ module _ {V : Type 0} where
 
   -- ---- what the fields keep gives what holds of every map
   module _ (bits len spare blanks : ℕ) (touched : Touched) (groups : List (Group V)) (kept : KeepsTable bits len spare blanks touched groups) where
-    pub kept_buckets : 0 < bits → length (slots_of groups) ≡ 2 ^ bits
-    kept_buckets some = kept.buckets ∙ cond-false (eqb bits 0) _ _ (ne_eqb bits 0 (λ e. omega arith))
+    pub kept_long : length (slots_of (buckets_for bits) groups) ≡ buckets_for bits
+    kept_long = elim (cases_eq bits 0) [
+      | inl none ↦ length-slots_of (buckets_for bits) groups (omega (arith, no_buckets bits none))
+      | inr some ↦
+          let size : IsTableSize bits = record { many = kept.many (omega arith); few = kept.few } in
+          length-table (buckets_for bits) groups (subst (λ n. IsSized n) (sym (some_buckets bits (omega arith))) (sized bits size)) kept.table
+    ]
 
-    pub kept_none : bits ≡ 0 → length (slots_of groups) ≡ 0
-    kept_none none = kept.buckets ∙ cond-true (eqb bits 0) _ _ (eq-eqb bits 0 none)
+    pub kept_buckets : 0 < bits → length (slots_of (buckets_for bits) groups) ≡ 2 ^ bits
+    kept_buckets some = kept_long ∙ some_buckets bits some
 
-    pub kept_some : 0 < length (slots_of groups) → 0 < bits
+    pub kept_none : bits ≡ 0 → length (slots_of (buckets_for bits) groups) ≡ 0
+    kept_none none = kept_long ∙ no_buckets bits none
+
+    -- four places a list, and what may be free beyond, are one for each 8 buckets
+    pub kept_few : more_free (buckets_for bits) + 4 * lists_for (buckets_for bits) ≡ buckets_for bits / 8
+    unfolding more_free
+    kept_few = elim (cases_eq bits 0) [
+      | inl none ↦ omega (arith, no_buckets bits none)
+      | inr some ↦
+          let size : IsTableSize bits = record { many = kept.many (omega arith); few = kept.few } in
+          omega (arith, (sized bits size).least, some_buckets bits (omega arith))
+    ]
+
+    pub kept_some : 0 < length (slots_of (buckets_for bits) groups) → 0 < bits
     kept_some some = elim (cases_eq bits 0) [ inl e ↦ absurd (let none = kept_none e in omega arith) | inr ne ↦ omega arith ]
 
-    pub kept_len : (u : PackedTable V) → u.slots ≡ slots_of groups → len_of u ≡ len
+    pub kept_len : (u : PackedTable V) → u.slots ≡ slots_of (buckets_for bits) groups → len_of u ≡ len
     kept_len u same =
         len_of-items u (subst (λ s. Once s) (sym same) kept.packed.once) ∙ ap (λ s. length (items_of s)) same ∙ sym kept.counted
 
-    pub kept_sound : (u : PackedTable V) → u.slots ≡ slots_of groups → u.spare ≡ spare → IsSound u
+    pub kept_sound : (u : PackedTable V) → u.slots ≡ slots_of (buckets_for bits) groups → u.spare ≡ spare → IsSound u
     kept_sound u same ready =
         let long = ap length same in
         record {
           packed = subst (λ s. IsPacked s) (sym same) kept.packed;
-          room = omega (arith, kept.room, kept_len u same, ready, long);
+          room = omega (arith, kept.room, kept_len u same, ready, long, kept_long);
           buckets = λ some. let b = kept_some (omega (arith, some, long)) in (bits, kept.many b, long ∙ kept_buckets b);
         }
 
     -- a key in a bucket: there are buckets
     pub kept_free : 0 < bits → len < 2 ^ bits
-    kept_free some = omega (arith, kept.room, kept_buckets some, pow_pos bits)
-
-    -- what a look-up asks of the groups that an index reads
-    pub find_room : (us : List (Group V)) → us ≡ groups → 0 < bits → length (items_of (slots_of us)) < 2 ^ bits
-    find_room us is some = omega (arith, kept_free some, kept.counted, ap (λ vs. length (items_of (slots_of vs))) is)
+    kept_free some = omega (arith, kept.room, some_buckets bits some, pow_pos bits)
 
     -- where there are buckets, one is free
     pub kept_free_bucket : (us : List (Group V)) → us ≡ groups → 0 < bits → HasFreeBucket bits us
     kept_free_bucket us is some =
         record {
           size = record { many = kept.many some; few = kept.few };
-          buckets = ap (λ vs. length (slots_of vs)) is ∙ kept_buckets some;
-          packed = subst (λ vs. IsPacked (slots_of vs)) (sym is) kept.packed;
-          room = find_room us is some;
+          table = subst (λ n. IsTable n us) (some_buckets bits some) (subst (λ vs. IsTable (buckets_for bits) vs) (sym is) kept.table);
+          packed = subst (λ n. IsPacked (slots_of n us)) (some_buckets bits some) (subst (λ vs. IsPacked (slots_of (buckets_for bits) vs)) (sym is) kept.packed);
+          room = omega (arith, kept_free some, kept.counted, ap length (λ i. items_of (slots_of (some_buckets bits some i) (sym is i))));
         }
+
+-- ---- what the lists of a table may have beyond four free places each
+module _ (n : ℕ) (size : IsSized n) where
+  pub more_free-is : more_free n + 4 * lists_for n ≡ n / 8
+  unfolding more_free
+  more_free-is = omega (arith, size.least)
+
+  -- eight for each two lists
+  pub few_enough : 8 * (lists_for n / 2) ≤ more_free n
+  unfolding more_free
+  few_enough = elim size.whole [ inl half ↦ omega arith | inr whole ↦ omega (arith, size.least) ]
 
 -- ---- a new map
 module _ {V : Type 0} where
-  no_slots : (us : List (Group V)) → us ≡ [] → slots_of us ≡ []
+  no_slots : (us : List (Group V)) → slots_of 0 us ≡ []
   unfolding slots_of
-  no_slots us e = rw e refl
+  no_slots us = refl
 
-  pub buckets-new : (us : List (Group V)) → us ≡ [] → length (slots_of us) ≡ 0
-  buckets-new us e = ap length (no_slots us e)
+  pub buckets-new : (us : List (Group V)) → length (slots_of 0 us) ≡ 0
+  buckets-new us = ap length (no_slots us)
 
-  pub map_of-new : (u : PackedTable V) (us : List (Group V)) → u.slots ≡ slots_of us → us ≡ [] → map_of u ≡ map.empty
+  pub map_of-new : (u : PackedTable V) (us : List (Group V)) → u.slots ≡ slots_of 0 us → map_of u ≡ map.empty
   unfolding map_of items_of
-  map_of-new u us same e = ap (λ s. map.from_entries {R = nat_cmp} (items_of s)) (same ∙ no_slots us e)
+  map_of-new u us same = ap (λ s. map.from_entries {R = nat_cmp} (items_of s)) (same ∙ no_slots us)
 
   pub kept_new : (us : List (Group V)) (blanks : ℕ) → us ≡ [] → KeepsTable 0 0 0 blanks Nowhere us
   unfolding items_of
   kept_new us blanks e =
-      let none = no_slots us e in
+      let none = no_slots us in
       record {
         few = omega arith;
         many = λ some. absurd (omega arith);
-        buckets = ap length none;
+        table = record { count = ap length e; rest = λ b past. get_or_past (all_slots us) b None (omega (arith, length-all_slots us, ap length e)) };
         packed = subst (λ s. IsPacked s) (sym none) (record {
           once = λ a b key is. absurd (let wrong : None ≡ Some key = is in cc);
           reached = λ b key q is. absurd (let wrong : None ≡ Some key = is in cc);

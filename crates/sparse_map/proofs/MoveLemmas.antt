@@ -1,23 +1,25 @@
 -- A list of items as it is moved into a map, one item and one group at a time; and groups and rooms anew.
-use Rattle.std.proofs.Common.{◌≡◌, ℕ, suc, ◌+◌, ◌-◌, ◌*◌, ◌^◌, ◌≤◌, min, List, [], ◌∷◌, ◌++◌, Option, Some, None, true, false, length, cond, eqb, refl, sym, ap, ◌∙◌, subst, inl, inr, arith}
+use Rattle.std.proofs.Common.{◌≡◌, ℕ, ◌+◌, ◌-◌, ◌*◌, ◌^◌, ◌≤◌, min, List, [], ◌∷◌, ◌++◌, Option, Some, None, true, false, length, cond, refl, sym, ap, ◌∙◌, subst, inl, inr, arith}
 use Rattle.std.specs.Prelude.{is_some}
 use Rattle.std.specs.Ordering.{nat_cmp}
 use Rattle.std.specs.FinMap.{find}
 use Rattle.std.specs.List.{flat_map}
 use Rattle.std.proofs.lemmas.List.{append-nil, get_or_append_left, get_or-append_right}
 use Rattle.std.proofs.lemmas.List.Concat.{flat_map-append}
-use Rattle.std.proofs.lemmas.Bool.{cases_lt, cases_eq, cases_Bool, ne_eqb, cond-true, cond-false, false≢true}
+use Rattle.std.proofs.lemmas.Bool.{cases_lt, cases_eq, cases_Bool, cond-true, cond-false, false≢true}
 use Rattle.sparse_map.specs.declared.group.Group.{Group}
 use Rattle.sparse_map.specs.declared.table.Touched.{Touched}
 use Rattle.sparse_map.specs.declared.table.Touched.TheVariants.{Nowhere}
-use Rattle.sparse_map.specs.Home.{IsTableSize}
+use Rattle.sparse_map.specs.Home.{IsTableSize, buckets_for}
 use Rattle.sparse_map.specs.Slots.{slot_at, key_at, items_of}
-use Rattle.sparse_map.specs.Groups.{slots_in, slots_of}
+use Rattle.sparse_map.specs.Groups.{slots_in, all_slots, slots_of, IsTable}
 use Rattle.sparse_map.specs.Places.{sizes_of, lacking}
 use Rattle.sparse_map.specs.Packed.{IsPacked}
 use Rattle.sparse_map.specs.Kept.{KeepsTable}
 use Rattle.sparse_map.specs.Moved.{IsDistinct, after_items}
-use Rattle.sparse_map.proofs.SlotLemmas.{find_here, find_later, items_of-none, items_of-nil, is_some-key_at}
+use Rattle.sparse_map.proofs.HomeLemmas.{some_buckets}
+use Rattle.sparse_map.proofs.BucketLemmas.{same_table, table_same}
+use Rattle.sparse_map.proofs.SlotLemmas.{find_here, find_later, is_some-key_at}
 
 module _ {V : Type 0} where
   -- ---- a group's items and those of the groups after it
@@ -88,26 +90,21 @@ module _ {V : Type 0} where
   group_fresh_first before xs ys fresh q there = fresh q (ap is_some (find-append q xs ys) ∙ is_some_first (find nat_cmp q xs) (find nat_cmp q ys) there)
 
   -- ---- groups anew
-  pub slots_of-push : (us : List (Group V)) (u : Group V) → slots_of (us ++ u ∷ []) ≡ slots_of us ++ slots_in u
-  unfolding slots_of
-  slots_of-push us u = flat_map-append slots_in us (u ∷ []) ∙ ap (λ r. flat_map slots_in us ++ r) (append-nil (slots_in u))
+  pub all_slots-push : (us : List (Group V)) (u : Group V) → all_slots (us ++ u ∷ []) ≡ all_slots us ++ slots_in u
+  unfolding all_slots
+  all_slots-push us u = flat_map-append slots_in us (u ∷ []) ∙ ap (λ r. flat_map slots_in us ++ r) (append-nil (slots_in u))
 
-  pub slots_of-free_none : (us : List (Group V)) → us ≡ [] → (b : ℕ) → slot_at (slots_of us) b ≡ None
-  unfolding slots_of
-  slots_of-free_none us e b = ap (λ r. slot_at (flat_map slots_in r) b) e
+  pub all_slots-free_none : (us : List (Group V)) → us ≡ [] → (b : ℕ) → slot_at (all_slots us) b ≡ None
+  unfolding all_slots
+  all_slots-free_none us e b = ap (λ r. slot_at (flat_map slots_in r) b) e
 
-  pub slots_of-free_more : (us : List (Group V)) (u : Group V) → ((b : ℕ) → slot_at (slots_of us) b ≡ None) → ((k : ℕ) → slot_at (slots_in u) k ≡ None) → (b : ℕ) → slot_at (slots_of (us ++ u ∷ [])) b ≡ None
-  slots_of-free_more us u free new b =
-      ap (λ s. slot_at s b) (slots_of-push us u)
-      ∙ elim (cases_lt b (length (slots_of us))) [
-        | inl lt ↦ get_or_append_left (slots_of us) (slots_in u) None b lt ∙ free b
-        | inr past ↦ get_or-append_right (slots_of us) (slots_in u) (length (slots_of us)) b None refl past ∙ new (b - length (slots_of us))
+  pub all_slots-free_more : (us : List (Group V)) (u : Group V) → ((b : ℕ) → slot_at (all_slots us) b ≡ None) → ((k : ℕ) → slot_at (slots_in u) k ≡ None) → (b : ℕ) → slot_at (all_slots (us ++ u ∷ [])) b ≡ None
+  all_slots-free_more us u free new b =
+      ap (λ s. slot_at s b) (all_slots-push us u)
+      ∙ elim (cases_lt b (length (all_slots us))) [
+        | inl lt ↦ get_or_append_left (all_slots us) (slots_in u) None b lt ∙ free b
+        | inr past ↦ get_or-append_right (all_slots us) (slots_in u) (length (all_slots us)) b None refl past ∙ new (b - length (all_slots us))
       ]
-
-  pub items_of-free : (s : List (Option (ℕ × V))) → ((b : ℕ) → slot_at s b ≡ None) → items_of s ≡ []
-  items_of-free [] free = items_of-nil
-  items_of-free (None ∷ s) free = items_of-none s ∙ items_of-free s (λ b. free (suc b))
-  items_of-free (Some e ∷ s) free = absurd (let wrong : Some e ≡ None = free 0 in cc)
 
   pub packed-free : (s : List (Option (ℕ × V))) → ((b : ℕ) → slot_at s b ≡ None) → IsPacked s
   packed-free s free =
@@ -117,32 +114,34 @@ module _ {V : Type 0} where
         reached = λ b key q is. absurd (false≢true (sym (no_key b) ∙ ap is_some is));
       }
 
-  pub kept_groups : (bits len spare blanks : ℕ) (us : List (Group V)) → IsTableSize bits → length (slots_of us) ≡ 2 ^ bits → IsPacked (slots_of us) → len ≡ length (items_of (slots_of us))
+  pub kept_groups : (bits len spare blanks : ℕ) (us : List (Group V)) → IsTableSize bits → IsTable (2 ^ bits) us → IsPacked (slots_of (2 ^ bits) us) → len ≡ length (items_of (slots_of (2 ^ bits) us))
       → 4 * (len + spare) ≤ 3 * 2 ^ bits → min spare (lacking spare Nowhere (sizes_of us)) ≤ blanks → lacking 1 Nowhere (sizes_of us) ≡ 0 → KeepsTable bits len spare blanks Nowhere us
-  kept_groups bits len spare blanks us bounds size packed counted room stocked ready =
+  kept_groups bits len spare blanks us bounds table packed counted room stocked ready =
+      let size : 2 ^ bits ≡ buckets_for bits = sym (some_buckets bits (omega (arith, bounds.many))) in
       record {
         few = bounds.few;
         many = λ _. bounds.many;
-        buckets = size ∙ sym (cond-false (eqb bits 0) _ _ (ne_eqb bits 0 (λ e. omega (arith, bounds.many))));
-        packed = packed;
-        counted = counted;
+        table = subst (λ n. IsTable n us) size table;
+        packed = subst (λ n. IsPacked (slots_of n us)) size packed;
+        counted = counted ∙ ap (λ n. length (items_of (slots_of n us))) size;
         room = omega (arith, room, size);
         stocked = stocked;
         ready = ready;
       }
 
   -- ---- other groups with the same buckets, perhaps with more room
-  pub kept_stocked : (bits len spare blanks : ℕ) (touched : Touched) (us ws : List (Group V)) (spare_2 blanks_2 : ℕ) (touched_2 : Touched) → KeepsTable bits len spare blanks touched us → slots_of ws ≡ slots_of us
-      → 4 * (len + spare_2) ≤ 3 * length (slots_of us) → min spare_2 (lacking spare_2 Nowhere (sizes_of ws)) ≤ blanks_2 → lacking 1 touched_2 (sizes_of ws) ≤ lacking 1 touched (sizes_of us)
+  pub kept_stocked : (bits len spare blanks : ℕ) (touched : Touched) (us ws : List (Group V)) (spare_2 blanks_2 : ℕ) (touched_2 : Touched) → KeepsTable bits len spare blanks touched us → all_slots ws ≡ all_slots us
+      → 4 * (len + spare_2) ≤ 3 * buckets_for bits → min spare_2 (lacking spare_2 Nowhere (sizes_of ws)) ≤ blanks_2 → lacking 1 touched_2 (sizes_of ws) ≤ lacking 1 touched (sizes_of us)
       → KeepsTable bits len spare_2 blanks_2 touched_2 ws
-  kept_stocked bits len spare blanks touched us ws spare_2 blanks_2 touched_2 kept same room stocked ready =
+  kept_stocked bits len spare blanks touched us ws spare_2 blanks_2 touched_2 kept all room stocked ready =
+      let same = same_table (buckets_for bits) us ws all in
       record {
         few = kept.few;
         many = kept.many;
-        buckets = ap length same ∙ kept.buckets;
+        table = table_same (buckets_for bits) us ws all kept.table;
         packed = subst (λ s. IsPacked s) (sym same) kept.packed;
         counted = kept.counted ∙ ap (λ s. length (items_of s)) (sym same);
-        room = omega (arith, room, ap length same);
+        room = room;
         stocked = stocked;
         ready = omega (arith, ready, kept.ready);
       }

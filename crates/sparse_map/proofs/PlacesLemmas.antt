@@ -14,22 +14,22 @@ use Rattle.sparse_map.specs.Moved.{items_in}
 use Rattle.sparse_map.specs.Places.{list_size, sizes_of, places_of, extra, lacks, sum_untouched, loose_of, lacking}
 
 -- ---- a list that has no place for so many items more
-pub lacks-no : (n : ℕ) (x : ℕ × ℕ) → min 32 (x.0 + n) ≤ x.1 → lacks n x ≡ 0
+pub lacks-no : (n : ℕ) (x : ℕ × ℕ) → min 64 (x.0 + n) ≤ x.1 → lacks n x ≡ 0
 unfolding lacks
-lacks-no n x le = ap (λ b. cond b 1 0) (le-ltb x.1 (min 32 (x.0 + n)) le)
+lacks-no n x le = ap (λ b. cond b 1 0) (le-ltb x.1 (min 64 (x.0 + n)) le)
 
-pub lacks-yes : (n : ℕ) (x : ℕ × ℕ) → x.1 < min 32 (x.0 + n) → lacks n x ≡ 1
+pub lacks-yes : (n : ℕ) (x : ℕ × ℕ) → x.1 < min 64 (x.0 + n) → lacks n x ≡ 1
 unfolding lacks
-lacks-yes n x lt = ap (λ b. cond b 1 0) (lt-ltb x.1 (min 32 (x.0 + n)) lt)
+lacks-yes n x lt = ap (λ b. cond b 1 0) (lt-ltb x.1 (min 64 (x.0 + n)) lt)
 
 lacks-most : (n : ℕ) (x : ℕ × ℕ) → lacks n x ≤ 1
-lacks-most n x = elim (cases_lt x.1 (min 32 (x.0 + n))) [
+lacks-most n x = elim (cases_lt x.1 (min 64 (x.0 + n))) [
   | inl lt ↦ omega (arith, lacks-yes n x lt)
   | inr le ↦ omega (arith, lacks-no n x le)
 ]
 
-pub lacks-le : (n m : ℕ) (x y : ℕ × ℕ) → (x.1 < min 32 (x.0 + n) → y.1 < min 32 (y.0 + m)) → lacks n x ≤ lacks m y
-lacks-le n m x y more = elim (cases_lt x.1 (min 32 (x.0 + n))) [
+pub lacks-le : (n m : ℕ) (x y : ℕ × ℕ) → (x.1 < min 64 (x.0 + n) → y.1 < min 64 (y.0 + m)) → lacks n x ≤ lacks m y
+lacks-le n m x y more = elim (cases_lt x.1 (min 64 (x.0 + n))) [
   | inl lt ↦ let one = lacks-yes n x lt in let other = lacks-yes m y (more lt) in omega (arith, one, other)
   | inr le ↦ omega (arith, lacks-no n x le)
 ]
@@ -38,30 +38,30 @@ lacks-next : (n m : ℕ) → n ≤ m → (x : ℕ × ℕ) → lacks n x ≤ lack
 lacks-next n m le x = lacks-le n m x x (λ lt. omega (arith, lt, le))
 
 -- ---- one size in a list of sizes
-places-set : (s : List (ℕ × ℕ)) (i : ℕ) (x : ℕ × ℕ) → i < length s → places_of (set s i x) + (get_or s i (32, 32)).1 ≡ places_of s + x.1
+places-set : (s : List (ℕ × ℕ)) (i : ℕ) (x : ℕ × ℕ) → i < length s → places_of (set s i x) + (get_or s i (64, 64)).1 ≡ places_of s + x.1
 unfolding places_of
-places-set s i x inside = sum_by-set (λ y. y.1) s i x (32, 32) inside
+places-set s i x inside = sum_by-set (λ y. y.1) s i x (64, 64) inside
 
 module _ (f : ℕ × ℕ → ℕ) (s : List (ℕ × ℕ)) (i : ℕ) (x : ℕ × ℕ) (inside : i < length s) where
-  one-set : sum_by f (set s i x) + f (get_or s i (32, 32)) ≡ sum_by f s + f x
-  one-set = sum_by-set f s i x (32, 32) inside
+  one-set : sum_by f (set s i x) + f (get_or s i (64, 64)) ≡ sum_by f s + f x
+  one-set = sum_by-set f s i x (64, 64) inside
 
-  one-within : f (get_or s i (32, 32)) ≤ sum_by f s
-  one-within = get_or-le-sum_by f s i (32, 32) inside
+  one-within : f (get_or s i (64, 64)) ≤ sum_by f s
+  one-within = get_or-le-sum_by f s i (64, 64) inside
 
-  one-here : (j : ℕ) → j ≡ i → f (get_or (set s i x) j (32, 32)) ≡ f x
-  one-here j e = ap (λ k. f (get_or (set s i x) k (32, 32))) e ∙ ap f (get_or-set_same s i x (32, 32) inside)
+  one-here : (j : ℕ) → j ≡ i → f (get_or (set s i x) j (64, 64)) ≡ f x
+  one-here j e = ap (λ k. f (get_or (set s i x) k (64, 64))) e ∙ ap f (get_or-set_same s i x (64, 64) inside)
 
-  one-there : (j : ℕ) → j ≡ i → f (get_or s j (32, 32)) ≡ f (get_or s i (32, 32))
-  one-there j e = ap (λ k. f (get_or s k (32, 32))) e
+  one-there : (j : ℕ) → j ≡ i → f (get_or s j (64, 64)) ≡ f (get_or s i (64, 64))
+  one-there j e = ap (λ k. f (get_or s k (64, 64))) e
 
-  untouched-set : (g : Touched) (n : ℕ) → f x ≤ f (get_or s i (32, 32)) + n → sum_untouched f g (set s i x) ≤ sum_untouched f g s + n
+  untouched-set : (g : Touched) (n : ℕ) → f x ≤ f (get_or s i (64, 64)) + n → sum_untouched f g (set s i x) ≤ sum_untouched f g s + n
   unfolding sum_untouched
   untouched-set Nowhere n le = omega (arith, one-set, le)
-  untouched-set (In b) n le = elim (cases_eq (b / 32) i) [
-    | inl e ↦ omega (arith, one-set, one-here (b / 32) e, one-there (b / 32) e, one-within)
+  untouched-set (In b) n le = elim (cases_eq (b / 64) i) [
+    | inl e ↦ omega (arith, one-set, one-here (b / 64) e, one-there (b / 64) e, one-within)
     | inr ne ↦
-        let same : f (get_or (set s i x) (b / 32) (32, 32)) ≡ f (get_or s (b / 32) (32, 32)) = ap f (get_or-set_other s i (b / 32) x (32, 32) ne) in
+        let same : f (get_or (set s i x) (b / 64) (64, 64)) ≡ f (get_or s (b / 64) (64, 64)) = ap f (get_or-set_other s i (b / 64) x (64, 64) ne) in
         omega (arith, one-set, same, le)
   ]
   untouched-set Anywhere n le = omega arith
@@ -69,24 +69,24 @@ module _ (f : ℕ × ℕ → ℕ) (s : List (ℕ × ℕ)) (i : ℕ) (x : ℕ × 
   untouched-at : (g : Touched) → MayBeTouched g i → sum_untouched f g (set s i x) ≤ sum_untouched f g s
   unfolding sum_untouched
   untouched-at Nowhere may = absurd may
-  untouched-at (In b) may = omega (arith, one-set, one-here (b / 32) (sym may), one-there (b / 32) (sym may), one-within)
+  untouched-at (In b) may = omega (arith, one-set, one-here (b / 64) (sym may), one-there (b / 64) (sym may), one-within)
   untouched-at Anywhere may = omega arith
 
-  untouched-fitted : (b : ℕ) → i ≡ b / 32 → f x ≡ 0 → sum_untouched f Nowhere (set s i x) ≤ sum_untouched f (In b) s
+  untouched-fitted : (b : ℕ) → i ≡ b / 64 → f x ≡ 0 → sum_untouched f Nowhere (set s i x) ≤ sum_untouched f (In b) s
   unfolding sum_untouched
-  untouched-fitted b e none = omega (arith, one-set, none, one-there (b / 32) (sym e), one-within)
+  untouched-fitted b e none = omega (arith, one-set, none, one-there (b / 64) (sym e), one-within)
 
   -- the sum by f after the change and that by a larger h before
-  sum-next : (h : ℕ × ℕ → ℕ) (d : ℕ) → ((y : ℕ × ℕ) → f y ≤ h y) → f (32, 32) ≡ 0 → h (32, 32) ≡ 0 → f x + d ≤ h (get_or s i (32, 32)) → sum_by f (set s i x) + d ≤ sum_by h s
+  sum-next : (h : ℕ × ℕ → ℕ) (d : ℕ) → ((y : ℕ × ℕ) → f y ≤ h y) → f (64, 64) ≡ 0 → h (64, 64) ≡ 0 → f x + d ≤ h (get_or s i (64, 64)) → sum_by f (set s i x) + d ≤ sum_by h s
   sum-next h d less none none_2 le =
-      let rest = sum_by-le-sum_by f h (set s i (32, 32)) less in
-      let first = sum_by-set f s i (32, 32) (32, 32) inside in
-      let second = sum_by-set h s i (32, 32) (32, 32) inside in
+      let rest = sum_by-le-sum_by f h (set s i (64, 64)) less in
+      let first = sum_by-set f s i (64, 64) (64, 64) inside in
+      let second = sum_by-set h s i (64, 64) (64, 64) inside in
       omega (arith, one-set, rest, first, second, none, none_2, le)
 
 -- set one way and back again
-set_back : (s : List (ℕ × ℕ)) (i : ℕ) (x y : ℕ × ℕ) → y ≡ get_or s i (32, 32) → set (set s i x) i y ≡ s
-set_back s i x y is = set-set s i x y ∙ ap (set s i) is ∙ set-get_or s i (32, 32)
+set_back : (s : List (ℕ × ℕ)) (i : ℕ) (x y : ℕ × ℕ) → y ≡ get_or s i (64, 64) → set (set s i x) i y ≡ s
+set_back s i x y is = set-set s i x y ∙ ap (set s i) is ∙ set-get_or s i (64, 64)
 
 -- with more groups that may have been touched no more is counted
 pub untouched-wider : (f : ℕ × ℕ → ℕ) (s : List (ℕ × ℕ)) (g h : Touched) → ((i : ℕ) → MayBeTouched g i → MayBeTouched h i) → sum_untouched f h s ≤ sum_untouched f g s
@@ -94,29 +94,29 @@ unfolding sum_untouched
 untouched-wider f s Nowhere Nowhere more = omega arith
 untouched-wider f s Nowhere (In c) more = omega arith
 untouched-wider f s Nowhere Anywhere more = omega arith
-untouched-wider f s (In b) Nowhere more = absurd (more (b / 32) refl)
+untouched-wider f s (In b) Nowhere more = absurd (more (b / 64) refl)
 untouched-wider f s (In b) (In c) more =
-    let e : b / 32 ≡ c / 32 = more (b / 32) refl in
-    let same : f (get_or s (b / 32) (32, 32)) ≡ f (get_or s (c / 32) (32, 32)) = ap (λ j. f (get_or s j (32, 32))) e in
+    let e : b / 64 ≡ c / 64 = more (b / 64) refl in
+    let same : f (get_or s (b / 64) (64, 64)) ≡ f (get_or s (c / 64) (64, 64)) = ap (λ j. f (get_or s j (64, 64))) e in
     omega (arith, same)
 untouched-wider f s (In b) Anywhere more = omega arith
 untouched-wider f s Anywhere Nowhere more = absurd (more 0 tt)
-untouched-wider f s Anywhere (In c) more = let first : 0 ≡ c / 32 = more 0 tt in let second : 1 ≡ c / 32 = more 1 tt in absurd (omega arith)
+untouched-wider f s Anywhere (In c) more = let first : 0 ≡ c / 64 = more 0 tt in let second : 1 ≡ c / 64 = more 1 tt in absurd (omega arith)
 untouched-wider f s Anywhere Anywhere more = omega arith
 
 -- a bucket of no group
-pub untouched-past : (f : ℕ × ℕ → ℕ) (s : List (ℕ × ℕ)) (b : ℕ) → f (32, 32) ≡ 0 → length s ≤ b / 32 → sum_untouched f Nowhere s ≤ sum_untouched f (In b) s
+pub untouched-past : (f : ℕ × ℕ → ℕ) (s : List (ℕ × ℕ)) (b : ℕ) → f (64, 64) ≡ 0 → length s ≤ b / 64 → sum_untouched f Nowhere s ≤ sum_untouched f (In b) s
 unfolding sum_untouched
 untouched-past f s b none past =
-    let here : f (get_or s (b / 32) (32, 32)) ≡ 0 = ap f (get_or_past s (b / 32) (32, 32) past) ∙ none in
+    let here : f (get_or s (b / 64) (64, 64)) ≡ 0 = ap f (get_or_past s (b / 64) (64, 64) past) ∙ none in
     omega (arith, here)
 
-pub extra-full : extra (32, 32) ≡ 0
+pub extra-full : extra (64, 64) ≡ 0
 unfolding extra
 extra-full = refl
 
-pub lacks-full : (n : ℕ) → lacks n (32, 32) ≡ 0
-lacks-full n = lacks-no n (32, 32) (omega arith)
+pub lacks-full : (n : ℕ) → lacks n (64, 64) ≡ 0
+lacks-full n = lacks-no n (64, 64) (omega arith)
 
 pub no-places : places_of [] ≡ 0
 unfolding places_of
@@ -236,21 +236,21 @@ module _ {V : Type 0} where
     inside_sizes : i < length (sizes_of us)
     inside_sizes = omega (arith, length-sizes us)
 
-    pub size-at : get_or (sizes_of us) i (32, 32) ≡ list_size u
+    pub size-at : get_or (sizes_of us) i (64, 64) ≡ list_size u
     unfolding sizes_of
-    size-at = get_or-map list_size us i e (32, 32) inside ∙ ap list_size (sym is)
+    size-at = get_or-map list_size us i e (64, 64) inside ∙ ap list_size (sym is)
 
     pub places_in-set : places_of (sizes_of (set us i w)) + vec_capacity u.items ≡ places_of (sizes_of us) + vec_capacity w.items
     places_in-set =
         let now : places_of (sizes_of (set us i w)) ≡ places_of (set (sizes_of us) i (list_size w)) = ap places_of (sizes-set us i w) in
-        let before : (get_or (sizes_of us) i (32, 32)).1 ≡ vec_capacity u.items = ap (λ (y : ℕ × ℕ). y.1) size-at in
+        let before : (get_or (sizes_of us) i (64, 64)).1 ≡ vec_capacity u.items = ap (λ (y : ℕ × ℕ). y.1) size-at in
         omega (arith, places-set (sizes_of us) i (list_size w) inside_sizes, now, before)
 
     pub untouched_in-set : (f : ℕ × ℕ → ℕ) (g : Touched) (n : ℕ) → f (list_size w) ≤ f (list_size u) + n → sum_untouched f g (sizes_of (set us i w)) ≤ sum_untouched f g (sizes_of us) + n
     untouched_in-set f g n le =
         let now : sum_untouched f g (sizes_of (set us i w)) ≡ sum_untouched f g (set (sizes_of us) i (list_size w)) = ap (sum_untouched f g) (sizes-set us i w) in
-        let before : f (get_or (sizes_of us) i (32, 32)) ≡ f (list_size u) = ap f size-at in
-        let most : f (list_size w) ≤ f (get_or (sizes_of us) i (32, 32)) + n = omega (arith, le, before) in
+        let before : f (get_or (sizes_of us) i (64, 64)) ≡ f (list_size u) = ap f size-at in
+        let most : f (list_size w) ≤ f (get_or (sizes_of us) i (64, 64)) + n = omega (arith, le, before) in
         omega (arith, untouched-set f (sizes_of us) i (list_size w) inside_sizes g n most, now)
 
     pub untouched_in-at : (f : ℕ × ℕ → ℕ) (g : Touched) → MayBeTouched g i → sum_untouched f g (sizes_of (set us i w)) ≤ sum_untouched f g (sizes_of us)
@@ -258,7 +258,7 @@ module _ {V : Type 0} where
         let now : sum_untouched f g (sizes_of (set us i w)) ≡ sum_untouched f g (set (sizes_of us) i (list_size w)) = ap (sum_untouched f g) (sizes-set us i w) in
         omega (arith, untouched-at f (sizes_of us) i (list_size w) inside_sizes g may, now)
 
-    pub untouched_in-fitted : (f : ℕ × ℕ → ℕ) (b : ℕ) → i ≡ b / 32 → f (list_size w) ≡ 0 → sum_untouched f Nowhere (sizes_of (set us i w)) ≤ sum_untouched f (In b) (sizes_of us)
+    pub untouched_in-fitted : (f : ℕ × ℕ → ℕ) (b : ℕ) → i ≡ b / 64 → f (list_size w) ≡ 0 → sum_untouched f Nowhere (sizes_of (set us i w)) ≤ sum_untouched f (In b) (sizes_of us)
     untouched_in-fitted f b at none =
         let now : sum_untouched f Nowhere (sizes_of (set us i w)) ≡ sum_untouched f Nowhere (set (sizes_of us) i (list_size w)) = ap (sum_untouched f Nowhere) (sizes-set us i w) in
         omega (arith, untouched-fitted f (sizes_of us) i (list_size w) inside_sizes b at none, now)
@@ -268,22 +268,22 @@ module _ {V : Type 0} where
     unfolding sum_untouched
     lacking_in-next n d le =
         let now : sum_by (lacks n) (sizes_of (set us i w)) ≡ sum_by (lacks n) (set (sizes_of us) i (list_size w)) = ap (sum_by (lacks n)) (sizes-set us i w) in
-        let before : lacks (n + 1) (get_or (sizes_of us) i (32, 32)) ≡ lacks (n + 1) (list_size u) = ap (lacks (n + 1)) size-at in
-        let most : lacks n (list_size w) + d ≤ lacks (n + 1) (get_or (sizes_of us) i (32, 32)) = omega (arith, le, before) in
+        let before : lacks (n + 1) (get_or (sizes_of us) i (64, 64)) ≡ lacks (n + 1) (list_size u) = ap (lacks (n + 1)) size-at in
+        let most : lacks n (list_size w) + d ≤ lacks (n + 1) (get_or (sizes_of us) i (64, 64)) = omega (arith, le, before) in
         let next = sum-next (lacks n) (sizes_of us) i (list_size w) inside_sizes (lacks (n + 1)) d (lacks-next n (n + 1) (omega arith)) (lacks-full n) (lacks-full (n + 1)) most in
         omega (arith, next, now)
 
     pub lacking-one : (n : ℕ) → lacks n (list_size u) ≤ lacking n Nowhere (sizes_of us)
     unfolding sum_untouched
     lacking-one n =
-        let here : lacks n (get_or (sizes_of us) i (32, 32)) ≡ lacks n (list_size u) = ap (lacks n) size-at in
+        let here : lacks n (get_or (sizes_of us) i (64, 64)) ≡ lacks n (list_size u) = ap (lacks n) size-at in
         omega (arith, here, one-within (lacks n) (sizes_of us) i (list_size w) inside_sizes)
 
     pub sizes-same : vec_len w.items ≡ vec_len u.items → vec_capacity w.items ≡ vec_capacity u.items → sizes_of (set us i w) ≡ sizes_of us
     sizes-same len capacity =
         sizes-set us i w
         ∙ ap (set (sizes_of us) i) ((λ j. (len j, capacity j)) ∙ sym size-at)
-        ∙ set-get_or (sizes_of us) i (32, 32)
+        ∙ set-get_or (sizes_of us) i (64, 64)
 
   -- ---- a group that loses an item and then gets one
   pub sizes-back : (us ws : List (Group V)) (i : ℕ) (u e v x f w : Group V) → i < length us → u ≡ get_or us i e → sizes_of ws ≡ sizes_of (set us i v) → i < length ws → x ≡ get_or ws i f
@@ -292,7 +292,7 @@ module _ {V : Type 0} where
   sizes-back us ws i u e v x f w inside is between inside_2 is_2 less same more same_2 =
       let there : sizes_of ws ≡ set (sizes_of us) i (list_size v) = between ∙ sizes-set us i v in
       let seen : list_size x ≡ list_size v =
-      sym (size-at ws i x f w inside_2 is_2) ∙ ap (λ s. get_or s i (32, 32)) there ∙ get_or-set_same (sizes_of us) i (list_size v) (32, 32) (inside_sizes us i u e w inside is) in
+      sym (size-at ws i x f w inside_2 is_2) ∙ ap (λ s. get_or s i (64, 64)) there ∙ get_or-set_same (sizes_of us) i (list_size v) (64, 64) (inside_sizes us i u e w inside is) in
       let len : vec_len w.items ≡ vec_len u.items = more ∙ ap (λ (y : ℕ × ℕ). y.0 + 1) seen ∙ less in
       let capacity : vec_capacity w.items ≡ vec_capacity u.items = same_2 ∙ ap (λ (y : ℕ × ℕ). y.1) seen ∙ same in
       sizes-set ws i w

@@ -1,20 +1,14 @@
 -- Where keys come to stand that go in one after another, and what is counted of them.
-use Rattle.std.proofs.Common.{◌≡◌, ℕ, zero, suc, ◌+◌, ◌/◌, ◌<◌, ◌≤◌, Bool, true, false, List, [], ◌∷◌, ◌++◌, Option, Some, None, length, get_or, set, drop, map, refl, sym, ap, ◌∙◌, subst, inl, inr, arith}
+use Rattle.std.proofs.Common.{◌≡◌, ℕ, zero, suc, ◌+◌, ◌/◌, ◌<◌, ◌≤◌, Bool, true, false, List, [], ◌∷◌, ◌++◌, Option, Some, None, length, get_or, set, map, refl, sym, ap, ◌∙◌, subst, inl, inr, arith}
 use Rattle.std.specs.Prelude.{is_some, IsSome, replicate}
-use Rattle.std.specs.List.{sum_by}
 use Rattle.std.specs.Vec.{vec_len, vec_capacity}
-use Rattle.std.proofs.lemmas.List.{map-set, get_or-map, get_or-set_same, set-get_or, length-append}
-use Rattle.std.proofs.lemmas.List.Sums.{sum_by-cons}
+use Rattle.std.proofs.lemmas.List.{map-set, get_or-map, get_or-set_same, set-get_or}
 use Rattle.std.proofs.lemmas.Bool.{cases_lt, cond-true, cond-false}
 use Rattle.sparse_map.specs.declared.group.Group.{Group}
-use Rattle.sparse_map.specs.declared.table.Touched.TheVariants.{Nowhere}
 use Rattle.sparse_map.specs.Home.{home, steps}
 use Rattle.sparse_map.specs.Slots.{slot_at, key_at}
-use Rattle.sparse_map.specs.Places.{list_size, sizes_of, places_of, extra, lacks, sum_untouched, loose_of, lacking}
 use Rattle.sparse_map.specs.Probe.{IsFreeFor}
-use Rattle.sparse_map.specs.Plan.{Plan, planned, first_unmarked, with_key, with_items, places_for, CanCount, lens_of, rooms_of}
-use Rattle.sparse_map.specs.Moved.{items_in}
-use Rattle.sparse_map.proofs.PlacesLemmas.{lacks-no}
+use Rattle.sparse_map.specs.Plan.{Plan, planned, first_unmarked, with_key, with_items, CanCount, lens_of, rooms_of}
 use Rattle.sparse_map.proofs.RoundLemmas.{next, next_below, steps_self, steps_below, steps_same, steps-next}
 use Rattle.sparse_map.proofs.SlotLemmas.{is_some-key_at}
 
@@ -87,22 +81,22 @@ one_at_most (x ∷ c) (suc j) (suc i) = one_at_most c j i
 
 count_grows : (n : ℕ) (p : Plan) (key i : ℕ) → get_or p.counts i 0 ≤ get_or (with_key n p key).counts i 0
 unfolding with_key
-count_grows n p key i = one_more p.counts (first_unmarked n n (home n key) p.marks / 32) i
+count_grows n p key i = one_more p.counts (first_unmarked n n (home n key) p.marks / 64) i
 
 pub can_count : (n : ℕ) (p : Plan) (key more : ℕ) → CanCount (more + 1) p.counts → CanCount more (with_key n p key).counts
 unfolding with_key
-can_count n p key more small = λ i. omega (arith, one_at_most p.counts (first_unmarked n n (home n key) p.marks / 32) i, small i)
+can_count n p key more small = λ i. omega (arith, one_at_most p.counts (first_unmarked n n (home n key) p.marks / 64) i, small i)
 
 -- the count of the group that the key goes into
-pub count_here : (n : ℕ) (p : Plan) (key b : ℕ) → first_unmarked n n (home n key) p.marks ≡ b → b / 32 < length p.counts → get_or (with_key n p key).counts (b / 32) 0 ≡ get_or p.counts (b / 32) 0 + 1
+pub count_here : (n : ℕ) (p : Plan) (key b : ℕ) → first_unmarked n n (home n key) p.marks ≡ b → b / 64 < length p.counts → get_or (with_key n p key).counts (b / 64) 0 ≡ get_or p.counts (b / 64) 0 + 1
 unfolding with_key
 count_here n p key b is inside =
-    ap (λ x. get_or (set p.counts (x / 32) (get_or p.counts (x / 32) 0 + 1)) (b / 32) 0) is
-    ∙ get_or-set_same p.counts (b / 32) (get_or p.counts (b / 32) 0 + 1) 0 inside
+    ap (λ x. get_or (set p.counts (x / 64) (get_or p.counts (x / 64) 0 + 1)) (b / 64) 0) is
+    ∙ get_or-set_same p.counts (b / 64) (get_or p.counts (b / 64) 0 + 1) 0 inside
 
-pub with_key-at : (n : ℕ) (p : Plan) (key b : ℕ) → first_unmarked n n (home n key) p.marks ≡ b → with_key n p key ≡ planned (set p.marks b true) (set p.counts (b / 32) (get_or p.counts (b / 32) 0 + 1))
+pub with_key-at : (n : ℕ) (p : Plan) (key b : ℕ) → first_unmarked n n (home n key) p.marks ≡ b → with_key n p key ≡ planned (set p.marks b true) (set p.counts (b / 64) (get_or p.counts (b / 64) 0 + 1))
 unfolding with_key
-with_key-at n p key b is = ap (λ x. planned (set p.marks x true) (set p.counts (x / 32) (get_or p.counts (x / 32) 0 + 1))) is
+with_key-at n p key b is = ap (λ x. planned (set p.marks x true) (set p.counts (x / 64) (get_or p.counts (x / 64) 0 + 1))) is
 
 -- ---- many keys
 module _ {V : Type 0} (n : ℕ) where
@@ -122,41 +116,8 @@ module _ {V : Type 0} (n : ℕ) where
   can_count_items p (e ∷ es) more small =
       can_count_items (with_key n p e.0) es more (can_count n p e.0 (length es + more) (λ i. omega (arith, small i)))
 
--- ---- lists that fit
-pub fits_places : (cs : List ℕ) (i : ℕ) → get_or cs i 0 ≤ get_or (map places_for cs) i 0
-fits_places [] i = omega arith
-fits_places (c ∷ cs) zero = omega arith
-fits_places (c ∷ cs) (suc i) = fits_places cs i
-
 module _ {V : Type 0} where
-  place_each : (u : Group V) (us : List (Group V)) → rooms_of (u ∷ us) ≡ map places_for (lens_of (u ∷ us)) → vec_capacity u.items ≡ vec_len u.items + 1
-  place_each u us e = ap (λ r. get_or r 0 0) e
-
-  exact-none : (f : ℕ × ℕ → ℕ) → ((n : ℕ) → f (n, n + 1) ≡ 0) → (us : List (Group V)) → rooms_of us ≡ map places_for (lens_of us) → sum_untouched f Nowhere (sizes_of us) ≡ 0
-  unfolding sum_untouched sizes_of
-  exact-none f none [] e = refl
-  exact-none f none (u ∷ us) e =
-      let here : f (list_size u) ≡ 0 = ap (λ c. f (vec_len u.items, c)) (place_each u us e) ∙ none (vec_len u.items) in
-      let later : sum_by f (sizes_of us) ≡ 0 = exact-none f none us (ap (drop 1) e) in
-      omega (arith, sum_by-cons f (list_size u) (sizes_of us), here, later)
-
-  pub exact-loose : (us : List (Group V)) → rooms_of us ≡ map places_for (lens_of us) → loose_of Nowhere (sizes_of us) ≡ 0
-  unfolding extra
-  exact-loose us e = exact-none extra (λ n. omega arith) us e
-
-  pub exact-ready : (us : List (Group V)) → rooms_of us ≡ map places_for (lens_of us) → lacking 1 Nowhere (sizes_of us) ≡ 0
-  exact-ready us e = exact-none (lacks 1) (λ n. lacks-no 1 (n, n + 1) (omega arith)) us e
-
-  pub exact-places : (us : List (Group V)) → rooms_of us ≡ map places_for (lens_of us) → places_of (sizes_of us) ≤ length (items_in us) + length us
-  unfolding places_of sizes_of
-  exact-places [] e = omega arith
-  exact-places (u ∷ us) e =
-      let long : length (items_in (u ∷ us)) ≡ length u.items.items + length (items_in us) = length-append u.items.items (items_in us) in
-      let places = sum_by-cons (λ (y : ℕ × ℕ). y.1) (list_size u) (sizes_of us) in
-      let rest = exact-places us (ap (drop 1) e) in
-      omega (arith, long, places, rest, place_each u us e, u.items.ok.0)
-
-  -- ---- one group in place of another, of the same list with one item more
+  -- ---- one group in place of another, with one item more or as many
   module _ (us : List (Group V)) (i : ℕ) (u e w : Group V) (inside : i < length us) (is : u ≡ get_or us i e) where
     pub len_at : get_or (lens_of us) i 0 ≡ vec_len u.items
     len_at = get_or-map (λ (g : Group V). vec_len g.items) us i e 0 inside ∙ ap (λ (g : Group V). vec_len g.items) (sym is)
@@ -174,3 +135,9 @@ module _ {V : Type 0} where
         map-set (λ (g : Group V). vec_capacity g.items) us i w
         ∙ ap (set (rooms_of us) i) (same ∙ sym room_at)
         ∙ set-get_or (rooms_of us) i 0
+
+    pub lens_of-set_same : vec_len w.items ≡ vec_len u.items → lens_of (set us i w) ≡ lens_of us
+    lens_of-set_same same =
+        map-set (λ (g : Group V). vec_len g.items) us i w
+        ∙ ap (set (lens_of us) i) (same ∙ sym len_at)
+        ∙ set-get_or (lens_of us) i 0

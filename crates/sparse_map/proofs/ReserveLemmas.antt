@@ -10,10 +10,10 @@ use Rattle.std.proofs.Math.Nat.{le-mul_of_pos_right, pow-le-pow_right}
 use Rattle.sparse_map.specs.declared.group.Group.{Group}
 use Rattle.sparse_map.specs.Home.{IsDoubledFor}
 use Rattle.sparse_map.specs.Slots.{items_of}
-use Rattle.sparse_map.specs.Groups.{slots_of}
+use Rattle.sparse_map.specs.Groups.{slots_of, IsEmptyFrom}
 use Rattle.sparse_map.specs.Packed.{IsPacked, PackedTable, map_of, len_of, buckets_of, IsSound}
 use Rattle.sparse_map.specs.Moved.{IsDistinct, items_in}
-use Rattle.sparse_map.proofs.ItemLemmas.{items_of-slots_of}
+use Rattle.sparse_map.proofs.BucketLemmas.{items_of-groups}
 use Rattle.sparse_map.proofs.MapLemmas.{map_of-same, IsDistinct-items_of}
 
 pub on_ok : {T E : Type 0} (r : Result T E) (P : Type 0) → P → OnOk r P
@@ -105,6 +105,12 @@ module _ {V : Type 0} where
       by_case (Ok x) same wide = absurd (other (sym level ∙ wide))
       by_case (Err e) same wide = ap (λ (x : PackedTable V). x.slots) same
 
+    pub peak_either : (n : ℕ) → buckets_of t ≢ n → OnOk r (buckets_of u ≡ n) → buckets_of u ≡ buckets_of t → u.peak ≡ t.peak
+    peak_either n other ok level = by_case r err ok where
+      by_case : (r : Result T E) → OnErr r (u ≡ t) → OnOk r (buckets_of u ≡ n) → u.peak ≡ t.peak
+      by_case (Ok x) same wide = absurd (other (sym level ∙ wide))
+      by_case (Err e) same wide = ap (λ (x : PackedTable V). x.peak) same
+
     pub as_before : OnErr r ((u.slots ≡ t.slots) × (u.spare ≡ t.spare))
     as_before = by_case r err where
       by_case : (r : Result T E) → OnErr r (u ≡ t) → OnErr r ((u.slots ≡ t.slots) × (u.spare ≡ t.spare))
@@ -121,8 +127,8 @@ module _ {V : Type 0} where
           (omega (arith, places), omega (arith, blanks))
 
   -- ---- moving the items of all groups into an empty map
-  pub items_in-IsDistinct : (us : List (Group V)) → IsPacked (slots_of us) → IsDistinct (items_in us)
-  items_in-IsDistinct us packed = subst (λ es. IsDistinct es) (items_of-slots_of us) (IsDistinct-items_of (slots_of us) packed.once)
+  pub items_in-IsDistinct : (n : ℕ) (us : List (Group V)) → IsEmptyFrom n us → IsPacked (slots_of n us) → IsDistinct (items_in us)
+  items_in-IsDistinct n us rest packed = subst (λ es. IsDistinct es) (items_of-groups n us rest) (IsDistinct-items_of (slots_of n us) packed.once)
 
   pub after_none : (o : Option V) → cond (is_some o) o None ≡ o
   after_none None = refl

@@ -31,6 +31,12 @@ module _ {V : Type 0} where
   unfolding items_of
   items_of-nil = refl
 
+  -- buckets of which none is occupied
+  pub items_of-free : (s : List (Option (ℕ × V))) → ((b : ℕ) → slot_at s b ≡ None) → items_of s ≡ []
+  items_of-free [] free = items_of-nil
+  items_of-free (None ∷ s) free = items_of-none s ∙ items_of-free s (λ b. free (suc b))
+  items_of-free (Some e ∷ s) free = absurd (let wrong : Some e ≡ None = free 0 in cc)
+
   -- a key that is found stands in a bucket
   pub bucket_of_found : (s : List (Option (ℕ × V))) (q : ℕ) (v : V) → find nat_cmp q (items_of s) ≡ Some v → (b : ℕ) × (b < length s) × (slot_at s b ≡ Some (q, v))
   unfolding items_of

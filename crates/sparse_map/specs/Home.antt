@@ -1,10 +1,14 @@
 -- Where a key is looked for first, and how buckets follow one another round the table.
-use Rattle.std.specs.Prelude.{◌≡◌, ℕ, ◌+◌, ◌-◌, ◌*◌, ◌/◌, ◌%◌, ◌^◌, ◌<◌, ◌≤◌, nat_le, if◌then◌else◌}
+use Rattle.std.specs.Prelude.{◌≡◌, ℕ, ◌+◌, ◌-◌, ◌*◌, ◌/◌, ◌%◌, ◌^◌, ◌<◌, ◌≤◌, ◌==◌, nat_le, if◌then◌else◌}
 
 -- so many bits number the buckets of a table: 32 to 2^31 buckets
 pub record IsTableSize (bits : ℕ) : Type 0 where
   pub many : 5 ≤ bits
   pub few : bits ≤ 31
+
+-- how many buckets a table has: 2^bits, or none
+abbrev pub buckets_for : ℕ → ℕ
+buckets_for bits = if bits == 0 then 0 else 2 ^ bits
 
 -- the home of a key among 2^b buckets: the top b bits of its product with 2^64 over the golden ratio, taken modulo 2^64
 unfoldable pub home : ℕ → ℕ → ℕ

@@ -1,11 +1,11 @@
 -- What a map keeps true of its fields.
-use Rattle.std.specs.Prelude.{◌≡◌, ℕ, ◌+◌, ◌*◌, ◌^◌, ◌<◌, ◌≤◌, ◌==◌, List, length, min, if◌then◌else◌}
+use Rattle.std.specs.Prelude.{◌≡◌, ℕ, ◌+◌, ◌*◌, ◌^◌, ◌<◌, ◌≤◌, List, length, min}
 use Rattle.sparse_map.specs.declared.group.Group.{Group}
 use Rattle.sparse_map.specs.declared.table.Touched.{Touched}
 use Rattle.sparse_map.specs.declared.table.Touched.TheVariants.{Nowhere}
-use Rattle.sparse_map.specs.Home.{IsTableSize}
+use Rattle.sparse_map.specs.Home.{IsTableSize, buckets_for}
 use Rattle.sparse_map.specs.Slots.{items_of}
-use Rattle.sparse_map.specs.Groups.{slots_of}
+use Rattle.sparse_map.specs.Groups.{slots_of, IsTable}
 use Rattle.sparse_map.specs.Places.{sizes_of, lacking}
 use Rattle.sparse_map.specs.Packed.{IsPacked}
 
@@ -14,16 +14,16 @@ use Rattle.sparse_map.specs.Packed.{IsPacked}
 pub record KeepsTable {V : Type 0} (bits len spare blanks : ℕ) (touched : Touched) (groups : List (Group V)) : Type 0 where
   pub few : bits ≤ 31
   pub many : 0 < bits → 5 ≤ bits
-  pub buckets : length (slots_of groups) ≡ (if bits == 0 then 0 else 2 ^ bits)
-  pub packed : IsPacked (slots_of groups)
-  pub counted : len ≡ length (items_of (slots_of groups))
-  pub room : 4 * (len + spare) ≤ 3 * length (slots_of groups)
+  pub table : IsTable (buckets_for bits) groups
+  pub packed : IsPacked (slots_of (buckets_for bits) groups)
+  pub counted : len ≡ length (items_of (slots_of (buckets_for bits) groups))
+  pub room : 4 * (len + spare) ≤ 3 * buckets_for bits
   pub stocked : min spare (lacking spare Nowhere (sizes_of groups)) ≤ blanks
   pub ready : lacking 1 touched (sizes_of groups) ≡ 0
 
 -- 2^bits buckets under the packed law, of which at least one is free
 pub record HasFreeBucket {V : Type 0} (bits : ℕ) (groups : List (Group V)) : Type 0 where
   pub size : IsTableSize bits
-  pub buckets : length (slots_of groups) ≡ 2 ^ bits
-  pub packed : IsPacked (slots_of groups)
-  pub room : length (items_of (slots_of groups)) < 2 ^ bits
+  pub table : IsTable (2 ^ bits) groups
+  pub packed : IsPacked (slots_of (2 ^ bits) groups)
+  pub room : length (items_of (slots_of (2 ^ bits) groups)) < 2 ^ bits

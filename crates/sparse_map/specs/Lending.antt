@@ -33,6 +33,7 @@ module _ {V : Type 0} where
     pub places : new.places ≡ old.places
     pub blanks : new.blanks ≡ old.blanks
     pub loose : new.loose ≡ old.loose
+    pub peak : new.peak ≡ old.peak
 
 module _ (V : RattleType) where
   abbrev pub LendsGroupValue : MutBor (Group V.Denot) → ℕ → MutBor V.Denot → Fml

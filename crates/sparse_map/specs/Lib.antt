@@ -5,6 +5,7 @@ pub mod Packed
 pub mod Kept
 pub mod Plan
 pub mod Moved
+pub mod Heirs
 pub mod Probe
 pub mod Removal
 pub mod Lending

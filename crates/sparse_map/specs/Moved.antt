@@ -5,9 +5,9 @@ use Rattle.std.specs.FinMap.{find}
 use Rattle.std.specs.List.{flat_map}
 use Rattle.sparse_map.specs.declared.group.Group.{Group}
 use Rattle.sparse_map.specs.Slots.{items_of}
-use Rattle.sparse_map.specs.Groups.{slots_of}
+use Rattle.sparse_map.specs.Groups.{slots_of, IsEmptyFrom, IsTable}
 use Rattle.sparse_map.specs.Packed.{IsPacked}
-use Rattle.sparse_map.specs.Plan.{plan_of, with_items, rooms_of, RoomsFit}
+use Rattle.sparse_map.specs.Plan.{plan_of, with_items}
 
 module _ {V : Type 0} where
   -- no key comes twice
@@ -23,19 +23,18 @@ module _ {V : Type 0} where
   abbrev pub items_in : List (Group V) → List (ℕ × V)
   items_in us = flat_map (λ u. u.items.items) us
 
-  -- n buckets take these items, whose keys they don't have: there are free buckets, and each list has the places that are needed
+  -- n buckets take these items, whose keys they don't have: there are free buckets
   pub record CanTake (n : ℕ) (groups : List (Group V)) (items : List (ℕ × V)) : Type 0 where
-    pub buckets : length (slots_of groups) ≡ n
-    pub packed : IsPacked (slots_of groups)
-    pub room : length (items_of (slots_of groups)) + length items < n
+    pub table : IsTable n groups
+    pub packed : IsPacked (slots_of n groups)
+    pub room : length (items_of (slots_of n groups)) + length items < n
     pub distinct : IsDistinct items
-    pub fresh : (q : ℕ) → IsSome (find nat_cmp q items) → find nat_cmp q (items_of (slots_of groups)) ≡ None
-    pub fits : RoomsFit (rooms_of groups) (with_items n (plan_of groups) items).counts
+    pub fresh : (q : ℕ) → IsSome (find nat_cmp q items) → find nat_cmp q (items_of (slots_of n groups)) ≡ None
 
-  -- they have taken them, each at the first free bucket from its home on, and no list has another number of places
+  -- they have taken them, each at the first free bucket from its home on
   pub record HasTaken (n : ℕ) (old new : List (Group V)) (items : List (ℕ × V)) : Type 0 where
-    pub found : (q : ℕ) → find nat_cmp q (items_of (slots_of new)) ≡ after_items items (find nat_cmp q (items_of (slots_of old))) q
-    pub packed : IsPacked (slots_of new)
-    pub count : length (items_of (slots_of new)) ≡ length (items_of (slots_of old)) + length items
-    pub rooms : rooms_of new ≡ rooms_of old
-    pub plan : plan_of new ≡ with_items n (plan_of old) items
+    pub found : (q : ℕ) → find nat_cmp q (items_of (slots_of n new)) ≡ after_items items (find nat_cmp q (items_of (slots_of n old))) q
+    pub packed : IsPacked (slots_of n new)
+    pub count : length (items_of (slots_of n new)) ≡ length (items_of (slots_of n old)) + length items
+    pub rest : IsEmptyFrom n new
+    pub plan : plan_of n new ≡ with_items n (plan_of n old) items

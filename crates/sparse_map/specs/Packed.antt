@@ -1,10 +1,11 @@
 -- The packed law, and what a contract sees of a `SparseMap`.
-use Rattle.std.specs.Prelude.{◌≡◌, ℕ, ◌+◌, ◌*◌, ◌^◌, ◌<◌, ◌≤◌, List, length, Option, Some, IsSome, refl}
+use Rattle.std.specs.Prelude.{◌≡◌, ℕ, ◌+◌, ◌-◌, ◌*◌, ◌^◌, ◌<◌, ◌≤◌, min, max, List, length, Option, Some, IsSome, refl}
 use Rattle.std.specs.Ordering.{nat_cmp}
 use Rattle.std.specs.FinMap as map
 use Rattle.std.specs.Coded.{Coded, code_by, coded×, coded_list, coded_option, coded_ℕ}
 use Rattle.sparse_map.specs.Home.{home, steps}
 use Rattle.sparse_map.specs.Slots.{key_at, items_of}
+use Rattle.sparse_map.specs.Groups.{lists_for}
 
 -- each key stands in one bucket, and every bucket from its home up to its own, going round, is occupied
 pub record IsPacked {V : Type 0} (slots : List (Option (ℕ × V))) : Type 0 where
@@ -14,21 +15,23 @@ pub record IsPacked {V : Type 0} (slots : List (Option (ℕ × V))) : Type 0 whe
       → IsSome (key_at slots q)
 
 -- the buckets in order, each empty or with a key and its value, and how many new keys there is room for; of the memory the places of
--- the groups' lists, the blank lists of 32 places that are kept ready, and the free places beyond four a list that removals may have left
+-- the groups' lists, the blank lists of 64 places that are kept ready, and the free places beyond four for each 32 buckets, in all,
+-- that removals may have left; and the places that old and new lists had, all together, as the buckets doubled last
 pub record PackedTable (V : Type 0) : Type 0 where
   pub slots : List (Option (ℕ × V))
   pub spare : ℕ
   pub places : ℕ
   pub blanks : ℕ
   pub loose : ℕ
+  pub peak : ℕ
 
 module _ {V : Type 0} where
   abbrev pub table_code : Coded V → Coded (PackedTable V)
   table_code v =
-      code_by (List (Option (ℕ × V)) × (ℕ × (ℕ × (ℕ × ℕ))))
-      (coded× (coded_list (coded_option (coded× coded_ℕ v))) (coded× coded_ℕ (coded× coded_ℕ (coded× coded_ℕ coded_ℕ))))
-      (λ t. (t.slots, (t.spare, (t.places, (t.blanks, t.loose)))))
-      (λ p. record { slots = p.0; spare = p.1.0; places = p.1.1.0; blanks = p.1.1.1.0; loose = p.1.1.1.1 })
+      code_by (List (Option (ℕ × V)) × (ℕ × (ℕ × (ℕ × (ℕ × ℕ)))))
+      (coded× (coded_list (coded_option (coded× coded_ℕ v))) (coded× coded_ℕ (coded× coded_ℕ (coded× coded_ℕ (coded× coded_ℕ coded_ℕ)))))
+      (λ t. (t.slots, (t.spare, (t.places, (t.blanks, (t.loose, t.peak))))))
+      (λ p. record { slots = p.0; spare = p.1.0; places = p.1.1.0; blanks = p.1.1.1.0; loose = p.1.1.1.1.0; peak = p.1.1.1.1.1 })
       (λ _. refl)
 
   -- the map from keys to values
@@ -42,9 +45,18 @@ module _ {V : Type 0} where
   abbrev pub buckets_of : PackedTable V → ℕ
   buckets_of t = length t.slots
 
+  -- how many lists it has: one for each 64 buckets, and one for 32
+  abbrev pub lists_of : PackedTable V → ℕ
+  lists_of t = lists_for (buckets_of t)
+
   -- the places of all lists, free ones and blank lists included
   abbrev pub memory_of : PackedTable V → ℕ
-  memory_of t = t.places + 32 * t.blanks
+  memory_of t = t.places + 64 * t.blanks
+
+  -- old and new lists were there at once, as the buckets doubled, and no place was counted twice; the count ends at 2^64 - 1
+  pub record IsPeak (old new : PackedTable V) : Type 0 where
+    pub least : min (max (memory_of old) (memory_of new)) (2 ^ 64 - 1) ≤ new.peak
+    pub most : new.peak ≤ memory_of old + memory_of new
 
   -- what holds of every map: the packed law, at most three quarters of the buckets taken and spoken for, and a power of two of
   -- buckets, at least 32, or none

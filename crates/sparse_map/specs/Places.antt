@@ -25,12 +25,12 @@ extra s = s.1 - (s.0 + 4)
 
 -- 1 for a list that has no place for n items more, nor for all that a group can hold; 0 for any other
 unfoldable pub lacks : ℕ → ℕ × ℕ → ℕ
-lacks n s = if nat_lt s.1 (min 32 (s.0 + n)) then 1 else 0
+lacks n s = if nat_lt s.1 (min 64 (s.0 + n)) then 1 else 0
 
 -- the sum over all groups but those that may have been touched since the last reservation
 unfoldable pub sum_untouched : (ℕ × ℕ → ℕ) → Touched → List (ℕ × ℕ) → ℕ
 sum_untouched f Nowhere s = sum_by f s
-sum_untouched f (In bucket) s = sum_by f s - f (slice_index_or s (bucket / 32) (32, 32))
+sum_untouched f (In bucket) s = sum_by f s - f (slice_index_or s (bucket / 64) (64, 64))
 sum_untouched f Anywhere s = 0
 
 -- their free places beyond four a list

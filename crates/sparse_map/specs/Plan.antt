@@ -1,9 +1,9 @@
 -- Where keys come to stand that go into a table one after another, and how many in each group: found out before any item moves.
-use Rattle.std.specs.Prelude.{ℕ, zero, suc, ◌+◌, ◌/◌, ◌^◌, ◌<◌, ◌≤◌, ◌==◌, Bool, true, false, List, [], ◌∷◌, map, replicate, is_some, slice_index_or, slice_set, if◌then◌else◌}
+use Rattle.std.specs.Prelude.{ℕ, zero, suc, ◌+◌, ◌/◌, ◌^◌, ◌<◌, ◌≤◌, ◌==◌, Bool, true, false, List, [], ◌∷◌, length, map, replicate, is_some, slice_index_or, slice_set, if◌then◌else◌}
 use Rattle.std.specs.Vec.{vec_len, vec_capacity}
 use Rattle.sparse_map.specs.declared.group.Group.{Group}
 use Rattle.sparse_map.specs.Home.{home}
-use Rattle.sparse_map.specs.Groups.{slots_of}
+use Rattle.sparse_map.specs.Groups.{slots_of, lists_for}
 
 -- which buckets are occupied, and how many in each group
 pub record Plan : Type 0 where
@@ -23,7 +23,7 @@ first_unmarked n (suc more) at marks = if slice_index_or marks at false then fir
 unfoldable pub with_key : ℕ → Plan → ℕ → Plan
 with_key n plan key =
     let b = first_unmarked n n (home n key) plan.marks in
-    planned (slice_set plan.marks b true) (slice_set plan.counts (b / 32) (slice_index_or plan.counts (b / 32) 0 + 1))
+    planned (slice_set plan.marks b true) (slice_set plan.counts (b / 64) (slice_index_or plan.counts (b / 64) 0 + 1))
 
 -- no count passes its type's end, with so many keys more
 abbrev pub CanCount : ℕ → List ℕ → Type 0
@@ -31,15 +31,11 @@ CanCount more counts = (i : ℕ) → slice_index_or counts i 0 + more < 2 ^ 32
 
 -- n buckets with no key
 abbrev pub blank_plan : ℕ → Plan
-blank_plan n = planned (replicate n false) (replicate (n / 32) 0)
-
--- the places of a list for so many items: one more
-abbrev pub places_for : ℕ → ℕ
-places_for count = count + 1
+blank_plan n = planned (replicate n false) (replicate (lists_for n) 0)
 
 -- a list in each group for what is counted there
 abbrev pub RoomsFit : List ℕ → List ℕ → Type 0
-RoomsFit rooms counts = (i : ℕ) → slice_index_or counts i 0 ≤ slice_index_or rooms i 0
+RoomsFit rooms counts = (i : ℕ) → i < length rooms → slice_index_or counts i 0 ≤ slice_index_or rooms i 0
 
 module _ {V : Type 0} where
   -- with the keys of these items, one after another
@@ -55,6 +51,6 @@ module _ {V : Type 0} where
   abbrev pub rooms_of : List (Group V) → List ℕ
   rooms_of = map (λ g. vec_capacity g.items)
 
-  -- groups as they are
-  abbrev pub plan_of : List (Group V) → Plan
-  plan_of groups = planned (map is_some (slots_of groups)) (lens_of groups)
+  -- the groups of n buckets as they are
+  abbrev pub plan_of : ℕ → List (Group V) → Plan
+  plan_of n groups = planned (map is_some (slots_of n groups)) (lens_of groups)

@@ -4,17 +4,17 @@ use Rattle.sparse_map.specs.declared.group.Group.{Group}
 use Rattle.sparse_map.specs.declared.table.Place.{Place}
 use Rattle.sparse_map.specs.declared.table.Place.TheVariants.{Found, Free}
 use Rattle.sparse_map.specs.Slots.{rank, slot_at}
-use Rattle.sparse_map.specs.Groups.{slots_of}
+use Rattle.sparse_map.specs.Groups.{all_slots}
 
 module _ {V : Type 0} where
   -- the item of bucket b has, or would get, this place: as many buckets of its group below b are occupied
   abbrev pub IsRankOf : List (Group V) → ℕ → ℕ → Type 0
-  IsRankOf groups b place = (e : Group V) → place ≡ rank (slice_index_or groups (b / 32) e).occupied (b % 32)
+  IsRankOf groups b place = (e : Group V) → place ≡ rank (slice_index_or groups (b / 64) e).occupied (b % 64)
 
   -- bucket b is occupied, and its item has this place
   pub record IsSeated (groups : List (Group V)) (b place : ℕ) : Type 0 where
-    pub within : b < 32 * length groups
-    pub occupied : IsSome (slot_at (slots_of groups) b)
+    pub within : b < 64 * length groups
+    pub occupied : IsSome (slot_at (all_slots groups) b)
     pub rank : IsRankOf groups b place
 
   -- so has, or would get, that of the bucket which a look-up ended at

@@ -1,4 +1,4 @@
--- Buckets in order, each empty or with its item, and how a group packs 32 of them.
+-- Buckets in order, each empty or with its item, and how a group packs 64 of them.
 use Rattle.std.specs.Prelude.{ℕ, ◌%◌, ◌*◌, ◌^◌, ◌==◌, List, map, take, drop, Option, None, slice_get, slice_index_or, slice_set, count_ones, option_map, if◌then◌else◌}
 use Rattle.std.specs.Int.{bit_at}
 use Rattle.std.specs.List.{range_with_len, flat_map}
@@ -13,9 +13,9 @@ module _ {X : Type 0} where
   abbrev pub unpacked : ℕ → List X → ℕ → Option X
   unpacked occupied items k = if bit_at occupied k == 1 then slice_get items (rank occupied k) else None
 
-  -- the 32 buckets of a group
+  -- the 64 buckets of a group
   unfoldable pub group_slots : ℕ → List X → List (Option X)
-  group_slots occupied items = map (unpacked occupied items) (range_with_len 0 32)
+  group_slots occupied items = map (unpacked occupied items) (range_with_len 0 64)
 
   -- the items of the occupied buckets, in bucket order
   unfoldable pub items_of : List (Option X) → List X
@@ -25,7 +25,7 @@ module _ {X : Type 0} where
   abbrev pub slot_at : List (Option X) → ℕ → Option X
   slot_at slots b = slice_index_or slots b None
 
-  -- the 32 buckets of group i
+  -- the 32 buckets of group i, as they are numbered where two share a list
   abbrev pub group : List (Option X) → ℕ → List (Option X)
   group slots i = take 32 (drop (32 * i) slots)
 

@@ -8,7 +8,7 @@ use Rattle.sparse_map.specs.declared.table.Touched.TheVariants.{Nowhere, In, Any
 -- group i may have been touched
 abbrev pub MayBeTouched : Touched → ℕ → Type 0
 MayBeTouched Nowhere i = ⊥
-MayBeTouched (In bucket) i = i ≡ bucket / 32
+MayBeTouched (In bucket) i = i ≡ bucket / 64
 MayBeTouched Anywhere i = Unit {0}
 
 module _ {V : Type 0} where
@@ -18,4 +18,4 @@ module _ {V : Type 0} where
 
   -- the list has a free place, or places for all that a group can hold
   abbrev pub IsReady : Group V → Type 0
-  IsReady g = min 32 (vec_len g.items + 1) ≤ vec_capacity g.items
+  IsReady g = min 64 (vec_len g.items + 1) ≤ vec_capacity g.items

@@ -1,4 +1,4 @@
-//! A group of 32 buckets: a number whose bit k says that bucket k is occupied, and the items of the occupied ones.
+//! A group of 64 buckets: a number whose bit k says that bucket k is occupied, and the items of the occupied ones.
 ghost use Rattle.std.specs.Prelude.{insert, ◌≡◌, ◌+◌, ◌++◌, ◌^◌, ◌<◌, ◌≤◌, ◌↔◌, length, vec_len, Some, None, IfOk, IfSome, IsTrue, count_ones, option_map, slice_set, ℕ};
 ghost use Rattle.std.specs.Vec.{vec_capacity};
 
@@ -6,22 +6,22 @@ use std::alloc::{AllocError, Global};
 use std::mem::{self, size_of};
 
 /// Free places of a list when it is made to fit, so that not each insertion lengthens it.
-const SLACK: usize = 4;
+pub const SLACK: usize = 4;
 
 /// An empty list with room for the items of a whole group, kept ready for a group whose own list is full.
 #[derive(Drop)]
 pub struct Blank<V> {
     list: Vec<(u64, V)>,
     ghost is_empty: { vec_len list ≡ 0 },
-    ghost has_room: { vec_capacity list ≡ 32 },
+    ghost has_room: { vec_capacity list ≡ 64 },
 }
 
 impl<V: Drop> Blank<V> {
-    /// A list with room for 32 items.
+    /// A list with room for 64 items.
     pub fn new(alloc: Global) -> Result<Self, AllocError>
-        ensures { IfOk result (λ b. vec_capacity b.list ≡ 32) }
+        ensures { IfOk result (λ b. vec_capacity b.list ≡ 64) }
     {
-        let list = Vec::with_capacity(alloc, 32)?;
+        let list = Vec::with_capacity(alloc, 64)?;
         Ok(Blank { list })
     }
 }
@@ -30,14 +30,14 @@ impl<V: Drop> Blank<V> {
 #[derive(Drop)]
 pub struct Group<V> {
     /// Bit k is set where bucket k is occupied.
-    pub occupied: u32,
+    pub occupied: u64,
     /// The items of the occupied buckets, in bucket order.
     pub items: Vec<(u64, V)>,
-    ghost fits: { occupied < 2 ^ 32 },
+    ghost fits: { occupied < 2 ^ 64 },
     ghost counted: { length items.items ≡ count_ones occupied },
 }
 
-// What a group takes beside its items: 4 bytes for its bits, and 24 for the list's header, aligned to 8.
+// What a group takes beside its items: 8 bytes for its bits, and 24 for the list's header.
 const _: [(); 32] = [(); size_of::<Group<u64>>()];
 
 /// Moves items to the end of a list that has room for them.
@@ -69,9 +69,9 @@ fn insert_item<V: Drop>(items: &mut Vec<(u64, V)>, place: usize, item: (u64, V))
 }
 
 impl<V: Drop> Group<V> {
-    ghost use Rattle.std.specs.Prelude.{◌≡◌, ◌≢◌, ◌<◌, ◌≤◌, ◌↔◌, ℕ, vec_len, min, max, Some, None, IsSome, IfSome, IfNone, IfOk, IsTrue, OnOk, OnErr, is_some, option_map, slice_set};
+    ghost use Rattle.std.specs.Prelude.{◌≡◌, ◌≢◌, ◌+◌, ◌*◌, ◌<◌, ◌≤◌, ◌↔◌, ℕ, length, count_ones, vec_len, min, max, Some, None, IsSome, IfSome, IfNone, IfOk, IsTrue, OnOk, OnErr, is_some, option_map, slice_set};
     ghost use Rattle.std.specs.Vec.{vec_capacity};
-    ghost use Rattle.sparse_map.specs.Slots.{slot_at, key_at, rank, exchanged};
+    ghost use Rattle.sparse_map.specs.Slots.{slot_at, key_at, rank, exchanged, unpacked, items_of, group};
     ghost use Rattle.sparse_map.specs.Groups.{slots_in};
     ghost use Rattle.sparse_map.specs.Trimmed.{IsTrimmed, IsReady};
     ghost use Rattle.std.specs.Borrow.{sem};
@@ -100,7 +100,7 @@ impl<V: Drop> Group<V> {
 
     /// Whether bucket `k` is occupied.
     pub fn is_occupied(&self, k: u32) -> bool
-        requires { k < 32 }
+        requires { k < 64 }
         ensures { result ≡ is_some (slot_at (slots_in self.now) k) }
     {
         (self.occupied >> k) & 1 == 1
@@ -110,7 +110,7 @@ impl<V: Drop> Group<V> {
     /// counted once for each key that is looked for, and handed on.
     #[tactic(auto, using(crate::proofs::RankLemmas::rank_by_mask))]
     pub fn rank_at(&self, k: u32) -> u32
-        requires { k < 32 }
+        requires { k < 64 }
         ensures { result ≡ rank self.now.occupied k }
     {
         (self.occupied & ((1 << k) - 1)).count_ones()
@@ -118,11 +118,11 @@ impl<V: Drop> Group<V> {
 
     /// The first free bucket from bucket `from` on.
     pub fn first_free(&self, from: u32) -> Option<u32>
-        requires { from < 32 }
-        ensures within { IfSome result (λ k. (from ≤ k) × (k < 32)) }
+        requires { from < 64 }
+        ensures within { IfSome result (λ k. (from ≤ k) × (k < 64)) }
         ensures free { IfSome result (λ k. slot_at (slots_in self.now) k ≡ None) }
         ensures passed { IfSome result (λ k. (j : ℕ) → from ≤ j → j < k → IsSome (slot_at (slots_in self.now) j)) }
-        ensures none { IfNone result ((j : ℕ) → from ≤ j → j < 32 → IsSome (slot_at (slots_in self.now) j)) }
+        ensures none { IfNone result ((j : ℕ) → from ≤ j → j < 64 → IsSome (slot_at (slots_in self.now) j)) }
     {
         let free = !self.occupied >> from;
         if free == 0 {
@@ -133,30 +133,35 @@ impl<V: Drop> Group<V> {
 
     /// Where the run of occupied buckets from bucket `from` on ends.
     pub fn run_end(&self, from: u32) -> u32
-        requires { from < 32 }
+        requires { from < 64 }
         ensures from { from ≤ result }
-        ensures within { result ≤ 32 }
+        ensures within { result ≤ 64 }
         ensures occupied { (j : ℕ) → from ≤ j → j < result → IsSome (slot_at (slots_in self.now) j) }
-        ensures free { result < 32 → slot_at (slots_in self.now) result ≡ None }
+        ensures free { result < 64 → slot_at (slots_in self.now) result ≡ None }
     {
         if let Some(k) = self.first_free(from) {
             return k;
         }
-        32
+        64
     }
 
     /// The bucket that has a key, in a run of occupied buckets that starts at `from` and has this end. As no bucket of a
     /// run is free, its items stand one after another.
     pub fn find_in_run(&self, from: u32, end: u32, place: u32, key: u64) -> Option<u32>
-        requires from { from < 32 }
-        requires end { end ≤ 32 }
+        requires from { from < 64 }
+        requires end { end ≤ 64 }
         requires place { place ≡ rank self.now.occupied from }
         requires occupied { (j : ℕ) → from ≤ j → j < end → IsSome (slot_at (slots_in self.now) j) }
         ensures within { IfSome result (λ k. (from ≤ k) × (k < end)) }
         ensures found { IfSome result (λ k. key_at (slots_in self.now) k ≡ Some key) }
         ensures none { IfNone result ((j : ℕ) → from ≤ j → j < end → key_at (slots_in self.now) j ≢ Some key) }
     {
-        for k in from..end {
+        if from >= end {
+            return None;
+        }
+        // Whether the first item has another key is added, not asked: it comes often, and can't be guessed.
+        let other = u32::from(self.items[place as usize].0 != key);
+        for k in from + other..end {
             if self.items[(place + (k - from)) as usize].0 == key {
                 return Some(k);
             }
@@ -164,9 +169,25 @@ impl<V: Drop> Group<V> {
         None
     }
 
+    /// The lower (i = 0) or the upper (i = 1) 32 buckets: which of them are occupied, and their items.
+    pub fn half(&self, i: u64) -> (u32, &[(u64, V)])
+        requires { i < 2 }
+        ensures counted { length result.1.now ≡ count_ones result.0 }
+        ensures placed { (k : ℕ) → k < 32 → unpacked result.0 result.1.now k ≡ slot_at (slots_in self.now) (32 * i + k) }
+        ensures items { result.1.now ≡ items_of (group (slots_in self.now) i) }
+    {
+        let low = (self.occupied % (1 << 32)) as u32;
+        let (lower, upper) = self.items.as_slice().split_at(low.count_ones() as usize);
+        if i == 0 {
+            (low, lower)
+        } else {
+            ((self.occupied >> 32) as u32, upper)
+        }
+    }
+
     /// The key in bucket `k`.
     pub fn key(&self, k: u32, place: u32) -> Option<u64>
-        requires within { k < 32 }
+        requires within { k < 64 }
         requires place { place ≡ rank self.now.occupied k }
         ensures { result ≡ key_at (slots_in self.now) k }
     {
@@ -178,7 +199,7 @@ impl<V: Drop> Group<V> {
 
     /// The value in the occupied bucket `k`.
     pub fn value(&self, k: u32, place: u32) -> &V
-        requires within { k < 32 }
+        requires within { k < 64 }
         requires place { place ≡ rank self.now.occupied k }
         requires occupied { IsSome (slot_at (slots_in self.now) k) }
         ensures { option_map (λ e. e.1) (slot_at (slots_in self.now) k) ≡ Some result.now }
@@ -188,7 +209,7 @@ impl<V: Drop> Group<V> {
 
     /// The value in the occupied bucket `k`, to write to.
     pub fn value_mut(&mut self, k: u32, place: u32) -> &mut V
-        requires within { k < 32 }
+        requires within { k < 64 }
         requires place { place ≡ rank self.old.occupied k }
         requires occupied { IsSome (slot_at (slots_in self.old) k) }
         ensures* lends { sem 𝓛 (LendsGroupValue V.row self.entry k result) }
@@ -206,7 +227,7 @@ impl<V: Drop> Group<V> {
 
     /// Occupies a free bucket, within the room that the list has.
     pub fn insert(&mut self, k: u32, place: u32, item: (u64, V))
-        requires within { k < 32 }
+        requires within { k < 64 }
         requires place { place ≡ rank self.old.occupied k }
         requires free { slot_at (slots_in self.old) k ≡ None }
         requires room { vec_len self.old.items < vec_capacity self.old.items }
@@ -220,7 +241,7 @@ impl<V: Drop> Group<V> {
 
     /// Frees an occupied bucket.
     pub fn remove(&mut self, k: u32, place: u32) -> (u64, V)
-        requires within { k < 32 }
+        requires within { k < 64 }
         requires place { place ≡ rank self.old.occupied k }
         requires occupied { IsSome (slot_at (slots_in self.old) k) }
         ensures item { slot_at (slots_in self.old) k ≡ Some result }
@@ -236,7 +257,7 @@ impl<V: Drop> Group<V> {
 
     /// Sets the item of an occupied bucket, and gives the old one.
     pub fn replace(&mut self, k: u32, place: u32, item: (u64, V)) -> (u64, V)
-        requires within { k < 32 }
+        requires within { k < 64 }
         requires place { place ≡ rank self.old.occupied k }
         requires occupied { IsSome (slot_at (slots_in self.old) k) }
         ensures item { slot_at (slots_in self.old) k ≡ Some result }
@@ -249,8 +270,8 @@ impl<V: Drop> Group<V> {
 
     /// Exchanges the items of two occupied buckets.
     pub fn exchange(&mut self, k: u32, k_place: u32, l: u32, l_place: u32)
-        requires k_within { k < 32 }
-        requires l_within { l < 32 }
+        requires k_within { k < 64 }
+        requires l_within { l < 64 }
         requires k_place { k_place ≡ rank self.old.occupied k }
         requires l_place { l_place ≡ rank self.old.occupied l }
         requires k_occupied { IsSome (slot_at (slots_in self.old) k) }
@@ -262,11 +283,22 @@ impl<V: Drop> Group<V> {
         self.items.swap(k_place as usize, l_place as usize);
     }
 
+    /// Takes over a list without items, in a group that has none.
+    pub fn take_list(&mut self, list: Vec<(u64, V)>)
+        requires free { vec_len self.old.items ≡ 0 }
+        requires none { vec_len list ≡ 0 }
+        ensures slots { slots_in self.new ≡ slots_in self.old }
+        ensures len { vec_len self.new.items ≡ vec_len self.old.items }
+        ensures capacity { vec_capacity self.new.items ≡ vec_capacity list }
+    {
+        self.items = list;
+    }
+
     /// Moves the items into the blank list, which has room for all that the group can hold.
     pub fn move_to(&mut self, alloc: Global, blank: Blank<V>)
         ensures occupied { self.new.occupied ≡ self.old.occupied }
         ensures items { self.new.items.items ≡ self.old.items.items }
-        ensures capacity { vec_capacity self.new.items ≡ 32 }
+        ensures capacity { vec_capacity self.new.items ≡ 64 }
     {
         let Blank { mut list } = blank;
         move_items(mem::replace(&mut self.items, Vec::new(alloc)), &mut list);
@@ -301,10 +333,10 @@ impl<V: Drop> Group<V> {
         ensures err { OnErr result (vec_capacity self.new.items ≡ vec_capacity self.old.items) }
     {
         let len = self.items.len();
-        if len < self.items.capacity() || len >= 32 {
+        if len < self.items.capacity() || len >= 64 {
             return Ok(());
         }
-        let places = (len + SLACK).min(32);
+        let places = (len + SLACK).min(64);
         let mut list = Vec::with_capacity(alloc, places)?;
         let mut full = mem::replace(&mut self.items, Vec::new(alloc));
         match list.append(&mut full) {

@@ -4,13 +4,14 @@ ghost use Rattle.std.specs.FinMap as map;
 ghost use Rattle.std.specs.FinMap.{find};
 ghost use Rattle.sparse_map.specs.Home.{IsDoubledFor, IsTableSize};
 ghost use Rattle.sparse_map.specs.Slots.{slot_at, items_of, unpacked, group};
-ghost use Rattle.sparse_map.specs.Packed.{map_of, len_of, buckets_of, memory_of, IsSound};
+ghost use Rattle.sparse_map.specs.Packed.{map_of, len_of, buckets_of, lists_of, memory_of, IsPeak, IsSound};
+ghost use Rattle.sparse_map.specs.Places.{sizes_of, places_of};
 ghost use Rattle.sparse_map.specs.Probe.{IsPut, IsReplaced};
 ghost use Rattle.sparse_map.specs.Removal.{IsItemTaken};
 
 use crate::group::{Blank, Group};
-use crate::home::bits_for;
-use crate::moving::{groups_ahead, place_groups};
+use crate::home::{bits_for, bucket_count};
+use crate::moving::{Widening, groups_ahead, place_groups};
 use crate::table::{
     Place, Touched, blanks_for, find, fit_touched, places_of, probe, put, remove_at, replace,
     value_at,
@@ -30,6 +31,7 @@ pub struct SparseMap<V> {
     stock: Vec<Blank<V>>,
     // The groups whose lists became full, or gave way to a blank one, since the last `reserve`.
     touched: Touched,
+    peak: u64,
 }
 
 impl<V> Model for SparseMap<V> {
@@ -42,7 +44,7 @@ impl<V> Model for SparseMap<V> {
 
     ghost coded = { table_code V.code };
 
-    ghost view = { λ m. seen_of m.groups.items m.spare (vec_len m.stock) m.touched };
+    ghost view = { λ m. seen_of m.bits m.groups.items m.spare (vec_len m.stock) m.touched m.peak };
 
     ghost invariant = { λ m. KeepsTable m.bits m.len m.spare (vec_len m.stock) m.touched m.groups.items };
 }
@@ -59,6 +61,7 @@ impl<V: Drop> SparseMap<V> {
         ensures empty { map_of result ≡ map.empty }
         ensures memory { memory_of result ≡ 0 }
         ensures loose { result.loose ≡ 0 }
+        ensures peak { result.peak ≡ 0 }
         ensures sound { IsSound result }
     {
         SparseMap {
@@ -69,6 +72,7 @@ impl<V: Drop> SparseMap<V> {
             spare: 0,
             stock: Vec::new(alloc),
             touched: Touched::Nowhere,
+            peak: 0,
         }
     }
 
@@ -87,9 +91,10 @@ impl<V: Drop> SparseMap<V> {
         self.len == 0
     }
 
-    /// How many buckets there are: none, or a power of two from 32 on.
+    /// How many buckets there are: none, or a power of two from 32 to 2^31.
     pub fn buckets(&self) -> u64
         ensures buckets { result ≡ buckets_of self.now }
+        ensures few { result ≤ 2 ^ 31 }
         ensures sound { IsSound self.now }
     {
         32 * self.groups()
@@ -101,7 +106,10 @@ impl<V: Drop> SparseMap<V> {
         ensures few { result ≤ 2 ^ 26 }
         ensures sound { IsSound self.now }
     {
-        self.groups.len() as u64
+        if self.bits == 0 {
+            return 0;
+        }
+        bucket_count(self.bits) / 32
     }
 
     /// How many new keys can go in before the next `reserve`.
@@ -111,13 +119,20 @@ impl<V: Drop> SparseMap<V> {
         self.spare
     }
 
-    /// How many items the map has memory for: the places of all groups' lists, free ones included, and 32 for each blank
+    /// How many items the map has memory for: the places of all groups' lists, free ones included, and 64 for each blank
     /// list that is kept ready.
     pub fn places(&self) -> u64
         ensures { result ≡ min (memory_of self.now) (2 ^ 64 - 1) }
     {
-        let blanks = self.stock.len() as u64;
-        places_of(self.groups.as_slice()).saturating_add(blanks.saturating_mul(32))
+        places_with(self.groups.as_slice(), self.stock.as_slice())
+    }
+
+    /// How many items the map had memory for when its buckets doubled last, old and new lists together, blank ones included:
+    /// 0 where none was there yet.
+    pub fn peak_places(&self) -> u64
+        ensures { result ≡ self.now.peak }
+    {
+        self.peak
     }
 
     /// Group `i` as it is packed: a number whose bit k says whether bucket k of the group is occupied, and the items of
@@ -130,8 +145,7 @@ impl<V: Drop> SparseMap<V> {
         ensures items { result.1.now ≡ items_of (group self.now.slots i) }
         ensures sound { IsSound self.now }
     {
-        let group = &self.groups[i as usize];
-        (group.occupied, group.items.as_slice())
+        self.groups[(i / 2) as usize].half(i % 2)
     }
 
     /// The value of a key.
@@ -150,8 +164,8 @@ impl<V: Drop> SparseMap<V> {
     {
         match find(self.groups.as_slice(), self.bits, key) {
             Some(seat) => {
-                let k = (seat.bucket % 32) as u32;
-                Some(self.groups[(seat.bucket / 32) as usize].value_mut(k, seat.rank))
+                let k = (seat.bucket % 64) as u32;
+                Some(self.groups[(seat.bucket / 64) as usize].value_mut(k, seat.rank))
             }
             None => None,
         }
@@ -169,6 +183,7 @@ impl<V: Drop> SparseMap<V> {
             (λ _. IsReplaced self.old.slots self.new.slots key value) }
         ensures memory { memory_of self.new ≤ memory_of self.old }
         ensures loose { self.new.loose ≤ self.old.loose }
+        ensures peak { self.new.peak ≡ self.old.peak }
         ensures sound { IsSound self.new }
     {
         let spot = probe(self.groups.as_slice(), self.bits, key);
@@ -204,6 +219,7 @@ impl<V: Drop> SparseMap<V> {
         ensures spare { self.new.spare ≡ self.old.spare }
         ensures memory { memory_of self.new ≡ memory_of self.old }
         ensures loose { self.new.loose ≤ self.old.loose + 1 }
+        ensures peak { self.new.peak ≡ self.old.peak }
         ensures sound { IsSound self.new }
     {
         let seat = find(self.groups.as_slice(), self.bits, key)?;
@@ -227,10 +243,12 @@ impl<V: Drop> SparseMap<V> {
         ensures spare { OnOk result (self.new.spare ≡ max self.old.spare n) }
         ensures stays { buckets_of self.new ≡ buckets_of self.old → self.new.slots ≡ self.old.slots }
         ensures memory { OnOk result (self.new.places ≤ len_of self.new + buckets_of self.new / 8 + self.new.loose) }
-        ensures exact { OnOk result (buckets_of self.new ≢ buckets_of self.old
-            → (self.new.places ≤ len_of self.new + buckets_of self.new / 32) × (self.new.spare ≤ 1 → self.new.blanks ≡ 0)) }
-        ensures blanks { OnOk result (self.new.blanks ≤ min self.new.spare (buckets_of self.new / 32)) }
+        ensures no_blanks { OnOk result (buckets_of self.new ≢ buckets_of self.old → (self.new.spare ≤ 1 → self.new.blanks ≡ 0)) }
+        ensures blanks { OnOk result (self.new.blanks ≤ min self.new.spare (lists_of self.new)) }
         ensures loose { self.new.loose ≤ self.old.loose }
+        ensures none_loose { OnOk result (buckets_of self.new ≢ buckets_of self.old → self.new.loose ≡ 0) }
+        ensures peak { buckets_of self.new ≡ buckets_of self.old → self.new.peak ≡ self.old.peak }
+        ensures doubled { OnOk result (buckets_of self.new ≢ buckets_of self.old → IsPeak self.old self.new) }
         ensures err { OnErr result ((self.new.slots ≡ self.old.slots) × (self.new.spare ≡ self.old.spare)) }
         ensures refused { OnErr result ((self.new.places ≤ self.old.places)
             × (self.new.blanks ≤ max self.old.blanks (max self.old.spare n))) }
@@ -252,14 +270,15 @@ impl<V: Drop> SparseMap<V> {
         ensures slots { self.new.slots ≡ self.old.slots }
         ensures spare { OnOk result (self.new.spare ≡ max self.old.spare n) }
         ensures memory { OnOk result (self.new.places ≤ len_of self.new + buckets_of self.new / 8 + self.new.loose) }
-        ensures blanks { OnOk result (self.new.blanks ≤ min self.new.spare (buckets_of self.new / 32)) }
+        ensures blanks { OnOk result (self.new.blanks ≤ min self.new.spare (lists_of self.new)) }
         ensures loose { self.new.loose ≤ self.old.loose }
+        ensures peak { self.new.peak ≡ self.old.peak }
         ensures err { OnErr result (self.new.spare ≡ self.old.spare) }
         ensures refused { OnErr result ((self.new.places ≤ self.old.places)
             × (self.new.blanks ≤ max self.old.blanks (max self.old.spare n))) }
     {
         let spare = self.spare.max(n);
-        let wanted = blanks_for(self.touched, spare, self.groups());
+        let wanted = blanks_for(self.touched, spare, self.groups.len() as u64);
         add_blanks(self.alloc, &mut self.stock, wanted)?;
         fit_touched(self.alloc, self.groups.as_mut_slice(), &mut self.touched)?;
         self.stock.truncate(wanted as usize);
@@ -268,7 +287,7 @@ impl<V: Drop> SparseMap<V> {
     }
 
     /// Places every item anew in `2^bits` buckets, in the order of the old ones. What goes where is counted first, so that
-    /// lists are taken that fit, and all memory is taken before the first item moves.
+    /// lists are taken that fit, or old ones handed on, and all memory is taken before the first item moves.
     fn widen(&mut self, bits: u32, n: u64) -> Result<(), AllocError>
         requires size { IsTableSize bits }
         requires wider { buckets_of self.old ≤ 2 ^ bits }
@@ -276,27 +295,44 @@ impl<V: Drop> SparseMap<V> {
         ensures map { map_of self.new ≡ map_of self.old }
         ensures buckets { OnOk result (buckets_of self.new ≡ 2 ^ bits) }
         ensures spare { OnOk result (self.new.spare ≡ max self.old.spare n) }
-        ensures exact { OnOk result
-            ((self.new.places ≤ len_of self.new + buckets_of self.new / 32) × (self.new.spare ≤ 1 → self.new.blanks ≡ 0)) }
-        ensures blanks { OnOk result (self.new.blanks ≤ min self.new.spare (buckets_of self.new / 32)) }
+        ensures memory { OnOk result (self.new.places ≤ len_of self.new + buckets_of self.new / 8 + self.new.loose) }
+        ensures no_blanks { OnOk result (self.new.spare ≤ 1 → self.new.blanks ≡ 0) }
+        ensures blanks { OnOk result (self.new.blanks ≤ min self.new.spare (lists_of self.new)) }
         ensures loose { OnOk result (self.new.loose ≡ 0) }
+        ensures peak { OnOk result (IsPeak self.old self.new) }
         ensures err { OnErr result (self.new ≡ self.old) }
         ensures sound { OnOk result (IsSound self.new) }
     {
         let spare = self.spare.max(n);
-        let mut groups = groups_ahead(self.alloc, self.groups.as_slice(), bits)?;
+        let ahead = groups_ahead(self.alloc, self.groups.as_slice(), bits)?;
+        let Widening {
+            mut groups,
+            heirs,
+            held,
+        } = ahead;
         let mut stock = Vec::new(self.alloc);
         let wanted = blanks_for(Touched::Nowhere, spare, groups.len() as u64);
         add_blanks(self.alloc, &mut stock, wanted)?;
+        let before = self.places();
+        let peak = before.saturating_add(places_with(groups.as_slice(), stock.as_slice()));
         let old = mem::replace(&mut self.groups, Vec::new(self.alloc));
-        place_groups(groups.as_mut_slice(), bits, old);
+        place_groups(groups.as_mut_slice(), bits, heirs.as_slice(), held, old);
         self.bits = bits;
         self.groups = groups;
         self.spare = spare;
         self.stock = stock;
         self.touched = Touched::Nowhere;
+        self.peak = peak;
         Ok(())
     }
+}
+
+/// How many places the lists of these groups have, and blank ones of 64.
+fn places_with<V: Drop>(groups: &[Group<V>], stock: &[Blank<V>]) -> u64
+    ensures { result ≡ min (places_of (sizes_of groups.now) + 64 * length stock.now) (2 ^ 64 - 1) }
+{
+    let blanks = stock.len() as u64;
+    places_of(groups).saturating_add(blanks.saturating_mul(64))
 }
 
 /// Adds blank lists until there are `wanted`.

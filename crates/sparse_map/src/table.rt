@@ -1,10 +1,11 @@
-//! The buckets of all groups as one table: bucket b is bucket b % 32 of group b / 32.
+//! The buckets of all groups as one table: bucket b is bucket b % 64 of group b / 64.
 ghost use Rattle.std.specs.Prelude.{◌≡◌, ◌≢◌, ℕ, ◌+◌, ◌*◌, ◌%◌, ◌^◌, ◌<◌, ◌≤◌, length, vec_len, Some, None, IfSome, IfOk, MatchOption, is_some, option_map, OnOk, OnErr, is_ok, slice_set, ◌/◌, ◌-◌, ◌⊎◌, ◌==◌, if◌then◌else◌, IsTrue, true, false, min};
 ghost use Rattle.std.specs.Ordering.{nat_cmp};
 ghost use Rattle.std.specs.FinMap.{find};
 ghost use Rattle.std.specs.Vec.{vec_capacity};
 ghost use Rattle.sparse_map.specs.Slots.{slot_at, key_at, items_of, exchanged};
-ghost use Rattle.sparse_map.specs.Groups.{slots_in, slots_of};
+ghost use Rattle.sparse_map.specs.Home.{buckets_for};
+ghost use Rattle.sparse_map.specs.Groups.{slots_in, all_slots, slots_of, IsTable};
 ghost use Rattle.sparse_map.specs.Packed.{IsPacked};
 ghost use Rattle.sparse_map.specs.Ranks.{IsRankOf, IsRankAt, IsSeated};
 ghost use Rattle.sparse_map.specs.Kept.{HasFreeBucket};
@@ -62,7 +63,7 @@ pub enum Touched {
 impl Touched {
     /// The same once a new key went into a bucket, and touched its group or not.
     pub fn with(self, touched: bool, bucket: u64) -> Self
-        ensures added { IsTrue touched → MayBeTouched result (bucket / 32) }
+        ensures added { IsTrue touched → MayBeTouched result (bucket / 64) }
         ensures kept { (i : ℕ) → MayBeTouched self i → MayBeTouched result i }
         ensures first { IsTrue touched → self ≡ Nowhere → result ≡ In bucket }
         ensures same { touched ≡ false → result ≡ self }
@@ -72,7 +73,7 @@ impl Touched {
         }
         match self {
             Touched::Nowhere => Touched::In(bucket),
-            Touched::In(last) if last / 32 == bucket / 32 => self,
+            Touched::In(last) if last / 64 == bucket / 64 => self,
             _ => Touched::Anywhere,
         }
     }
@@ -80,33 +81,33 @@ impl Touched {
 
 /// The rank of a bucket after an occupied one, of which this is the rank.
 fn next_rank(rank: u32, bucket: u64) -> u32
-    requires { rank ≤ 32 }
-    ensures { result ≡ (if bucket % 32 == 0 then 0 else rank + 1) }
+    requires { rank ≤ 64 }
+    ensures { result ≡ (if bucket % 64 == 0 then 0 else rank + 1) }
 {
-    if bucket % 32 == 0 { 0 } else { rank + 1 }
+    if bucket % 64 == 0 { 0 } else { rank + 1 }
 }
 
 /// The key in a bucket.
 fn key_at<V: Drop>(groups: &[Group<V>], bucket: u64, rank: u32) -> Option<u64>
-    requires within { bucket < 32 * length groups.now }
+    requires within { bucket < 64 * length groups.now }
     requires rank { IsRankOf groups.now bucket rank }
-    ensures { result ≡ key_at (slots_of groups.now) bucket }
+    ensures { result ≡ key_at (all_slots groups.now) bucket }
 {
-    groups[(bucket / 32) as usize].key((bucket % 32) as u32, rank)
+    groups[(bucket / 64) as usize].key((bucket % 64) as u32, rank)
 }
 
 /// The value in an occupied bucket.
 pub fn value_at<V: Drop>(groups: &[Group<V>], bucket: u64, rank: u32) -> &V
     requires seat { IsSeated groups.now bucket rank }
-    ensures { option_map (λ e. e.1) (slot_at (slots_of groups.now) bucket) ≡ Some result.now }
+    ensures { option_map (λ e. e.1) (slot_at (all_slots groups.now) bucket) ≡ Some result.now }
 {
-    groups[(bucket / 32) as usize].value((bucket % 32) as u32, rank)
+    groups[(bucket / 64) as usize].value((bucket % 64) as u32, rank)
 }
 
 /// Makes room for one item in a group that has a free bucket: a list that is full gives way to a blank one. Answers
 /// whether it did.
 fn make_room<V: Drop>(alloc: Global, group: &mut Group<V>, stock: &mut Vec<Blank<V>>) -> bool
-    requires below { vec_len group.old.items < 32 }
+    requires below { vec_len group.old.items < 64 }
     requires stocked { vec_len group.old.items ≡ vec_capacity group.old.items → 0 < vec_len stock.old }
     ensures slots { slots_in group.new ≡ slots_in group.old }
     ensures occupied { group.new.occupied ≡ group.old.occupied }
@@ -114,7 +115,7 @@ fn make_room<V: Drop>(alloc: Global, group: &mut Group<V>, stock: &mut Vec<Blank
     ensures len { vec_len group.new.items ≡ vec_len group.old.items }
     ensures widened { ((result ≡ false) × (vec_capacity group.new.items ≡ vec_capacity group.old.items)
         × (vec_len stock.new ≡ vec_len stock.old))
-        ⊎ ((result ≡ true) × (vec_len group.old.items ≡ vec_capacity group.old.items) × (vec_capacity group.new.items ≡ 32)
+        ⊎ ((result ≡ true) × (vec_len group.old.items ≡ vec_capacity group.old.items) × (vec_capacity group.new.items ≡ 64)
         × (vec_len stock.old ≡ vec_len stock.new + 1)) }
 {
     if !group.is_full() {
@@ -137,72 +138,72 @@ pub fn put<V: Drop>(
     rank: u32,
     item: (u64, V),
 ) -> bool
-    requires within { bucket < 32 * length groups.old }
-    requires free { slot_at (slots_of groups.old) bucket ≡ None }
+    requires within { bucket < 64 * length groups.old }
+    requires free { slot_at (all_slots groups.old) bucket ≡ None }
     requires rank { IsRankOf groups.old bucket rank }
     requires stocked { 0 < lacking 1 Nowhere (sizes_of groups.old) → 0 < vec_len stock.old }
-    ensures slots { slots_of groups.new ≡ slice_set (slots_of groups.old) bucket (Some item) }
+    ensures slots { all_slots groups.new ≡ slice_set (all_slots groups.old) bucket (Some item) }
     ensures one_less { vec_len stock.old ≤ vec_len stock.new + 1 }
     ensures fewer_lack { (n : ℕ) → vec_len stock.old + lacking n Nowhere (sizes_of groups.new)
         ≤ vec_len stock.new + lacking (n + 1) Nowhere (sizes_of groups.old) }
-    ensures places { places_of (sizes_of groups.new) + 32 * vec_len stock.new ≤ places_of (sizes_of groups.old) + 32 * vec_len stock.old }
-    ensures loose { (before after : Touched) → (IsTrue result → MayBeTouched after (bucket / 32))
+    ensures places { places_of (sizes_of groups.new) + 64 * vec_len stock.new ≤ places_of (sizes_of groups.old) + 64 * vec_len stock.old }
+    ensures loose { (before after : Touched) → (IsTrue result → MayBeTouched after (bucket / 64))
         → ((i : ℕ) → MayBeTouched before i → MayBeTouched after i)
         → loose_of after (sizes_of groups.new) ≤ loose_of before (sizes_of groups.old) }
-    ensures ready { (before after : Touched) → (IsTrue result → MayBeTouched after (bucket / 32))
+    ensures ready { (before after : Touched) → (IsTrue result → MayBeTouched after (bucket / 64))
         → ((i : ℕ) → MayBeTouched before i → MayBeTouched after i)
         → lacking 1 after (sizes_of groups.new) ≤ lacking 1 before (sizes_of groups.old) }
 {
-    let group = &mut groups[(bucket / 32) as usize];
+    let group = &mut groups[(bucket / 64) as usize];
     let grew = make_room(alloc, group, stock);
-    group.insert((bucket % 32) as u32, rank, item);
+    group.insert((bucket % 64) as u32, rank, item);
     grew | group.is_full()
 }
 
 /// Sets the item of an occupied bucket, and gives the old one.
 pub fn replace<V: Drop>(groups: &mut [Group<V>], bucket: u64, rank: u32, item: (u64, V)) -> (u64, V)
     requires seat { IsSeated groups.old bucket rank }
-    ensures item { slot_at (slots_of groups.old) bucket ≡ Some result }
-    ensures slots { slots_of groups.new ≡ slice_set (slots_of groups.old) bucket (Some item) }
+    ensures item { slot_at (all_slots groups.old) bucket ≡ Some result }
+    ensures slots { all_slots groups.new ≡ slice_set (all_slots groups.old) bucket (Some item) }
     ensures sizes { sizes_of groups.new ≡ sizes_of groups.old }
 {
-    groups[(bucket / 32) as usize].replace((bucket % 32) as u32, rank, item)
+    groups[(bucket / 64) as usize].replace((bucket % 64) as u32, rank, item)
 }
 
 /// Frees an occupied bucket.
 fn take<V: Drop>(groups: &mut [Group<V>], bucket: u64, rank: u32) -> (u64, V)
     requires seat { IsSeated groups.old bucket rank }
-    ensures item { slot_at (slots_of groups.old) bucket ≡ Some result }
-    ensures slots { slots_of groups.new ≡ slice_set (slots_of groups.old) bucket None }
+    ensures item { slot_at (all_slots groups.old) bucket ≡ Some result }
+    ensures slots { all_slots groups.new ≡ slice_set (all_slots groups.old) bucket None }
     ensures places { places_of (sizes_of groups.new) ≡ places_of (sizes_of groups.old) }
     ensures loose { (t : Touched) → loose_of t (sizes_of groups.new) ≤ loose_of t (sizes_of groups.old) + 1 }
     ensures lacking { (n : ℕ) (t : Touched) → lacking n t (sizes_of groups.new) ≤ lacking n t (sizes_of groups.old) }
 {
-    groups[(bucket / 32) as usize].remove((bucket % 32) as u32, rank)
+    groups[(bucket / 64) as usize].remove((bucket % 64) as u32, rank)
 }
 
 /// Exchanges the items of two occupied buckets of one group.
 fn exchange_within<V: Drop>(groups: &mut [Group<V>], a: u64, a_rank: u32, b: u64, b_rank: u32)
     requires a { IsSeated groups.old a a_rank }
     requires b { IsSeated groups.old b b_rank }
-    requires together { a / 32 ≡ b / 32 }
-    ensures slots { slots_of groups.new ≡ exchanged (slots_of groups.old) a b }
+    requires together { a / 64 ≡ b / 64 }
+    ensures slots { all_slots groups.new ≡ exchanged (all_slots groups.old) a b }
     ensures sizes { sizes_of groups.new ≡ sizes_of groups.old }
 {
-    groups[(a / 32) as usize].exchange((a % 32) as u32, a_rank, (b % 32) as u32, b_rank);
+    groups[(a / 64) as usize].exchange((a % 64) as u32, a_rank, (b % 64) as u32, b_rank);
 }
 
 /// Exchanges the items of occupied buckets of two groups.
 fn exchange_across<V: Drop>(groups: &mut [Group<V>], a: u64, a_rank: u32, b: u64, b_rank: u32)
     requires a { IsSeated groups.old a a_rank }
     requires b { IsSeated groups.old b b_rank }
-    requires apart { a / 32 ≢ b / 32 }
-    ensures slots { slots_of groups.new ≡ exchanged (slots_of groups.old) a b }
+    requires apart { a / 64 ≢ b / 64 }
+    ensures slots { all_slots groups.new ≡ exchanged (all_slots groups.old) a b }
     ensures sizes { sizes_of groups.new ≡ sizes_of groups.old }
 {
-    let first = groups[(a / 32) as usize].remove((a % 32) as u32, a_rank);
-    let second = groups[(b / 32) as usize].replace((b % 32) as u32, b_rank, first);
-    groups[(a / 32) as usize].insert((a % 32) as u32, a_rank, second);
+    let first = groups[(a / 64) as usize].remove((a % 64) as u32, a_rank);
+    let second = groups[(b / 64) as usize].replace((b % 64) as u32, b_rank, first);
+    groups[(a / 64) as usize].insert((a % 64) as u32, a_rank, second);
 }
 
 /// Exchanges the items of two occupied buckets.
@@ -210,12 +211,12 @@ fn exchange<V: Drop>(groups: &mut [Group<V>], a: u64, a_rank: u32, b: u64, b_ran
     requires a { IsSeated groups.old a a_rank }
     requires b { IsSeated groups.old b b_rank }
     requires apart { a ≢ b }
-    ensures slots { slots_of groups.new ≡ exchanged (slots_of groups.old) a b }
+    ensures slots { all_slots groups.new ≡ exchanged (all_slots groups.old) a b }
     ensures sizes { sizes_of groups.new ≡ sizes_of groups.old }
-    ensures occupied { (c : ℕ) → is_some (slot_at (slots_of groups.new) c) ≡ is_some (slot_at (slots_of groups.old) c) }
+    ensures occupied { (c : ℕ) → is_some (slot_at (all_slots groups.new) c) ≡ is_some (slot_at (all_slots groups.old) c) }
     ensures ranks { (c place : ℕ) → IsRankOf groups.old c place → IsRankOf groups.new c place }
 {
-    if a / 32 == b / 32 {
+    if a / 64 == b / 64 {
         exchange_within(groups, a, a_rank, b, b_rank);
     } else {
         exchange_across(groups, a, a_rank, b, b_rank);
@@ -223,35 +224,36 @@ fn exchange<V: Drop>(groups: &mut [Group<V>], a: u64, a_rank: u32, b: u64, b_ran
 }
 
 /// The first free bucket from a bucket on, going round. No key is read: the groups' numbers say which are occupied.
-pub fn first_free<V: Drop>(groups: &[Group<V>], from: u64) -> Seat
-    requires few { 32 * length groups.now ≤ 2 ^ 31 }
-    requires within { from < 32 * length groups.now }
-    requires room { length (items_of (slots_of groups.now)) < 32 * length groups.now }
-    ensures first { IsFirstFree (slots_of groups.now) from result.bucket }
+pub fn first_free<V: Drop>(groups: &[Group<V>], bits: u32, from: u64) -> Seat
+    requires table { HasFreeBucket bits groups.now }
+    requires within { from < 2 ^ bits }
+    ensures first { IsFirstFree (slots_of (2 ^ bits) groups.now) from result.bucket }
     ensures rank { IsRankOf groups.now result.bucket result.rank }
 {
     // While the buckets double most homes are free: a test of that bucket alone is guessed right, and nothing waits for it.
-    let start = &groups[(from / 32) as usize];
-    if !start.is_occupied((from % 32) as u32) {
+    let start = &groups[(from / 64) as usize];
+    if !start.is_occupied((from % 64) as u32) {
         return Seat {
             bucket: from,
-            rank: start.rank_at((from % 32) as u32),
+            rank: start.rank_at((from % 64) as u32),
         };
     }
-    let buckets = 32 * groups.len() as u64;
+    let buckets = bucket_count(bits);
+    let width = buckets.min(64);
     let mut bucket = from;
     let mut passed = 0;
     while passed < buckets {
-        let group = &groups[(bucket / 32) as usize];
-        let start = bucket - bucket % 32;
-        if let Some(k) = group.first_free((bucket % 32) as u32) {
+        let group = &groups[(bucket / 64) as usize];
+        let start = bucket - bucket % 64;
+        let end = group.run_end((bucket % 64) as u32);
+        if u64::from(end) < width {
             return Seat {
-                bucket: start + u64::from(k),
-                rank: group.rank_at(k),
+                bucket: start + u64::from(end),
+                rank: group.rank_at(end),
             };
         }
-        passed += 32 - bucket % 32;
-        bucket = next_bucket(buckets, start + 31);
+        passed += width - bucket % 64;
+        bucket = next_bucket(buckets, start + width - 1);
     }
     // There are fewer items than buckets, so a free one comes within one round.
     unreachable!()
@@ -260,16 +262,18 @@ pub fn first_free<V: Drop>(groups: &[Group<V>], from: u64) -> Seat
 /// Looks for a key from its home on, going round.
 pub fn probe<V: Drop>(groups: &[Group<V>], bits: u32, key: u64) -> Spot
     requires table { HasFreeBucket bits groups.now }
-    ensures place { IsPlaceOf (slots_of groups.now) key result.at }
+    ensures place { IsPlaceOf (slots_of (2 ^ bits) groups.now) key result.at }
     ensures rank { IsRankAt groups.now result.at result.rank }
 {
     let buckets = bucket_count(bits);
+    // A table of 32 buckets uses the lower half of its group.
+    let width = buckets.min(64);
     let mut bucket = home_of(bits, key);
     let mut passed = 0;
     while passed < buckets {
-        let group = &groups[(bucket / 32) as usize];
-        let start = bucket - bucket % 32;
-        let first = (bucket % 32) as u32;
+        let group = &groups[(bucket / 64) as usize];
+        let start = bucket - bucket % 64;
+        let first = (bucket % 64) as u32;
         let place = group.rank_at(first);
         let end = group.run_end(first);
         if let Some(k) = group.find_in_run(first, end, place, key) {
@@ -278,14 +282,14 @@ pub fn probe<V: Drop>(groups: &[Group<V>], bits: u32, key: u64) -> Spot
                 rank: place + (k - first),
             };
         }
-        if end < 32 {
+        if u64::from(end) < width {
             return Spot {
                 at: Place::Free(start + u64::from(end)),
                 rank: place + (end - first),
             };
         }
-        passed += 32 - bucket % 32;
-        bucket = next_bucket(buckets, start + 31);
+        passed += width - bucket % 64;
+        bucket = next_bucket(buckets, start + width - 1);
     }
     // Some bucket is free, so a run ends within one round.
     unreachable!()
@@ -293,13 +297,9 @@ pub fn probe<V: Drop>(groups: &[Group<V>], bits: u32, key: u64) -> Spot
 
 /// Where a key is, if it is there.
 pub fn find<V: Drop>(groups: &[Group<V>], bits: u32, key: u64) -> Option<Seat>
-    requires many { 0 < bits → 5 ≤ bits }
-    requires few { bits ≤ 31 }
-    requires buckets { length (slots_of groups.now) ≡ (if bits == 0 then 0 else 2 ^ bits) }
-    requires packed { IsPacked (slots_of groups.now) }
-    requires room { 0 < bits → length (items_of (slots_of groups.now)) < 2 ^ bits }
-    ensures found { MatchOption result ((b : ℕ) → key_at (slots_of groups.now) b ≢ Some key)
-        (λ seat. key_at (slots_of groups.now) seat.bucket ≡ Some key) }
+    requires table { 0 < bits → HasFreeBucket bits groups.now }
+    ensures found { MatchOption result ((b : ℕ) → key_at (slots_of (buckets_for bits) groups.now) b ≢ Some key)
+        (λ seat. key_at (slots_of (buckets_for bits) groups.now) seat.bucket ≡ Some key) }
     ensures rank { IfSome result (λ seat. IsRankOf groups.now seat.bucket seat.rank) }
 {
     if bits == 0 {
@@ -321,10 +321,11 @@ pub fn find<V: Drop>(groups: &[Group<V>], bits: u32, key: u64) -> Option<Seat>
 fn shift_back<V: Drop>(groups: &mut [Group<V>], bits: u32, bucket: u64, rank: u32) -> (u64, u32)
     requires table { HasFreeBucket bits groups.old }
     requires seat { IsSeated groups.old bucket rank }
-    ensures shifted { IsShifted (slots_of groups.old) (slots_of groups.new) bucket result.0 }
+    ensures shifted { IsShifted (slots_of (2 ^ bits) groups.old) (slots_of (2 ^ bits) groups.new) bucket result.0 }
     ensures rank { IsRankOf groups.new result.0 result.1 }
-    ensures walk { slice_set (slots_of groups.new) result.0 None ≡ shifted_back (2 ^ bits) (2 ^ bits - 1) bucket bucket
-        (slice_set (slots_of groups.old) bucket None) }
+    ensures walk { slice_set (slots_of (2 ^ bits) groups.new) result.0 None ≡ shifted_back (2 ^ bits) (2 ^ bits - 1) bucket bucket
+        (slice_set (slots_of (2 ^ bits) groups.old) bucket None) }
+    ensures table { IsTable (2 ^ bits) groups.new }
     ensures sizes { sizes_of groups.new ≡ sizes_of groups.old }
 {
     let buckets = bucket_count(bits);
@@ -353,13 +354,14 @@ fn shift_back<V: Drop>(groups: &mut [Group<V>], bits: u32, bucket: u64, rank: u3
 pub fn remove_at<V: Drop>(groups: &mut [Group<V>], bits: u32, bucket: u64, rank: u32) -> (u64, V)
     requires table { HasFreeBucket bits groups.old }
     requires seat { IsSeated groups.old bucket rank }
-    ensures item { slot_at (slots_of groups.old) bucket ≡ Some result }
-    ensures found { (key : ℕ) → find nat_cmp key (items_of (slots_of groups.new)) ≡ (if key == result.0 then None else find nat_cmp key
-        (items_of (slots_of groups.old))) }
-    ensures count { length (items_of (slots_of groups.new)) + 1 ≡ length (items_of (slots_of groups.old)) }
-    ensures packed { IsPacked (slots_of groups.new) }
-    ensures walk { slots_of groups.new ≡ shifted_back (2 ^ bits) (2 ^ bits - 1) bucket bucket
-        (slice_set (slots_of groups.old) bucket None) }
+    ensures item { slot_at (slots_of (2 ^ bits) groups.old) bucket ≡ Some result }
+    ensures found { (key : ℕ) → find nat_cmp key (items_of (slots_of (2 ^ bits) groups.new))
+        ≡ (if key == result.0 then None else find nat_cmp key (items_of (slots_of (2 ^ bits) groups.old))) }
+    ensures count { length (items_of (slots_of (2 ^ bits) groups.new)) + 1 ≡ length (items_of (slots_of (2 ^ bits) groups.old)) }
+    ensures packed { IsPacked (slots_of (2 ^ bits) groups.new) }
+    ensures table { IsTable (2 ^ bits) groups.new }
+    ensures walk { slots_of (2 ^ bits) groups.new ≡ shifted_back (2 ^ bits) (2 ^ bits - 1) bucket bucket
+        (slice_set (slots_of (2 ^ bits) groups.old) bucket None) }
     ensures places { places_of (sizes_of groups.new) ≡ places_of (sizes_of groups.old) }
     ensures loose { (t : Touched) → loose_of t (sizes_of groups.new) ≤ loose_of t (sizes_of groups.old) + 1 }
     ensures lacking { (n : ℕ) (t : Touched) → lacking n t (sizes_of groups.new) ≤ lacking n t (sizes_of groups.old) }
@@ -371,7 +373,7 @@ pub fn remove_at<V: Drop>(groups: &mut [Group<V>], bits: u32, bucket: u64, rank:
 /// Gives back the memory that the groups' lists hold beyond their items and a little room. Refused at the first list for
 /// which there is no memory.
 fn trim_all<V: Drop>(groups: &mut [Group<V>]) -> Result<(), AllocError>
-    ensures slots { slots_of groups.new ≡ slots_of groups.old }
+    ensures slots { all_slots groups.new ≡ all_slots groups.old }
     ensures fewer { places_of (sizes_of groups.new) ≤ places_of (sizes_of groups.old) }
     ensures loose { (t : Touched) → loose_of t (sizes_of groups.new) ≤ loose_of t (sizes_of groups.old) }
     ensures lacking { (t : Touched) → lacking 1 t (sizes_of groups.new) ≤ lacking 1 t (sizes_of groups.old) }
@@ -385,7 +387,7 @@ fn trim_all<V: Drop>(groups: &mut [Group<V>]) -> Result<(), AllocError>
 
 /// Gives each group whose list is full a little longer one. Refused at the first one for which there is no memory.
 fn grow_all<V: Drop>(alloc: Global, groups: &mut [Group<V>]) -> Result<(), AllocError>
-    ensures slots { slots_of groups.new ≡ slots_of groups.old }
+    ensures slots { all_slots groups.new ≡ all_slots groups.old }
     ensures loose { (t : Touched) → loose_of t (sizes_of groups.new) ≤ loose_of t (sizes_of groups.old) }
     ensures lacking { (t : Touched) → lacking 1 t (sizes_of groups.new) ≤ lacking 1 t (sizes_of groups.old) }
     ensures none_lacks { OnOk result (lacking 1 Nowhere (sizes_of groups.new) ≡ 0) }
@@ -398,14 +400,14 @@ fn grow_all<V: Drop>(alloc: Global, groups: &mut [Group<V>]) -> Result<(), Alloc
 
 /// Makes the list of the group of a bucket fit.
 fn fit_one<V: Drop>(alloc: Global, groups: &mut [Group<V>], bucket: u64) -> Result<(), AllocError>
-    ensures slots { slots_of groups.new ≡ slots_of groups.old }
+    ensures slots { all_slots groups.new ≡ all_slots groups.old }
     ensures loose { (t : Touched) → loose_of t (sizes_of groups.new) ≤ loose_of t (sizes_of groups.old) }
     ensures lacking { (t : Touched) → lacking 1 t (sizes_of groups.new) ≤ lacking 1 t (sizes_of groups.old) }
     ensures not_loose { OnOk result (loose_of Nowhere (sizes_of groups.new) ≤ loose_of (In bucket) (sizes_of groups.old)) }
     ensures not_lacking { OnOk result (lacking 1 Nowhere (sizes_of groups.new) ≤ lacking 1 (In bucket) (sizes_of groups.old)) }
     ensures err { OnErr result (places_of (sizes_of groups.new) ≤ places_of (sizes_of groups.old)) }
 {
-    let i = (bucket / 32) as usize;
+    let i = (bucket / 64) as usize;
     if i >= groups.len() {
         return Ok(());
     }
@@ -415,7 +417,7 @@ fn fit_one<V: Drop>(alloc: Global, groups: &mut [Group<V>], bucket: u64) -> Resu
 /// Makes the lists of all groups fit, and answers whether each has a free place, or places for a whole group: where memory
 /// fails for one that is full, it stays so. Refused, for want of memory for a shorter one, no list got longer.
 fn fit_all<V: Drop>(alloc: Global, groups: &mut [Group<V>]) -> Result<bool, AllocError>
-    ensures slots { slots_of groups.new ≡ slots_of groups.old }
+    ensures slots { all_slots groups.new ≡ all_slots groups.old }
     ensures loose { (t : Touched) → loose_of t (sizes_of groups.new) ≤ loose_of t (sizes_of groups.old) }
     ensures lacking { (t : Touched) → lacking 1 t (sizes_of groups.new) ≤ lacking 1 t (sizes_of groups.old) }
     ensures none_loose { OnOk result (loose_of Nowhere (sizes_of groups.new) ≡ 0) }
@@ -433,7 +435,7 @@ pub fn fit_touched<V: Drop>(
     groups: &mut [Group<V>],
     touched: &mut Touched,
 ) -> Result<(), AllocError>
-    ensures slots { slots_of groups.new ≡ slots_of groups.old }
+    ensures slots { all_slots groups.new ≡ all_slots groups.old }
     ensures loose { loose_of touched.new (sizes_of groups.new) ≤ loose_of touched.old (sizes_of groups.old) }
     ensures ready { lacking 1 touched.new (sizes_of groups.new) ≤ lacking 1 touched.old (sizes_of groups.old) }
     ensures lacking { lacking 1 Nowhere (sizes_of groups.new) ≤ lacking 1 Nowhere (sizes_of groups.old) }

@@ -6,12 +6,12 @@ use std::alloc::{AllocError, Global};
 use std::process::Abort;
 use std::test::Fail;
 
-/// Makes room for one key in a map of few keys.
-fn make_room(map: &mut SparseMap<u64>) -> Result<(), AllocError> {
-    if map.len() > 1000 {
+/// Makes room for a few keys in a map of few keys.
+fn make_room(map: &mut SparseMap<u64>, n: u32) -> Result<(), AllocError> {
+    if map.len() > 1000 || n > 1000 {
         return Ok(());
     }
-    map.reserve(1)
+    map.reserve(n)
 }
 
 /// Puts a key into a map of few keys.
@@ -100,11 +100,52 @@ fn a_value_is_replaced_and_written(rt: HostRuntime) -> Result<(), Fail> {
 fn a_quarter_of_the_buckets_stays_free(rt: HostRuntime) -> Result<(), Fail> {
     let mut map = SparseMap::new(rt.alloc());
     fill(&mut map, 0, 23)?;
-    make_room(&mut map)?;
+    make_room(&mut map, 1)?;
     assert_eq!(rt; map.buckets(), 32);
     fill(&mut map, 23, 24)?;
-    make_room(&mut map)?;
+    make_room(&mut map, 1)?;
     assert_eq!(rt; map.buckets(), 64);
+    Ok(())
+}
+
+/// A map with the keys 1 and 3 in 64 buckets, put in with or without a reservation before each, and then 128 buckets.
+fn doubled(alloc: Global, reserved: bool) -> Result<SparseMap<u64>, AllocError> {
+    let mut map = SparseMap::new(alloc);
+    make_room(&mut map, 30)?;
+    for key in [1, 3] {
+        if reserved {
+            make_room(&mut map, 1)?;
+        }
+        if map.spare() > 0 {
+            let _ = map.insert_ready(key, 10 * key);
+        }
+    }
+    make_room(&mut map, 60)?;
+    Ok(map)
+}
+
+#[test]
+fn a_doubling_hands_a_list_on(rt: HostRuntime) -> Result<(), Fail> {
+    let map = doubled(rt.alloc(), true)?;
+    assert_eq!(rt; map.buckets(), 128);
+    // The list of five places is that of the second group, where a new one would have three. Two blank lists have 64 each.
+    assert_eq!(rt; map.places(), 1 + 5 + 128);
+    // It was there once, and so was the one blank list before.
+    assert_eq!(rt; map.peak_places(), 5 + 64 + 1 + 128);
+    holds(&rt, &map, 1, Some(10));
+    holds(&rt, &map, 3, Some(30));
+    Ok(())
+}
+
+#[test]
+fn a_doubling_leaves_a_list_with_too_many_free_places(rt: HostRuntime) -> Result<(), Fail> {
+    let map = doubled(rt.alloc(), false)?;
+    assert_eq!(rt; map.buckets(), 128);
+    // The second key went into the blank list, which has 62 free places.
+    assert_eq!(rt; map.places(), 1 + 3 + 128);
+    assert_eq!(rt; map.peak_places(), 64 + 1 + 3 + 128);
+    holds(&rt, &map, 1, Some(10));
+    holds(&rt, &map, 3, Some(30));
     Ok(())
 }
 

@@ -5,7 +5,7 @@ use Rattle.cache_model.specs.Loading.{Complete, replayed, all_whole}
 use Rattle.recovery.specs.Plain.{page_listed, complete_in, complete_of}
 use Rattle.recovery.proofs.WalkLemmas.{maps_within}
 use Rattle.recovery.proofs.LoadLemmas.{places_whole}
-use Rattle.recovery.proofs.PlainLemmas.{never_sealed, other_numbers, found_is, replay_damaged, place_damaged, is_damaged, is_applied}
+use Rattle.recovery.proofs.PlainLemmas.{never_sealed, region_below, other_numbers, found_is, replay_damaged, place_damaged, is_damaged, is_applied}
 use Rattle.recovery.proofs.plain.plain_load.Goals as goal
 
 pub returns-in_default : goal.returns-in_default
@@ -18,6 +18,11 @@ returns-then-not-is_wanted c =
     let g = c.args.geometry.now in
     let found : ℕ × Complete = (c.in-Some.region, complete_of c.in-Some.sealed) in
     other_numbers g (page_listed g c.args.pages.now) found (ap (option_map complete_in) (sym c.in-Some.is) ∙ c.newest.ensures) (sym c.is_wanted.ensures ∙ c.if-not-is_wanted.true)
+
+pub replay-requires-clause-region : goal.replay-requires-clause-region
+replay-requires-clause-region c =
+    region_below c.args.geometry.now (page_listed c.args.geometry.now c.args.pages.now) (c.in-Some.region, complete_of c.in-Some.sealed)
+    (ap (option_map complete_in) (sym c.in-Some.is) ∙ c.newest.ensures)
 
 pub replay-requires-clause-pages : goal.replay-requires-clause-pages
 replay-requires-clause-pages c =

@@ -7,13 +7,13 @@ pub insert-requires-clause-free : goal.insert-requires-clause-free
 insert-requires-clause-free g c =
     let read = c.index-groups-bucket.result in
     let us = c.args.groups.now in
-    sym (slot_of_bucket us c.args.bucket (get_or us (c.args.bucket / 32) read) read c.requires.within refl) ∙ c.requires.free
+    sym (slot_of_bucket us c.args.bucket (get_or us (c.args.bucket / 64) read) read c.requires.within refl) ∙ c.requires.free
 
 pub insert-requires-clause-room : goal.insert-requires-clause-room
 insert-requires-clause-room g c =
     let read = c.index-groups-bucket.result in
     let us = c.args.groups.now in
-    let i = c.args.bucket / 32 in
+    let i = c.args.bucket / 64 in
     let u = get_or us i read in
     let inside : i < length us = omega (arith, c.requires.within) in
     omega (arith, c.requires.room, len_at us i u read u inside refl, room_at us i u read u inside refl)
@@ -22,20 +22,20 @@ pub returns-clause-slots : goal.returns-clause-slots
 returns-clause-slots g c =
     let read = c.index-groups-bucket.result in
     let us = c.args.groups.now in
-    set_bucket us c.args.bucket (get_or us (c.args.bucket / 32) read) read c.requires.within refl c.insert.new.self (Some c.args.item) c.insert.ensures.slots
+    set_bucket us c.args.bucket (get_or us (c.args.bucket / 64) read) read c.requires.within refl c.insert.new.self (Some c.args.item) c.insert.ensures.slots
 
 pub returns-clause-lens : goal.returns-clause-lens
 returns-clause-lens g c =
     let read = c.index-groups-bucket.result in
     let us = c.args.groups.now in
-    let i = c.args.bucket / 32 in
+    let i = c.args.bucket / 64 in
     lens_of-set us i (get_or us i read) read c.insert.new.self (omega (arith, c.requires.within)) refl c.insert.ensures.len
 
 pub returns-clause-rooms : goal.returns-clause-rooms
 returns-clause-rooms g c =
     let read = c.index-groups-bucket.result in
     let us = c.args.groups.now in
-    let i = c.args.bucket / 32 in
+    let i = c.args.bucket / 64 in
     rooms_of-set us i (get_or us i read) read c.insert.new.self (omega (arith, c.requires.within)) refl c.insert.ensures.capacity
 
 pub insert-requires-clause-place : goal.insert-requires-clause-place

@@ -13,29 +13,29 @@ pub exchange-requires-clause-l_place : goal.exchange-requires-clause-l_place
 exchange-requires-clause-l_place g c =
     let read = c.index-groups-a.result in
     let us = c.args.groups.now in
-    subst (λ i. c.args.b_rank ≡ rank (get_or us i read).occupied (c.args.b % 32)) (sym c.requires.together) (c.requires.b.rank read)
+    subst (λ i. c.args.b_rank ≡ rank (get_or us i read).occupied (c.args.b % 64)) (sym c.requires.together) (c.requires.b.rank read)
 
 pub exchange-requires-clause-k_occupied : goal.exchange-requires-clause-k_occupied
 exchange-requires-clause-k_occupied g c =
     let read = c.index-groups-a.result in
     let us = c.args.groups.now in
-    subst (λ o. IsSome o) (slot_of_bucket us c.args.a (get_or us (c.args.a / 32) read) read c.requires.a.within refl) c.requires.a.occupied
+    subst (λ o. IsSome o) (slot_of_bucket us c.args.a (get_or us (c.args.a / 64) read) read c.requires.a.within refl) c.requires.a.occupied
 
 pub exchange-requires-clause-l_occupied : goal.exchange-requires-clause-l_occupied
 exchange-requires-clause-l_occupied g c =
     let read = c.index-groups-a.result in
     let us = c.args.groups.now in
-    subst (λ o. IsSome o) (slot_of_bucket us c.args.b (get_or us (c.args.a / 32) read) read c.requires.b.within (ap (λ i. get_or us i read) c.requires.together)) c.requires.b.occupied
+    subst (λ o. IsSome o) (slot_of_bucket us c.args.b (get_or us (c.args.a / 64) read) read c.requires.b.within (ap (λ i. get_or us i read) c.requires.together)) c.requires.b.occupied
 
 pub returns-clause-slots : goal.returns-clause-slots
 returns-clause-slots g c =
     let read = c.index-groups-a.result in
     let us = c.args.groups.now in
-    exchanged_in us c.args.a c.args.b (get_or us (c.args.a / 32) read) read c.exchange.new.self c.requires.a.within c.requires.b.within c.requires.together refl c.exchange.ensures.slots
+    exchanged_in us c.args.a c.args.b (get_or us (c.args.a / 64) read) read c.exchange.new.self c.requires.a.within c.requires.b.within c.requires.together refl c.exchange.ensures.slots
 
 pub returns-clause-sizes : goal.returns-clause-sizes
 returns-clause-sizes g c =
     let read = c.index-groups-a.result in
     let us = c.args.groups.now in
     let inside = c.requires.a.within in
-    sizes-same us (c.args.a / 32) (get_or us (c.args.a / 32) read) read c.exchange.new.self (omega arith) refl c.exchange.ensures.len c.exchange.ensures.capacity
+    sizes-same us (c.args.a / 64) (get_or us (c.args.a / 64) read) read c.exchange.new.self (omega arith) refl c.exchange.ensures.len c.exchange.ensures.capacity

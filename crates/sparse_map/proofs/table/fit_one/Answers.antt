@@ -2,7 +2,7 @@ use Rattle.std.proofs.Common.{◌≡◌, ◌/◌, ◌≤◌, length, get_or, ref
 use Rattle.std.specs.Vec.{vec_len, vec_capacity}
 use Rattle.sparse_map.specs.Trimmed.{IsTrimmed, IsReady}
 use Rattle.sparse_map.specs.Places.{sizes_of, extra, lacks}
-use Rattle.sparse_map.proofs.TableLemmas.{slots_of_trimmed}
+use Rattle.sparse_map.proofs.TableLemmas.{all_slots_trimmed}
 use Rattle.sparse_map.proofs.PlacesLemmas.{extra-few, extra-none, extra-full, lacks-room, lacks-none, lacks-full, places_in-set, untouched_in-set, untouched_in-fitted, untouched-past, length-sizes}
 use Rattle.std.proofs.lemmas.Result.{on_ok_weaker, on_err_weaker}
 use Rattle.sparse_map.proofs.table.fit_one.Goals as goal
@@ -19,53 +19,53 @@ returns-then-i-groups-clause-not_lacking g c =
 
 pub returns-clause-slots : goal.returns-clause-slots
 returns-clause-slots g c =
-    slots_of_trimmed c.args.groups.now (c.args.bucket / 32) c.index-groups-i.result c.fit.new.self c.if-i-groups.false c.fit.ensures.occupied c.fit.ensures.items
+    all_slots_trimmed c.args.groups.now (c.args.bucket / 64) c.index-groups-i.result c.fit.new.self c.if-i-groups.false c.fit.ensures.occupied c.fit.ensures.items
 
 pub returns-clause-loose : goal.returns-clause-loose
 returns-clause-loose g c =
     let us = c.args.groups.now in
     let read = c.index-groups-i.result in
-    let u = get_or us (c.args.bucket / 32) read in
+    let u = get_or us (c.args.bucket / 64) read in
     let w = c.fit.new.self in
     let len : vec_len w.items ≡ vec_len u.items = omega (arith, ap length c.fit.ensures.items, u.items.ok.0, w.items.ok.0) in
     let few = extra-few u w len c.fit.ensures.few in
-    λ t. omega (arith, untouched_in-set us (c.args.bucket / 32) u read w c.if-i-groups.false refl extra t 0 (omega (arith, few)))
+    λ t. omega (arith, untouched_in-set us (c.args.bucket / 64) u read w c.if-i-groups.false refl extra t 0 (omega (arith, few)))
 
 pub returns-clause-lacking : goal.returns-clause-lacking
 returns-clause-lacking g c =
     let us = c.args.groups.now in
     let read = c.index-groups-i.result in
-    let u = get_or us (c.args.bucket / 32) read in
+    let u = get_or us (c.args.bucket / 64) read in
     let w = c.fit.new.self in
     let len : vec_len w.items ≡ vec_len u.items = omega (arith, ap length c.fit.ensures.items, u.items.ok.0, w.items.ok.0) in
     let room = lacks-room u w len c.fit.ensures.room in
-    λ t. omega (arith, untouched_in-set us (c.args.bucket / 32) u read w c.if-i-groups.false refl (lacks 1) t 0 (omega (arith, room)))
+    λ t. omega (arith, untouched_in-set us (c.args.bucket / 64) u read w c.if-i-groups.false refl (lacks 1) t 0 (omega (arith, room)))
 
 pub returns-clause-not_loose : goal.returns-clause-not_loose
 returns-clause-not_loose g c =
     let us = c.args.groups.now in
     let read = c.index-groups-i.result in
-    let u = get_or us (c.args.bucket / 32) read in
+    let u = get_or us (c.args.bucket / 64) read in
     let w = c.fit.new.self in
     on_ok_weaker {P = IsTrimmed w} c.fit.result
-    (λ trimmed. untouched_in-fitted us (c.args.bucket / 32) u read w c.if-i-groups.false refl extra c.args.bucket refl (extra-none w trimmed))
+    (λ trimmed. untouched_in-fitted us (c.args.bucket / 64) u read w c.if-i-groups.false refl extra c.args.bucket refl (extra-none w trimmed))
     c.fit.ensures.trimmed
 
 pub returns-clause-not_lacking : goal.returns-clause-not_lacking
 returns-clause-not_lacking g c =
     let us = c.args.groups.now in
     let read = c.index-groups-i.result in
-    let u = get_or us (c.args.bucket / 32) read in
+    let u = get_or us (c.args.bucket / 64) read in
     let w = c.fit.new.self in
     on_ok_weaker {P = IsReady w} c.fit.result
-    (λ ready. untouched_in-fitted us (c.args.bucket / 32) u read w c.if-i-groups.false refl (lacks 1) c.args.bucket refl (lacks-none w ready))
+    (λ ready. untouched_in-fitted us (c.args.bucket / 64) u read w c.if-i-groups.false refl (lacks 1) c.args.bucket refl (lacks-none w ready))
     c.fit.ensures.ready
 
 pub returns-clause-err : goal.returns-clause-err
 returns-clause-err g c =
     let us = c.args.groups.now in
     let read = c.index-groups-i.result in
-    let u = get_or us (c.args.bucket / 32) read in
+    let u = get_or us (c.args.bucket / 64) read in
     let w = c.fit.new.self in
-    let changed = places_in-set us (c.args.bucket / 32) u read w c.if-i-groups.false refl in
+    let changed = places_in-set us (c.args.bucket / 64) u read w c.if-i-groups.false refl in
     on_err_weaker {P = vec_capacity w.items ≤ vec_capacity u.items} c.fit.result (λ less. omega (arith, changed, less)) c.fit.ensures.err

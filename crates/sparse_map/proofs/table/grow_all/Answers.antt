@@ -4,7 +4,7 @@ use Rattle.std.specs.List.{All}
 use Rattle.std.specs.Vec.{vec_len}
 use Rattle.sparse_map.specs.Trimmed.{IsReady}
 use Rattle.sparse_map.specs.Places.{extra, lacks}
-use Rattle.sparse_map.proofs.TableLemmas.{slots_of-set_same, slots_in-same}
+use Rattle.sparse_map.proofs.TableLemmas.{all_slots-set_same, slots_in-same}
 use Rattle.sparse_map.proofs.PlacesLemmas.{extra-few, lacks-none, lacks-room, none-counted, untouched_in-set}
 use Rattle.sparse_map.proofs.table.grow_all.Goals as goal
 
@@ -23,7 +23,7 @@ loop-group-preserved g c =
     let few = extra-few u w len c.grow.ensures.few in
     let room = lacks-room u w len (omega (arith, c.grow.ensures.capacity)) in
     record {
-      slots = slots_of-set_same us i u read w inside refl (slots_in-same u w c.grow.ensures.occupied c.grow.ensures.items) ∙ c.loop-group.invariant.slots;
+      slots = all_slots-set_same us i u read w inside refl (slots_in-same u w c.grow.ensures.occupied c.grow.ensures.items) ∙ c.loop-group.invariant.slots;
       loose = λ t. omega (arith, untouched_in-set us i u read w inside refl extra t 0 (omega (arith, few)), c.loop-group.invariant.loose t);
       lacking = λ t. omega (arith, untouched_in-set us i u read w inside refl (lacks 1) t 0 (omega (arith, room)), c.loop-group.invariant.lacking t);
       ready = AllWithin-more_set us i w inside IsReady c.loop-group.invariant.ready c.in_ok-grow.ensures.ok;
@@ -36,7 +36,7 @@ returns-in_err-grow-clause-slots g c =
     let read = c.group-item.result in
     let u = get_or us i read in
     let inside : i < length us = omega (arith, c.loop-group-test.true) in
-    slots_of-set_same us i u read c.grow.new.self inside refl (slots_in-same u c.grow.new.self c.grow.ensures.occupied c.grow.ensures.items)
+    all_slots-set_same us i u read c.grow.new.self inside refl (slots_in-same u c.grow.new.self c.grow.ensures.occupied c.grow.ensures.items)
     ∙ c.loop-group.invariant.slots
 
 pub returns-in_err-grow-clause-loose : goal.returns-in_err-grow-clause-loose

@@ -3,7 +3,7 @@ use Rattle.std.specs.Prelude.{IsTrue, ◌||◌}
 use Rattle.std.specs.Vec.{vec_len, vec_capacity}
 use Rattle.std.proofs.lemmas.Bool.{cases_eq, false≢true}
 use Rattle.sparse_map.specs.Slots.{rank, slot_at}
-use Rattle.sparse_map.proofs.GroupLemmas.{free_below_32}
+use Rattle.sparse_map.proofs.GroupLemmas.{free_below_64}
 use Rattle.sparse_map.proofs.TableLemmas.{slot_of_bucket, set_bucket}
 use Rattle.sparse_map.specs.Places.{list_size, sizes_of, extra, lacks}
 use Rattle.sparse_map.proofs.PlacesLemmas.{untouched-wider, extra-most, lacks-le, lacks-no, lacks-yes, places_in-set, untouched_in-set, untouched_in-at, lacking_in-next, lacking-one}
@@ -21,16 +21,16 @@ pub make_room-grew-requires-clause-below : goal.make_room-grew-requires-clause-b
 make_room-grew-requires-clause-below g c =
     let read = c.index-groups-bucket.result in
     let us = c.args.groups.now in
-    let u = get_or us (c.args.bucket / 32) read in
-    let lt : c.args.bucket % 32 < 32 = omega arith in
-    free_below_32 u (c.args.bucket % 32) lt (sym (slot_of_bucket us c.args.bucket u read c.requires.within refl) ∙ c.requires.free)
+    let u = get_or us (c.args.bucket / 64) read in
+    let lt : c.args.bucket % 64 < 64 = omega arith in
+    free_below_64 u (c.args.bucket % 64) lt (sym (slot_of_bucket us c.args.bucket u read c.requires.within refl) ∙ c.requires.free)
 
 pub insert-requires-clause-free : goal.insert-requires-clause-free
 insert-requires-clause-free g c =
     let read = c.index-groups-bucket.result in
     let us = c.args.groups.now in
-    let u = get_or us (c.args.bucket / 32) read in
-    ap (λ l. slot_at l (c.args.bucket % 32)) c.make_room-grew.ensures.slots
+    let u = get_or us (c.args.bucket / 64) read in
+    ap (λ l. slot_at l (c.args.bucket % 64)) c.make_room-grew.ensures.slots
     ∙ sym (slot_of_bucket us c.args.bucket u read c.requires.within refl)
     ∙ c.requires.free
 
@@ -38,17 +38,17 @@ pub returns-clause-slots : goal.returns-clause-slots
 returns-clause-slots g c =
     let read = c.index-groups-bucket.result in
     let us = c.args.groups.now in
-    let u = get_or us (c.args.bucket / 32) read in
+    let u = get_or us (c.args.bucket / 64) read in
     set_bucket us c.args.bucket u read c.requires.within refl c.insert.new.self (Some c.args.item)
-    (c.insert.ensures.slots ∙ ap (λ l. set l (c.args.bucket % 32) (Some c.args.item)) c.make_room-grew.ensures.slots)
+    (c.insert.ensures.slots ∙ ap (λ l. set l (c.args.bucket % 64) (Some c.args.item)) c.make_room-grew.ensures.slots)
 
 pub returns-clause-places : goal.returns-clause-places
 returns-clause-places g c =
     let read = c.index-groups-bucket.result in
     let us = c.args.groups.now in
-    let u = get_or us (c.args.bucket / 32) read in
-    let inside : c.args.bucket / 32 < length us = omega (arith, c.requires.within) in
-    let changed = places_in-set us (c.args.bucket / 32) u read c.insert.new.self inside refl in
+    let u = get_or us (c.args.bucket / 64) read in
+    let inside : c.args.bucket / 64 < length us = omega (arith, c.requires.within) in
+    let changed = places_in-set us (c.args.bucket / 64) u read c.insert.new.self inside refl in
     elim c.make_room-grew.ensures.widened [
       | inl kept ↦ omega (arith, changed, c.insert.ensures.capacity, kept.1, kept.2)
       | inr wider ↦ omega (arith, changed, c.insert.ensures.capacity, wider.2, wider.3)
@@ -58,17 +58,17 @@ pub insert-requires-clause-place : goal.insert-requires-clause-place
 insert-requires-clause-place g c =
     let read = c.index-groups-bucket.result in
     let us = c.args.groups.now in
-    c.requires.rank read ∙ ap (λ n. rank n (c.args.bucket % 32)) (sym c.make_room-grew.ensures.occupied)
+    c.requires.rank read ∙ ap (λ n. rank n (c.args.bucket % 64)) (sym c.make_room-grew.ensures.occupied)
 
 pub make_room-grew-requires-clause-stocked : goal.make_room-grew-requires-clause-stocked
 make_room-grew-requires-clause-stocked g c =
     let read = c.index-groups-bucket.result in
     let us = c.args.groups.now in
-    let i = c.args.bucket / 32 in
+    let i = c.args.bucket / 64 in
     let u = get_or us i read in
     let inside : i < length us = omega (arith, c.requires.within) in
-    let lt : c.args.bucket % 32 < 32 = omega arith in
-    let below = free_below_32 u (c.args.bucket % 32) lt (sym (slot_of_bucket us c.args.bucket u read c.requires.within refl) ∙ c.requires.free) in
+    let lt : c.args.bucket % 64 < 64 = omega arith in
+    let below = free_below_64 u (c.args.bucket % 64) lt (sym (slot_of_bucket us c.args.bucket u read c.requires.within refl) ∙ c.requires.free) in
     λ full.
     let one = lacks-yes 1 (list_size u) (omega (arith, full, below)) in
     c.requires.stocked (omega (arith, one, lacking-one us i u read u inside refl 1))
@@ -77,12 +77,12 @@ pub returns-clause-fewer_lack : goal.returns-clause-fewer_lack
 returns-clause-fewer_lack g c =
     let read = c.index-groups-bucket.result in
     let us = c.args.groups.now in
-    let i = c.args.bucket / 32 in
+    let i = c.args.bucket / 64 in
     let u = get_or us i read in
     let w = c.insert.new.self in
     let inside : i < length us = omega (arith, c.requires.within) in
-    let lt : c.args.bucket % 32 < 32 = omega arith in
-    let below = free_below_32 u (c.args.bucket % 32) lt (sym (slot_of_bucket us c.args.bucket u read c.requires.within refl) ∙ c.requires.free) in
+    let lt : c.args.bucket % 64 < 64 = omega arith in
+    let below = free_below_64 u (c.args.bucket % 64) lt (sym (slot_of_bucket us c.args.bucket u read c.requires.within refl) ∙ c.requires.free) in
     λ n. elim c.make_room-grew.ensures.widened [
       | inl kept ↦
           let less = lacks-le n (n + 1) (list_size w) (list_size u) (λ lacked. omega (arith, lacked, c.insert.ensures.len, c.make_room-grew.ensures.len, c.insert.ensures.capacity, kept.1)) in
@@ -99,7 +99,7 @@ pub returns-clause-loose : goal.returns-clause-loose
 returns-clause-loose g c =
     let read = c.index-groups-bucket.result in
     let us = c.args.groups.now in
-    let i = c.args.bucket / 32 in
+    let i = c.args.bucket / 64 in
     let u = get_or us i read in
     let w = c.insert.new.self in
     let inside : i < length us = omega (arith, c.requires.within) in
@@ -116,7 +116,7 @@ pub returns-clause-ready : goal.returns-clause-ready
 returns-clause-ready g c =
     let read = c.index-groups-bucket.result in
     let us = c.args.groups.now in
-    let i = c.args.bucket / 32 in
+    let i = c.args.bucket / 64 in
     let u = get_or us i read in
     let w = c.insert.new.self in
     let inside : i < length us = omega (arith, c.requires.within) in

@@ -4,7 +4,7 @@ use Rattle.std.specs.List.{All}
 use Rattle.std.specs.Vec.{vec_len}
 use Rattle.sparse_map.specs.Trimmed.{IsTrimmed}
 use Rattle.sparse_map.specs.Places.{extra, lacks}
-use Rattle.sparse_map.proofs.TableLemmas.{slots_of-set_same, slots_in-same}
+use Rattle.sparse_map.proofs.TableLemmas.{all_slots-set_same, slots_in-same}
 use Rattle.sparse_map.proofs.PlacesLemmas.{extra-few, extra-none, lacks-room, none-counted, places_in-set, untouched_in-set}
 use Rattle.sparse_map.proofs.table.trim_all.Goals as goal
 
@@ -23,7 +23,7 @@ loop-group-preserved g c =
     let few = extra-few u w len (omega (arith, c.trim.ensures.capacity)) in
     let room = lacks-room u w len c.trim.ensures.room in
     record {
-      slots = slots_of-set_same us i u read w inside refl (slots_in-same u w c.trim.ensures.occupied c.trim.ensures.items) ∙ c.loop-group.invariant.slots;
+      slots = all_slots-set_same us i u read w inside refl (slots_in-same u w c.trim.ensures.occupied c.trim.ensures.items) ∙ c.loop-group.invariant.slots;
       fewer = omega (arith, places_in-set us i u read w inside refl, c.trim.ensures.capacity, c.loop-group.invariant.fewer);
       loose = λ t. omega (arith, untouched_in-set us i u read w inside refl extra t 0 (omega (arith, few)), c.loop-group.invariant.loose t);
       lacking = λ t. omega (arith, untouched_in-set us i u read w inside refl (lacks 1) t 0 (omega (arith, room)), c.loop-group.invariant.lacking t);
@@ -37,7 +37,7 @@ returns-in_err-trim-clause-slots g c =
     let read = c.group-item.result in
     let u = get_or us i read in
     let inside : i < length us = omega (arith, c.loop-group-test.true) in
-    slots_of-set_same us i u read c.trim.new.self inside refl (slots_in-same u c.trim.new.self c.trim.ensures.occupied c.trim.ensures.items)
+    all_slots-set_same us i u read c.trim.new.self inside refl (slots_in-same u c.trim.new.self c.trim.ensures.occupied c.trim.ensures.items)
     ∙ c.loop-group.invariant.slots
 
 pub returns-in_err-trim-clause-fewer : goal.returns-in_err-trim-clause-fewer

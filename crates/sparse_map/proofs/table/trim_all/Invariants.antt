@@ -1,6 +1,6 @@
 use Rattle.std.proofs.Common.{◌≡◌, ◌≤◌}
 use Rattle.std.specs.List.{AllWithin}
-use Rattle.sparse_map.specs.Groups.{slots_of}
+use Rattle.sparse_map.specs.Groups.{all_slots}
 use Rattle.sparse_map.specs.Trimmed.{IsTrimmed}
 use Rattle.sparse_map.specs.declared.table.Touched.{Touched}
 use Rattle.sparse_map.specs.Places.{sizes_of, places_of, loose_of, lacking}
@@ -8,7 +8,7 @@ use Rattle.sparse_map.proofs.table.trim_all.Given as goal
 
 abbrev pub invariant-loop-group : goal.invariant-loop-group
 invariant-loop-group g l = record {
-  slots : slots_of l.groups ≡ slots_of l.initial.groups;
+  slots : all_slots l.groups ≡ all_slots l.initial.groups;
   fewer : places_of (sizes_of l.groups) ≤ places_of (sizes_of l.initial.groups);
   loose : (t : Touched) → loose_of t (sizes_of l.groups) ≤ loose_of t (sizes_of l.initial.groups);
   lacking : (t : Touched) → lacking 1 t (sizes_of l.groups) ≤ lacking 1 t (sizes_of l.initial.groups);

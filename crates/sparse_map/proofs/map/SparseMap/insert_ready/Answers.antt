@@ -1,8 +1,10 @@
-use Rattle.std.proofs.Common.{◌≡◌, ◌+◌, ◌-◌, length, refl, set, Some, arith, ap, sym, ◌∙◌, subst}
+use Rattle.std.proofs.Common.{◌≡◌, ◌+◌, ◌-◌, ◌^◌, length, refl, set, Some, arith, ap, sym, ◌∙◌, subst}
 use Rattle.std.specs.Prelude.{option_map}
 use Rattle.std.specs.Vec.{vec_len}
+use Rattle.std.proofs.lemmas.List.{length-set}
 use Rattle.sparse_map.specs.Slots.{slot_at, key_at}
-use Rattle.sparse_map.specs.Groups.{slots_of}
+use Rattle.sparse_map.specs.Home.{buckets_for}
+use Rattle.sparse_map.specs.Groups.{all_slots, slots_of}
 use Rattle.sparse_map.specs.Ranks.{IsRankOf, IsSeated}
 use Rattle.sparse_map.proofs.RankedLemmas.{seated, key_found, free_found, rank_found, rank_free}
 use Rattle.sparse_map.specs.Kept.{KeepsTable}
@@ -11,10 +13,10 @@ use Rattle.sparse_map.specs.Places.{sizes_of, places_of, loose_of, lacking}
 use Rattle.sparse_map.proofs.PlacesLemmas.{lacking-le}
 use Rattle.sparse_map.specs.Probe.{IsFreeFor}
 use Rattle.sparse_map.proofs.SlotLemmas.{slot_of_key}
-use Rattle.sparse_map.proofs.TableLemmas.{length-slots_of}
+use Rattle.sparse_map.proofs.BucketLemmas.{slot_below, key_below, table_slots, inside_table, inside_groups}
 use Rattle.sparse_map.proofs.MapLemmas.{kept_free_bucket, kept_sound}
 use Rattle.sparse_map.proofs.ViewLemmas.{seen_slots, seen_memory, seen_loose}
-use Rattle.sparse_map.proofs.ChangeLemmas.{written, seen_ready, absent_needs_room, get_there, get_absent, kept_value, map_value, kept_new_key, map_new_key}
+use Rattle.sparse_map.proofs.ChangeLemmas.{written, seen_ready, absent_needs_room, get_there, get_absent, kept_value, map_value, seen_value, kept_new_key, map_new_key, seen_new_key}
 use Rattle.sparse_map.proofs.map.SparseMap.insert_ready.Goals as goal
 
 pub invariant_of-self : goal.invariant_of-self
@@ -22,22 +24,26 @@ invariant_of-self g c =
     let m = c.self.inside in
     let ws = c.replace-old.new.groups in
     let long : length ws ≡ vec_len m.groups = c.replace-old.auto.groups ∙ c.as_mut_slice.ensures.len in
-    let slots = c.replace-old.ensures.slots ∙ ap (λ us. set (slots_of us) c.in-Found.bucket (Some (c.args.key, c.args.value))) c.as_mut_slice.ensures.value in
-    let has = ap (λ us. key_at (slots_of us) c.in-Found.bucket) (sym c.as_slice.ensures.value) ∙ (key_found (slots_of c.as_slice.result.now) c.args.key c.in-Found.bucket c.probe-spot.result.at c.probe-spot.ensures.place c.in-Found.is) in
+    let slots = c.replace-old.ensures.slots ∙ ap (λ us. set (all_slots us) c.in-Found.bucket (Some (c.args.key, c.args.value))) c.as_mut_slice.ensures.value in
+    let same_has = table_slots m.bits c.as_slice.result.now m.groups.items (seen_ready m c.args.self.now c.self.invariant c.self.view_is c.args.key c.requires) c.as_slice.ensures.value in
+    let has = ap (λ s. key_at s c.in-Found.bucket) (sym same_has) ∙ (key_found (slots_of (2 ^ m.bits) c.as_slice.result.now) c.args.key c.in-Found.bucket c.probe-spot.result.at c.probe-spot.ensures.place c.in-Found.is) in
     subst (λ us. KeepsTable m.bits m.len m.spare (vec_len m.stock) m.touched us) (sym (written m.groups ws long))
     (kept_value m c.args.self.now c.self.invariant c.self.view_is ws c.in-Found.bucket c.args.key c.args.value slots has (c.replace-old.ensures.sizes ∙ ap sizes_of c.as_mut_slice.ensures.value))
 
 pub put-touched-requires-clause-within : goal.put-touched-requires-clause-within
 put-touched-requires-clause-within g c =
-    let place = (free_found (slots_of c.as_slice.result.now) c.args.key c.in-Free.bucket c.probe-spot.result.at c.probe-spot.ensures.place c.in-Free.is) in
-    let same : length c.as_mut_slice-in-Free.result.now ≡ length c.as_slice.result.now = ap length (c.as_mut_slice-in-Free.ensures.value ∙ sym c.as_slice.ensures.value) in
-    omega (arith, place.inside, same, length-slots_of c.as_slice.result.now)
+    let n = 2 ^ c.self.inside.bits in
+    let us = c.as_slice.result.now in
+    let place = free_found (slots_of n us) c.args.key c.in-Free.bucket c.probe-spot.result.at c.probe-spot.ensures.place c.in-Free.is in
+    let same : length c.as_mut_slice-in-Free.result.now ≡ length us = ap length (c.as_mut_slice-in-Free.ensures.value ∙ sym c.as_slice.ensures.value) in
+    omega (arith, same, inside_groups n us c.in-Free.bucket place.inside)
 
 pub put-touched-requires-clause-stocked : goal.put-touched-requires-clause-stocked
 put-touched-requires-clause-stocked g c =
     let m = c.self.inside in
-    let place : IsFreeFor (slots_of m.groups.items) c.args.key c.in-Free.bucket = subst (λ us. IsFreeFor (slots_of us) c.args.key c.in-Free.bucket) c.as_slice.ensures.value
-    (free_found (slots_of c.as_slice.result.now) c.args.key c.in-Free.bucket c.probe-spot.result.at c.probe-spot.ensures.place c.in-Free.is) in
+    let same_free = table_slots m.bits c.as_slice.result.now m.groups.items (seen_ready m c.args.self.now c.self.invariant c.self.view_is c.args.key c.requires) c.as_slice.ensures.value in
+    let place : IsFreeFor (slots_of (buckets_for m.bits) m.groups.items) c.args.key c.in-Free.bucket = subst (λ s. IsFreeFor s c.args.key c.in-Free.bucket) same_free
+    (free_found (slots_of (2 ^ m.bits) c.as_slice.result.now) c.args.key c.in-Free.bucket c.probe-spot.result.at c.probe-spot.ensures.place c.in-Free.is) in
     let more = absent_needs_room m c.args.self.now c.self.invariant c.self.view_is c.args.key place.absent c.requires in
     let same = ap (λ us. lacking 1 Nowhere (sizes_of us)) c.as_mut_slice-in-Free.ensures.value in
     λ some. omega (arith, c.self.invariant.stocked, more, same, lacking-le 1 m.spare (sizes_of m.groups.items) more)
@@ -45,8 +51,9 @@ put-touched-requires-clause-stocked g c =
 pub overflow_sub-self : goal.overflow_sub-self
 overflow_sub-self g c =
     let m = c.self.inside in
-    let place : IsFreeFor (slots_of m.groups.items) c.args.key c.in-Free.bucket = subst (λ us. IsFreeFor (slots_of us) c.args.key c.in-Free.bucket) c.as_slice.ensures.value
-    (free_found (slots_of c.as_slice.result.now) c.args.key c.in-Free.bucket c.probe-spot.result.at c.probe-spot.ensures.place c.in-Free.is) in
+    let same_free = table_slots m.bits c.as_slice.result.now m.groups.items (seen_ready m c.args.self.now c.self.invariant c.self.view_is c.args.key c.requires) c.as_slice.ensures.value in
+    let place : IsFreeFor (slots_of (buckets_for m.bits) m.groups.items) c.args.key c.in-Free.bucket = subst (λ s. IsFreeFor s c.args.key c.in-Free.bucket) same_free
+    (free_found (slots_of (2 ^ m.bits) c.as_slice.result.now) c.args.key c.in-Free.bucket c.probe-spot.result.at c.probe-spot.ensures.place c.in-Free.is) in
     let more = absent_needs_room m c.args.self.now c.self.invariant c.self.view_is c.args.key place.absent c.requires in
     omega (arith, more)
 
@@ -55,9 +62,10 @@ invariant_of-self-in-Free g c =
     let m = c.self.inside in
     let ws = c.put-touched.new.groups in
     let long : length ws ≡ vec_len m.groups = c.put-touched.auto.groups ∙ c.as_mut_slice-in-Free.ensures.len in
-    let slots = c.put-touched.ensures.slots ∙ ap (λ us. set (slots_of us) c.in-Free.bucket (Some (c.args.key, c.args.value))) c.as_mut_slice-in-Free.ensures.value in
-    let place : IsFreeFor (slots_of m.groups.items) c.args.key c.in-Free.bucket = subst (λ us. IsFreeFor (slots_of us) c.args.key c.in-Free.bucket) c.as_slice.ensures.value
-    (free_found (slots_of c.as_slice.result.now) c.args.key c.in-Free.bucket c.probe-spot.result.at c.probe-spot.ensures.place c.in-Free.is) in
+    let slots = c.put-touched.ensures.slots ∙ ap (λ us. set (all_slots us) c.in-Free.bucket (Some (c.args.key, c.args.value))) c.as_mut_slice-in-Free.ensures.value in
+    let same_free = table_slots m.bits c.as_slice.result.now m.groups.items (seen_ready m c.args.self.now c.self.invariant c.self.view_is c.args.key c.requires) c.as_slice.ensures.value in
+    let place : IsFreeFor (slots_of (buckets_for m.bits) m.groups.items) c.args.key c.in-Free.bucket = subst (λ s. IsFreeFor s c.args.key c.in-Free.bucket) same_free
+    (free_found (slots_of (2 ^ m.bits) c.as_slice.result.now) c.args.key c.in-Free.bucket c.probe-spot.result.at c.probe-spot.ensures.place c.in-Free.is) in
     let more = absent_needs_room m c.args.self.now c.self.invariant c.self.view_is c.args.key place.absent c.requires in
     let old = ap sizes_of c.as_mut_slice-in-Free.ensures.value in
     let after = c.with-self-inside.result in
@@ -69,10 +77,14 @@ invariant_of-self-in-Free g c =
 pub returns-in-Found-clause-old : goal.returns-in-Found-clause-old
 returns-in-Found-clause-old g c =
     let m = c.self.inside in
-    let has = ap (λ us. key_at (slots_of us) c.in-Found.bucket) (sym c.as_slice.ensures.value) ∙ (key_found (slots_of c.as_slice.result.now) c.args.key c.in-Found.bucket c.probe-spot.result.at c.probe-spot.ensures.place c.in-Found.is) in
-    let at = slot_of_key (slots_of m.groups.items) c.in-Found.bucket c.args.key has in
+    let same_has = table_slots m.bits c.as_slice.result.now m.groups.items (seen_ready m c.args.self.now c.self.invariant c.self.view_is c.args.key c.requires) c.as_slice.ensures.value in
+    let has = ap (λ s. key_at s c.in-Found.bucket) (sym same_has) ∙ (key_found (slots_of (2 ^ m.bits) c.as_slice.result.now) c.args.key c.in-Found.bucket c.probe-spot.result.at c.probe-spot.ensures.place c.in-Found.is) in
+    let at = slot_of_key (slots_of (buckets_for m.bits) m.groups.items) c.in-Found.bucket c.args.key has in
     let value : Some at.0 ≡ Some c.replace-old.result.1 =
-    ap (option_map (λ e. e.1)) (sym at.1 ∙ ap (λ us. slot_at (slots_of us) c.in-Found.bucket) (sym c.as_mut_slice.ensures.value) ∙ c.replace-old.ensures.item) in
+    ap (option_map (λ e. e.1)) (sym at.1
+    ∙ slot_below (buckets_for m.bits) m.groups.items c.in-Found.bucket (key_below (buckets_for m.bits) m.groups.items c.in-Found.bucket c.args.key has)
+    ∙ ap (λ us. slot_at (all_slots us) c.in-Found.bucket) (sym c.as_mut_slice.ensures.value)
+    ∙ c.replace-old.ensures.item) in
     sym value ∙ sym (get_there m c.args.self.now c.self.invariant c.self.view_is c.in-Found.bucket c.args.key at.0 at.1)
 
 pub returns-in-Found-clause-map : goal.returns-in-Found-clause-map
@@ -80,26 +92,29 @@ returns-in-Found-clause-map g c =
     let m = c.self.inside in
     let ws = c.replace-old.new.groups in
     let long : length ws ≡ vec_len m.groups = c.replace-old.auto.groups ∙ c.as_mut_slice.ensures.len in
-    let slots = c.replace-old.ensures.slots ∙ ap (λ us. set (slots_of us) c.in-Found.bucket (Some (c.args.key, c.args.value))) c.as_mut_slice.ensures.value in
-    let has = ap (λ us. key_at (slots_of us) c.in-Found.bucket) (sym c.as_slice.ensures.value) ∙ (key_found (slots_of c.as_slice.result.now) c.args.key c.in-Found.bucket c.probe-spot.result.at c.probe-spot.ensures.place c.in-Found.is) in
-    map_value m c.args.self.now c.self.invariant c.self.view_is ws c.in-Found.bucket c.args.key c.args.value slots _ (ap slots_of (written m.groups ws long)) has
+    let slots = c.replace-old.ensures.slots ∙ ap (λ us. set (all_slots us) c.in-Found.bucket (Some (c.args.key, c.args.value))) c.as_mut_slice.ensures.value in
+    let same_has = table_slots m.bits c.as_slice.result.now m.groups.items (seen_ready m c.args.self.now c.self.invariant c.self.view_is c.args.key c.requires) c.as_slice.ensures.value in
+    let has = ap (λ s. key_at s c.in-Found.bucket) (sym same_has) ∙ (key_found (slots_of (2 ^ m.bits) c.as_slice.result.now) c.args.key c.in-Found.bucket c.probe-spot.result.at c.probe-spot.ensures.place c.in-Found.is) in
+    map_value m c.args.self.now c.self.invariant c.self.view_is ws c.in-Found.bucket c.args.key c.args.value slots _ (ap (slots_of (buckets_for m.bits)) (written m.groups ws long)) has
 
 pub returns-in-Found-clause-sound : goal.returns-in-Found-clause-sound
 returns-in-Found-clause-sound g c =
     let m = c.self.inside in
     let ws = c.replace-old.new.groups in
     let long : length ws ≡ vec_len m.groups = c.replace-old.auto.groups ∙ c.as_mut_slice.ensures.len in
-    let slots = c.replace-old.ensures.slots ∙ ap (λ us. set (slots_of us) c.in-Found.bucket (Some (c.args.key, c.args.value))) c.as_mut_slice.ensures.value in
-    let has = ap (λ us. key_at (slots_of us) c.in-Found.bucket) (sym c.as_slice.ensures.value) ∙ (key_found (slots_of c.as_slice.result.now) c.args.key c.in-Found.bucket c.probe-spot.result.at c.probe-spot.ensures.place c.in-Found.is) in
+    let slots = c.replace-old.ensures.slots ∙ ap (λ us. set (all_slots us) c.in-Found.bucket (Some (c.args.key, c.args.value))) c.as_mut_slice.ensures.value in
+    let same_has = table_slots m.bits c.as_slice.result.now m.groups.items (seen_ready m c.args.self.now c.self.invariant c.self.view_is c.args.key c.requires) c.as_slice.ensures.value in
+    let has = ap (λ s. key_at s c.in-Found.bucket) (sym same_has) ∙ (key_found (slots_of (2 ^ m.bits) c.as_slice.result.now) c.args.key c.in-Found.bucket c.probe-spot.result.at c.probe-spot.ensures.place c.in-Found.is) in
     kept_sound m.bits m.len m.spare (vec_len m.stock) m.touched ws
     (kept_value m c.args.self.now c.self.invariant c.self.view_is ws c.in-Found.bucket c.args.key c.args.value slots has (c.replace-old.ensures.sizes ∙ ap sizes_of c.as_mut_slice.ensures.value))
-    _ (ap slots_of (written m.groups ws long)) refl
+    _ (ap (slots_of (buckets_for m.bits)) (written m.groups ws long)) refl
 
 pub returns-in-Free-clause-old : goal.returns-in-Free-clause-old
 returns-in-Free-clause-old g c =
     let m = c.self.inside in
-    let place : IsFreeFor (slots_of m.groups.items) c.args.key c.in-Free.bucket = subst (λ us. IsFreeFor (slots_of us) c.args.key c.in-Free.bucket) c.as_slice.ensures.value
-    (free_found (slots_of c.as_slice.result.now) c.args.key c.in-Free.bucket c.probe-spot.result.at c.probe-spot.ensures.place c.in-Free.is) in
+    let same_free = table_slots m.bits c.as_slice.result.now m.groups.items (seen_ready m c.args.self.now c.self.invariant c.self.view_is c.args.key c.requires) c.as_slice.ensures.value in
+    let place : IsFreeFor (slots_of (buckets_for m.bits) m.groups.items) c.args.key c.in-Free.bucket = subst (λ s. IsFreeFor s c.args.key c.in-Free.bucket) same_free
+    (free_found (slots_of (2 ^ m.bits) c.as_slice.result.now) c.args.key c.in-Free.bucket c.probe-spot.result.at c.probe-spot.ensures.place c.in-Free.is) in
     sym (get_absent m c.args.self.now c.self.invariant c.self.view_is c.args.key place.absent)
 
 pub returns-in-Free-clause-map : goal.returns-in-Free-clause-map
@@ -107,19 +122,21 @@ returns-in-Free-clause-map g c =
     let m = c.self.inside in
     let ws = c.put-touched.new.groups in
     let long : length ws ≡ vec_len m.groups = c.put-touched.auto.groups ∙ c.as_mut_slice-in-Free.ensures.len in
-    let slots = c.put-touched.ensures.slots ∙ ap (λ us. set (slots_of us) c.in-Free.bucket (Some (c.args.key, c.args.value))) c.as_mut_slice-in-Free.ensures.value in
-    let place : IsFreeFor (slots_of m.groups.items) c.args.key c.in-Free.bucket = subst (λ us. IsFreeFor (slots_of us) c.args.key c.in-Free.bucket) c.as_slice.ensures.value
-    (free_found (slots_of c.as_slice.result.now) c.args.key c.in-Free.bucket c.probe-spot.result.at c.probe-spot.ensures.place c.in-Free.is) in
-    map_new_key m c.args.self.now c.self.invariant c.self.view_is ws c.in-Free.bucket c.args.key c.args.value slots _ (ap slots_of (written m.groups ws long)) place
+    let slots = c.put-touched.ensures.slots ∙ ap (λ us. set (all_slots us) c.in-Free.bucket (Some (c.args.key, c.args.value))) c.as_mut_slice-in-Free.ensures.value in
+    let same_free = table_slots m.bits c.as_slice.result.now m.groups.items (seen_ready m c.args.self.now c.self.invariant c.self.view_is c.args.key c.requires) c.as_slice.ensures.value in
+    let place : IsFreeFor (slots_of (buckets_for m.bits) m.groups.items) c.args.key c.in-Free.bucket = subst (λ s. IsFreeFor s c.args.key c.in-Free.bucket) same_free
+    (free_found (slots_of (2 ^ m.bits) c.as_slice.result.now) c.args.key c.in-Free.bucket c.probe-spot.result.at c.probe-spot.ensures.place c.in-Free.is) in
+    map_new_key m c.args.self.now c.self.invariant c.self.view_is ws c.in-Free.bucket c.args.key c.args.value slots _ (ap (slots_of (buckets_for m.bits)) (written m.groups ws long)) place
 
 pub returns-in-Free-clause-sound : goal.returns-in-Free-clause-sound
 returns-in-Free-clause-sound g c =
     let m = c.self.inside in
     let ws = c.put-touched.new.groups in
     let long : length ws ≡ vec_len m.groups = c.put-touched.auto.groups ∙ c.as_mut_slice-in-Free.ensures.len in
-    let slots = c.put-touched.ensures.slots ∙ ap (λ us. set (slots_of us) c.in-Free.bucket (Some (c.args.key, c.args.value))) c.as_mut_slice-in-Free.ensures.value in
-    let place : IsFreeFor (slots_of m.groups.items) c.args.key c.in-Free.bucket = subst (λ us. IsFreeFor (slots_of us) c.args.key c.in-Free.bucket) c.as_slice.ensures.value
-    (free_found (slots_of c.as_slice.result.now) c.args.key c.in-Free.bucket c.probe-spot.result.at c.probe-spot.ensures.place c.in-Free.is) in
+    let slots = c.put-touched.ensures.slots ∙ ap (λ us. set (all_slots us) c.in-Free.bucket (Some (c.args.key, c.args.value))) c.as_mut_slice-in-Free.ensures.value in
+    let same_free = table_slots m.bits c.as_slice.result.now m.groups.items (seen_ready m c.args.self.now c.self.invariant c.self.view_is c.args.key c.requires) c.as_slice.ensures.value in
+    let place : IsFreeFor (slots_of (buckets_for m.bits) m.groups.items) c.args.key c.in-Free.bucket = subst (λ s. IsFreeFor s c.args.key c.in-Free.bucket) same_free
+    (free_found (slots_of (2 ^ m.bits) c.as_slice.result.now) c.args.key c.in-Free.bucket c.probe-spot.result.at c.probe-spot.ensures.place c.in-Free.is) in
     let more = absent_needs_room m c.args.self.now c.self.invariant c.self.view_is c.args.key place.absent c.requires in
     let old = ap sizes_of c.as_mut_slice-in-Free.ensures.value in
     let after = c.with-self-inside.result in
@@ -127,7 +144,7 @@ returns-in-Free-clause-sound g c =
     kept_sound m.bits (m.len + 1) (m.spare - 1) (vec_len c.put-touched.new.stock) after ws
     (kept_new_key m c.args.self.now c.self.invariant c.self.view_is ws c.in-Free.bucket c.args.key c.args.value slots (vec_len c.put-touched.new.stock) after place more c.put-touched.ensures.one_less
     (λ n. omega (arith, c.put-touched.ensures.fewer_lack n, ap (lacking (n + 1) Nowhere) old)) (omega (arith, ready, ap (lacking 1 m.touched) old)))
-    _ (ap slots_of (written m.groups ws long)) refl
+    _ (ap (slots_of (buckets_for m.bits)) (written m.groups ws long)) refl
 
 pub returns-in-Found-clause-placed : goal.returns-in-Found-clause-placed
 returns-in-Found-clause-placed g c =
@@ -135,13 +152,16 @@ returns-in-Found-clause-placed g c =
     let t = c.args.self.now in
     let ws = c.replace-old.new.groups in
     let long : length ws ≡ vec_len m.groups = c.replace-old.auto.groups ∙ c.as_mut_slice.ensures.len in
-    let slots = c.replace-old.ensures.slots ∙ ap (λ us. set (slots_of us) c.in-Found.bucket (Some (c.args.key, c.args.value))) c.as_mut_slice.ensures.value in
-    let has = ap (λ us. key_at (slots_of us) c.in-Found.bucket) (sym c.as_slice.ensures.value) ∙ (key_found (slots_of c.as_slice.result.now) c.args.key c.in-Found.bucket c.probe-spot.result.at c.probe-spot.ensures.place c.in-Found.is) in
+    let slots = c.replace-old.ensures.slots ∙ ap (λ us. set (all_slots us) c.in-Found.bucket (Some (c.args.key, c.args.value))) c.as_mut_slice.ensures.value in
+    let same_has = table_slots m.bits c.as_slice.result.now m.groups.items (seen_ready m c.args.self.now c.self.invariant c.self.view_is c.args.key c.requires) c.as_slice.ensures.value in
+    let has = ap (λ s. key_at s c.in-Found.bucket) (sym same_has) ∙ (key_found (slots_of (2 ^ m.bits) c.as_slice.result.now) c.args.key c.in-Found.bucket c.probe-spot.result.at c.probe-spot.ensures.place c.in-Found.is) in
     let seen = seen_slots m t c.self.invariant c.self.view_is in
     record {
       bucket = c.in-Found.bucket;
       has = ap (λ s. key_at s c.in-Found.bucket) (sym seen) ∙ has;
-      slots = ap slots_of (written m.groups ws long) ∙ slots ∙ ap (λ s. set s c.in-Found.bucket (Some (c.args.key, c.args.value))) seen;
+      slots =
+          ap (slots_of (buckets_for m.bits)) (written m.groups ws long)
+          ∙ seen_value m t c.self.invariant c.self.view_is ws c.in-Found.bucket c.args.key c.args.value slots has;
     }
 
 pub returns-in-Found-clause-memory : goal.returns-in-Found-clause-memory
@@ -168,12 +188,16 @@ returns-in-Free-clause-placed g c =
     let t = c.args.self.now in
     let ws = c.put-touched.new.groups in
     let long : length ws ≡ vec_len m.groups = c.put-touched.auto.groups ∙ c.as_mut_slice-in-Free.ensures.len in
-    let slots = c.put-touched.ensures.slots ∙ ap (λ us. set (slots_of us) c.in-Free.bucket (Some (c.args.key, c.args.value))) c.as_mut_slice-in-Free.ensures.value in
-    let seen = seen_slots m t c.self.invariant c.self.view_is in
+    let slots = c.put-touched.ensures.slots ∙ ap (λ us. set (all_slots us) c.in-Free.bucket (Some (c.args.key, c.args.value))) c.as_mut_slice-in-Free.ensures.value in
+    let same_free = table_slots m.bits c.as_slice.result.now m.groups.items (seen_ready m c.args.self.now c.self.invariant c.self.view_is c.args.key c.requires) c.as_slice.ensures.value in
+    let place : IsFreeFor (slots_of (buckets_for m.bits) m.groups.items) c.args.key c.in-Free.bucket = subst (λ s. IsFreeFor s c.args.key c.in-Free.bucket) same_free
+    (free_found (slots_of (2 ^ m.bits) c.as_slice.result.now) c.args.key c.in-Free.bucket c.probe-spot.result.at c.probe-spot.ensures.place c.in-Free.is) in
     record {
       bucket = c.in-Free.bucket;
-      place = subst (λ s. IsFreeFor s c.args.key c.in-Free.bucket) (ap slots_of c.as_slice.ensures.value ∙ seen) (free_found (slots_of c.as_slice.result.now) c.args.key c.in-Free.bucket c.probe-spot.result.at c.probe-spot.ensures.place c.in-Free.is);
-      slots = ap slots_of (written m.groups ws long) ∙ slots ∙ ap (λ s. set s c.in-Free.bucket (Some (c.args.key, c.args.value))) seen;
+      place = subst (λ s. IsFreeFor s c.args.key c.in-Free.bucket) (seen_slots m t c.self.invariant c.self.view_is) place;
+      slots =
+          ap (slots_of (buckets_for m.bits)) (written m.groups ws long)
+          ∙ seen_new_key m t c.self.invariant c.self.view_is ws c.in-Free.bucket c.args.key c.args.value slots place;
     }
 
 pub returns-in-Free-clause-memory : goal.returns-in-Free-clause-memory
@@ -199,8 +223,13 @@ returns-in-Free-clause-loose g c =
 
 pub put-touched-requires-clause-free : goal.put-touched-requires-clause-free
 put-touched-requires-clause-free g c =
-    let place = free_found (slots_of c.as_slice.result.now) c.args.key c.in-Free.bucket c.probe-spot.result.at c.probe-spot.ensures.place c.in-Free.is in
-    ap (λ us. slot_at (slots_of us) c.in-Free.bucket) (c.as_mut_slice-in-Free.ensures.value ∙ sym c.as_slice.ensures.value) ∙ place.free
+    let n = 2 ^ c.self.inside.bits in
+    let us = c.as_slice.result.now in
+    let b = c.in-Free.bucket in
+    let place = free_found (slots_of n us) c.args.key b c.probe-spot.result.at c.probe-spot.ensures.place c.in-Free.is in
+    ap (λ us. slot_at (all_slots us) b) (c.as_mut_slice-in-Free.ensures.value ∙ sym c.as_slice.ensures.value)
+    ∙ sym (slot_below n us b (inside_table n us b place.inside))
+    ∙ place.free
 
 pub put-touched-requires-clause-rank : goal.put-touched-requires-clause-rank
 put-touched-requires-clause-rank g c =
@@ -221,6 +250,33 @@ replace-old-requires g c =
     let b = c.in-Found.bucket in
     let spot = c.probe-spot in
     let same : us ≡ c.as_mut_slice.result.now = c.as_slice.ensures.value ∙ sym c.as_mut_slice.ensures.value in
-    let has = key_found (slots_of us) c.args.key b spot.result.at spot.ensures.place c.in-Found.is in
+    let has = key_found (slots_of (2 ^ c.self.inside.bits) us) c.args.key b spot.result.at spot.ensures.place c.in-Found.is in
     let rank = rank_found us b spot.result.rank spot.result.at spot.ensures.rank c.in-Found.is in
-    record { seat = subst (λ ws. IsSeated ws b spot.result.rank) same (seated us b spot.result.rank c.args.key has rank) }
+    record { seat = subst (λ ws. IsSeated ws b spot.result.rank) same (seated (2 ^ c.self.inside.bits) us b spot.result.rank c.args.key has rank) }
+
+pub returns-in-Found-clause-buckets : goal.returns-in-Found-clause-buckets
+returns-in-Found-clause-buckets g c =
+    let m = c.self.inside in
+    let t = c.args.self.now in
+    let ws = c.replace-old.new.groups in
+    let long : length ws ≡ vec_len m.groups = c.replace-old.auto.groups ∙ c.as_mut_slice.ensures.len in
+    let slots = c.replace-old.ensures.slots ∙ ap (λ us. set (all_slots us) c.in-Found.bucket (Some (c.args.key, c.args.value))) c.as_mut_slice.ensures.value in
+    let same_has = table_slots m.bits c.as_slice.result.now m.groups.items (seen_ready m c.args.self.now c.self.invariant c.self.view_is c.args.key c.requires) c.as_slice.ensures.value in
+    let has = ap (λ s. key_at s c.in-Found.bucket) (sym same_has) ∙ (key_found (slots_of (2 ^ m.bits) c.as_slice.result.now) c.args.key c.in-Found.bucket c.probe-spot.result.at c.probe-spot.ensures.place c.in-Found.is) in
+    ap length (ap (slots_of (buckets_for m.bits)) (written m.groups ws long)
+    ∙ seen_value m t c.self.invariant c.self.view_is ws c.in-Found.bucket c.args.key c.args.value slots has)
+    ∙ length-set t.slots c.in-Found.bucket (Some (c.args.key, c.args.value))
+
+pub returns-in-Free-clause-buckets : goal.returns-in-Free-clause-buckets
+returns-in-Free-clause-buckets g c =
+    let m = c.self.inside in
+    let t = c.args.self.now in
+    let ws = c.put-touched.new.groups in
+    let long : length ws ≡ vec_len m.groups = c.put-touched.auto.groups ∙ c.as_mut_slice-in-Free.ensures.len in
+    let slots = c.put-touched.ensures.slots ∙ ap (λ us. set (all_slots us) c.in-Free.bucket (Some (c.args.key, c.args.value))) c.as_mut_slice-in-Free.ensures.value in
+    let same_free = table_slots m.bits c.as_slice.result.now m.groups.items (seen_ready m c.args.self.now c.self.invariant c.self.view_is c.args.key c.requires) c.as_slice.ensures.value in
+    let place : IsFreeFor (slots_of (buckets_for m.bits) m.groups.items) c.args.key c.in-Free.bucket = subst (λ s. IsFreeFor s c.args.key c.in-Free.bucket) same_free
+    (free_found (slots_of (2 ^ m.bits) c.as_slice.result.now) c.args.key c.in-Free.bucket c.probe-spot.result.at c.probe-spot.ensures.place c.in-Free.is) in
+    ap length (ap (slots_of (buckets_for m.bits)) (written m.groups ws long)
+    ∙ seen_new_key m t c.self.invariant c.self.view_is ws c.in-Free.bucket c.args.key c.args.value slots place)
+    ∙ length-set t.slots c.in-Free.bucket (Some (c.args.key, c.args.value))

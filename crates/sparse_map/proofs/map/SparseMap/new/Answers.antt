@@ -10,10 +10,10 @@ pub invariant_of-result : goal.invariant_of-result
 invariant_of-result g c = kept_new c.new.result.items (vec_len c.new-2.result) c.new.ensures.items
 
 pub returns-clause-none : goal.returns-clause-none
-returns-clause-none g c = buckets-new c.new.result.items c.new.ensures.items
+returns-clause-none g c = buckets-new c.new.result.items
 
 pub returns-clause-empty : goal.returns-clause-empty
-returns-clause-empty g c = map_of-new _ c.new.result.items refl c.new.ensures.items
+returns-clause-empty g c = map_of-new _ c.new.result.items refl
 
 pub returns-clause-sound : goal.returns-clause-sound
 returns-clause-sound g c =

@@ -1,13 +1,13 @@
-use Rattle.std.proofs.Common.{◌≡◌, ◌≢◌, ◌+◌, ◌/◌, ◌^◌, ◌<◌, ◌≤◌, max, length, cond, eqb, ap, sym, ◌∙◌, subst, arith}
+use Rattle.std.proofs.Common.{◌≡◌, ◌≢◌, ◌+◌, ◌^◌, ◌<◌, ◌≤◌, max, length, cond, eqb, ap, sym, ◌∙◌, subst, arith}
 use Rattle.std.specs.Prelude.{OnErr}
 use Rattle.std.specs.Vec.{vec_len}
-use Rattle.sparse_map.specs.Home.{IsDoubledFor}
+use Rattle.sparse_map.specs.Home.{IsDoubledFor, buckets_for}
 use Rattle.sparse_map.specs.Groups.{slots_of}
 use Rattle.sparse_map.specs.Packed.{len_of, buckets_of}
 use Rattle.sparse_map.proofs.MapLemmas.{kept_buckets}
-use Rattle.sparse_map.proofs.ViewLemmas.{seen_len, seen_slots, seen_sound}
+use Rattle.sparse_map.proofs.ViewLemmas.{seen_len, seen_slots, seen_buckets, seen_sound}
 use Rattle.std.proofs.lemmas.Result.{on_ok_weaker}
-use Rattle.sparse_map.proofs.ReserveLemmas.{on_ok, on_ok_always, on_err_both, doubled_grows, other_buckets, map_of-slots, sound_stocked, sound_either, loose_either, stays_either, as_before, no_more}
+use Rattle.sparse_map.proofs.ReserveLemmas.{on_ok, on_ok_always, on_err_both, doubled_grows, other_buckets, map_of-slots, sound_stocked, sound_either, loose_either, stays_either, peak_either, as_before, no_more}
 use Rattle.sparse_map.proofs.map.SparseMap.reserve.Goals as goal
 
 pub bits_for-bits-requires-clause-room : goal.bits_for-bits-requires-clause-room
@@ -22,7 +22,7 @@ stock_up-requires g c =
     let len = seen_len m t c.self.invariant c.self.view_is in
     let some : 0 < m.bits = omega (arith, c.bits_for-bits.ensures.size.many, c.if-bits-self.true) in
     let size = kept_buckets m.bits m.len m.spare (vec_len m.stock) m.touched m.groups.items c.self.invariant some in
-    let long : length (slots_of m.groups.items) ≡ buckets_of t = ap length (seen_slots m t c.self.invariant c.self.view_is) in
+    let long : length (slots_of (buckets_for m.bits) m.groups.items) ≡ buckets_of t = ap length (seen_slots m t c.self.invariant c.self.view_is) in
     let wide : 2 ^ c.bits_for-bits.result ≡ 2 ^ m.bits = ap (λ b. 2 ^ b) c.if-bits-self.true in
     omega (arith, c.bits_for-bits.ensures.doubled.enough, wide, size, long, len)
 
@@ -30,7 +30,7 @@ pub widen-requires-clause-wider : goal.widen-requires-clause-wider
 widen-requires-clause-wider g c =
     let m = c.self.inside in
     let t = c.args.self.now in
-    let narrow : cond (eqb m.bits 0) 0 (2 ^ m.bits) ≡ buckets_of t = sym c.self.invariant.buckets ∙ ap length (seen_slots m t c.self.invariant c.self.view_is) in
+    let narrow : cond (eqb m.bits 0) 0 (2 ^ m.bits) ≡ buckets_of t = seen_buckets m t c.self.invariant c.self.view_is in
     let grows = doubled_grows (m.len + c.from-n.result) (cond (eqb m.bits 0) 0 (2 ^ m.bits)) (2 ^ c.bits_for-bits.result) c.bits_for-bits.ensures.doubled in
     subst (λ n. n ≤ 2 ^ c.bits_for-bits.result) narrow grows
 
@@ -48,7 +48,7 @@ returns-then-bits-self-clause-buckets g c =
     let t = c.args.self.now in
     let some : 0 < m.bits = omega (arith, c.bits_for-bits.ensures.size.many, c.if-bits-self.true) in
     let need : m.len + c.from-n.result ≡ len_of t + c.args.n = λ i. seen_len m t c.self.invariant c.self.view_is i + c.from-n.ensures i in
-    let narrow : cond (eqb m.bits 0) 0 (2 ^ m.bits) ≡ buckets_of t = sym c.self.invariant.buckets ∙ ap length (seen_slots m t c.self.invariant c.self.view_is) in
+    let narrow : cond (eqb m.bits 0) 0 (2 ^ m.bits) ≡ buckets_of t = seen_buckets m t c.self.invariant c.self.view_is in
     let wide : 2 ^ c.bits_for-bits.result ≡ buckets_of c.stock_up.new.self =
     ap (λ b. 2 ^ b) c.if-bits-self.true
     ∙ sym (kept_buckets m.bits m.len m.spare (vec_len m.stock) m.touched m.groups.items c.self.invariant some)
@@ -65,7 +65,7 @@ returns-then-bits-self-clause-sound g c =
     let len = seen_len m t c.self.invariant c.self.view_is in
     let some : 0 < m.bits = omega (arith, c.bits_for-bits.ensures.size.many, c.if-bits-self.true) in
     let size = kept_buckets m.bits m.len m.spare (vec_len m.stock) m.touched m.groups.items c.self.invariant some in
-    let long : length (slots_of m.groups.items) ≡ buckets_of t = ap length (seen_slots m t c.self.invariant c.self.view_is) in
+    let long : length (slots_of (buckets_for m.bits) m.groups.items) ≡ buckets_of t = ap length (seen_slots m t c.self.invariant c.self.view_is) in
     let wide : 2 ^ c.bits_for-bits.result ≡ 2 ^ m.bits = ap (λ b. 2 ^ b) c.if-bits-self.true in
     sound_stocked c.stock_up.result t c.stock_up.new.self c.from-n.result (seen_sound m t c.self.invariant c.self.view_is)
     (omega (arith, c.bits_for-bits.ensures.doubled.enough, wide, size, long, len))
@@ -76,7 +76,7 @@ returns-else-bits-self-clause-buckets g c =
     let m = c.self.inside in
     let t = c.args.self.now in
     let need : m.len + c.from-n.result ≡ len_of t + c.args.n = λ i. seen_len m t c.self.invariant c.self.view_is i + c.from-n.ensures i in
-    let narrow : cond (eqb m.bits 0) 0 (2 ^ m.bits) ≡ buckets_of t = sym c.self.invariant.buckets ∙ ap length (seen_slots m t c.self.invariant c.self.view_is) in
+    let narrow : cond (eqb m.bits 0) 0 (2 ^ m.bits) ≡ buckets_of t = seen_buckets m t c.self.invariant c.self.view_is in
     on_ok_weaker {P = buckets_of c.widen.new.self ≡ 2 ^ c.bits_for-bits.result} {Q = IsDoubledFor (len_of t + c.args.n) (buckets_of t) (buckets_of c.widen.new.self)} c.widen.result
     (λ wide.
     subst (λ x. IsDoubledFor x (buckets_of t) (buckets_of c.widen.new.self)) need
@@ -88,12 +88,12 @@ pub returns-else-bits-self-clause-sound : goal.returns-else-bits-self-clause-sou
 returns-else-bits-self-clause-sound g c =
     sound_either c.widen.result c.args.self.now c.widen.new.self (seen_sound c.self.inside c.args.self.now c.self.invariant c.self.view_is) c.widen.ensures.sound c.widen.ensures.err
 
-pub returns-then-bits-self-clause-exact : goal.returns-then-bits-self-clause-exact
-returns-then-bits-self-clause-exact g c =
+pub returns-then-bits-self-clause-no_blanks : goal.returns-then-bits-self-clause-no_blanks
+returns-then-bits-self-clause-no_blanks g c =
     let t = c.args.self.now in
     let u = c.stock_up.new.self in
     let level : buckets_of u ≡ buckets_of t = ap length c.stock_up.ensures.slots in
-    on_ok c.stock_up.result (buckets_of u ≢ buckets_of t → (u.places ≤ len_of u + buckets_of u / 32) × (u.spare ≤ 1 → u.blanks ≡ 0)) (λ other. absurd (other level))
+    on_ok c.stock_up.result (buckets_of u ≢ buckets_of t → (u.spare ≤ 1 → u.blanks ≡ 0)) (λ other. absurd (other level))
 
 pub returns-then-bits-self-clause-err : goal.returns-then-bits-self-clause-err
 returns-then-bits-self-clause-err g c =
@@ -109,20 +109,37 @@ pub returns-else-bits-self-clause-stays : goal.returns-else-bits-self-clause-sta
 returns-else-bits-self-clause-stays g c =
     let m = c.self.inside in
     let t = c.args.self.now in
-    let narrow : cond (eqb m.bits 0) 0 (2 ^ m.bits) ≡ buckets_of t = sym c.self.invariant.buckets ∙ ap length (seen_slots m t c.self.invariant c.self.view_is) in
+    let narrow : cond (eqb m.bits 0) 0 (2 ^ m.bits) ≡ buckets_of t = seen_buckets m t c.self.invariant c.self.view_is in
     let other : buckets_of t ≢ 2 ^ c.bits_for-bits.result = subst (λ n. n ≢ 2 ^ c.bits_for-bits.result) narrow (other_buckets m.bits c.bits_for-bits.result (λ e. c.if-bits-self.false (sym e))) in
     stays_either c.widen.result t c.widen.new.self c.widen.ensures.err (2 ^ c.bits_for-bits.result) other c.widen.ensures.buckets
 
-pub returns-else-bits-self-clause-memory : goal.returns-else-bits-self-clause-memory
-returns-else-bits-self-clause-memory g c =
-    let u = c.widen.new.self in
-    on_ok_weaker {P = (u.places ≤ len_of u + buckets_of u / 32) × (u.spare ≤ 1 → u.blanks ≡ 0)} {Q = u.places ≤ len_of u + buckets_of u / 8 + u.loose} c.widen.result (λ exact. omega (arith, exact.0))
-    c.widen.ensures.exact
+pub returns-else-bits-self-clause-peak : goal.returns-else-bits-self-clause-peak
+returns-else-bits-self-clause-peak g c =
+    let m = c.self.inside in
+    let t = c.args.self.now in
+    let narrow : cond (eqb m.bits 0) 0 (2 ^ m.bits) ≡ buckets_of t = seen_buckets m t c.self.invariant c.self.view_is in
+    let other : buckets_of t ≢ 2 ^ c.bits_for-bits.result = subst (λ n. n ≢ 2 ^ c.bits_for-bits.result) narrow (other_buckets m.bits c.bits_for-bits.result (λ e. c.if-bits-self.false (sym e))) in
+    peak_either c.widen.result t c.widen.new.self c.widen.ensures.err (2 ^ c.bits_for-bits.result) other c.widen.ensures.buckets
 
-pub returns-else-bits-self-clause-exact : goal.returns-else-bits-self-clause-exact
-returns-else-bits-self-clause-exact g c =
+pub returns-else-bits-self-clause-memory : goal.returns-else-bits-self-clause-memory
+returns-else-bits-self-clause-memory g c = c.widen.ensures.memory
+
+pub returns-else-bits-self-clause-no_blanks : goal.returns-else-bits-self-clause-no_blanks
+returns-else-bits-self-clause-no_blanks g c =
     let u = c.widen.new.self in
-    on_ok_always c.widen.result (buckets_of u ≢ buckets_of c.args.self.now) ((u.places ≤ len_of u + buckets_of u / 32) × (u.spare ≤ 1 → u.blanks ≡ 0)) c.widen.ensures.exact
+    on_ok_always c.widen.result (buckets_of u ≢ buckets_of c.args.self.now) (u.spare ≤ 1 → u.blanks ≡ 0) c.widen.ensures.no_blanks
+
+pub returns-then-bits-self-clause-none_loose : goal.returns-then-bits-self-clause-none_loose
+returns-then-bits-self-clause-none_loose g c =
+    let t = c.args.self.now in
+    let u = c.stock_up.new.self in
+    let level : buckets_of u ≡ buckets_of t = ap length c.stock_up.ensures.slots in
+    on_ok c.stock_up.result (buckets_of u ≢ buckets_of t → u.loose ≡ 0) (λ other. absurd (other level))
+
+pub returns-else-bits-self-clause-none_loose : goal.returns-else-bits-self-clause-none_loose
+returns-else-bits-self-clause-none_loose g c =
+    let u = c.widen.new.self in
+    on_ok_always c.widen.result (buckets_of u ≢ buckets_of c.args.self.now) (u.loose ≡ 0) c.widen.ensures.loose
 
 pub returns-else-bits-self-clause-loose : goal.returns-else-bits-self-clause-loose
 returns-else-bits-self-clause-loose g c = loose_either c.widen.result c.args.self.now c.widen.new.self c.widen.ensures.err c.widen.ensures.loose

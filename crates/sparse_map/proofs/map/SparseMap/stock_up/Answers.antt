@@ -2,17 +2,16 @@ use Rattle.std.proofs.Common.{◌≡◌, ◌+◌, ◌*◌, ◌≤◌, min, lengt
 use Rattle.std.specs.Vec.{vec_len, with_items}
 use Rattle.sparse_map.specs.declared.table.Touched.TheVariants.{Nowhere}
 use Rattle.sparse_map.specs.Slots.{items_of}
-use Rattle.sparse_map.specs.Groups.{slots_of}
+use Rattle.sparse_map.specs.Home.{buckets_for}
+use Rattle.sparse_map.specs.Groups.{all_slots, slots_of}
 use Rattle.sparse_map.specs.Moved.{items_in}
-use Rattle.sparse_map.specs.Packed.{buckets_of}
 use Rattle.sparse_map.specs.Kept.{KeepsTable}
 use Rattle.sparse_map.specs.Places.{sizes_of, places_of, loose_of, lacking}
 use Rattle.sparse_map.specs.Seen.{seen_of}
-use Rattle.sparse_map.proofs.TableLemmas.{length-slots_of}
+use Rattle.sparse_map.proofs.BucketLemmas.{items_of-groups, same_table, table_same}
 use Rattle.sparse_map.proofs.PlacesLemmas.{length-sizes, places-bound, stocked_for, stocked_still}
-use Rattle.sparse_map.proofs.ItemLemmas.{items_of-slots_of}
-use Rattle.sparse_map.proofs.MapLemmas.{kept_len}
-use Rattle.sparse_map.proofs.ViewLemmas.{seen_len, seen_slots, seen_loose}
+use Rattle.sparse_map.proofs.MapLemmas.{kept_len, kept_long, kept_few}
+use Rattle.sparse_map.proofs.ViewLemmas.{seen_len, seen_slots, seen_buckets, seen_loose}
 use Rattle.sparse_map.proofs.ChangeLemmas.{written}
 use Rattle.sparse_map.proofs.MoveLemmas.{kept_stocked}
 use Rattle.sparse_map.proofs.map.SparseMap.stock_up.Goals as goal
@@ -25,16 +24,16 @@ invariant_of-self-in_err-fit_touched g c =
     let blanks = vec_len c.add_blanks.new.stock in
     let same = ap sizes_of c.as_mut_slice.ensures.value in
     let written_long : length ws ≡ vec_len m.groups = c.fit_touched.auto.groups ∙ c.as_mut_slice.ensures.len in
-    let seen : length (slots_of m.groups.items) ≡ buckets_of t = ap length (seen_slots m t c.self.invariant c.self.view_is) in
+    let seen = seen_buckets m t c.self.invariant c.self.view_is in
     let stocked : min m.spare (lacking m.spare Nowhere (sizes_of ws)) ≤ blanks = elim c.blanks_for-wanted.ensures.enough [
       | inl all ↦ stocked_for m.spare blanks (sizes_of ws)
-          (inl (omega (arith, all, c.max-spare.ensures, c.in_ok-add_blanks.ensures.ok, c.groups.ensures.groups, length-sizes ws, written_long, length-slots_of m.groups.items, m.groups.ok.0, seen)))
+          (inl (omega (arith, all, c.max-spare.ensures, c.in_ok-add_blanks.ensures.ok, c.len.ensures, length-sizes ws, written_long)))
       | inr one ↦ stocked_still m.spare (vec_len m.stock) blanks (sizes_of m.groups.items) (sizes_of ws) (omega (arith, one.0, c.max-spare.ensures))
           (omega (arith, c.fit_touched.ensures.lacking, ap (lacking 1 Nowhere) same)) c.self.invariant.stocked c.add_blanks.ensures.kept
     ] in
     subst (λ us. KeepsTable m.bits m.len m.spare blanks c.fit_touched.new.touched us) (sym (written m.groups ws written_long))
     (kept_stocked m.bits m.len m.spare (vec_len m.stock) m.touched m.groups.items ws m.spare blanks c.fit_touched.new.touched c.self.invariant
-    (c.fit_touched.ensures.slots ∙ ap slots_of c.as_mut_slice.ensures.value) c.self.invariant.room stocked (omega (arith, c.fit_touched.ensures.ready, ap (lacking 1 m.touched) same)))
+    (c.fit_touched.ensures.slots ∙ ap all_slots c.as_mut_slice.ensures.value) c.self.invariant.room stocked (omega (arith, c.fit_touched.ensures.ready, ap (lacking 1 m.touched) same)))
 
 pub invariant_of-self-2 : goal.invariant_of-self-2
 invariant_of-self-2 g c =
@@ -46,44 +45,69 @@ invariant_of-self-2 g c =
     let same = ap sizes_of c.as_mut_slice.ensures.value in
     let written_long : length ws ≡ vec_len m.groups = c.fit_touched.auto.groups ∙ c.as_mut_slice.ensures.len in
     let len = seen_len m t c.self.invariant c.self.view_is in
-    let seen : length (slots_of m.groups.items) ≡ buckets_of t = ap length (seen_slots m t c.self.invariant c.self.view_is) in
-    let room : 4 * (m.len + c.max-spare.result) ≤ 3 * length (slots_of m.groups.items) = omega (arith, c.max-spare.ensures, c.requires, len, seen, c.self.invariant.room) in
+    let seen = seen_buckets m t c.self.invariant c.self.view_is in
+    let room : 4 * (m.len + c.max-spare.result) ≤ 3 * buckets_for m.bits = omega (arith, c.max-spare.ensures, c.requires, len, seen, c.self.invariant.room) in
     let ready : lacking 1 after (sizes_of ws) ≤ lacking 1 m.touched (sizes_of m.groups.items) = omega (arith, c.fit_touched.ensures.ready, ap (lacking 1 m.touched) same) in
     let stocked : min c.max-spare.result (lacking c.max-spare.result Nowhere (sizes_of ws)) ≤ blanks = elim c.blanks_for-wanted.ensures.enough [
       | inl all ↦ stocked_for c.max-spare.result blanks (sizes_of ws)
-          (inl (omega (arith, all, c.truncate.ensures.len, c.in_ok-add_blanks.ensures.ok, c.groups.ensures.groups, length-sizes ws, written_long, length-slots_of m.groups.items, m.groups.ok.0, seen)))
+          (inl (omega (arith, all, c.truncate.ensures.len, c.in_ok-add_blanks.ensures.ok, c.len.ensures, length-sizes ws, written_long)))
       | inr one ↦
           let settled = ap (λ x. lacking 1 x (sizes_of ws)) (c.in_ok-fit_touched.ensures.settled one.1) in
           stocked_for c.max-spare.result blanks (sizes_of ws) (inr (one.0, omega (arith, settled, ready, c.self.invariant.ready)))
     ] in
     subst (λ us. KeepsTable m.bits m.len c.max-spare.result blanks after us) (sym (written m.groups ws written_long))
     (kept_stocked m.bits m.len m.spare (vec_len m.stock) m.touched m.groups.items ws c.max-spare.result blanks after c.self.invariant
-    (c.fit_touched.ensures.slots ∙ ap slots_of c.as_mut_slice.ensures.value) room stocked ready)
+    (c.fit_touched.ensures.slots ∙ ap all_slots c.as_mut_slice.ensures.value) room stocked ready)
+
+pub returns-in_err-fit_touched-clause-slots : goal.returns-in_err-fit_touched-clause-slots
+returns-in_err-fit_touched-clause-slots g c =
+    let m = c.self.inside in
+    let ws = c.fit_touched.new.groups in
+    let written_long : length ws ≡ vec_len m.groups = c.fit_touched.auto.groups ∙ c.as_mut_slice.ensures.len in
+    ap (slots_of (buckets_for m.bits)) (written m.groups ws written_long)
+    ∙ same_table (buckets_for m.bits) m.groups.items ws (c.fit_touched.ensures.slots ∙ ap all_slots c.as_mut_slice.ensures.value)
+    ∙ seen_slots m c.args.self.now c.self.invariant c.self.view_is
 
 pub returns-clause-slots : goal.returns-clause-slots
 returns-clause-slots g c =
     let m = c.self.inside in
     let ws = c.fit_touched.new.groups in
     let written_long : length ws ≡ vec_len m.groups = c.fit_touched.auto.groups ∙ c.as_mut_slice.ensures.len in
-    ap slots_of (written m.groups ws written_long)
-    ∙ c.fit_touched.ensures.slots
-    ∙ ap slots_of c.as_mut_slice.ensures.value
+    ap (slots_of (buckets_for m.bits)) (written m.groups ws written_long)
+    ∙ same_table (buckets_for m.bits) m.groups.items ws (c.fit_touched.ensures.slots ∙ ap all_slots c.as_mut_slice.ensures.value)
     ∙ seen_slots m c.args.self.now c.self.invariant c.self.view_is
 
 pub returns-clause-memory : goal.returns-clause-memory
 returns-clause-memory g c =
     let m = c.self.inside in
+    let n = buckets_for m.bits in
     let ws = c.fit_touched.new.groups in
     let after = c.fit_touched.new.touched in
     let written_long : length ws ≡ vec_len m.groups = c.fit_touched.auto.groups ∙ c.as_mut_slice.ensures.len in
     let now = written m.groups ws written_long in
-    let slots = c.fit_touched.ensures.slots ∙ ap slots_of c.as_mut_slice.ensures.value in
-    let count : length (items_of (slots_of ws)) ≡ length (items_in ws) = ap length (items_of-slots_of ws) in
-    let same : length (items_of (slots_of ws)) ≡ length (items_of (slots_of m.groups.items)) = ap (λ s. length (items_of s)) slots in
-    let len = kept_len m.bits m.len m.spare (vec_len m.stock) m.touched m.groups.items c.self.invariant (seen_of (with_items m.groups ws).items c.max-spare.result (vec_len c.truncate.new.self) after) (ap slots_of now ∙ slots) in
+    let all = c.fit_touched.ensures.slots ∙ ap all_slots c.as_mut_slice.ensures.value in
+    let slots = same_table n m.groups.items ws all in
+    let table = table_same n m.groups.items ws all c.self.invariant.table in
+    let count : length (items_of (slots_of n ws)) ≡ length (items_in ws) = ap length (items_of-groups n ws table.rest) in
+    let same : length (items_of (slots_of n ws)) ≡ length (items_of (slots_of n m.groups.items)) = ap (λ s. length (items_of s)) slots in
+    let len = kept_len m.bits m.len m.spare (vec_len m.stock) m.touched m.groups.items c.self.invariant
+    (seen_of m.bits (with_items m.groups ws).items c.max-spare.result (vec_len c.truncate.new.self) after m.peak) (ap (slots_of n) now ∙ slots) in
     let sizes = ap sizes_of now in
-    let long = ap (λ us. length (slots_of us)) now in
-    omega (arith, places-bound ws, c.in_ok-fit_touched.ensures.none_loose, count, same, c.self.invariant.counted, len, ap places_of sizes, ap (loose_of after) sizes, long, length-slots_of ws)
+    let long : length (slots_of n (with_items m.groups ws).items) ≡ n =
+    ap length (ap (slots_of n) now ∙ slots) ∙ kept_long m.bits m.len m.spare (vec_len m.stock) m.touched m.groups.items c.self.invariant in
+    let few = kept_few m.bits m.len m.spare (vec_len m.stock) m.touched m.groups.items c.self.invariant in
+    omega (arith, places-bound ws, c.in_ok-fit_touched.ensures.none_loose, count, same, c.self.invariant.counted, len, ap places_of sizes, ap (loose_of after) sizes, long, table.count, few)
+
+pub returns-clause-blanks : goal.returns-clause-blanks
+returns-clause-blanks g c =
+    let m = c.self.inside in
+    let n = buckets_for m.bits in
+    let ws = c.fit_touched.new.groups in
+    let written_long : length ws ≡ vec_len m.groups = c.fit_touched.auto.groups ∙ c.as_mut_slice.ensures.len in
+    let slots = same_table n m.groups.items ws (c.fit_touched.ensures.slots ∙ ap all_slots c.as_mut_slice.ensures.value) in
+    let long : length (slots_of n (with_items m.groups ws).items) ≡ n =
+    ap length (ap (slots_of n) (written m.groups ws written_long) ∙ slots) ∙ kept_long m.bits m.len m.spare (vec_len m.stock) m.touched m.groups.items c.self.invariant in
+    omega (arith, c.blanks_for-wanted.ensures.few, c.truncate.ensures.len, c.in_ok-add_blanks.ensures.ok, c.len.ensures, m.groups.ok.0, c.self.invariant.table.count, long)
 
 pub returns-clause-loose : goal.returns-clause-loose
 returns-clause-loose g c =
