@@ -1,5 +1,5 @@
 -- The packed law, and what a contract sees of a `SparseMap`.
-use Rattle.std.specs.Prelude.{◌≡◌, ℕ, ◌+◌, ◌-◌, ◌*◌, ◌^◌, ◌<◌, ◌≤◌, min, max, List, length, Option, Some, IsSome, refl}
+use Rattle.std.specs.Prelude.{◌≡◌, ℕ, ◌+◌, ◌-◌, ◌*◌, ◌/◌, ◌^◌, ◌<◌, ◌≤◌, min, max, List, length, Option, Some, IsSome, refl}
 use Rattle.std.specs.Ordering.{nat_cmp}
 use Rattle.std.specs.FinMap as map
 use Rattle.std.specs.Coded.{Coded, code_by, coded×, coded_list, coded_option, coded_ℕ}
@@ -53,8 +53,17 @@ module _ {V : Type 0} where
   abbrev pub memory_of : PackedTable V → ℕ
   memory_of t = t.places + 64 * t.blanks
 
-  -- old and new lists were there at once, as the buckets doubled, and no place was counted twice; the count ends at 2^64 - 1
-  pub record IsPeak (old new : PackedTable V) : Type 0 where
+  -- as a reservation leaves a map: no more places than items, four free ones for each 32 buckets, and what removals left; no more blank
+  -- lists than new keys that there is room for, nor than lists
+  pub record IsFitted (t : PackedTable V) : Type 0 where
+    pub places : t.places ≤ len_of t + buckets_of t / 8 + t.loose
+    pub blanks : t.blanks ≤ min t.spare (lists_of t)
+
+  -- as a doubling leaves it: nothing of removals, and no blank list for a single new key; old and new lists were there at once, and no
+  -- place was counted twice, by a count that ends at 2^64 - 1
+  pub record IsWidened (old new : PackedTable V) : Type 0 where
+    pub loose : new.loose ≡ 0
+    pub blanks : new.spare ≤ 1 → new.blanks ≡ 0
     pub least : min (max (memory_of old) (memory_of new)) (2 ^ 64 - 1) ≤ new.peak
     pub most : new.peak ≤ memory_of old + memory_of new
 

@@ -4,7 +4,7 @@ ghost use Rattle.std.specs.FinMap as map;
 ghost use Rattle.std.specs.FinMap.{find};
 ghost use Rattle.sparse_map.specs.Home.{IsDoubledFor, IsTableSize};
 ghost use Rattle.sparse_map.specs.Slots.{slot_at, items_of, unpacked, group};
-ghost use Rattle.sparse_map.specs.Packed.{map_of, len_of, buckets_of, lists_of, memory_of, IsPeak, IsSound};
+ghost use Rattle.sparse_map.specs.Packed.{map_of, len_of, buckets_of, memory_of, IsFitted, IsWidened, IsSound};
 ghost use Rattle.sparse_map.specs.Places.{sizes_of, places_of};
 ghost use Rattle.sparse_map.specs.Probe.{IsPut, IsReplaced};
 ghost use Rattle.sparse_map.specs.Removal.{IsItemTaken};
@@ -242,13 +242,10 @@ impl<V: Drop> SparseMap<V> {
         ensures buckets { OnOk result (IsDoubledFor (len_of self.old + n) (buckets_of self.old) (buckets_of self.new)) }
         ensures spare { OnOk result (self.new.spare ≡ max self.old.spare n) }
         ensures stays { buckets_of self.new ≡ buckets_of self.old → self.new.slots ≡ self.old.slots }
-        ensures memory { OnOk result (self.new.places ≤ len_of self.new + buckets_of self.new / 8 + self.new.loose) }
-        ensures no_blanks { OnOk result (buckets_of self.new ≢ buckets_of self.old → (self.new.spare ≤ 1 → self.new.blanks ≡ 0)) }
-        ensures blanks { OnOk result (self.new.blanks ≤ min self.new.spare (lists_of self.new)) }
+        ensures fitted { OnOk result (IsFitted self.new) }
         ensures loose { self.new.loose ≤ self.old.loose }
-        ensures none_loose { OnOk result (buckets_of self.new ≢ buckets_of self.old → self.new.loose ≡ 0) }
         ensures peak { buckets_of self.new ≡ buckets_of self.old → self.new.peak ≡ self.old.peak }
-        ensures doubled { OnOk result (buckets_of self.new ≢ buckets_of self.old → IsPeak self.old self.new) }
+        ensures doubled { OnOk result (buckets_of self.new ≢ buckets_of self.old → IsWidened self.old self.new) }
         ensures err { OnErr result ((self.new.slots ≡ self.old.slots) × (self.new.spare ≡ self.old.spare)) }
         ensures refused { OnErr result ((self.new.places ≤ self.old.places)
             × (self.new.blanks ≤ max self.old.blanks (max self.old.spare n))) }
@@ -269,8 +266,7 @@ impl<V: Drop> SparseMap<V> {
         requires { 4 * (len_of self.old + n) ≤ 3 * buckets_of self.old }
         ensures slots { self.new.slots ≡ self.old.slots }
         ensures spare { OnOk result (self.new.spare ≡ max self.old.spare n) }
-        ensures memory { OnOk result (self.new.places ≤ len_of self.new + buckets_of self.new / 8 + self.new.loose) }
-        ensures blanks { OnOk result (self.new.blanks ≤ min self.new.spare (lists_of self.new)) }
+        ensures fitted { OnOk result (IsFitted self.new) }
         ensures loose { self.new.loose ≤ self.old.loose }
         ensures peak { self.new.peak ≡ self.old.peak }
         ensures err { OnErr result (self.new.spare ≡ self.old.spare) }
@@ -295,11 +291,8 @@ impl<V: Drop> SparseMap<V> {
         ensures map { map_of self.new ≡ map_of self.old }
         ensures buckets { OnOk result (buckets_of self.new ≡ 2 ^ bits) }
         ensures spare { OnOk result (self.new.spare ≡ max self.old.spare n) }
-        ensures memory { OnOk result (self.new.places ≤ len_of self.new + buckets_of self.new / 8 + self.new.loose) }
-        ensures no_blanks { OnOk result (self.new.spare ≤ 1 → self.new.blanks ≡ 0) }
-        ensures blanks { OnOk result (self.new.blanks ≤ min self.new.spare (lists_of self.new)) }
-        ensures loose { OnOk result (self.new.loose ≡ 0) }
-        ensures peak { OnOk result (IsPeak self.old self.new) }
+        ensures fitted { OnOk result (IsFitted self.new) }
+        ensures widened { OnOk result (IsWidened self.old self.new) }
         ensures err { OnErr result (self.new ≡ self.old) }
         ensures sound { OnOk result (IsSound self.new) }
     {

@@ -3,7 +3,7 @@ use Rattle.std.specs.Prelude.{OnErr}
 use Rattle.std.specs.Vec.{vec_len}
 use Rattle.sparse_map.specs.Home.{IsDoubledFor, buckets_for}
 use Rattle.sparse_map.specs.Groups.{slots_of}
-use Rattle.sparse_map.specs.Packed.{len_of, buckets_of}
+use Rattle.sparse_map.specs.Packed.{len_of, buckets_of, IsWidened}
 use Rattle.sparse_map.proofs.MapLemmas.{kept_buckets}
 use Rattle.sparse_map.proofs.ViewLemmas.{seen_len, seen_slots, seen_buckets, seen_sound}
 use Rattle.std.proofs.lemmas.Result.{on_ok_weaker}
@@ -88,12 +88,15 @@ pub returns-else-bits-self-clause-sound : goal.returns-else-bits-self-clause-sou
 returns-else-bits-self-clause-sound g c =
     sound_either c.widen.result c.args.self.now c.widen.new.self (seen_sound c.self.inside c.args.self.now c.self.invariant c.self.view_is) c.widen.ensures.sound c.widen.ensures.err
 
-pub returns-then-bits-self-clause-no_blanks : goal.returns-then-bits-self-clause-no_blanks
-returns-then-bits-self-clause-no_blanks g c =
+pub returns-then-bits-self-clause-fitted : goal.returns-then-bits-self-clause-fitted
+returns-then-bits-self-clause-fitted g c = c.stock_up.ensures.fitted
+
+pub returns-then-bits-self-clause-doubled : goal.returns-then-bits-self-clause-doubled
+returns-then-bits-self-clause-doubled g c =
     let t = c.args.self.now in
     let u = c.stock_up.new.self in
     let level : buckets_of u ≡ buckets_of t = ap length c.stock_up.ensures.slots in
-    on_ok c.stock_up.result (buckets_of u ≢ buckets_of t → (u.spare ≤ 1 → u.blanks ≡ 0)) (λ other. absurd (other level))
+    on_ok c.stock_up.result (buckets_of u ≢ buckets_of t → IsWidened t u) (λ other. absurd (other level))
 
 pub returns-then-bits-self-clause-err : goal.returns-then-bits-self-clause-err
 returns-then-bits-self-clause-err g c =
@@ -121,28 +124,21 @@ returns-else-bits-self-clause-peak g c =
     let other : buckets_of t ≢ 2 ^ c.bits_for-bits.result = subst (λ n. n ≢ 2 ^ c.bits_for-bits.result) narrow (other_buckets m.bits c.bits_for-bits.result (λ e. c.if-bits-self.false (sym e))) in
     peak_either c.widen.result t c.widen.new.self c.widen.ensures.err (2 ^ c.bits_for-bits.result) other c.widen.ensures.buckets
 
-pub returns-else-bits-self-clause-memory : goal.returns-else-bits-self-clause-memory
-returns-else-bits-self-clause-memory g c = c.widen.ensures.memory
+pub returns-else-bits-self-clause-fitted : goal.returns-else-bits-self-clause-fitted
+returns-else-bits-self-clause-fitted g c = c.widen.ensures.fitted
 
-pub returns-else-bits-self-clause-no_blanks : goal.returns-else-bits-self-clause-no_blanks
-returns-else-bits-self-clause-no_blanks g c =
-    let u = c.widen.new.self in
-    on_ok_always c.widen.result (buckets_of u ≢ buckets_of c.args.self.now) (u.spare ≤ 1 → u.blanks ≡ 0) c.widen.ensures.no_blanks
-
-pub returns-then-bits-self-clause-none_loose : goal.returns-then-bits-self-clause-none_loose
-returns-then-bits-self-clause-none_loose g c =
+pub returns-else-bits-self-clause-doubled : goal.returns-else-bits-self-clause-doubled
+returns-else-bits-self-clause-doubled g c =
     let t = c.args.self.now in
-    let u = c.stock_up.new.self in
-    let level : buckets_of u ≡ buckets_of t = ap length c.stock_up.ensures.slots in
-    on_ok c.stock_up.result (buckets_of u ≢ buckets_of t → u.loose ≡ 0) (λ other. absurd (other level))
-
-pub returns-else-bits-self-clause-none_loose : goal.returns-else-bits-self-clause-none_loose
-returns-else-bits-self-clause-none_loose g c =
     let u = c.widen.new.self in
-    on_ok_always c.widen.result (buckets_of u ≢ buckets_of c.args.self.now) (u.loose ≡ 0) c.widen.ensures.loose
+    on_ok_always c.widen.result (buckets_of u ≢ buckets_of t) (IsWidened t u) c.widen.ensures.widened
 
 pub returns-else-bits-self-clause-loose : goal.returns-else-bits-self-clause-loose
-returns-else-bits-self-clause-loose g c = loose_either c.widen.result c.args.self.now c.widen.new.self c.widen.ensures.err c.widen.ensures.loose
+returns-else-bits-self-clause-loose g c =
+    let t = c.args.self.now in
+    let u = c.widen.new.self in
+    loose_either c.widen.result t u c.widen.ensures.err
+    (on_ok_weaker {P = IsWidened t u} {Q = u.loose ≡ 0} c.widen.result (λ w. w.loose) c.widen.ensures.widened)
 
 pub returns-else-bits-self-clause-err : goal.returns-else-bits-self-clause-err
 returns-else-bits-self-clause-err g c = as_before c.widen.result c.args.self.now c.widen.new.self c.widen.ensures.err

@@ -77,8 +77,8 @@ returns-clause-slots g c =
     ∙ same_table (buckets_for m.bits) m.groups.items ws (c.fit_touched.ensures.slots ∙ ap all_slots c.as_mut_slice.ensures.value)
     ∙ seen_slots m c.args.self.now c.self.invariant c.self.view_is
 
-pub returns-clause-memory : goal.returns-clause-memory
-returns-clause-memory g c =
+pub returns-clause-fitted : goal.returns-clause-fitted
+returns-clause-fitted g c =
     let m = c.self.inside in
     let n = buckets_for m.bits in
     let ws = c.fit_touched.new.groups in
@@ -96,18 +96,10 @@ returns-clause-memory g c =
     let long : length (slots_of n (with_items m.groups ws).items) ≡ n =
     ap length (ap (slots_of n) now ∙ slots) ∙ kept_long m.bits m.len m.spare (vec_len m.stock) m.touched m.groups.items c.self.invariant in
     let few = kept_few m.bits m.len m.spare (vec_len m.stock) m.touched m.groups.items c.self.invariant in
-    omega (arith, places-bound ws, c.in_ok-fit_touched.ensures.none_loose, count, same, c.self.invariant.counted, len, ap places_of sizes, ap (loose_of after) sizes, long, table.count, few)
-
-pub returns-clause-blanks : goal.returns-clause-blanks
-returns-clause-blanks g c =
-    let m = c.self.inside in
-    let n = buckets_for m.bits in
-    let ws = c.fit_touched.new.groups in
-    let written_long : length ws ≡ vec_len m.groups = c.fit_touched.auto.groups ∙ c.as_mut_slice.ensures.len in
-    let slots = same_table n m.groups.items ws (c.fit_touched.ensures.slots ∙ ap all_slots c.as_mut_slice.ensures.value) in
-    let long : length (slots_of n (with_items m.groups ws).items) ≡ n =
-    ap length (ap (slots_of n) (written m.groups ws written_long) ∙ slots) ∙ kept_long m.bits m.len m.spare (vec_len m.stock) m.touched m.groups.items c.self.invariant in
-    omega (arith, c.blanks_for-wanted.ensures.few, c.truncate.ensures.len, c.in_ok-add_blanks.ensures.ok, c.len.ensures, m.groups.ok.0, c.self.invariant.table.count, long)
+    record {
+      places = omega (arith, places-bound ws, c.in_ok-fit_touched.ensures.none_loose, count, same, c.self.invariant.counted, len, ap places_of sizes, ap (loose_of after) sizes, long, table.count, few);
+      blanks = omega (arith, c.blanks_for-wanted.ensures.few, c.truncate.ensures.len, c.in_ok-add_blanks.ensures.ok, c.len.ensures, m.groups.ok.0, c.self.invariant.table.count, long);
+    }
 
 pub returns-clause-loose : goal.returns-clause-loose
 returns-clause-loose g c =

@@ -100,16 +100,8 @@ returns-clause-buckets g c =
     let long : length ws ≡ vec_len new = c.place_groups.auto.groups ∙ c.as_mut_slice.ensures.len in
     length-wide c.args.bits c.requires.size (vec.with_items new ws).items (ap length (written new ws long) ∙ omega (arith, long, c.in_ok-ahead.ensures.count))
 
-pub returns-clause-blanks : goal.returns-clause-blanks
-returns-clause-blanks g c =
-    let new = c.in_ok-ahead.ahead.groups in
-    let ws = c.place_groups.new.groups in
-    let long : length ws ≡ vec_len new = c.place_groups.auto.groups ∙ c.as_mut_slice.ensures.len in
-    let size = length-wide c.args.bits c.requires.size (vec.with_items new ws).items (ap length (written new ws long) ∙ omega (arith, long, c.in_ok-ahead.ensures.count)) in
-    omega (arith, size, c.in_ok-ahead.ensures.count, c.len.ensures, c.in_ok-add_blanks.ensures.ok, c.blanks_for-wanted.ensures.few)
-
-pub returns-clause-memory : goal.returns-clause-memory
-returns-clause-memory g c =
+pub returns-clause-fitted : goal.returns-clause-fitted
+returns-clause-fitted g c =
     let m = c.self.inside in
     let t = c.args.self.now in
     let new = c.in_ok-ahead.ahead.groups in
@@ -135,30 +127,21 @@ returns-clause-memory g c =
     let all = ap length (items_of-groups (2 ^ c.args.bits) ws w.rest) in
     let wide = length-wide c.args.bits c.requires.size (vec.with_items new ws).items (ap length now ∙ table.count) in
     let size = sized c.args.bits c.requires.size in
-    omega (arith, places-bound ws, ap (λ us. places_of (sizes_of us)) now, ap (λ us. loose_of Nowhere (sizes_of us)) now, wide, table.count, more_free-is (2 ^ c.args.bits) size, all, count, c.self.invariant.counted, w.count, kept.counted)
+    record {
+      places = omega (arith, places-bound ws, ap (λ us. places_of (sizes_of us)) now, ap (λ us. loose_of Nowhere (sizes_of us)) now, wide, table.count, more_free-is (2 ^ c.args.bits) size, all, count, c.self.invariant.counted, w.count, kept.counted);
+      blanks = omega (arith, wide, c.in_ok-ahead.ensures.count, c.len.ensures, c.in_ok-add_blanks.ensures.ok, c.blanks_for-wanted.ensures.few);
+    }
 
-pub returns-clause-no_blanks : goal.returns-clause-no_blanks
-returns-clause-no_blanks g c = λ one.
-    let none = c.blanks_for-wanted.ensures.one one (λ e. cc) in
-    omega (arith, none, c.in_ok-add_blanks.ensures.ok)
-
-pub returns-clause-loose : goal.returns-clause-loose
-returns-clause-loose g c =
+pub returns-clause-widened : goal.returns-clause-widened
+returns-clause-widened g c =
+    let m = c.self.inside in
+    let t = c.args.self.now in
     let new = c.in_ok-ahead.ahead.groups in
     let ws = c.place_groups.new.groups in
     let long : length ws ≡ vec_len new = c.place_groups.auto.groups ∙ c.as_mut_slice.ensures.len in
     let size = sized c.args.bits c.requires.size in
     let wide = ap more_free (some_buckets c.args.bits (omega (arith, c.requires.size.many))) in
     let count : length c.as_mut_slice.result.now ≡ lists_for (2 ^ c.args.bits) = omega (arith, c.as_mut_slice.ensures.len, c.in_ok-ahead.ensures.count) in
-    omega (arith, ap (λ us. loose_of Nowhere (sizes_of us)) (written new ws long), wide, few_enough (2 ^ c.args.bits) size, ap (λ k. k / 2) count, c.place_groups.ensures.few)
-
-pub returns-clause-peak : goal.returns-clause-peak
-returns-clause-peak g c =
-    let m = c.self.inside in
-    let t = c.args.self.now in
-    let new = c.in_ok-ahead.ahead.groups in
-    let ws = c.place_groups.new.groups in
-    let long : length ws ≡ vec_len new = c.place_groups.auto.groups ∙ c.as_mut_slice.ensures.len in
     let now = ap (λ us. places_of (sizes_of us)) (written new ws long) in
     let made = ap (λ us. places_of (sizes_of us)) c.as_slice-2.ensures.value in
     let start = ap (λ us. places_of (sizes_of us)) c.as_mut_slice.ensures.value in
@@ -166,6 +149,8 @@ returns-clause-peak g c =
     let old = ap (λ us. places_of (sizes_of us)) was in
     let before = seen_memory m t c.self.invariant c.self.view_is in
     record {
+      loose = omega (arith, ap (λ us. loose_of Nowhere (sizes_of us)) (written new ws long), wide, few_enough (2 ^ c.args.bits) size, ap (λ k. k / 2) count, c.place_groups.ensures.few);
+      blanks = λ one. let none = c.blanks_for-wanted.ensures.one one (λ e. cc) in omega (arith, none, c.in_ok-add_blanks.ensures.ok);
       least = omega (arith, now, made, start, old, before, c.places-before.ensures, c.places_with.ensures, c.saturating_add-peak.ensures, c.place_groups.ensures.more, c.place_groups.ensures.handed, ap length c.as_slice-3.ensures.value);
       most = omega (arith, now, made, start, old, before, c.places-before.ensures, c.places_with.ensures, c.saturating_add-peak.ensures, c.place_groups.ensures.more, c.place_groups.ensures.handed, ap length c.as_slice-3.ensures.value);
     }
