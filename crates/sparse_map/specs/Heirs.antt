@@ -35,7 +35,8 @@ pub record GetsMore (counts : List ℕ) (s q : ℕ) : Type 0 where
   pub within : q / 2 ≡ s
   pub most : (r : ℕ) → r / 2 ≡ s → slice_index_or counts r 0 ≤ slice_index_or counts q 0
 
--- old group s hands its list on to new group q, the one of its two that gets more, which is noted as clear: the list fits what is counted there
+-- old group s hands its list on to new group q, the one of its two that gets more, which is noted as clear: the list fits what is
+-- counted there
 pub record IsChosen (rooms counts : List ℕ) (noted : List Bool) (s q : ℕ) : Type 0 where
   pub more : GetsMore counts s q
   pub clear : slice_index_or noted q false ≡ true
@@ -83,8 +84,8 @@ module _ {V : Type 0} where
     pub fits : IsFit (slice_index_or (rooms_of old) s 0) (slice_index_or (with_items n plan (items_in old)).counts q 0)
     pub clear : slice_index_or (with_items n plan (items_in (take s old))).counts q 0 ≡ 0
 
-  -- to new group q something goes from the groups before s, or the list of old group s has no free place there, or more beyond four than are
-  -- left of eight for each two new groups
+  -- to new group q something goes from the groups before s, or the list of old group s has no free place there, or more beyond four
+  -- than are left of eight for each two new groups
   abbrev pub IsNoHeir : ℕ → Plan → List (Group V) → List (Option ℕ) → ℕ → ℕ → Type 0
   IsNoHeir n plan old heirs s q =
       let counts = (with_items n plan (items_in old)).counts in

@@ -159,9 +159,11 @@ impl<V: Drop> Group<V> {
         if from >= end {
             return None;
         }
-        // Whether the first item has another key is added, not asked: it comes often, and can't be guessed.
-        let other = u32::from(self.items[place as usize].0 != key);
-        for k in from + other..end {
+        // A test by itself, outside of the loop: it nearly always fails, since look-ups have asked home before.
+        if self.items[place as usize].0 == key {
+            return Some(from);
+        }
+        for k in from + 1..end {
             if self.items[(place + (k - from)) as usize].0 == key {
                 return Some(k);
             }

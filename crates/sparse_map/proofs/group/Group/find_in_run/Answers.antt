@@ -1,6 +1,6 @@
-use Rattle.std.proofs.Common.{◌≡◌, ◌+◌, ◌-◌, ◌<◌, ◌≤◌, nat_eq, Some, sym, ap, ◌∙◌, inl, inr, arith}
+use Rattle.std.proofs.Common.{◌≡◌, ◌+◌, ◌-◌, ◌<◌, ◌≤◌, Some, sym, ap, ◌∙◌, inl, inr, arith}
 use Rattle.std.specs.Prelude.{option_map}
-use Rattle.std.proofs.lemmas.Bool.{cases_Bool, cases_eq, eqb-false}
+use Rattle.std.proofs.lemmas.Bool.{cases_eq}
 use Rattle.std.proofs.lemmas.Option.{same_Some}
 use Rattle.sparse_map.specs.Slots.{key_at}
 use Rattle.sparse_map.specs.Groups.{slots_in}
@@ -20,13 +20,9 @@ loop-k-init g c =
     let from = c.args.from in
     let lt : from < c.args.end = c.if-from-end.false in
     let is = item_read u from (omega (arith, lt, c.requires.end)) c.args.place c.index.result.now (c.requires.occupied from (omega arith) lt) c.requires.place c.index.ensures in
-    λ j le below has. elim (cases_Bool (nat_eq c.index.result.now.0 c.args.key)) [
-      | inl same ↦ let none : c.from-other.result ≡ 0 = grind (arith, c.from-other.ensures, same) in omega (arith, le, below, none)
-      | inr other ↦
-          let one : c.from-other.result ≡ 1 = grind (arith, c.from-other.ensures, other) in
-          let first : j ≡ from = omega (arith, le, below, one) in
-          eqb-false c.index.result.now.0 c.args.key other (same_Some c.index.result.now.0 c.args.key (sym (ap (option_map (λ e. e.0)) is) ∙ ap (key_at (slots_in u)) (sym first) ∙ has))
-    ]
+    λ j le below has.
+    let first : j ≡ from = omega (arith, le, below) in
+    c.if-index-key.false (same_Some c.index.result.now.0 c.args.key (sym (ap (option_map (λ e. e.0)) is) ∙ ap (key_at (slots_in u)) (sym first) ∙ has))
 
 pub overflow_add-place : goal.overflow_add-place
 overflow_add-place g c =
@@ -47,12 +43,20 @@ index-requires-in-loop-k g c =
 pub returns-then-index-key-clause-found : goal.returns-then-index-key-clause-found
 returns-then-index-key-clause-found g c =
     let u = c.args.self.now in
+    let from = c.args.from in
+    let lt : from < c.args.end = c.if-from-end.false in
+    let is = item_read u from (omega (arith, lt, c.requires.end)) c.args.place c.index.result.now (c.requires.occupied from (omega arith) lt) c.requires.place c.index.ensures in
+    ap (option_map (λ e. e.0)) is ∙ ap Some c.if-index-key.true
+
+pub returns-then-index-key-2-clause-found : goal.returns-then-index-key-2-clause-found
+returns-then-index-key-2-clause-found g c =
+    let u = c.args.self.now in
     let k = c.loop-k.k in
     let le : c.args.from ≤ k = omega arith in
     let lt : k < c.args.end = c.loop-k-test.true in
     let at = rank_on_run u c.args.from c.args.end c.args.place k c.requires.end c.requires.occupied c.requires.place le (omega arith) in
     let is = item_read u k (omega (arith, lt, c.requires.end)) (c.args.place + (k - c.args.from)) c.index-in-loop-k.result.now (c.requires.occupied k le lt) at c.index-in-loop-k.ensures in
-    ap (option_map (λ e. e.0)) is ∙ ap Some c.if-index-key.true
+    ap (option_map (λ e. e.0)) is ∙ ap Some c.if-index-key-2.true
 
 pub loop-k-preserved : goal.loop-k-preserved
 loop-k-preserved g c =
@@ -62,7 +66,7 @@ loop-k-preserved g c =
     let lt : k < c.args.end = c.loop-k-test.true in
     let at = rank_on_run u c.args.from c.args.end c.args.place k c.requires.end c.requires.occupied c.requires.place le (omega arith) in
     let is = item_read u k (omega (arith, lt, c.requires.end)) (c.args.place + (k - c.args.from)) c.index-in-loop-k.result.now (c.requires.occupied k le lt) at c.index-in-loop-k.ensures in
-    let ne = c.if-index-key.false in
+    let ne = c.if-index-key-2.false in
     λ j from to has. elim (cases_eq j k) [
       | inl same ↦ ne (same_Some c.index-in-loop-k.result.now.0 c.args.key (sym (ap (option_map (λ e. e.0)) is) ∙ ap (key_at (slots_in u)) (sym same) ∙ has))
       | inr other ↦ c.loop-k.invariant j from (omega (arith, to, other)) has
