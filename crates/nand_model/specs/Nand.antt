@@ -31,17 +31,17 @@ abbrev pub calls_of : MemNand → Calls
 calls_of nand = nand.calls
 
 -- the programs and the erases that were done
-abbrev pub programs_of : MemNand → ℕ
-programs_of nand = nand.programs
+abbrev pub programs_done : MemNand → ℕ
+programs_done nand = nand.programs
 
-abbrev pub erases_of : MemNand → ℕ
-erases_of nand = nand.erases
+abbrev pub erases_done : MemNand → ℕ
+erases_done nand = nand.erases
 
 -- its calls and counts stay
 pub record SameNumbers (old new : MemNand) : Type 0 where
   pub calls : calls_of new ≡ calls_of old
-  pub programs : programs_of new ≡ programs_of old
-  pub erases : erases_of new ≡ erases_of old
+  pub programs : programs_done new ≡ programs_done old
+  pub erases : erases_done new ≡ erases_done old
 
 -- in a block that is ready, each page from the next one on is blank
 pub blank_ahead : (nand : MemNand) (at : Place) (next : ℕ) → (flash_of nand).next at.block ≡ Some next → next ≤ at.page
@@ -59,8 +59,8 @@ block_count_small nand = nand.few
 pub page_count_small : (nand : MemNand) → nand_pages nand < 2 ^ 32
 page_count_small nand = nand.pages_small
 
-pub programs_small : (nand : MemNand) → programs_of nand ≤ last_count
+pub programs_small : (nand : MemNand) → programs_done nand ≤ last_count
 programs_small nand = nand.programs_small
 
-pub erases_small : (nand : MemNand) → erases_of nand ≤ last_count
+pub erases_small : (nand : MemNand) → erases_done nand ≤ last_count
 erases_small nand = nand.erases_small

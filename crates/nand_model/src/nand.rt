@@ -30,7 +30,7 @@ impl MemNand {
     ghost use Rattle.ft_media.specs.Media.{Found, IsNextPage, UnlessWhole};
     ghost use Rattle.ft_media.specs.Fitted.{new_contents};
     ghost use Rattle.device_calls.specs.Calls.{calls_made, fault_count, failing_numbers, is_listed, ending_of, bumped_if_done, CountsRead, CountsWrite};
-    ghost use Rattle.nand_model.specs.Nand.{nand_blocks, nand_pages, flash_of, calls_of, programs_of, erases_of, HasRoom, SameNumbers};
+    ghost use Rattle.nand_model.specs.Nand.{nand_blocks, nand_pages, flash_of, calls_of, programs_done, erases_done, HasRoom, SameNumbers};
     ghost use Rattle.nand_model.specs.Steps.{program_left, erase_left, unready};
 
     /// A flash without a block. The calls with these numbers will fail, from 1.
@@ -41,8 +41,8 @@ impl MemNand {
         ensures failing { failing_numbers (calls_of result) ≡ failing.items }
         ensures made { calls_made (calls_of result) ≡ 0 }
         ensures faults { fault_count (calls_of result) ≡ 0 }
-        ensures programs { programs_of result ≡ 0 }
-        ensures erases { erases_of result ≡ 0 }
+        ensures programs { programs_done result ≡ 0 }
+        ensures erases { erases_done result ≡ 0 }
     {
         MemNand {
             pages: 0,
@@ -108,8 +108,8 @@ impl MemNand {
         ensures flash { flash_of self.new ≡ flash_of self.old }
         ensures blocks { nand_blocks self.new ≡ nand_blocks self.old }
         ensures pages { nand_pages self.new ≡ nand_pages self.old }
-        ensures programs { programs_of self.new ≡ programs_of self.old }
-        ensures erases { erases_of self.new ≡ erases_of self.old }
+        ensures programs { programs_done self.new ≡ programs_done self.old }
+        ensures erases { erases_done self.new ≡ erases_done self.old }
         ensures calls { CountsRead (is_listed (calls_of self.old)) (calls_of self.old) (calls_of self.new) }
     {
         if self.calls.read_fails() {
@@ -127,8 +127,8 @@ impl MemNand {
         ensures blocks { nand_blocks self.new ≡ nand_blocks self.old }
         ensures pages { nand_pages self.new ≡ nand_pages self.old }
         ensures calls { CountsWrite result (calls_of self.old) (calls_of self.new) }
-        ensures programs { programs_of self.new ≡ bumped_if_done result (programs_of self.old) }
-        ensures erases { erases_of self.new ≡ erases_of self.old }
+        ensures programs { programs_done self.new ≡ bumped_if_done result (programs_done self.old) }
+        ensures erases { erases_done self.new ≡ erases_done self.old }
     {
         let ending = self.calls.write_ends(current);
         match ending {
@@ -151,8 +151,8 @@ impl MemNand {
         ensures blocks { nand_blocks self.new ≡ nand_blocks self.old }
         ensures pages { nand_pages self.new ≡ nand_pages self.old }
         ensures calls { CountsWrite result (calls_of self.old) (calls_of self.new) }
-        ensures programs { programs_of self.new ≡ programs_of self.old }
-        ensures erases { erases_of self.new ≡ bumped_if_done result (erases_of self.old) }
+        ensures programs { programs_done self.new ≡ programs_done self.old }
+        ensures erases { erases_done self.new ≡ bumped_if_done result (erases_done self.old) }
     {
         let ending = self.calls.write_ends(current);
         match ending {
@@ -179,14 +179,14 @@ impl MemNand {
 
     /// Pages programmed.
     pub fn programs(&self) -> u64
-        ensures { result ≡ programs_of self.now }
+        ensures { result ≡ programs_done self.now }
     {
         self.programs
     }
 
     /// Blocks erased.
     pub fn erases(&self) -> u64
-        ensures { result ≡ erases_of self.now }
+        ensures { result ≡ erases_done self.now }
     {
         self.erases
     }

@@ -27,7 +27,7 @@ use Rattle.cached_disk.proofs.AddressLemmas.{holds_lbas, holds_within, lbas_asce
 use Rattle.cached_disk.proofs.HeldLemmas.{one_held}
 use Rattle.cached_disk.proofs.OpenedLemmas.{given_up_left}
 use Rattle.write_back.specs.declared.volume.WriteBack.{WriteBack}
-use Rattle.write_back.specs.Left.{IsExact, IsLeft, IsTable, state_of}
+use Rattle.write_back.specs.Left.{IsExact, IsLeft, IsDirtyTable, state_of}
 use Rattle.write_back.proofs.TableLemmas.{IsTableSoFar, few_lbas, length_waiting, so_far_exact, so_far_more, so_far_none, so_far_order, so_far_room}
 
 -- ---- the table of a cache
@@ -89,7 +89,7 @@ module _ (v : CachedDisk) (over : (contents : Contents) × MayServe v contents) 
       pub made_order : length lbas ≤ i → IsOrderOf table.order v
       made_order past = subst (λ (l : List ℕ). waiting_in v.options.geometry.p table.order l ≡ table_of v.options.geometry.p [] l) is (so_far_order v.options.geometry.p lbas i table.order made.so_far past)
 
-pub made_table : (g : Geometry) (lbas : List ℕ) (i : ℕ) (table : Groups) → IsMade g lbas i table → IsTable g table
+pub made_table : (g : Geometry) (lbas : List ℕ) (i : ℕ) (table : Groups) → IsMade g lbas i table → IsDirtyTable g table
 made_table g lbas i table made = record { limit = made.limit; apart = made.so_far.apart }
 
 -- ---- it comes up
@@ -113,7 +113,7 @@ stays_up v state left up = record {
 }
 
 -- the memory of its table was refused, so it is given up again
-pub given_up : (v : CachedDisk) (table : Groups) (contents : Contents) → kept.IsLeft v contents → v.mode ≡ Back → IsTable v.options.geometry table → IsLeft (record { disk = record v { down = true }; dirty = table }) contents
+pub given_up : (v : CachedDisk) (table : Groups) (contents : Contents) → kept.IsLeft v contents → v.mode ≡ Back → IsDirtyTable v.options.geometry table → IsLeft (record { disk = record v { down = true }; dirty = table }) contents
 given_up v table contents left back is = record {
   disk = given_up_left v contents left;
   mode = back;

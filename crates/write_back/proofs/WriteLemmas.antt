@@ -52,7 +52,7 @@ use Rattle.cached_disk.proofs.DiskLemmas.{IsOver, over_stands}
 use Rattle.cached_disk.proofs.HeldLemmas.{Stays, down_left, drove, held_beneath, held_left, held_over, held_stands, own_flash, step_beneath, step_held, step_over, stopped_down, undone, undone_over}
 use Rattle.cached_disk.proofs.StepLemmas.{over_same, vanish_agrees, vanish_dirty, vanish_same, vanish_was, written_agrees, written_dirty-keeps, written_here, written_over, written_was}
 use Rattle.write_back.specs.declared.volume.WriteBack.{WriteBack}
-use Rattle.write_back.specs.Left.{IsExact, IsLeft, IsTable, out_of_group, state_of}
+use Rattle.write_back.specs.Left.{IsExact, IsLeft, IsDirtyTable, out_of_group, state_of}
 use Rattle.write_back.specs.Writing.{HasTableRoom, backs_made, room_made}
 use Rattle.write_back.proofs.TableLemmas.{map_twice, exact_touched, exact_without, few_exact, few_lbas, full_waiting, length_waiting, not_full_exact, put_waiting, touched_apart, without_apart}
 use Rattle.cached_disk.proofs.ReadLemmas.{on_ok_of}
@@ -165,7 +165,7 @@ pub cleaned_left : (v : WriteBack) (disk : CachedDisk) (table : Groups) (before 
 cleaned_left v disk table before after n left up now made cleaned less = record {
   disk = now;
   mode = made.1 ∙ left.mode;
-  table = subst (λ (g : Geometry). IsTable g table) (sym (ap (λ o. o.geometry) made.0)) (subst (λ (t : Groups). IsTable v.disk.options.geometry t) (sym less) (record { limit = left.table.limit; apart = without_apart n v.dirty.order left.table.apart }));
+  table = subst (λ (g : Geometry). IsDirtyTable g table) (sym (ap (λ o. o.geometry) made.0)) (subst (λ (t : Groups). IsDirtyTable v.disk.options.geometry t) (sym less) (record { limit = left.table.limit; apart = without_apart n v.dirty.order left.table.apart }));
   exact = λ is.
       subst (λ (g : Geometry). IsExact g.p table.order (dirty_of disk)) (sym (ap (λ o. o.geometry) made.0))
       (subst (λ (t : Groups). IsExact v.disk.options.geometry.p t.order (dirty_of disk)) (sym less)
@@ -299,8 +299,8 @@ module _ (v : WriteBack) (lba : ℕ) (c : Ssc) (table : Groups) (noted : table �
   abbrev pub written : WriteBack
   written = record { disk = record v.disk { cache = c }; dirty = table }
 
-  noted_table : IsTable v.disk.options.geometry v.dirty → IsTable v.disk.options.geometry table
-  noted_table is = subst (λ (t : Groups). IsTable v.disk.options.geometry t) (sym noted) (record { limit = is.limit; apart = touched_apart (lba / v.disk.options.geometry.p) v.dirty.order is.apart })
+  noted_table : IsDirtyTable v.disk.options.geometry v.dirty → IsDirtyTable v.disk.options.geometry table
+  noted_table is = subst (λ (t : Groups). IsDirtyTable v.disk.options.geometry t) (sym noted) (record { limit = is.limit; apart = touched_apart (lba / v.disk.options.geometry.p) v.dirty.order is.apart })
 
   noted_exact : IsExact v.disk.options.geometry.p v.dirty.order (dirty_of v.disk) → dirty_lbas (entries_of c) ≡ with_lba lba (dirty_of v.disk) → IsExact v.disk.options.geometry.p table.order (dirty_lbas (entries_of c))
   noted_exact is lbas =

@@ -19,7 +19,7 @@ abbrev pub state_of : WriteBack → VolumeState
 state_of v = state_in v.dirty.order v.disk
 
 -- the table is of distinct groups, for as many as there may be
-pub record IsTable (g : Geometry) (table : Groups) : Type 0 where
+pub record IsDirtyTable (g : Geometry) (table : Groups) : Type 0 where
   pub limit : table.limit ≡ g.c
   pub apart : AreApart table.order
 
@@ -32,7 +32,7 @@ pub record IsExact (p : ℕ) (order lbas : List ℕ) : Type 0 where
 pub record IsLeft (v : WriteBack) (contents : Contents) : Type 0 where
   pub disk : kept.IsLeft v.disk contents
   pub mode : v.disk.mode ≡ Back
-  pub table : IsTable v.disk.options.geometry v.dirty
+  pub table : IsDirtyTable v.disk.options.geometry v.dirty
   pub exact : kept.is_down v.disk ≡ false → IsExact v.disk.options.geometry.p v.dirty.order (dirty_of v.disk)
 
 -- these addresses of a group, and those of the others

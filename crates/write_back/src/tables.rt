@@ -1,7 +1,7 @@
 ghost use Rattle.std.specs.Prelude.{IfOk};
 ghost use Rattle.ft_base.specs.Contents.{Contents};
 ghost use Rattle.cached_disk.specs.Kept.{IsOrderOf, MayServe, dirty_of};
-ghost use Rattle.write_back.specs.Left.{IsExact, IsTable};
+ghost use Rattle.write_back.specs.Left.{IsExact, IsDirtyTable};
 
 use cached_disk::CachedDisk;
 use dirty_table::DirtyTable;
@@ -11,7 +11,7 @@ use std::alloc::AllocError;
 /// front, since the flash doesn't say which was written last.
 pub(crate) fn dirty_table_of(disk: &CachedDisk) -> Result<DirtyTable, AllocError>
     requires may { (contents : Contents) × MayServe disk.now contents }
-    ensures table { IfOk result (λ table. IsTable disk.now.options.geometry table) }
+    ensures table { IfOk result (λ table. IsDirtyTable disk.now.options.geometry table) }
     ensures exact { IfOk result (λ table. IsExact disk.now.options.geometry.p table.order (dirty_of disk.now)) }
     ensures order { IfOk result (λ table. IsOrderOf table.order disk.now) }
 {

@@ -2,7 +2,7 @@ use Rattle.std.proofs.Common.{◌≡◌, true, rules, sym, subst}
 use Rattle.ft_volume.specs.declared.options.Options.{Options}
 use Rattle.cached_disk.specs.Kept as kept
 use Rattle.cached_disk.proofs.OpenedLemmas.{refused_memory}
-use Rattle.write_back.specs.Left.{IsTable}
+use Rattle.write_back.specs.Left.{IsDirtyTable}
 use Rattle.write_back.proofs.VolumeLemmas.{given_up, stays_up}
 use Rattle.write_back.proofs.volume.WriteBack.bring_up.Goals as goal
 
@@ -13,7 +13,7 @@ pub returns-in-Err-dirty_table_of-clause-left : goal.returns-in-Err-dirty_table_
 returns-in-Err-dirty_table_of-clause-left g c =
     let v = c.args.self.now in
     given_up c.bring_up.new.self v.dirty (g.M.Media.state c.bring_up.new.media).contents c.in-Ok.ensures.left (search rules)
-    (subst (λ (o : Options). IsTable o.geometry v.dirty) (sym c.in-Ok.ensures.reopens.made.0) c.requires.table)
+    (subst (λ (o : Options). IsDirtyTable o.geometry v.dirty) (sym c.in-Ok.ensures.reopens.made.0) c.requires.table)
 
 pub returns-in-Err-dirty_table_of-clause-comes : goal.returns-in-Err-dirty_table_of-clause-comes
 returns-in-Err-dirty_table_of-clause-comes g c =
