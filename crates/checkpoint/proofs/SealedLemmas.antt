@@ -18,7 +18,7 @@ use Rattle.cache_model.specs.Records.{Entries, after, no_entries}
 use Rattle.cache_model.specs.Entries.{IsMap, fits}
 use Rattle.cache_model.specs.Loading.{Complete, complete, ◌>>=◌, pages_from, checkpoint_in, chosen, checkpoint_region, newest, checkpoint_of, replayed_entries, is_wanted, wanted, load, after_all, after_pages, is_whole, all_whole}
 use Rattle.cache_model.specs.Loading.Refusal.{NotFormatted, OtherGeometry, Damaged}
-use Rattle.cache_model.specs.Laws.{AreMaps, IsCheckpoint}
+use Rattle.cache_model.proofs.WholeCheckpoint.{AreMaps, IsCheckpoint}
 use Rattle.cache_model.proofs.CountLemmas.{same_number}
 use Rattle.cache_model.proofs.MapLemmas.{all_entries}
 use Rattle.cache_model.proofs.LogLemmas.{after_pages-one}

@@ -10,7 +10,8 @@ use Rattle.std.proofs.lemmas.Bool.{cases_lt, cases_eq, false≢true}
 use Rattle.sparse_map.specs.declared.group.Group.{Group}
 use Rattle.sparse_map.specs.Moved.{items_in}
 use Rattle.sparse_map.specs.Plan.{Plan, with_items, lens_of, rooms_of, RoomsFit}
-use Rattle.sparse_map.specs.Heirs.{IsFit, all_brought, GetsMore, IsChosen, IsPassedOver, HeirsAreBare, AreRooms, handed_on, FitsItems, AreClear, AllAreNoted, IsHeir, IsNoHeir, AreHeirs, ListsFit}
+use Rattle.sparse_map.specs.Heirs.{IsFit, all_brought, GetsMore, IsChosen, IsPassedOver, HeirsAreBare, AreRooms, FitsItems, AreClear, AllAreNoted, IsHeir, IsNoHeir, AreHeirs, ListsFit}
+use Rattle.sparse_map.proofs.HandedOn.{handed_on}
 use Rattle.sparse_map.specs.declared.table.Touched.TheVariants.{Nowhere}
 use Rattle.sparse_map.specs.Places.{sizes_of, lacks, lacking}
 use Rattle.sparse_map.specs.Trimmed.{IsReady}

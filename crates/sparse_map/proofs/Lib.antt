@@ -1,3 +1,4 @@
+pub mod HandedOn
 pub mod HomeLemmas
 pub mod HomeRows
 pub mod RankLemmas

@@ -8,7 +8,8 @@ use Rattle.std.proofs.lemmas.Bool.{cases_lt, cases_eq}
 use Rattle.sparse_map.specs.declared.group.Group.{Group}
 use Rattle.sparse_map.specs.declared.table.Touched.TheVariants.{Nowhere}
 use Rattle.sparse_map.specs.Plan.{lens_of, rooms_of}
-use Rattle.sparse_map.specs.Heirs.{beyond_four, brought, all_brought, IsPassedOver, handed_on}
+use Rattle.sparse_map.specs.Heirs.{beyond_four, brought, all_brought, IsPassedOver}
+use Rattle.sparse_map.proofs.HandedOn.{handed_on}
 use Rattle.sparse_map.specs.Places.{list_size, sizes_of, places_of, extra, sum_untouched, loose_of}
 use Rattle.sparse_map.proofs.PlanLemmas.{len_at, room_at}
 

@@ -9,7 +9,8 @@ use Rattle.sparse_map.specs.Groups.{all_slots}
 use Rattle.sparse_map.specs.Places.{sizes_of, places_of, loose_of}
 use Rattle.sparse_map.specs.Moved.{items_in, CanTake, HasTaken}
 use Rattle.sparse_map.specs.Plan.{Plan, planned, with_items, lens_of, rooms_of, plan_of, RoomsFit}
-use Rattle.sparse_map.specs.Heirs.{IsFit, brought, all_brought, AreRooms, handed_on, ListsFit}
+use Rattle.sparse_map.specs.Heirs.{IsFit, brought, all_brought, AreRooms, ListsFit}
+use Rattle.sparse_map.proofs.HandedOn.{handed_on}
 use Rattle.sparse_map.proofs.PlanLemmas.{with_items-append, room_at}
 use Rattle.sparse_map.proofs.TakingLemmas.{slots_of-same, Taking, taking_first, taking_more, taking_same}
 use Rattle.sparse_map.proofs.RoomsLemmas.{over_rooms, places_at, loose_at, over_rooms-le, over_rooms-none, over_rooms-more, places_over, loose_over, over_rooms-handed, brings, brought_more}

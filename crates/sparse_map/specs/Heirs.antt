@@ -1,5 +1,5 @@
 -- Which lists of old groups new groups take over, as the items move.
-use Rattle.std.specs.Prelude.{◌≡◌, ℕ, zero, suc, ◌+◌, ◌-◌, ◌*◌, ◌/◌, ◌<◌, ◌≤◌, ◌⊎◌, Bool, true, false, List, length, take, Option, Some, None, slice_index_or, slice_set}
+use Rattle.std.specs.Prelude.{◌≡◌, ℕ, zero, suc, ◌+◌, ◌-◌, ◌*◌, ◌/◌, ◌<◌, ◌≤◌, ◌⊎◌, Bool, true, false, List, length, take, Option, Some, None, slice_index_or}
 use Rattle.std.specs.Vec.{vec_len, vec_capacity}
 use Rattle.sparse_map.specs.declared.group.Group.{Group}
 use Rattle.sparse_map.specs.Moved.{items_in}
@@ -53,11 +53,6 @@ IsPassedOver counts noted s places left =
 -- a new group that takes over a list has no places of its own before
 abbrev pub HeirsAreBare : List ℕ → List (Option ℕ) → Type 0
 HeirsAreBare rooms heirs = (q : ℕ) → slice_index_or heirs (q / 2) None ≡ Some q → slice_index_or rooms q 0 ≡ 0
-
--- the places of the lists after one of so many was handed on
-abbrev pub handed_on : Option ℕ → ℕ → List ℕ → List ℕ
-handed_on None places rooms = rooms
-handed_on (Some q) places rooms = slice_set rooms q places
 
 module _ {V : Type 0} where
   -- the list of a group fits its items

@@ -10,7 +10,7 @@ ghost use Rattle.sparse_map.specs.declared.table.Touched.TheVariants.{Nowhere};
 ghost use Rattle.sparse_map.specs.Places.{sizes_of, places_of, loose_of};
 ghost use Rattle.sparse_map.specs.Moved.{items_in, CanTake, HasTaken};
 ghost use Rattle.sparse_map.specs.Plan.{plan_of, with_items, lens_of, rooms_of, RoomsFit};
-ghost use Rattle.sparse_map.specs.Heirs.{IsFit, HeirsAreBare, FitsItems, AreRooms, ListsFit, handed_on};
+ghost use Rattle.sparse_map.specs.Heirs.{IsFit, HeirsAreBare, FitsItems, AreRooms, ListsFit};
 
 use crate::group::Group;
 use crate::home::home_of;

@@ -4,7 +4,7 @@ use Rattle.std.specs.Vec.{vec_len, vec_capacity}
 use Rattle.std.specs.Vec.Iter.{into_iter_items}
 use Rattle.sparse_map.specs.Moved.{items_in, CanTake, HasTaken}
 use Rattle.sparse_map.specs.Plan.{with_items, lens_of, rooms_of, plan_of, RoomsFit}
-use Rattle.sparse_map.specs.Heirs.{handed_on}
+use Rattle.sparse_map.proofs.HandedOn.{handed_on}
 use Rattle.sparse_map.proofs.RankLemmas.{ones_at_most_64}
 use Rattle.sparse_map.proofs.TakingLemmas.{Taking, taking_none, taking_all, nothing}
 use Rattle.sparse_map.proofs.HeirLemmas.{fit_each}
