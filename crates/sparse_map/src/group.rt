@@ -156,14 +156,7 @@ impl<V: Drop> Group<V> {
         ensures found { IfSome result (λ k. key_at (slots_in self.now) k ≡ Some key) }
         ensures none { IfNone result ((j : ℕ) → from ≤ j → j < end → key_at (slots_in self.now) j ≢ Some key) }
     {
-        if from >= end {
-            return None;
-        }
-        // A test by itself, outside of the loop: it nearly always fails, since look-ups have asked home before.
-        if self.items[place as usize].0 == key {
-            return Some(from);
-        }
-        for k in from + 1..end {
+        for k in from..end {
             if self.items[(place + (k - from)) as usize].0 == key {
                 return Some(k);
             }

@@ -1,10 +1,10 @@
 //! The buckets of all groups as one table: bucket b is bucket b % 64 of group b / 64.
-ghost use Rattle.std.specs.Prelude.{◌≡◌, ◌≢◌, ℕ, ◌+◌, ◌*◌, ◌%◌, ◌^◌, ◌<◌, ◌≤◌, length, vec_len, Some, None, IfSome, IfOk, MatchOption, is_some, option_map, OnOk, OnErr, IfNone, is_ok, slice_set, ◌/◌, ◌-◌, ◌⊎◌, ◌==◌, if◌then◌else◌, IsTrue, true, false, min};
+ghost use Rattle.std.specs.Prelude.{◌≡◌, ◌≢◌, ℕ, ◌+◌, ◌*◌, ◌%◌, ◌^◌, ◌<◌, ◌≤◌, length, vec_len, Some, None, IfSome, IfOk, MatchOption, is_some, option_map, OnOk, OnErr, is_ok, slice_set, ◌/◌, ◌-◌, ◌⊎◌, ◌==◌, if◌then◌else◌, IsTrue, true, false, min};
 ghost use Rattle.std.specs.Ordering.{nat_cmp};
 ghost use Rattle.std.specs.FinMap.{find};
 ghost use Rattle.std.specs.Vec.{vec_capacity};
 ghost use Rattle.sparse_map.specs.Slots.{slot_at, key_at, items_of, exchanged};
-ghost use Rattle.sparse_map.specs.Home.{home, buckets_for};
+ghost use Rattle.sparse_map.specs.Home.{buckets_for};
 ghost use Rattle.sparse_map.specs.Groups.{slots_in, all_slots, slots_of, IsTable};
 ghost use Rattle.sparse_map.specs.Packed.{IsPacked};
 ghost use Rattle.sparse_map.specs.Ranks.{IsRankOf, IsRankAt, IsSeated};
@@ -275,6 +275,13 @@ pub fn probe<V: Drop>(groups: &[Group<V>], bits: u32, key: u64) -> Spot
         let start = bucket - bucket % 64;
         let first = (bucket % 64) as u32;
         let place = group.rank_at(first);
+        // Most keys that are there stand at home: this is asked before the end of the run is looked for.
+        if group.key(first, place) == Some(key) {
+            return Spot {
+                at: Place::Found(bucket),
+                rank: place,
+            };
+        }
         let end = group.run_end(first);
         if let Some(k) = group.find_in_run(first, end, place, key) {
             return Spot {
@@ -295,22 +302,7 @@ pub fn probe<V: Drop>(groups: &[Group<V>], bits: u32, key: u64) -> Spot
     unreachable!()
 }
 
-/// Where a key is, if it stands at its home.
-fn find_at_home<V: Drop>(groups: &[Group<V>], bits: u32, key: u64) -> Option<Seat>
-    requires table { HasFreeBucket bits groups.now }
-    ensures found { IfSome result (λ seat. key_at (slots_of (2 ^ bits) groups.now) seat.bucket ≡ Some key) }
-    ensures none { IfNone result (key_at (slots_of (2 ^ bits) groups.now) (home (2 ^ bits) key) ≢ Some key) }
-    ensures rank { IfSome result (λ seat. IsRankOf groups.now seat.bucket seat.rank) }
-{
-    let bucket = home_of(bits, key);
-    let rank = groups[(bucket / 64) as usize].rank_at((bucket % 64) as u32);
-    match key_at(groups, bucket, rank) {
-        Some(there) if there == key => Some(Seat { bucket, rank }),
-        _ => None,
-    }
-}
-
-/// Where a key is, if it is there. Most keys stand at home, which is asked first: no run's end is looked for then.
+/// Where a key is, if it is there.
 pub fn find<V: Drop>(groups: &[Group<V>], bits: u32, key: u64) -> Option<Seat>
     requires table { 0 < bits → HasFreeBucket bits groups.now }
     ensures found { MatchOption result ((b : ℕ) → key_at (slots_of (buckets_for bits) groups.now) b ≢ Some key)
@@ -319,9 +311,6 @@ pub fn find<V: Drop>(groups: &[Group<V>], bits: u32, key: u64) -> Option<Seat>
 {
     if bits == 0 {
         return None;
-    }
-    if let Some(seat) = find_at_home(groups, bits, key) {
-        return Some(seat);
     }
     let spot = probe(groups, bits, key);
     match spot.at {

@@ -12,11 +12,6 @@ returns-then-bits-eq0-clause-found g c =
     let none = no_buckets c.args.bits c.if-bits-eq0.true in
     λ b has. let lt = key_below (buckets_for c.args.bits) c.args.groups.now b c.args.key has in absurd (omega (arith, lt, none))
 
-pub returns-in-Some-clause-found : goal.returns-in-Some-clause-found
-returns-in-Some-clause-found g c =
-    let size : buckets_for c.args.bits ≡ 2 ^ c.args.bits = some_buckets c.args.bits (omega (arith, c.if-bits-eq0.false)) in
-    ap (λ n. key_at (slots_of n c.args.groups.now) c.in-Some.seat.bucket) size ∙ c.in-Some.ensures.found
-
 pub returns-in-Found-clause-found : goal.returns-in-Found-clause-found
 returns-in-Found-clause-found g c =
     let ne = c.if-bits-eq0.false in

@@ -1,4 +1,6 @@
-use Rattle.std.proofs.Common.{◌≡◌, ◌+◌, ◌-◌, ◌*◌, ◌%◌, ◌^◌, ◌<◌, ◌≤◌, min, length, sym, ap, ◌∙◌, subst, Some, arith}
+use Rattle.std.proofs.Common.{nat_eq, eqb-true, Option, None, true, ℕ, ◌≡◌, ◌+◌, ◌-◌, ◌*◌, ◌%◌, ◌^◌, ◌<◌, ◌≤◌, min, length, sym, ap, ◌∙◌, subst, Some, arith}
+use Rattle.std.specs.Option.{option_eq}
+use Rattle.std.proofs.lemmas.Bool.{false≢true}
 use Rattle.sparse_map.specs.Home.{home}
 use Rattle.sparse_map.specs.Slots.{key_at}
 use Rattle.sparse_map.specs.Groups.{slots_of}
@@ -8,7 +10,7 @@ use Rattle.sparse_map.proofs.HomeLemmas.{sized, width_within, below_width}
 use Rattle.sparse_map.proofs.GroupLemmas.{rank_on_run, rank_on_run_few}
 use Rattle.sparse_map.proofs.BucketLemmas.{table_long, length-table}
 use Rattle.sparse_map.proofs.PackedLemmas.{Passing, PackedAt-from, HasOther, passing_start, passing_more, passing_full, probing_free}
-use Rattle.sparse_map.proofs.RankedLemmas.{run_taken, run_other, run_free, run_key, run_rank}
+use Rattle.sparse_map.proofs.RankedLemmas.{rank_read, run_taken, run_other, run_free, run_key, run_rank}
 use Rattle.sparse_map.proofs.table.probe.Goals as goal
 
 pub loop-passed-init : goal.loop-passed-init
@@ -165,3 +167,28 @@ unreachable-requires g c =
     let home_in : home n key < n = omega (arith, home_is, c.home_of-bucket.ensures.within, e) in
     passing_full n (HasOther s key) s (home n key) c.loop-passed.bucket c.loop-passed.passed (λ q other. other.0) long home_in
     c.loop-passed-test.false (omega (arith, c.requires.table.room, e)) c.loop-passed.invariant
+
+key_is : (o : Option ℕ) (key : ℕ) → option_eq nat_eq o (Some key) ≡ true → o ≡ Some key
+key_is None key is = absurd (false≢true is)
+key_is (Some k) key is = ap Some (eqb-true k key is)
+
+pub returns-then-eq-clause-place : goal.returns-then-eq-clause-place
+returns-then-eq-clause-place g c =
+    let n = 2 ^ c.args.bits in
+    let us = c.args.groups.now in
+    let b = c.loop-passed.bucket in
+    let read = c.index-groups-bucket.result in
+    let table = c.requires.table.table in
+    let inside : b < 64 * length us = omega (arith, c.loop-passed.invariant.inside, table_long n us (sized c.args.bits c.requires.table.size) table, c.bucket_count-buckets.ensures.count) in
+    let low : b % 64 < 64 = omega arith in
+    let same : b - b % 64 + b % 64 ≡ b = omega arith in
+    subst (λ x. key_at (slots_of n us) x ≡ Some c.args.key) same
+    (run_key n us b (b % 64) read read table inside c.index-groups-bucket.is c.args.key low (sym c.key.ensures ∙ key_is c.key.result c.args.key (sym c.eq.ensures ∙ c.if-eq.true)))
+
+pub returns-then-eq-clause-rank : goal.returns-then-eq-clause-rank
+returns-then-eq-clause-rank g c =
+    let us = c.args.groups.now in
+    let b = c.loop-passed.bucket in
+    let read = c.index-groups-bucket.result in
+    let inside : b < 64 * length us = omega (arith, c.loop-passed.invariant.inside, table_long (2 ^ c.args.bits) us (sized c.args.bits c.requires.table.size) c.requires.table.table, c.bucket_count-buckets.ensures.count) in
+    rank_read us b c.rank_at-place.result read read inside c.index-groups-bucket.is c.rank_at-place.ensures

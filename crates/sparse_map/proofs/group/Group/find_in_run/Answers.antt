@@ -1,4 +1,4 @@
-use Rattle.std.proofs.Common.{◌≡◌, ◌+◌, ◌-◌, ◌<◌, ◌≤◌, Some, sym, ap, ◌∙◌, inl, inr, arith}
+use Rattle.std.proofs.Common.{◌+◌, ◌-◌, ◌<◌, ◌≤◌, Some, sym, ap, ◌∙◌, inl, inr, arith}
 use Rattle.std.specs.Prelude.{option_map}
 use Rattle.std.proofs.lemmas.Bool.{cases_eq}
 use Rattle.std.proofs.lemmas.Option.{same_Some}
@@ -8,22 +8,6 @@ use Rattle.sparse_map.proofs.RankLemmas.{rank_at_most, ones_at_most_64}
 use Rattle.sparse_map.proofs.GroupLemmas.{place_of, item_read, rank_on_run}
 use Rattle.sparse_map.proofs.group.Group.find_in_run.Goals as goal
 
-pub index-requires : goal.index-requires
-index-requires g c =
-    let u = c.args.self.now in
-    let lt : c.args.from < c.args.end = c.if-from-end.false in
-    omega (arith, c.requires.place, place_of u c.args.from (omega (arith, lt, c.requires.end)) (c.requires.occupied c.args.from (omega arith) lt))
-
-pub loop-k-init : goal.loop-k-init
-loop-k-init g c =
-    let u = c.args.self.now in
-    let from = c.args.from in
-    let lt : from < c.args.end = c.if-from-end.false in
-    let is = item_read u from (omega (arith, lt, c.requires.end)) c.args.place c.index.result.now (c.requires.occupied from (omega arith) lt) c.requires.place c.index.ensures in
-    λ j le below has.
-    let first : j ≡ from = omega (arith, le, below) in
-    c.if-index-key.false (same_Some c.index.result.now.0 c.args.key (sym (ap (option_map (λ e. e.0)) is) ∙ ap (key_at (slots_in u)) (sym first) ∙ has))
-
 pub overflow_add-place : goal.overflow_add-place
 overflow_add-place g c =
     let u = c.args.self.now in
@@ -31,8 +15,8 @@ overflow_add-place g c =
     let at = rank_on_run u c.args.from c.args.end c.args.place k c.requires.end c.requires.occupied c.requires.place (omega arith) (omega arith) in
     omega (arith, at, rank_at_most u.occupied k u.fits (omega (arith, c.loop-k-test.true, c.requires.end)), ones_at_most_64 u.occupied u.fits)
 
-pub index-requires-in-loop-k : goal.index-requires-in-loop-k
-index-requires-in-loop-k g c =
+pub index-requires : goal.index-requires
+index-requires g c =
     let u = c.args.self.now in
     let k = c.loop-k.k in
     let le : c.args.from ≤ k = omega arith in
@@ -43,20 +27,12 @@ index-requires-in-loop-k g c =
 pub returns-then-index-key-clause-found : goal.returns-then-index-key-clause-found
 returns-then-index-key-clause-found g c =
     let u = c.args.self.now in
-    let from = c.args.from in
-    let lt : from < c.args.end = c.if-from-end.false in
-    let is = item_read u from (omega (arith, lt, c.requires.end)) c.args.place c.index.result.now (c.requires.occupied from (omega arith) lt) c.requires.place c.index.ensures in
-    ap (option_map (λ e. e.0)) is ∙ ap Some c.if-index-key.true
-
-pub returns-then-index-key-2-clause-found : goal.returns-then-index-key-2-clause-found
-returns-then-index-key-2-clause-found g c =
-    let u = c.args.self.now in
     let k = c.loop-k.k in
     let le : c.args.from ≤ k = omega arith in
     let lt : k < c.args.end = c.loop-k-test.true in
     let at = rank_on_run u c.args.from c.args.end c.args.place k c.requires.end c.requires.occupied c.requires.place le (omega arith) in
-    let is = item_read u k (omega (arith, lt, c.requires.end)) (c.args.place + (k - c.args.from)) c.index-in-loop-k.result.now (c.requires.occupied k le lt) at c.index-in-loop-k.ensures in
-    ap (option_map (λ e. e.0)) is ∙ ap Some c.if-index-key-2.true
+    let is = item_read u k (omega (arith, lt, c.requires.end)) (c.args.place + (k - c.args.from)) c.index.result.now (c.requires.occupied k le lt) at c.index.ensures in
+    ap (option_map (λ e. e.0)) is ∙ ap Some c.if-index-key.true
 
 pub loop-k-preserved : goal.loop-k-preserved
 loop-k-preserved g c =
@@ -65,9 +41,9 @@ loop-k-preserved g c =
     let le : c.args.from ≤ k = omega arith in
     let lt : k < c.args.end = c.loop-k-test.true in
     let at = rank_on_run u c.args.from c.args.end c.args.place k c.requires.end c.requires.occupied c.requires.place le (omega arith) in
-    let is = item_read u k (omega (arith, lt, c.requires.end)) (c.args.place + (k - c.args.from)) c.index-in-loop-k.result.now (c.requires.occupied k le lt) at c.index-in-loop-k.ensures in
-    let ne = c.if-index-key-2.false in
+    let is = item_read u k (omega (arith, lt, c.requires.end)) (c.args.place + (k - c.args.from)) c.index.result.now (c.requires.occupied k le lt) at c.index.ensures in
+    let ne = c.if-index-key.false in
     λ j from to has. elim (cases_eq j k) [
-      | inl same ↦ ne (same_Some c.index-in-loop-k.result.now.0 c.args.key (sym (ap (option_map (λ e. e.0)) is) ∙ ap (key_at (slots_in u)) (sym same) ∙ has))
+      | inl same ↦ ne (same_Some c.index.result.now.0 c.args.key (sym (ap (option_map (λ e. e.0)) is) ∙ ap (key_at (slots_in u)) (sym same) ∙ has))
       | inr other ↦ c.loop-k.invariant j from (omega (arith, to, other)) has
     ]
