@@ -6,7 +6,7 @@
 //! |---|---|
 //! | 0 | it was measured and printed, or there was no word |
 //! | 1 | the words are none of these; a line says which there are |
-//! | 2 | memory, the clock or the output failed, a map lost a key, or a run has no end line |
+//! | 2 | memory, the clock or the output failed, a word can't be read, a map lost a key, the floor a page, or a run has no end line |
 //! | another, or 1 | a run ended with it, as one does whose options are none of `gen`; a line says so |
 #![tactic(auto)]
 

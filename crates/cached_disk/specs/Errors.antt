@@ -53,7 +53,7 @@ IsOfOpening DiskFault v = v ≡ volume.DiskFault
 IsOfOpening PowerLost v = v ≡ volume.PowerLost
 IsOfOpening OutOfMemory v = v ≡ volume.OutOfMemory
 
--- the disk failed, or the refusal is the one that loading has
+-- the disk failed, or the refusal is the one that loading has, or a fault of the flash, a cut or want of memory
 abbrev pub IsOpenRefusal : {A : Type 0} → Geometry → OpenError → Result A Refusal → Type 0
 IsOpenRefusal g e loads = (e ≡ DiskFault) ⊎ IsRefusal g e loads
 

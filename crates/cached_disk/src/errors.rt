@@ -28,7 +28,7 @@ pub fn flush_error(error: MediaError) -> OpenError
     }
 }
 
-/// What a volume answers where the cache answered this. It has asked before whether the cache is full.
+/// What a volume answers where the cache answered this, which is not that it is full.
 pub fn cache_error(error: SscError) -> VolumeError
     requires { (n limit : ℕ) → error ≡ SscError.Full n limit → ⊥ }
     ensures { errors.IsOfCache error result }

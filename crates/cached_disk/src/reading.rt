@@ -11,8 +11,8 @@ use ft_media::Media;
 use ft_volume::VolumeError;
 
 impl CachedDisk {
-    /// Reads a block from the cache, or else from the disk. What was read from the disk is held from then
-    /// on, clean.
+    /// Reads a block from the cache, or else from the disk. What was read from the disk is held when it answers,
+    /// clean.
     pub fn read<M: Media>(
         &mut self,
         media: &mut M,

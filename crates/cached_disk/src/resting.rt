@@ -30,7 +30,7 @@ impl CachedDisk {
     }
 
     /// Puts all that the cache buffers on the flash, reads each page that is held, and says what there is.
-    /// A write that is refused leaves it down; a page that can't be read leaves it up.
+    /// Where it is up then, nothing is buffered.
     pub fn report<M: Media>(&mut self, media: &mut M) -> Result<Report, VolumeError>
         requires may { MayServe self.old (M.state media.old).contents }
         ensures serves { Serves Reports self.old self.new (M.state media.old) (M.state media.new) result }

@@ -1,7 +1,7 @@
 //! The words after the program's name, read as a command.
 //!
-//! The program relies on `command_of` alone: it answers a command exactly where the words are one, with just
-//! what they say (`specs/Command`). By `command_law` no words say two things.
+//! The program relies on `command_of` alone: unless memory is refused, it answers a command exactly where the
+//! words are one, with just what they say (`specs/Command`). By `command_law` no words say two things.
 #![tactic(auto)]
 
 mod command;

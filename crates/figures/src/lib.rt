@@ -6,14 +6,15 @@ ghost use Rattle.figures.specs.Figures.{tenths, hundredths, nanoseconds};
 
 use std::time::Duration;
 
-/// A time in nanoseconds.
+/// A time in nanoseconds, 2^64 - 1 at most.
 pub fn nanoseconds(time: Duration) -> u64
     ensures { result ≡ nanoseconds time }
 {
     time.as_nanos().min(u128::from(u64::MAX)) as u64
 }
 
-/// A total divided by a count, in tenths, rounded down; 0 where nothing was counted.
+/// A total divided by a count, in tenths, rounded down; 0 where nothing was counted. The total in tenths is taken as
+/// 2^64 - 1 at most.
 pub fn tenths_of(total: u64, count: u64) -> u64
     ensures { result ≡ tenths total count }
 {

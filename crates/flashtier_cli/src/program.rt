@@ -46,8 +46,8 @@ use std::alloc::Global;
 ///
 /// With `gen` it runs a made trace so, and prints the end line alone. It takes nothing from the source.
 ///
-/// With `inspect` it runs a trace as `replay` does, but prints none of its answers. Then it puts all that is
-/// in the cache on the flash, reads each page that is held, again after each cut, and prints four lines:
+/// With `inspect` it runs a trace as `replay` does, but prints of its answers a refusal alone. Then it puts all
+/// that is in the cache on the flash, reads each page that is held, again after each cut, and prints four lines:
 /// `held H`, the addresses that the cache has; `dirty groups D`, the groups with one that the disk lacks;
 /// `buckets B`, those of the map of page-mapped addresses; and `scrubbed S`, the pages that were read.
 ///

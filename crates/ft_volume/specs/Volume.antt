@@ -124,14 +124,14 @@ pub record WasDone {T : Type 0} (stands : Told → Image → PlainDisk → Type 
   pub up : OnErr result (new.down ≡ false → LeavesOwed (stands new.told) after new.owed old.owed base)
   pub memory : IsErrOf result OutOfMemory → LeavesOwed (stands new.told) after new.owed old.owed base
 
--- the opening was refused, so each of these plain disks is still possible, and the volume is down
+-- the opening was refused and the volume is down, or the address is outside of it: each of these plain disks is still possible
 pub record IsUnopened {T : Type 0} (stands : Told → Image → PlainDisk → Type 0) (old new : VolumeState) (after : Contents)
     (result : Result T VolumeError) (bases : List PlainDisk) : Type 0 where
   pub fixes : fixes result ≡ false
   pub inside : (IsErrOf result OutOfVolume → ⊥) → (old.down ≡ true) × (new.down ≡ true)
   pub images : StandForAny (stands new.told) after bases
 
--- of the plain disks that were possible a call fixes one, unless its opening is refused
+-- of the plain disks that were possible a call fixes one, unless its opening is refused or its address is outside
 abbrev pub Done : {T : Type 0} → (Told → Image → PlainDisk → Type 0) → Call → VolumeState → VolumeState → Contents → Contents
     → Result T VolumeError → Type 0
 Done stands call old new before after result = (bases : List PlainDisk) → StandForAny (stands old.told) before bases

@@ -24,7 +24,7 @@ pub enum VolumeError {
     /// The disk failed, and its count of faults rose.
     #[error("the disk failed")]
     DiskFault,
-    /// Power was lost, and the count of cuts rose. The volume is down.
+    /// Power was lost, and the count of cuts rose. Where power was on before, the volume is down.
     #[error("power was lost")]
     PowerLost,
     /// Memory was refused. The plain disk is as before, and the volume can be used.
@@ -40,7 +40,7 @@ pub enum VolumeError {
 pub enum Idled {
     /// There was nothing to do.
     Nothing,
-    /// The group that was written least recently was written back.
+    /// The last group of the table was written back.
     Cleaned,
     /// A checkpoint was made, since half of the log was used.
     Checkpointed,
@@ -62,8 +62,9 @@ pub struct Report {
 /// A cache and a disk joined to one disk. The rig of each call is the one with which the volume was
 /// made, and nobody else changes its contents; turning power on is allowed.
 ///
-/// After a device write that failed or was cut the volume is down: the next call opens it again first,
-/// from the media alone, and then does its work. If that opening is refused it stays down.
+/// After a write or an idle step that a device refused, a flush that was refused, a report that the disk
+/// refused, and a call that lost power while it was on, the volume is down: the next call opens it again
+/// first, from the media alone, and then does its work. If that opening is refused it stays down.
 pub trait Volume<R: Rig> {
     /// What it is at this moment.
     ghost state: { Self → VolumeState };
@@ -112,7 +113,7 @@ pub trait Volume<R: Rig> {
         ensures outside { IsErrOf result VolumeError.OutOfVolume ↔ ((state self.old).told.geometry.size ≤ lba) }
         ensures unchanged { IsErrOf result VolumeError.OutOfVolume → (self.new ≡ self.old) × (R.state rig.new ≡ R.state rig.old) };
 
-    /// Puts all that is buffered or owed on the media. It changes no block.
+    /// Puts all that is owed on the media. It changes no block.
     fn flush(&mut self, rig: &mut R) -> Result<(), VolumeError>
         requires { owns self.old (R.state rig.old).contents }
         ensures owns { owns self.new (R.state rig.new).contents }
@@ -141,8 +142,8 @@ pub trait Volume<R: Rig> {
             (opened_of (state self.old) m).log_room) }
         ensures within { IsErrOf result VolumeError.OutOfVolume → ⊥ };
 
-    /// Puts all that is buffered or owed on the media, reads every page that is held, and says what there
-    /// is. It changes no block.
+    /// Puts all that is owed on the media, reads every page that is held, and says what there is. It changes
+    /// no block.
     fn report(&mut self, rig: &mut R) -> Result<Report, VolumeError>
         requires { owns self.old (R.state rig.old).contents }
         ensures owns { owns self.new (R.state rig.new).contents }

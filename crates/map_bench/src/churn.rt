@@ -10,8 +10,11 @@ use std::time::{Duration, Instant};
 /// How large the map was at the end of some steps, and how long they took.
 #[derive(Clone, Copy, Debug, PartialEq, Eq)]
 pub struct Churned {
+    /// How large the map is after them.
     pub size: Size,
+    /// How many steps there were.
     pub steps: u32,
+    /// How long they took, all together.
     pub time: Duration,
 }
 

@@ -1,3 +1,4 @@
+//! The keys that a map is asked for.
 ghost use Rattle.std.specs.Prelude.{◌≡◌, length, IfOk};
 
 use std::alloc::{AllocError, Global};
@@ -6,7 +7,7 @@ use std::alloc::{AllocError, Global};
 /// prime that divides no number of entries, so that each key is asked for once.
 const STRIDE: usize = 7_919;
 
-/// The keys of a measurement, all different and spread over all 64 bits.
+/// The keys of a measurement, spread over all 64 bits.
 #[derive(Drop)]
 pub struct Keys {
     /// In the order in which they are inserted.

@@ -1,3 +1,4 @@
+//! What a map has to answer to be measured, and how large it is.
 ghost use Rattle.std.specs.Prelude.{◌≡◌, ◌↔◌, ℕ, ◌+◌, ◌-◌, ◌*◌, ◌/◌, ◌^◌, ◌≤◌, ◌==◌, min, Option, Some, None, OnOk, IsTrue, if◌then◌else◌, nat_eq};
 ghost use Rattle.std.specs.FinMap as map;
 ghost use Rattle.std.specs.HashMap as hash_map;
@@ -30,15 +31,15 @@ pub trait Measured: Drop {
     /// Its name in the table.
     const NAME: &'static str;
 
-    // What it has at a key.
+    /// What it has at a key.
     ghost content: { Self → ℕ → Option ℕ };
 
     /// A map without entries.
     fn empty(alloc: Global) -> Self
         ensures { (k : ℕ) → content result k ≡ None };
 
-    /// Sets the value of a key, and makes room before where that is a call of its own. Refused for want of
-    /// memory.
+    /// Sets the value of a key, and makes room before where that is a call of its own. It may be refused, for
+    /// want of memory or at the map's limit.
     fn set(&mut self, key: u64, value: u64) -> Result<(), AllocError>
         ensures { OnOk result ((k : ℕ) → content self.new k ≡ (if key == k then Some value else content self.old k)) };
 

@@ -1,3 +1,4 @@
+//! Rounds of filling, asking and emptying a map, and how long they took.
 ghost use Rattle.std.specs.Prelude.{◌≡◌, ℕ, ◌<◌, ◌≤◌, length, count_by, slice_index_or, Some, None, OnOk, nat_eq, ◌+◌};
 ghost use Rattle.std.specs.Option.{option_eq};
 
@@ -11,8 +12,11 @@ use std::time::{Duration, Instant};
 /// How long the operations of some rounds took, all together.
 #[derive(Clone, Copy, Debug, PartialEq, Eq)]
 pub struct Times {
+    /// Of look-ups.
     pub lookups: Duration,
+    /// Of insertions, each with the room that was made for it.
     pub insertions: Duration,
+    /// Of removals.
     pub removals: Duration,
 }
 

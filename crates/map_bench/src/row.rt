@@ -1,3 +1,4 @@
+//! The rows of the table.
 ghost use Rattle.std.specs.Prelude.{◌≡◌};
 ghost use Rattle.figures.specs.Figures.{tenths, nanoseconds, operations};
 
@@ -11,10 +12,13 @@ use std::io;
 /// What was measured of one map at one number of entries.
 #[derive(Clone, Copy)]
 pub struct Row {
+    /// The name of the map.
     pub name: &'static str,
+    /// How large it was with all keys.
     pub size: Size,
     /// The most bytes that the map took while it was filled.
     pub peak: u64,
+    /// How long the operations took, all together.
     pub times: Times,
     /// How often each operation was done on each entry.
     pub rounds: u32,
@@ -23,10 +27,15 @@ pub struct Row {
 /// What a row shows, all in tenths: bytes for each entry, and nanoseconds for each operation.
 #[derive(Clone, Copy, Debug, PartialEq, Eq)]
 pub struct Figures {
+    /// Bytes with all keys.
     pub bytes: u64,
+    /// The most bytes while it was filled.
     pub peak: u64,
+    /// A look-up.
     pub lookup: u64,
+    /// An insertion.
     pub insertion: u64,
+    /// A removal.
     pub removal: u64,
 }
 

@@ -44,7 +44,7 @@ HasMarkAt m mark a = (e : Entry) × (get m a ≡ Some e) × (has_mark mark e ≡
 abbrev pub HasMarkIn : Geometry → Entries → Mark → ℕ → Type 0
 HasMarkIn g m mark group = (a : ℕ) × (a / g.p ≡ group) × HasMarkAt m mark a
 
--- with the mark in this group, or without it, at most C groups have it
+-- this group may have the mark or not: with it, fewer than C groups have it, or this one does already
 abbrev pub MayHave : Geometry → Entries → Mark → ℕ → Bool → Type 0
 MayHave g m mark group has = (has ≡ false) ⊎ ((length (groups_with g (has_mark mark) m) < g.c) ⊎ HasMarkIn g m mark group)
 

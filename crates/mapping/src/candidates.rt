@@ -1,5 +1,5 @@
-//! The data blocks of the groups that may give way, kept with each change, so that a choice among them looks at no
-//! entry.
+//! The data blocks of the groups that may give way, kept with each change, so that a choice among them looks at the
+//! entries of one erase block alone.
 ghost use Rattle.std.specs.Prelude.{◌≡◌, ◌<◌, ◌≤◌, ◌-◌, ◌+◌, ℕ, IfOk, IfSome, slice_set, length};
 ghost use Rattle.ft_base.specs.Layout.{first_pool, blocks};
 ghost use Rattle.cache_model.specs.Records.{Entries, no_entries};

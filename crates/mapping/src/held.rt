@@ -192,7 +192,8 @@ impl Held {
         let _ = self.blocks.remove(group);
     }
 
-    /// The buckets of the mapped pages: none, or a power of two from 32 on, of which a quarter is free.
+    /// The buckets of the mapped pages: none, or a power of two from 32 on, of which at least a
+    /// quarter is free.
     pub fn buckets(&self) -> u64
         ensures count { result ≡ self.now.buckets }
         ensures bound { AreBucketsFor self.now.entries result }

@@ -170,7 +170,8 @@ impl Map {
         }
     }
 
-    /// Whether a change may come next: exactly where what it leaves is a map of this geometry.
+    /// Whether a change may come next: exactly where it names only addresses, groups and pages of this geometry, and
+    /// leaves a map of it.
     pub fn fits(&self, change: &Record) -> bool
         ensures { IsTrue result ↔ Fits self.now.geometry change.now self.now.entries }
     {

@@ -59,8 +59,8 @@ pub fn has_mark(held: &Held, geometry: &Geometry, mark: Mark, group: u64, near: 
     }
 }
 
-/// Whether at most C groups have the mark, where this group has it from now on or not. So many have it
-/// now.
+/// Whether this group may have the mark or not from now on: without it always, with it where fewer than C groups
+/// have it, or this one does. So many have it now.
 pub fn may_have(
     held: &Held,
     geometry: &Geometry,

@@ -107,8 +107,8 @@ pub record IsGathered (g : Geometry) (m : Entries) (group : ℕ) (page : Place �
   pub merged : IsMerged g m group
   pub filled : HasFillers g m group page
 
--- a log block that can become the data block does, with one program and no erase; where none can: one erase, a program for each page
--- up to the last held one, and one for the log page
+-- a log block that can become the data block does, with one program and no erase where the log has a page left; where none can, and
+-- nothing was buffered either: one erase, a program for each page up to the last held one, and one for the log page
 pub record CostsOfMove (old new : Parts) (group : ℕ) (before now : Counts) : Type 0 where
   pub switched : (block : ℕ) → CanSwitch old group block → IsSwitched old new group block
   pub one_program : (block : ℕ) → CanSwitch old group block → old.log.next < log_pages old.geometry → now ≡ program_counted before

@@ -32,7 +32,8 @@ pub struct Loaded {
 }
 
 /// Loads the map from the flash: the newest checkpoint, its log, and a look at each entry's page. It
-/// writes nothing. It takes the time of the pages that it reads, and of one sort of the addresses held.
+/// writes nothing. Its time grows with the pages that it reads, with P for each of their records, with the
+/// pages of the pool, and with one sort of the addresses held.
 pub fn load<M: Media>(
     alloc: Global,
     media: &mut M,

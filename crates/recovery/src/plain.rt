@@ -1,7 +1,7 @@
 //! Loading once more, over a list of pages: as plainly as it is defined, and as slowly.
 //!
-//! It shares the codecs and `Map` with `load`, and nothing else, so that each can be held against the
-//! other.
+//! It shares the codecs, the layout of `Geometry` and `Map` with `load`, and nothing else, so that each can be
+//! held against the other.
 
 ghost use Rattle.std.specs.Prelude.{IfOk};
 ghost use Rattle.cache_model.specs.Loading.{load};

@@ -31,11 +31,13 @@ pub struct End {
 /// What was measured of a run.
 #[derive(Clone, Copy, Debug, PartialEq, Eq)]
 pub struct Replayed {
+    /// The numbers of its end line.
     pub end: End,
     /// What the devices did.
     pub counts: Counts,
     /// Pages of the flash.
     pub pages: u64,
+    /// How long it took.
     pub time: Duration,
 }
 

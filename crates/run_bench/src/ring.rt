@@ -12,7 +12,9 @@ const OTHER: u8 = 0x5A;
 /// A ring of pages, and the one that is copied next.
 #[derive(Drop)]
 pub struct Ring {
+    /// The pages.
     pub slots: Vec<Slot>,
+    /// The page that is copied next.
     pub at: usize,
     ghost within: { at < vec_len slots },
     ghost some: { 2 ≤ vec_len slots },

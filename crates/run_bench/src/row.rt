@@ -1,3 +1,4 @@
+//! The row of a run.
 ghost use Rattle.std.specs.Prelude.{◌≡◌, ◌/◌};
 ghost use Rattle.figures.specs.Figures.{hundredths, nanoseconds, requests};
 
@@ -13,6 +14,7 @@ const MILLISECOND: u64 = 1_000_000;
 /// What was measured of a run and of its floor.
 #[derive(Clone, Copy)]
 pub struct Row {
+    /// The run.
     pub run: Replayed,
     /// The time of the floor.
     pub floor: Duration,
@@ -23,9 +25,11 @@ pub struct Row {
 /// The means that a row shows.
 #[derive(Clone, Copy, Debug, PartialEq, Eq)]
 pub struct Figures {
+    /// Lines that wrote or read.
     pub requests: u64,
-    /// Milliseconds of the run and of the floor, in hundredths.
+    /// Milliseconds of the run, in hundredths.
     pub run: u64,
+    /// Milliseconds of the floor, in hundredths.
     pub floor: u64,
     /// How many times the floor the run took, in hundredths.
     pub ratio: u64,

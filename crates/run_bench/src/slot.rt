@@ -7,7 +7,9 @@ use ft_base::{Block, Spare};
 /// What a page takes: a block and its spare bytes.
 #[derive(Clone, Copy)]
 pub struct Slot {
+    /// Its block.
     pub block: Block,
+    /// Its spare bytes.
     pub spare: Spare,
 }
 

@@ -5,7 +5,7 @@ ghost use Rattle.cache_model.specs.Records.{Entries};
 ghost use Rattle.cache_model.specs.Entries.{IsMap};
 ghost use Rattle.silent_evict.specs.Candidates.{IsCandidate, IsVictim, HoldsCleanAlone, pages_held};
 
-/// A victim is a wholly clean group: something of it is held, and nothing that the disk lacks.
+/// A victim is a wholly clean group: something of it is held, and nothing of it is dirty.
 pub fn a_victim_is_wholly_clean()
     ensures { (g : Geometry) (m : Entries) (group : ℕ) → IsVictim g m group → HoldsCleanAlone g m group }
 {}

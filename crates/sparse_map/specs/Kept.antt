@@ -10,7 +10,8 @@ use Rattle.sparse_map.specs.Places.{sizes_of, lacking}
 use Rattle.sparse_map.specs.Packed.{IsPacked}
 
 -- `bits` is the number of bits of a bucket number, or 0 with no bucket; there are blank lists for the next new keys, or for all lists
--- without places for so many; a list without a free place belongs to a group that was touched
+-- without places for so many; a list without a free place, and with fewer than 64, belongs to a group that was
+-- touched
 pub record KeepsTable {V : Type 0} (bits len spare blanks : ℕ) (touched : Touched) (groups : List (Group V)) : Type 0 where
   pub few : bits ≤ 31
   pub many : 0 < bits → 5 ≤ bits

@@ -37,6 +37,6 @@ sum_untouched f Anywhere s = 0
 abbrev pub loose_of : Touched → List (ℕ × ℕ) → ℕ
 loose_of = sum_untouched extra
 
--- how many of their lists have no place for n items more
+-- how many of their lists have no place for n items more, nor for all that a group can hold
 abbrev pub lacking : ℕ → Touched → List (ℕ × ℕ) → ℕ
 lacking n = sum_untouched (lacks n)

@@ -106,8 +106,8 @@ impl<V: Drop> Group<V> {
         (self.occupied >> k) & 1 == 1
     }
 
-    /// How many buckets below bucket `k` are occupied: the place that its item has, or would get, in the list. It is
-    /// counted once for each key that is looked for, and handed on.
+    /// How many buckets below bucket `k` are occupied: the place that its item has, or would get, in the list. A look-up
+    /// counts it once for each group that it comes to, and hands it on.
     #[tactic(auto, using(crate::proofs::RankLemmas::rank_by_mask))]
     pub fn rank_at(&self, k: u32) -> u32
         requires { k < 64 }

@@ -72,7 +72,7 @@ pub record IsUp (c : Ssc) (contents : Contents) : Type 0 where
   pub holds : Holds c contents list
   pub up : c.stopped ≡ false
 
--- the cache is as before, but that its map may have more buckets
+-- the cache is as before, but for the buckets of its map and the order of its records
 pub record IsAsBefore (old new : Ssc) : Type 0 where
   pub parts : new ≡ record old { parts = record old.parts { map = new.parts.map } }
   pub map : new.parts.map ≡ record old.parts.map { records = new.parts.map.records; buckets = new.parts.map.buckets }

@@ -37,7 +37,7 @@ pub record RunsInPlace {T : Type 0} (old new : Ssc) (before after : State) (resu
 
 -- ---- the writes
 
--- refused for want of room or of memory, a write changes nothing but the buckets of the map
+-- refused for want of room or of memory, a write changes nothing but the buckets of the map and the order of its records
 pub record RefusesWrite {T : Type 0} (old new : Ssc) (before after : State) (result : Result T SscError) : Type 0 where
   pub full_keeps : (n l : ℕ) → IsErrOf result (Full n l) → (new ≡ old) × (after ≡ before)
   pub memory : IsErrOf result OutOfMemory → (old.ready ≡ false) × IsAsBefore old new × (after ≡ before)
@@ -50,13 +50,13 @@ pub record KeepsInRoom {T : Type 0} (old new : Ssc) (before after : State) (step
   pub kept : OnOk result (HasLogBlock old.parts → (s : CacheList) → Holds old before.contents s → Holds new after.contents (step s))
   pub kept_images : HasLogBlock old.parts → (s : CacheList) → Holds old before.contents s → ImagesOf old after.contents s (step s)
 
--- a dirty write spends two device writes at least; it programs just two pages where the open log block and the log have room
+-- after Ok a dirty write has spent two device writes at least; it programmed just two pages where the open log block and the log had room
 pub record CostsDirty {T : Type 0} (old : Ssc) (before after : State) (result : Result T SscError) : Type 0 where
   pub two_programs : OnOk result (1 ≤ open_room old → 1 ≤ log_room old → after.counts ≡ program_counted (program_counted before.counts))
   pub programs : OnOk result (ProgramsPages 2 before after)
 
--- a clean write spends a device write at least; it programs one page where the address is absent and the open log block and the buffer
--- have room
+-- after Ok a clean write has spent a device write at least; it programmed one page where the address was absent and the open log block
+-- and the buffer had room
 pub record CostsClean {T : Type 0} (old new : Ssc) (lba : ℕ) (before after : State) (result : Result T SscError) : Type 0 where
   pub one_program : OnOk result ((s : CacheList) → Holds old before.contents s → get s lba ≡ None → 1 ≤ open_room old
       → length (pending old) + 2 ≤ page_records (geometry_of old)

@@ -32,7 +32,7 @@ impl Ssc {
         self.stopped
     }
 
-    /// How many groups have a dirty block: at most C.
+    /// How many groups have a dirty block.
     pub fn dirty_groups(&self) -> u32
         ensures { (contents : Contents) (s : CacheList) → Holds self.now contents s
             → result ≡ length (dirty_groups (geometry_of self.now) s) }
@@ -67,7 +67,7 @@ impl Ssc {
         self.parts.map.buckets()
     }
 
-    /// How many changes are buffered: fewer than 127 between two commands.
+    /// How many changes are buffered.
     pub fn buffered(&self) -> u32
         ensures { result ≡ length (pending self.now) }
     {

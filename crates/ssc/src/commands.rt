@@ -25,7 +25,7 @@ use ft_media::{Media, MediaError, PageRead};
 use std::alloc::AllocError;
 
 impl Ssc {
-    /// Holds the block at an address, dirty, on the flash when it answers.
+    /// Holds the block at an address, dirty, on the flash when it answers Ok.
     ///
     /// Full is decided first, then want of memory; both change nothing, but in want of memory the map may
     /// have more buckets.
@@ -168,7 +168,7 @@ impl Ssc {
         }
     }
 
-    /// Holds an address no more, on the flash when it answers. It takes no memory.
+    /// Holds an address no more, on the flash when it answers Ok. It takes no memory.
     pub fn evict<M: Media>(&mut self, media: &mut M, lba: u64) -> Result<(), SscError>
         requires up { IsUp self.old (M.state media.old).contents }
         requires lba { lba < (geometry_of self.old).size }
@@ -222,8 +222,8 @@ impl Ssc {
         }
     }
 
-    /// Adds the dirty addresses from `from` on, `count` of them at most, ascending. Refused, `out` is
-    /// as before.
+    /// Adds the dirty ones of the `count` addresses from `from` on, ascending. Refused, `out` is as
+    /// before.
     pub fn exists(&self, from: u64, count: u64, out: &mut Vec<u64>) -> Result<(), AllocError>
         requires { from + count ≤ (geometry_of self.now).size }
         ensures done { OnOk result ((contents : Contents) (s : CacheList) → Holds self.now contents s → out.new.items ≡ out.old.items

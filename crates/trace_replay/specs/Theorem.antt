@@ -18,7 +18,7 @@ use Rattle.trace_replay.specs.declared.ended.Ended.{Ended}
 use Rattle.trace_replay.specs.Said.{RoseAtLeast, TellsStops, TookPart}
 
 -- what every run leaves, of these lines that were run and these that were begun: power on, the shape to which the rig
--- was fitted, and few calls of the disk where power was not cut
+-- was fitted, and few calls of the disk where no stop and no cut line was run and the addresses lie in few groups
 pub record LeavesRig (o : Told) (first now : State) (run lines : List Ran) : Type 0 where
   pub on : now.power.on ≡ true
   pub shape : now.contents.shape ≡ first.contents.shape
@@ -26,7 +26,8 @@ pub record LeavesRig (o : Told) (first now : State) (run lines : List Ran) : Typ
   pub writes : WritesNone o run lines first.counts.disk_writes now.counts.disk_writes
 
 -- what is left after these lines, and so many cuts and lost block writes: whatever a crash leaves stands for the plain
--- disk, the stops are those that did not cut, and where none was told power was not cut
+-- disk, the stops are those that did not cut, each cut was counted, and where none was told each erase block that was
+-- ready is ready
 pub record Leaves (o : Told) (stands : Image → PlainDisk → Type 0) (first now : State) (run : List Ran) (cuts lost : ℕ) : Type 0 where
   pub rig : LeavesRig o first now run run
   pub fits : FitsEnd run cuts lost
@@ -41,7 +42,8 @@ StandForNext o stands contents run left = (x : Image) → Now contents x → (lo
     × stands x (disk_within run left lost n)
 
 -- what is left after these lines where the next one was not begun: whatever a crash leaves stands for their plain disk,
--- no stop is gone that did not cut one of them, and where none was told power was not cut
+-- no stop is gone that did not cut one of them, each cut was counted, and where none was told each erase block that was
+-- ready is ready
 pub record LeavesLines (o : Told) (stands : Image → PlainDisk → Type 0) (first now : State) (run : List Ran)
     (left : List Reading) : Type 0 where
   pub rig : LeavesRig o first now run run

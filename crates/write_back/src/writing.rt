@@ -18,8 +18,8 @@ use ft_media::Media;
 use ft_volume::VolumeError;
 
 impl WriteBack {
-    /// Writes a block to the cache. Where its group would be one too many that the disk lacks, the group
-    /// written least recently is written back first.
+    /// Writes a block to the cache. Where its group would be one too many that the disk lacks, the last group of
+    /// the table is written back first.
     pub(crate) fn write_up<M: Media>(
         &mut self,
         media: &mut M,
@@ -67,7 +67,7 @@ impl WriteBack {
         self.write_oldest_back(media)
     }
 
-    /// Writes back the group that was written least recently.
+    /// Writes back the last group of the table.
     pub(crate) fn write_oldest_back<M: Media>(&mut self, media: &mut M) -> Result<(), VolumeError>
         requires left { IsLeft self.old (M.state media.old).contents }
         requires up { kept.is_down self.old.disk ≡ false }

@@ -26,7 +26,7 @@ pub(crate) struct Part {
     pages: u32,
 }
 
-/// Applies a checkpoint and its log to an empty map, up to the first damaged page, which is complete_of.
+/// Applies a checkpoint and its log to an empty map, up to the first damaged page, which is answered.
 pub(crate) fn replay(
     pages: &[Page],
     geometry: &Geometry,
@@ -64,7 +64,7 @@ pub(crate) fn replay(
 }
 
 /// Applies pages in order, up to the first that is none of them, or the first damaged one, which is
-/// complete_of.
+/// answered.
 fn apply_part(
     pages: &[Page],
     geometry: &Geometry,
