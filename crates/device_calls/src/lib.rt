@@ -2,7 +2,7 @@
 //! power that it is given.
 //!
 //! The layers above rely on `ending_of`: power that is off or goes off in a device write comes before a
-//! failure, and a call fails exactly where its number is listed. Calls made with power off have no number.
+//! failure, and else a call fails exactly where its number is listed. Calls made with power off have no number.
 #![tactic(auto)]
 
 mod calls;

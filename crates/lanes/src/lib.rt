@@ -2,7 +2,7 @@
 //! and the first place of the least count of a list.
 //!
 //! The layer above relies on this: each kernel gives what its plain program in `plain` gives, at every
-//! length. A kernel takes whole vectors first and leaves the rest to the plain program.
+//! length. A kernel takes whole vectors first, and then the numbers after them one after another.
 #![tactic(auto)]
 
 ghost use Rattle.std.specs.Prelude.{◌≡◌, ◌≢◌, ◌≤◌, ◌↔◌, ◌==◌, [], length, take, drop, fold, min, position, All, IsTrue, IsNone, IfSome};

@@ -28,7 +28,7 @@ pub record Uncounted (old new : MemRig) : Type 0 where
   pub flash : flash_calls new ≡ flash_calls old
   pub disk : disk_calls new ≡ disk_calls old
 
--- a device write of the flash that ended so, counted once
+-- a device write of the flash that ended so, counted once unless power was off
 pub record FlashCalled (how : Ending) (old new : MemRig) (left : Flash) (counts_left : Counts) : Type 0 where
   pub written : FlashWritten how (state_of old) (state_of new) left counts_left
   pub calls : CountsWrite how (flash_calls old) (flash_calls new)

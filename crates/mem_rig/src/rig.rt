@@ -105,7 +105,8 @@ impl MemRig {
         self.nand.next_page(block)
     }
 
-    /// Reads a page of the flash. No stop cuts a read. It fails exactly where its number is listed.
+    /// Reads a page of the flash. No stop cuts a read. With power on it fails exactly where its number is
+    /// listed.
     pub fn read_flash(
         &mut self,
         at: Place,
@@ -148,7 +149,7 @@ impl MemRig {
         ending
     }
 
-    /// Erases a block, which is then ready, and says how that ends.
+    /// Erases a block, which is ready once that is done, and says how that ends.
     #[tactic(auto, using(crate::proofs::PowerLemmas::power_left))]
     pub fn erase_block(&mut self, block: u32) -> Ending
         requires { block < (state_of self.old).contents.shape.blocks }
@@ -168,7 +169,8 @@ impl MemRig {
         ending
     }
 
-    /// Reads a block of the disk. No stop cuts a read. It fails exactly where its number is listed.
+    /// Reads a block of the disk. No stop cuts a read. With power on it fails exactly where its number is
+    /// listed.
     pub fn read_disk(&mut self, lba: u64, block: &mut Block) -> Result<(), MediaError>
         ensures refused { result_err result ≡ read_refusal (state_of self.old).power.on (disk_listed self.old) }
         ensures found { OnOk result (block.new ≡ ((state_of self.old).contents.disk lba).newest) }

@@ -25,7 +25,7 @@ torn page.Blank = page.Blank
 torn (page.Whole block spare) = page.Torn
 torn page.Torn = page.Torn
 
--- of three pages in a row the first stays as it is, the second is blank, and the third is torn
+-- of three pages in a row the first stays as it is, the second is blank, and the third is torn unless it was blank
 abbrev pub in_thirds : ℕ → Page → Page
 in_thirds zero before = before
 in_thirds (suc zero) before = page.Blank

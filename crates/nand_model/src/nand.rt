@@ -143,7 +143,7 @@ impl MemNand {
         ending
     }
 
-    /// Erases a block, which is then ready.
+    /// Erases a block, which is ready once that is done.
     pub fn erase(&mut self, block: u32, current: Current) -> Ending
         requires { block < nand_blocks self.old }
         ensures ending { result ≡ ending_of current (is_listed (calls_of self.old)) }
