@@ -260,6 +260,22 @@ module _ {V : Type 0} (u : Group V) (k : ℕ) (lt : k < 64) where
   pub item_read : (i : ℕ) (x : ℕ × V) → IsSome (slot_at (slots_in u) k) → i ≡ rank u.occupied k → x ≡ get_or u.items.items i x → slot_at (slots_in u) k ≡ Some x
   item_read i x some at read = slot_read u.occupied u.items.items k u.fits u.counted lt i x (taken some) at read
 
+  -- a new item at the rank of a free bucket
+  pub inserted_counted : (place : ℕ) (item : ℕ × V) (ys : List (ℕ × V)) → slot_at (slots_in u) k ≡ None → place ≤ vec_len u.items
+      → ys ≡ insert u.items.items place item → length ys ≡ count_ones (with_bit u.occupied k)
+  inserted_counted place item ys free within is =
+      ap length is
+      ∙ length-insert u.items.items place item (omega (arith, within, u.items.ok.0))
+      ∙ ap (λ x. x + 1) u.counted
+      ∙ sym (count-with_bit u.occupied k u.fits lt (untaken free))
+
+  pub inserted_slots : (place : ℕ) (item : ℕ × V) (ys : List (ℕ × V)) → slot_at (slots_in u) k ≡ None → place ≡ rank u.occupied k
+      → ys ≡ insert u.items.items place item → group_slots (with_bit u.occupied k) ys ≡ set (slots_in u) k (Some item)
+  inserted_slots place item ys free at is =
+      ap (group_slots (with_bit u.occupied k)) (is ∙ ap (λ p. insert u.items.items p item) at)
+      ∙ slots-insert (with_bit u.occupied k) u.occupied k u.items.items u.fits u.counted lt item (untaken free)
+      (with_bit-same u.occupied k u.fits lt) (with_bit-other u.occupied k u.fits lt)
+
   -- a group with a free bucket has fewer than 64 items
   pub free_below_64 : slot_at (slots_in u) k ≡ None → vec_len u.items < 64
   free_below_64 free =

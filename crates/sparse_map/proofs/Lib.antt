@@ -16,6 +16,7 @@ pub mod BucketLemmas
 pub mod MapLemmas
 pub mod ViewLemmas
 pub mod ChangeLemmas
+pub mod EditLemmas
 pub mod MoveLemmas
 pub mod ReserveLemmas
 pub mod PlanLemmas

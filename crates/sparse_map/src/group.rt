@@ -51,20 +51,32 @@ fn move_items<V: Drop>(items: Vec<(u64, V)>, list: &mut Vec<(u64, V)>)
     }
 }
 
-/// Puts an item into a list that has room for it. While the groups double, most items come last.
+/// Puts an item into a list that has room for it.
 fn insert_item<V: Drop>(items: &mut Vec<(u64, V)>, place: usize, item: (u64, V))
     requires within { place ≤ vec_len items.old }
     requires room { vec_len items.old < vec_capacity items.old }
     ensures items { items.new.items ≡ insert items.old.items place item }
     ensures capacity { vec_capacity items.new ≡ vec_capacity items.old }
 {
-    if place == items.len() {
-        items.push_reserved(item);
-        return;
-    }
     match items.insert(place, item) {
         Ok(()) => {}
         Err(_) => unreachable!(),
+    }
+}
+
+/// The same, from the end of the list on: the item changes places with each that comes after it. Where there are few,
+/// this takes less time.
+fn insert_from_end<V: Drop>(items: &mut Vec<(u64, V)>, place: usize, item: (u64, V))
+    requires within { place ≤ vec_len items.old }
+    requires room { vec_len items.old < vec_capacity items.old }
+    ensures items { items.new.items ≡ insert items.old.items place item }
+    ensures capacity { vec_capacity items.new ≡ vec_capacity items.old }
+{
+    let mut at = items.len();
+    items.push_reserved(item);
+    while at > place {
+        items.swap(at - 1, at);
+        at -= 1;
     }
 }
 
@@ -145,21 +157,24 @@ impl<V: Drop> Group<V> {
         64
     }
 
-    /// The bucket that has a key, in a run of occupied buckets that starts at `from` and has this end. As no bucket of a
-    /// run is free, its items stand one after another.
+    /// The bucket that has a key, in a run of occupied buckets that starts at `from`, which doesn't have it, and has this
+    /// end. As no bucket of a run is free, its items stand one after another.
     pub fn find_in_run(&self, from: u32, end: u32, place: u32, key: u64) -> Option<u32>
         requires from { from < 64 }
         requires end { end ≤ 64 }
         requires place { place ≡ rank self.now.occupied from }
         requires occupied { (j : ℕ) → from ≤ j → j < end → IsSome (slot_at (slots_in self.now) j) }
+        requires home { key_at (slots_in self.now) from ≢ Some key }
         ensures within { IfSome result (λ k. (from ≤ k) × (k < end)) }
         ensures found { IfSome result (λ k. key_at (slots_in self.now) k ≡ Some key) }
         ensures none { IfNone result ((j : ℕ) → from ≤ j → j < end → key_at (slots_in self.now) j ≢ Some key) }
     {
-        for k in from..end {
-            if self.items[(place + (k - from)) as usize].0 == key {
+        let mut at = place as usize + 1;
+        for k in from + 1..end {
+            if self.items[at].0 == key {
                 return Some(k);
             }
+            at += 1;
         }
         None
     }
@@ -190,6 +205,22 @@ impl<V: Drop> Group<V> {
             return None;
         }
         Some(self.items[place as usize].0)
+    }
+
+    /// Whether bucket `k` has a key. The item at its rank is compared before the bucket's bit is asked: for a new key this
+    /// nearly always says no, while a bit can't be guessed.
+    pub fn has_key(&self, k: u32, place: u32, key: u64) -> bool
+        requires within { k < 64 }
+        requires place { place ≡ rank self.now.occupied k }
+        ensures { IsTrue result ↔ (key_at (slots_in self.now) k ≡ Some key) }
+    {
+        if place as usize >= self.items.len() {
+            return false;
+        }
+        if self.items[place as usize].0 != key {
+            return false;
+        }
+        self.is_occupied(k)
     }
 
     /// The value in the occupied bucket `k`.
@@ -231,6 +262,20 @@ impl<V: Drop> Group<V> {
         ensures capacity { vec_capacity self.new.items ≡ vec_capacity self.old.items }
     {
         insert_item(&mut self.items, place as usize, item);
+        self.occupied |= 1 << k;
+    }
+
+    /// The same, in less time where few occupied buckets come after this one.
+    pub fn insert_late(&mut self, k: u32, place: u32, item: (u64, V))
+        requires within { k < 64 }
+        requires place { place ≡ rank self.old.occupied k }
+        requires free { slot_at (slots_in self.old) k ≡ None }
+        requires room { vec_len self.old.items < vec_capacity self.old.items }
+        ensures slots { slots_in self.new ≡ slice_set (slots_in self.old) k (Some item) }
+        ensures len { vec_len self.new.items ≡ vec_len self.old.items + 1 }
+        ensures capacity { vec_capacity self.new.items ≡ vec_capacity self.old.items }
+    {
+        insert_from_end(&mut self.items, place as usize, item);
         self.occupied |= 1 << k;
     }
 

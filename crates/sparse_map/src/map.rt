@@ -274,6 +274,13 @@ impl<V: Drop> SparseMap<V> {
             × (self.new.blanks ≤ max self.old.blanks (max self.old.spare n))) }
     {
         let spare = self.spare.max(n);
+        // Most often no list was touched, so that any has a place for one key.
+        if spare <= 1 && self.stock.is_empty() {
+            if let Touched::Nowhere = self.touched {
+                self.spare = spare;
+                return Ok(());
+            }
+        }
         let wanted = blanks_for(self.touched, spare, self.groups.len() as u64);
         add_blanks(self.alloc, &mut self.stock, wanted)?;
         fit_touched(self.alloc, self.groups.as_mut_slice(), &mut self.touched)?;

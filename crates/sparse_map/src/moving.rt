@@ -113,7 +113,7 @@ fn put_ready<V: Drop>(groups: &mut [Group<V>], bucket: u64, rank: u32, item: (u6
         (slice_index_or (lens_of groups.old) (bucket / 64) 0 + 1) }
     ensures rooms { rooms_of groups.new ≡ rooms_of groups.old }
 {
-    groups[(bucket / 64) as usize].insert((bucket % 64) as u32, rank, item);
+    groups[(bucket / 64) as usize].insert_late((bucket % 64) as u32, rank, item);
 }
 
 /// Puts an item with a new key into the first free bucket from its home on. As no key comes twice, none is compared.

@@ -68,11 +68,16 @@ impl Touched {
         ensures first { IsTrue touched → self ≡ Nowhere → result ≡ In bucket }
         ensures same { touched ≡ false → result ≡ self }
     {
-        if !touched {
-            return self;
+        // Whether a list became full can't be guessed, so the common case is one choice of two values.
+        if let Touched::Nowhere = self {
+            return if touched {
+                Touched::In(bucket)
+            } else {
+                Touched::Nowhere
+            };
         }
         match self {
-            Touched::Nowhere => Touched::In(bucket),
+            _ if !touched => self,
             Touched::In(last) if last / 64 == bucket / 64 => self,
             _ => Touched::Anywhere,
         }
@@ -276,7 +281,7 @@ pub fn probe<V: Drop>(groups: &[Group<V>], bits: u32, key: u64) -> Spot
         let first = (bucket % 64) as u32;
         let place = group.rank_at(first);
         // Most keys that are there stand at home: this is asked before the end of the run is looked for.
-        if group.key(first, place) == Some(key) {
+        if group.has_key(first, place, key) {
             return Spot {
                 at: Place::Found(bucket),
                 rank: place,

@@ -1,6 +1,4 @@
-use Rattle.std.proofs.Common.{nat_eq, eqb-true, Option, None, true, ℕ, ◌≡◌, ◌+◌, ◌-◌, ◌*◌, ◌%◌, ◌^◌, ◌<◌, ◌≤◌, min, length, sym, ap, ◌∙◌, subst, Some, arith}
-use Rattle.std.specs.Option.{option_eq}
-use Rattle.std.proofs.lemmas.Bool.{false≢true}
+use Rattle.std.proofs.Common.{◌≡◌, ◌+◌, ◌-◌, ◌*◌, ◌%◌, ◌^◌, ◌<◌, ◌≤◌, min, length, sym, ap, ◌∙◌, subst, Some, arith}
 use Rattle.sparse_map.specs.Home.{home}
 use Rattle.sparse_map.specs.Slots.{key_at}
 use Rattle.sparse_map.specs.Groups.{slots_of}
@@ -168,12 +166,8 @@ unreachable-requires g c =
     passing_full n (HasOther s key) s (home n key) c.loop-passed.bucket c.loop-passed.passed (λ q other. other.0) long home_in
     c.loop-passed-test.false (omega (arith, c.requires.table.room, e)) c.loop-passed.invariant
 
-key_is : (o : Option ℕ) (key : ℕ) → option_eq nat_eq o (Some key) ≡ true → o ≡ Some key
-key_is None key is = absurd (false≢true is)
-key_is (Some k) key is = ap Some (eqb-true k key is)
-
-pub returns-then-eq-clause-place : goal.returns-then-eq-clause-place
-returns-then-eq-clause-place g c =
+pub returns-then-has_key-clause-place : goal.returns-then-has_key-clause-place
+returns-then-has_key-clause-place g c =
     let n = 2 ^ c.args.bits in
     let us = c.args.groups.now in
     let b = c.loop-passed.bucket in
@@ -183,10 +177,10 @@ returns-then-eq-clause-place g c =
     let low : b % 64 < 64 = omega arith in
     let same : b - b % 64 + b % 64 ≡ b = omega arith in
     subst (λ x. key_at (slots_of n us) x ≡ Some c.args.key) same
-    (run_key n us b (b % 64) read read table inside c.index-groups-bucket.is c.args.key low (sym c.key.ensures ∙ key_is c.key.result c.args.key (sym c.eq.ensures ∙ c.if-eq.true)))
+    (run_key n us b (b % 64) read read table inside c.index-groups-bucket.is c.args.key low (c.has_key.ensures.0 c.if-has_key.true))
 
-pub returns-then-eq-clause-rank : goal.returns-then-eq-clause-rank
-returns-then-eq-clause-rank g c =
+pub returns-then-has_key-clause-rank : goal.returns-then-has_key-clause-rank
+returns-then-has_key-clause-rank g c =
     let us = c.args.groups.now in
     let b = c.loop-passed.bucket in
     let read = c.index-groups-bucket.result in

@@ -1,8 +1,5 @@
-use Rattle.std.proofs.Common.{ap, sym, ◌∙◌, arith, length, ◌+◌}
-use Rattle.std.proofs.lemmas.List.Edits.{length-insert}
-use Rattle.std.specs.Prelude.{insert}
-use Rattle.sparse_map.specs.Slots.{group_slots}
-use Rattle.sparse_map.proofs.GroupLemmas.{untaken, place_for, with_bit, with_bit-same, with_bit-fits, with_bit-other, count-with_bit, slots-insert}
+use Rattle.std.proofs.Common.{arith}
+use Rattle.sparse_map.proofs.GroupLemmas.{place_for, with_bit, with_bit-fits, inserted_counted, inserted_slots}
 use Rattle.sparse_map.proofs.group.Group.insert.Goals as goal
 
 pub insert_item-requires-clause-within : goal.insert_item-requires-clause-within
@@ -14,19 +11,13 @@ invariant_of-self g c =
     let u = c.args.self.now in
     let k = c.args.k in
     let lt = c.requires.within in
-    let most = place_for u k lt in
-    let longer = length-insert u.items.items c.args.place c.args.item (omega (arith, u.items.ok.0)) in
     record {
       fits = with_bit-fits u.occupied k u.fits lt;
-      counted = ap length c.insert_item.ensures.items ∙ longer ∙ ap (λ x. x + 1) u.counted ∙ sym (count-with_bit u.occupied k u.fits lt (untaken u k lt c.requires.free));
+      counted = inserted_counted u k lt c.args.place c.args.item c.insert_item.new.items.items c.requires.free (omega (arith, place_for u k lt)) c.insert_item.ensures.items;
     }
 
 pub returns-clause-slots : goal.returns-clause-slots
 unfolding with_bit
 returns-clause-slots g c =
-    let u = c.args.self.now in
-    let k = c.args.k in
-    let lt = c.requires.within in
-    let items = c.insert_item.ensures.items ∙ ap (λ p. insert u.items.items p c.args.item) c.requires.place in
-    ap (group_slots (with_bit u.occupied k)) items
-    ∙ slots-insert (with_bit u.occupied k) u.occupied k u.items.items u.fits u.counted lt c.args.item (untaken u k lt c.requires.free) (with_bit-same u.occupied k u.fits lt) (with_bit-other u.occupied k u.fits lt)
+    inserted_slots c.args.self.now c.args.k c.requires.within c.args.place c.args.item c.insert_item.new.items.items c.requires.free c.requires.place
+    c.insert_item.ensures.items

@@ -1,4 +1,4 @@
-use Rattle.std.proofs.Common.{◌≡◌, ◌+◌, ◌*◌, ◌≤◌, min, length, ap, sym, ◌∙◌, subst, inl, inr, arith}
+use Rattle.std.proofs.Common.{◌≡◌, ◌+◌, ◌*◌, ◌≤◌, min, length, ap, sym, refl, eqb-true, ◌∙◌, subst, inl, inr, arith}
 use Rattle.std.specs.Vec.{vec_len, with_items}
 use Rattle.sparse_map.specs.declared.table.Touched.TheVariants.{Nowhere}
 use Rattle.sparse_map.specs.Slots.{items_of}
@@ -110,3 +110,33 @@ returns-clause-loose g c =
     let after = ap (λ us. loose_of c.fit_touched.new.touched (sizes_of us)) (written m.groups ws written_long) in
     let before = ap (λ us. loose_of m.touched (sizes_of us)) c.as_mut_slice.ensures.value in
     omega (arith, after, c.fit_touched.ensures.loose, before, seen_loose m t c.self.invariant c.self.view_is)
+
+pub invariant_of-self : goal.invariant_of-self
+invariant_of-self g c =
+    let m = c.self.inside in
+    let t = c.args.self.now in
+    let sizes = sizes_of m.groups.items in
+    let blanks = vec_len m.stock in
+    let len = seen_len m t c.self.invariant c.self.view_is in
+    let seen = seen_buckets m t c.self.invariant c.self.view_is in
+    let room : 4 * (m.len + c.max-spare.result) ≤ 3 * buckets_for m.bits = omega (arith, c.max-spare.ensures, c.requires, len, seen, c.self.invariant.room) in
+    let none = ap (λ x. lacking 1 x sizes) c.in-Nowhere.is in
+    let stocked : min c.max-spare.result (lacking c.max-spare.result Nowhere sizes) ≤ blanks =
+    stocked_for c.max-spare.result blanks sizes (inr (c.if-spare-le1.true, omega (arith, none, c.self.invariant.ready))) in
+    kept_stocked m.bits m.len m.spare blanks m.touched m.groups.items m.groups.items c.max-spare.result blanks m.touched c.self.invariant refl room stocked (omega arith)
+
+pub returns-in-Nowhere-clause-fitted : goal.returns-in-Nowhere-clause-fitted
+returns-in-Nowhere-clause-fitted g c =
+    let m = c.self.inside in
+    let n = buckets_for m.bits in
+    let us = m.groups.items in
+    let count : length (items_of (slots_of n us)) ≡ length (items_in us) = ap length (items_of-groups n us c.self.invariant.table.rest) in
+    let len = kept_len m.bits m.len m.spare (vec_len m.stock) m.touched us c.self.invariant
+    (seen_of m.bits us c.max-spare.result (vec_len m.stock) m.touched m.peak) refl in
+    let long = kept_long m.bits m.len m.spare (vec_len m.stock) m.touched us c.self.invariant in
+    let few = kept_few m.bits m.len m.spare (vec_len m.stock) m.touched us c.self.invariant in
+    let settled = ap (λ x. loose_of x (sizes_of us)) c.in-Nowhere.is in
+    record {
+      places = omega (arith, places-bound us, settled, count, c.self.invariant.counted, len, long, c.self.invariant.table.count, few);
+      blanks = omega (arith, eqb-true (vec_len m.stock) 0 (sym c.is_empty.ensures ∙ c.if-is_empty.true), long);
+    }
