@@ -2,37 +2,31 @@
 use crate::clock::Slowing;
 use map_bench::churn::churn;
 use map_bench::keys::Keys;
-use map_bench::measured::{Measured, Size};
-use map_bench::round::{Times, peak, rounds};
+use map_bench::measured::Size;
+use map_bench::round::{Times, peak, rounds_in_turns};
 use map_bench::row::{Row, churn_line};
 use sparse_map::SparseMap;
 use std::collections::HashMap;
 use std::mem::size_of;
-use std::rt::Clock;
 use std::test::Fail;
 use std::time::Duration;
 
-/// How large a map of a thousand keys is, after two rounds.
-fn size_of_a_thousand<M: Measured>(rt: &(impl AllocGlobal + Clock)) -> Result<Size, Fail> {
-    let keys = Keys::new(rt.alloc(), 1_000)?;
-    let (size, _) = rounds::<M>(rt, &keys, 2)?;
-    Ok(size)
-}
-
 #[test]
 fn each_map_finds_and_loses_a_thousand_keys(rt: HostRuntime) -> Result<(), Fail> {
+    let keys = Keys::new(rt.alloc(), 1_000)?;
+    let (first, second) = rounds_in_turns::<SparseMap<u64>, HashMap<u64, u64>>(&rt, &keys, 2)?;
     let sparse = Size {
         entries: 1_000,
         buckets: 2_048,
-        bytes: 19_712,
+        bytes: 20_352,
     };
-    assert_eq!(rt; size_of_a_thousand::<SparseMap<u64>>(&rt)?, sparse);
+    assert_eq!(rt; first.size, sparse);
     let dense = Size {
         entries: 1_000,
         buckets: 1_536,
         bytes: 35_840,
     };
-    assert_eq!(rt; size_of_a_thousand::<HashMap<u64, u64>>(&rt)?, dense);
+    assert_eq!(rt; second.size, dense);
     Ok(())
 }
 
@@ -70,14 +64,24 @@ fn a_row_has_means_for_each_entry_and_operation(rt: HostRuntime) -> Result<(), F
 fn each_round_adds_the_time_of_each_operation(rt: HostRuntime) -> Result<(), Fail> {
     let clock = Slowing::after(0);
     let keys = Keys::new(rt.alloc(), 10)?;
-    let (_, times) = rounds::<SparseMap<u64>>(&(clock, rt.alloc()), &keys, 2)?;
-    // The second of two readings comes 1, 3 and 5 milliseconds after the first, and in the next round 7, 9 and 11.
-    let wanted = Times {
-        insertions: Duration::from_millis(8),
-        lookups: Duration::from_millis(12),
-        removals: Duration::from_millis(16),
+    let shown = rounds_in_turns::<SparseMap<u64>, HashMap<u64, u64>>(
+        &(clock, rt.alloc()),
+        &keys,
+        2,
+    )?;
+    // The second of two readings comes 1, 3 and 5 milliseconds after the first in the first map's first round, then 7, 9
+    // and 11 in the second map's, and in their next rounds 13, 15 and 17, and 19, 21 and 23.
+    let sparse = Times {
+        insertions: Duration::from_millis(14),
+        lookups: Duration::from_millis(18),
+        removals: Duration::from_millis(22),
     };
-    assert_eq!(rt; times, wanted);
+    let dense = Times {
+        insertions: Duration::from_millis(26),
+        lookups: Duration::from_millis(30),
+        removals: Duration::from_millis(34),
+    };
+    assert_eq!(rt; (shown.0.times, shown.1.times), (sparse, dense));
     Ok(())
 }
 

@@ -87,7 +87,7 @@ pub record IsBeneath (told : Told) (contents : Contents) (list : CacheList) : Ty
   pub agrees : Agrees list contents.disk
   pub suits : Suits told.mode list
 
--- it is up and holds this list: only what is dirty may wait for a flush
+-- its cache holds this list, which agrees with the disk: only what is dirty may wait for a flush
 pub record IsHeld (v : CachedDisk) (contents : Contents) (list : CacheList) : Type 0 where
   pub holds : Holds v.cache contents list
   pub agrees : Agrees list contents.disk

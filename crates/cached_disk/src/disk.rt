@@ -24,8 +24,8 @@ pub struct CachedDisk {
     pub mode: Mode,
     /// The cache over the flash.
     pub cache: Ssc,
-    /// It is to be opened again though the cache goes on: power was cut, the disk was refused, a page that
-    /// was to be written back couldn't be read, or an opening lacked the memory of its table.
+    /// It is to be opened again though the cache goes on: power was cut, a write or a flush of the disk failed,
+    /// a page that was to be written back couldn't be read, or an opening lacked the memory of its table.
     pub down: bool,
 }
 

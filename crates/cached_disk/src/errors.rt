@@ -41,7 +41,7 @@ pub fn cache_error(error: SscError) -> VolumeError
     }
 }
 
-/// What a volume answers where its cache was to be opened again. The flash is one that it left.
+/// What a volume answers where an opening of its cache answered this, which is not a refusal of what the flash is.
 pub fn open_error(error: OpenError) -> VolumeError
     requires { errors.IsFault error }
     ensures { errors.IsOfOpening error result }

@@ -64,7 +64,8 @@ pub record IsPrepared (g : Geometry) (region : ℕ) (old new : Flash) : Type 0 w
 pub record IsBare (g : Geometry) (region : ℕ) (page : Place → Page) : Type 0 where
   pub pages : (i : ℕ) → i < checkpoint_pages g → IsMapOrLost (page (checkpoint_at g region i))
 
--- a checkpoint that isn't sealed leaves this: pages of its region are lost; or none of them is a seal, and pages of its log are lost too
+-- a checkpoint that isn't sealed leaves this: pages of its region may be lost, and each other page is as before; or none of its region
+-- is a seal, and each page elsewhere than in the region and its log is as before
 abbrev pub IsUnsealed : Geometry → ℕ → (Place → Page) → (Place → Page) → Type 0
 IsUnsealed g region old new = AreLost (region * k g) (k g) old new ⊎ (IsBare g region new × StaysBeside g region old new)
 

@@ -1,10 +1,10 @@
 //! Checkpoints: the whole map in one of two regions, which a seal makes count.
 //!
 //! The layers above rely on this: `commit` is never refused for room, since a log without a page left
-//! gives way to a checkpoint. After Ok of `commit` or `checkpoint` the flash stands for the map; at
-//! every moment of either call it stands for the map or for what it stood for before, and no page of
-//! the pool changes. `newest` finds the checkpoint that counts, and `format` makes an empty one. The
-//! laws of loading are those of `cache_model::laws`.
+//! gives way to a checkpoint. After Ok of `commit` or `checkpoint` the flash stands for the map; whatever
+//! either answers, and wherever power went off in it, the flash stands for the map or for what it stood
+//! for before, and no page of the pool changes. `newest` finds the checkpoint that counts, and `format`
+//! makes an empty one. The laws of loading are those of `cache_model::laws`.
 #![tactic(auto)]
 
 mod asking;

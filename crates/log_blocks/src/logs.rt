@@ -82,7 +82,7 @@ impl LogBlocks {
         self.used[i as usize]
     }
 
-    /// Puts an erased block at the end. It is the open one, with all its P pages left.
+    /// Puts a block at the end. It is the open one, with all its P pages left.
     pub fn begin(&mut self, block: u32)
         requires fresh { ¬ IsInUse self.old block }
         requires few { length self.old.used < self.old.geometry.l }

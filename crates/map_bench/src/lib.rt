@@ -1,8 +1,8 @@
 //! The sparse map beside std's hash map: bytes an entry, the time of a look-up, an insertion and a removal, and the
 //! time of a step where an old address goes and a new one comes.
 //!
-//! A round makes a map of so many entries, looks each of them up and takes each of them out; the time of
-//! one operation is the mean over all rounds. So insertions and removals are met at every size from none to
+//! A round makes a map of so many entries, looks each of them up and takes each of them out; the two maps have their
+//! rounds in turns, and the time of one operation is the mean over all rounds of its map. So insertions and removals are met at every size from none to
 //! all of the entries, and insertions pay for the growth of the map. Bytes are counted with all entries in the map,
 //! and at the peak of its filling, where it moves into longer lists.
 #![tactic(auto)]
@@ -16,15 +16,15 @@ pub mod row;
 use churn::churn;
 use keys::Keys;
 use measured::Measured;
-use round::{peak, rounds};
+use round::{Rounds, peak, rounds_in_turns};
 use row::{Row, print_churn, print_churn_head, print_head};
 use sparse_map::SparseMap;
 use std::collections::HashMap;
 use std::io;
 use std::rt::Clock;
 
-/// The numbers of entries, each with the number of rounds that makes it a million operations of each kind.
-const SIZES: [(u32, u32); 3] = [(1_000, 1_000), (100_000, 10), (1_000_000, 1)];
+/// The numbers of entries, each with the number of rounds that makes it three million operations of each kind.
+const SIZES: [(u32, u32); 3] = [(1_000, 3_000), (100_000, 30), (1_000_000, 3)];
 
 /// The addresses of a map whose entries come and go, and how many come.
 const ADDRESSES: u32 = 4_000;
@@ -36,8 +36,11 @@ pub fn measure(rt: &(impl AllocGlobal + Clock + Print)) -> io::Result<()> {
     print_head(rt)?;
     for (entries, count) in SIZES {
         let keys = Keys::new(rt.alloc(), entries)?;
-        measure_one::<SparseMap<u64>>(rt, &keys, count)?;
-        measure_one::<HashMap<u64, u64>>(rt, &keys, count)?;
+        let (sparse, dense) = rounds_in_turns::<SparseMap<u64>, HashMap<u64, u64>>(
+            rt, &keys, count,
+        )?;
+        print_row::<SparseMap<u64>>(rt, &keys, count, sparse)?;
+        print_row::<HashMap<u64, u64>>(rt, &keys, count, dense)?;
     }
     print_churn_head(rt)?;
     churn_one::<SparseMap<u64>>(rt)?;
@@ -50,19 +53,18 @@ fn churn_one<M: Measured>(rt: &(impl AllocGlobal + Clock + Print)) -> io::Result
     print_churn(rt, M::NAME, &churned)
 }
 
-/// Prints the row of one map.
-fn measure_one<M: Measured>(
-    rt: &(impl AllocGlobal + Clock + Print),
+/// Prints the row of one map, of which so many rounds showed this.
+fn print_row<M: Measured>(
+    rt: &(impl AllocGlobal + Print),
     keys: &Keys,
     count: u32,
+    shown: Rounds,
 ) -> io::Result<()> {
-    let peak = peak::<M>(rt.alloc(), keys.inserted.as_slice())?;
-    let (size, times) = rounds::<M>(rt, keys, count)?;
     let row = Row {
         name: M::NAME,
-        size,
-        peak,
-        times,
+        size: shown.size,
+        peak: peak::<M>(rt.alloc(), keys.inserted.as_slice())?,
+        times: shown.times,
         rounds: count,
     };
     let row = row.line(rt.alloc())?;

@@ -37,20 +37,51 @@ impl Times {
     }
 }
 
-/// Runs some rounds. Gives how large the map was with all keys, and the time that they took.
-pub fn rounds<M: Measured>(
+/// What some rounds of a map showed.
+#[derive(Clone, Copy, Debug, PartialEq, Eq)]
+pub struct Rounds {
+    /// How large the map was with all keys.
+    pub size: Size,
+    /// How long its operations took.
+    pub times: Times,
+}
+
+impl Rounds {
+    /// No round of a map.
+    fn none<M: Measured>(alloc: Global) -> Rounds {
+        Rounds {
+            size: M::empty(alloc).size(),
+            times: Times::NONE,
+        }
+    }
+
+    /// These and one more.
+    fn and_one<M: Measured>(
+        self,
+        rt: &(impl AllocGlobal + Clock),
+        keys: &Keys,
+    ) -> io::Result<Rounds> {
+        let (size, took) = round::<M>(rt, keys)?;
+        Ok(Rounds {
+            size,
+            times: self.times.and(took),
+        })
+    }
+}
+
+/// Runs so many rounds of each of two maps, in turns: what slows the machine for a while slows both.
+pub fn rounds_in_turns<M: Measured, N: Measured>(
     rt: &(impl AllocGlobal + Clock),
     keys: &Keys,
     count: u32,
-) -> io::Result<(Size, Times)> {
-    let mut size = M::empty(rt.alloc()).size();
-    let mut times = Times::NONE;
+) -> io::Result<(Rounds, Rounds)> {
+    let mut first = Rounds::none::<M>(rt.alloc());
+    let mut second = Rounds::none::<N>(rt.alloc());
     for _ in 0..count {
-        let (full, took) = round::<M>(rt, keys)?;
-        size = full;
-        times = times.and(took);
+        first = first.and_one::<M>(rt, keys)?;
+        second = second.and_one::<N>(rt, keys)?;
     }
-    Ok((size, times))
+    Ok((first, second))
 }
 
 /// The most bytes that a map takes while the keys are set, one after another: where a key makes it move into new lists,

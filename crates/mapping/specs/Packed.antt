@@ -61,11 +61,11 @@ pub record IsPackedMap (g : Geometry) (pages : PackedTable MappedPage) (blocks :
   pub few_pages : buckets_of pages ≤ 2 ^ 32
   pub few_blocks : buckets_of blocks ≤ 2 ^ 32
 
--- the records of a checkpoint, in the order of the buckets
+-- the records of a checkpoint: those of the data blocks, and then those of the mapped pages, in the order of these lists
 abbrev pub records_of : Geometry → Entries → List (ℕ × MappedPage) → List (ℕ × BlockPages) → List Record
 records_of g m pages blocks = map (λ x. set_group_of g m x.0) blocks ++ map page_record pages
 
--- the blocks with page i of the group left out
+-- the blocks with this page of the group left out
 pub record IsLeftOut (g : Geometry) (old new : Blocks) (group page : ℕ) : Type 0 where
   pub others : (k i : ℕ) → page_in (get new k) i ≡ (if (k == group) && (i == page) then None else page_in (get old k) i)
   pub blocks : AreBlocks g old → AreBlocks g new

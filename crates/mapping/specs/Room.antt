@@ -1,4 +1,5 @@
--- How many buckets a reservation makes: those that the items and so many more ask, and no others; and what other calls keep.
+-- How many buckets there are after a reservation: as many as before, or 32 in place of none, doubled just as often as the items and so
+-- many more ask; and what other calls keep.
 use Rattle.std.specs.Prelude.{◌≡◌, ℕ, ◌+◌}
 use Rattle.sparse_map.specs.Home.{IsDoubledFor}
 use Rattle.mapping.specs.Counts.{page_mapped_count, data_block_count}

@@ -1,4 +1,4 @@
-//! Pages of a group as sets of bits.
+//! Which pages of a group a set of them is made of.
 ghost use Rattle.std.specs.Prelude.{◌≡◌};
 
 use cache_model::Entry;

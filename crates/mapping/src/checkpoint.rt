@@ -20,7 +20,7 @@ fn offer(out: &mut [Record], from: usize, at: usize, change: Record)
     }
 }
 
-/// Whether the window from number `from` on has none of so many records after the first ones.
+/// True only where the window from number `from` on has none of so many records after the first ones.
 fn is_outside(out: &[Record], from: usize, before: usize, count: usize) -> bool
     requires { before + count < 2 ^ 64 }
     ensures { result ≡ true → (before + count ≤ from) ⊎ (from + length out.now ≤ before) }

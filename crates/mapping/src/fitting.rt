@@ -32,7 +32,7 @@ fn own_log_block(held: &Held, lba: u64) -> Option<u32>
     }
 }
 
-/// How many mapped pages an erase block has beside that of the address that stands in block `own`.
+/// How many mapped pages an erase block has beside that of the address.
 fn count_beside(held: &Held, index: &Index, geometry: &Geometry, lba: u64, block: u32) -> u32
     requires above { first_pool geometry.now ≤ block }
     requires below { block < blocks geometry.now }

@@ -57,7 +57,7 @@ impl Model for Held {
 }
 
 impl Held {
-    /// No entries, and no room.
+    /// No entries.
     pub fn new(alloc: Global, geometry: &Geometry) -> Held
         ensures geometry { result.geometry ≡ geometry.now }
         ensures entries { result.entries ≡ no_entries }

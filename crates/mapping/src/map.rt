@@ -185,9 +185,9 @@ impl Map {
         )
     }
 
-    /// Makes room for so many changes of a page and of a group: the buckets that the entries and that room ask,
-    /// and no more. Refused, the entries and the room are as before, though the page-mapped part may have got its
-    /// buckets.
+    /// Makes room for so many changes of a page and of a group: the buckets double just as often as the entries and
+    /// that room ask, from 32 where there were none. Refused, the entries and the room are as before, though the
+    /// page-mapped part may have got its buckets.
     pub fn reserve(&mut self, pages: u32, groups: u32) -> Result<(), AllocError>
         requires pages { pages ≤ 2 ^ 20 }
         requires groups { groups ≤ 2 ^ 20 }

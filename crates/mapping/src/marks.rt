@@ -46,7 +46,7 @@ fn is_dirty_group(held: &Held, geometry: &Geometry, group: u64, near: u64) -> bo
     false
 }
 
-/// Whether a group has an entry with the mark. The address that is named is looked at first.
+/// Whether a group has an entry with the mark. For a dirty one the address that is named is looked at first.
 pub fn has_mark(held: &Held, geometry: &Geometry, mark: Mark, group: u64, near: u64) -> bool
     requires geometry { held.now.geometry ≡ geometry.now }
     requires group { group ≤ (geometry.now.size - 1) / geometry.now.p }
@@ -85,7 +85,7 @@ pub fn may_have(
     has_mark(held, geometry, mark, group, near)
 }
 
-/// How many groups have a mark, where one of them had it and has it now or not.
+/// How many groups have a mark, where one of them had it or not, and has it now or not.
 pub fn recount(now: u32, had: bool, has: bool) -> u32
     requires some { had ≡ true → 1 ≤ now }
     requires few { now ≤ 2 ^ 20 }

@@ -1,4 +1,4 @@
-//! What is looked for in one erase block, in the time of its pages.
+//! What is looked for at one page, or in one erase block, page after page.
 ghost use Rattle.std.specs.Prelude.{◌≡◌, ◌<◌, ◌≤◌, IfSome, IfNone, IsTrue, ◌↔◌, ◌/◌, true};
 ghost use Rattle.ft_base.specs.Layout.{first_pool, blocks};
 ghost use Rattle.cache_model.specs.Entries.{InPool};

@@ -48,7 +48,7 @@ pub record RolesAgree (parts : Parts) : Type 0 where
 abbrev pub IsOpenBlock : LogBlocksValue → Flash → Type 0
 IsOpenBlock logs flash = 1 ≤ logs.room → IsNextPage (append_place logs) flash
 
--- the parts agree with the flash, but for the pages of the log that are left
+-- the parts agree with the flash, but for the pages of the log
 pub record ArePartsSound (parts : Parts) (contents : Contents) : Type 0 where
   pub of_one : AreOfOne parts
   pub shape : FitsOn parts.geometry contents.shape
@@ -69,7 +69,7 @@ pub record PartsAgree (parts : Parts) (contents : Contents) : Type 0 where
 abbrev pub IsListOn : (Place → Page) → Entries → CacheList → Type 0
 IsListOn page m s = (a : ℕ) → get s a ≡ option_and_then (held_at page) (get m a)
 
--- the map is this list on the flash; and the flash, loaded now, stands for another, which lacks what is buffered
+-- the map is this list on the flash; and the flash, loaded now, stands for the durable one
 pub record Lists (parts : Parts) (page : Place → Page) (list durable : CacheList) : Type 0 where
   pub held : IsListOn page parts.map.entries list
   pub stands : FlashStandsFor parts.geometry page durable

@@ -73,7 +73,7 @@ pub record CommitsList {T : Type 0} (old new : Parts) (before now : Contents) (r
   pub stands : (list durable : CacheList) → Lists old before.flash.page list durable
       → FlashStandsForEither old.geometry now.flash.page durable list
 
--- the same of a merge of the group, before which a clean group may have given way
+-- the same of a merge of the group, for which a group may have given way, another or the group itself
 pub record MergesList {T : Type 0} (old new : Parts) (group : ℕ) (before now : Contents) (result : Result T MediaError) : Type 0 where
   pub agree : OnOk result (PartsAgree new now)
   pub nothing_waits : OnOk result (new.log.buffered ≡ [])
@@ -107,8 +107,9 @@ pub record IsGathered (g : Geometry) (m : Entries) (group : ℕ) (page : Place �
   pub merged : IsMerged g m group
   pub filled : HasFillers g m group page
 
--- a log block that can become the data block does, with one program and no erase where the log has a page left; where none can, and
--- nothing was buffered either: one erase, a program for each page up to the last held one, and one for the log page
+-- a log block that can become the data block does, with one program and no erase where the log has a page left; where none can,
+-- nothing was buffered and the log has a page left: one erase, a program for each page up to the last held one, and one for the
+-- log page
 pub record CostsOfMove (old new : Parts) (group : ℕ) (before now : Counts) : Type 0 where
   pub switched : (block : ℕ) → CanSwitch old group block → IsSwitched old new group block
   pub one_program : (block : ℕ) → CanSwitch old group block → old.log.next < log_pages old.geometry → now ≡ program_counted before

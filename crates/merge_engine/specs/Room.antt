@@ -11,7 +11,7 @@ use Rattle.cache_model.specs.Stands.{FlashStandsFor}
 use Rattle.mapping.specs.Counts.{data_block_count}
 use Rattle.silent_evict.specs.Candidates.{HasDataBlock, IsCandidate, IsVictim}
 
--- v is s without some wholly clean groups; they went for room, since there were more than C groups, and C are left
+-- v is s without some wholly clean groups; they went for room, since there were more than C groups, and C at least are left
 pub record GaveRoom (g : Geometry) (s v : CacheList) : Type 0 where
   pub gone : ℕ → Bool
   pub stays : (a : ℕ) → get v a ≡ (if gone (a / g.p) then None else get s a)

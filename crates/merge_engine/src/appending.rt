@@ -125,7 +125,7 @@ fn take_log_block<M: Media>(cache: &mut Parts, media: &mut M) -> Result<(), Medi
     Ok(())
 }
 
-/// Uses an erased block as the open log block.
+/// Uses a free block as the open log block.
 fn begin_log_block(cache: &mut Parts, block: u32)
     requires of_one { AreOfOne cache.old }
     requires roles { RolesAgree cache.old }
@@ -140,8 +140,8 @@ fn begin_log_block(cache: &mut Parts, block: u32)
     cache.log_blocks.begin(block);
 }
 
-/// Makes room for one more log block: those that nothing stands in are free, and where L are still in
-/// use, the oldest is freed.
+/// Makes room for one more log block: log blocks that nothing stands in are made free, and where L are
+/// still in use, the first of the list is freed.
 fn make_room<M: Media>(cache: &mut Parts, media: &mut M) -> Result<(), MediaError>
     requires can { CanGoOn cache.old (M.state media.old).contents cache.old.geometry.p }
     ensures geometry { cache.new.geometry ≡ cache.old.geometry }
@@ -160,7 +160,7 @@ fn make_room<M: Media>(cache: &mut Parts, media: &mut M) -> Result<(), MediaErro
     free_log_block(cache, media)
 }
 
-/// Takes every log block that nothing stands in out of use.
+/// Takes log blocks that nothing stands in out of use: one at least, where there is one.
 fn free_unheld(cache: &mut Parts)
     requires of_one { AreOfOne cache.old }
     requires in_pool { (b : ℕ) → IsInUse cache.old.log_blocks b → IsInPool cache.old.geometry b }

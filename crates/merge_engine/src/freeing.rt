@@ -15,9 +15,9 @@ use block_pool::Role;
 use ft_base::Place;
 use ft_media::{Media, MediaError};
 
-/// Frees the log block that was taken first: each group with a page in it is merged, in the order of
-/// the pages. It is no log block then: it is free, or a data block where it held a group in order. Where
-/// nothing stands in it no call of the media is made. It takes no memory.
+/// Frees the first log block of the list: the groups with a page in it are merged. It is no log block
+/// then, but free or a data block. Where nothing stands in it no call of the media is made. It takes no
+/// memory.
 pub fn free_log_block<M: Media>(cache: &mut Parts, media: &mut M) -> Result<(), MediaError>
     requires can { CanGoOn cache.old (M.state media.old).contents cache.old.geometry.p }
     requires used { 1 ≤ length cache.old.log_blocks.used }

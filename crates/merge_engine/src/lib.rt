@@ -1,7 +1,7 @@
 //! Merges: the data blocks and log blocks of a cache, and the steps that move between them.
 //!
-//! `Parts` are the parts that the steps share: the map, the operation log, the pool, the log blocks. A
-//! block is appended to the open log block; where all log blocks are in use, and something stands in
+//! `Parts` are the parts that the steps share, among them the map, the operation log, the pool and the
+//! log blocks. A block is appended to the open log block; where all log blocks are in use, and something stands in
 //! each, the oldest is freed, which merges each group with a page in it into a data block of its own, or
 //! makes the log block itself the data block where it holds a group in order; where all data blocks are in
 //! use a clean group gives way.

@@ -26,8 +26,9 @@ use ft_media::{Media, MediaError};
 
 /// Moves all that is held of a group into a data block of its own: it is copied, or, where the pages of a
 /// log block hold the group's addresses in order, that block becomes its data block as it is. Where it has
-/// none and C groups have one, a clean group gives way first; where there is none, the group itself, which
-/// is clean then, is dropped. What was buffered is committed with it. It takes no memory.
+/// none and C groups have one, a group with a data block and nothing dirty gives way first; where there is
+/// no such group, the group itself, which is clean then, is dropped. What was buffered is committed with it.
+/// It takes no memory.
 pub fn merge_group<M: Media>(cache: &mut Parts, media: &mut M, group: u64) -> Result<(), MediaError>
     requires can { CanGoOn cache.old (M.state media.old).contents 1 }
     requires held { IsGroupHeld cache.old.geometry cache.old.map.entries group }

@@ -20,7 +20,7 @@ pub enum OpenError {
         /// The numbers that were asked for.
         wanted: Seal,
     },
-    /// A page is none that a cache of these numbers could have written.
+    /// The records of a page can't be read or don't fit, or the page of an entry isn't whole.
     #[error("a page is damaged")]
     Damaged {
         /// The erase block of the page.

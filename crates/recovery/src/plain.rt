@@ -30,7 +30,7 @@ pub enum PlainLoad {
     NotFormatted,
     /// Its newest checkpoint was made for these numbers, and not for those asked for.
     OtherGeometry(Seal),
-    /// This page is none that a cache of these numbers could have written.
+    /// The records of this page can't be read or don't fit, or it is that of an entry and isn't whole.
     Damaged(Place),
 }
 

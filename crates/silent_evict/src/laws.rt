@@ -16,7 +16,7 @@ pub fn a_candidate_holds_pages()
     ensures most { (g : Geometry) (m : Entries) (group : ℕ) → pages_held g m group ≤ g.p }
 {}
 
-/// A candidate is one of the groups of the volume, so a record that names it is in reach.
+/// A candidate is one of the groups of the volume, so the record that removes it is in reach.
 pub fn a_candidate_is_of_the_volume()
     ensures { (g : Geometry) (m : Entries) (group : ℕ) → IsMap g m → IsCandidate g m group → group ≤ (g.size - 1) / g.p }
 {}

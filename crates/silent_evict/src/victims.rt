@@ -22,7 +22,7 @@ impl Model for Victims {
 }
 
 impl Victims {
-    /// A chooser for maps of this geometry. It takes no memory yet.
+    /// A chooser for maps of this geometry. It takes no memory.
     pub fn new(_alloc: Global, geometry: &Geometry) -> Result<Victims, AllocError>
         ensures { IfOk result (λ v. v ≡ geometry.now) }
     {

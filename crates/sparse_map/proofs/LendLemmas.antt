@@ -73,6 +73,10 @@ module _ {V : Type 0} where
     unfolding ends
     ends_sizes w = sizes-same m.groups.items (b / 64) u u (with_value u (b % 64) w) (omega (arith, inside)) is refl refl
 
+    pub lent_loose : (w : V) → loose_of m.touched (sizes_of (set m.groups.items (b / 64) (with_value u (b % 64) w))) ≡ loose_of m.touched (sizes_of m.groups.items)
+    unfolding ends
+    lent_loose w = ap (loose_of m.touched) (ends_sizes w)
+
     pub lent_ends : (w : V) → EndsWithValue t (seen_of m.bits (set m.groups.items (b / 64) (with_value u (b % 64) w)) m.spare (vec_len m.stock) m.touched m.peak) key w
     unfolding ends
     lent_ends w =

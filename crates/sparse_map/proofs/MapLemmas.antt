@@ -19,7 +19,7 @@ use Rattle.sparse_map.specs.Seen.{more_free}
 use Rattle.sparse_map.specs.Places.{lacks, lacking}
 use Rattle.sparse_map.proofs.PlacesLemmas.{sizes-new, no-untouched}
 use Rattle.sparse_map.specs.Moved.{IsDistinct}
-use Rattle.sparse_map.proofs.HomeLemmas.{IsSized, sized, some_buckets, no_buckets}
+use Rattle.sparse_map.proofs.HomeLemmas.{IsSized, shifted_one, sized, some_buckets, no_buckets}
 use Rattle.sparse_map.proofs.TableLemmas.{length-all_slots}
 use Rattle.sparse_map.proofs.BucketLemmas.{length-slots_of, length-table}
 use Rattle.sparse_map.proofs.SlotLemmas.{Once, bucket_of_found, key_of_slot}
@@ -100,6 +100,23 @@ module _ {V : Type 0} where
       | inr some ↦
           let size : IsTableSize bits = record { many = kept.many (omega arith); few = kept.few } in
           omega (arith, (sized bits size).least, some_buckets bits (omega arith))
+    ]
+
+    -- eight for each two lists are no more
+    pub kept_pairs : 8 * (lists_for (buckets_for bits) / 2) ≤ more_free (buckets_for bits)
+    unfolding more_free
+    kept_pairs = elim (cases_eq bits 0) [
+      | inl none ↦ omega (arith, no_buckets bits none)
+      | inr some ↦
+          let size : IsTableSize bits = record { many = kept.many (omega arith); few = kept.few } in
+          let wide = sized bits size in
+          elim wide.whole [ inl half ↦ omega (arith, half, some_buckets bits (omega arith)) | inr whole ↦ omega (arith, whole, wide.least, some_buckets bits (omega arith)) ]
+    ]
+
+    pub kept_lists : lists_for (buckets_for bits) < 2 ^ 32
+    kept_lists = elim (cases_eq bits 0) [
+      | inl none ↦ omega (arith, no_buckets bits none)
+      | inr some ↦ omega (arith, (shifted_one bits kept.few).1, some_buckets bits (omega arith))
     ]
 
     pub kept_some : 0 < length (slots_of (buckets_for bits) groups) → 0 < bits

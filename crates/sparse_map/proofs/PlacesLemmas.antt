@@ -1,5 +1,5 @@
 -- How the sizes of the lists change with one group.
-use Rattle.std.proofs.Common.{◌≡◌, ℕ, zero, suc, ◌+◌, ◌*◌, ◌/◌, ◌<◌, ◌≤◌, ◌⊎◌, min, max, List, [], ◌∷◌, length, get_or, set, take, cond, refl, sym, ap, ◌∙◌, subst, inl, inr, arith}
+use Rattle.std.proofs.Common.{◌≡◌, ℕ, zero, suc, ◌+◌, ◌-◌, ◌*◌, ◌/◌, ◌^◌, ◌<◌, ◌≤◌, ◌⊎◌, min, max, List, [], ◌∷◌, length, get_or, set, take, cond, refl, sym, ap, ◌∙◌, subst, inl, inr, arith}
 use Rattle.std.specs.List.{All, sum_by}
 use Rattle.std.specs.Vec.{vec_len, vec_capacity}
 use Rattle.std.proofs.lemmas.List.{get_or-map, get_or_past, get_or-set_same, get_or-set_other, set-set, set-get_or, take_all, length-append}
@@ -11,7 +11,7 @@ use Rattle.sparse_map.specs.declared.table.Touched.{Touched}
 use Rattle.sparse_map.specs.declared.table.Touched.TheVariants.{Nowhere, In, Anywhere}
 use Rattle.sparse_map.specs.Trimmed.{MayBeTouched, IsTrimmed, IsReady}
 use Rattle.sparse_map.specs.Moved.{items_in}
-use Rattle.sparse_map.specs.Places.{list_size, sizes_of, places_of, extra, lacks, sum_untouched, loose_of, lacking}
+use Rattle.sparse_map.specs.Places.{list_size, sizes_of, places_of, extra, lacks, sum_untouched, loose_of, lacking, IsBoundedBy}
 
 -- ---- a list that has no place for so many items more
 pub lacks-no : (n : ℕ) (x : ℕ × ℕ) → min 64 (x.0 + n) ≤ x.1 → lacks n x ≡ 0
@@ -72,9 +72,13 @@ module _ (f : ℕ × ℕ → ℕ) (s : List (ℕ × ℕ)) (i : ℕ) (x : ℕ × 
   untouched-at (In b) may = omega (arith, one-set, one-here (b / 64) (sym may), one-there (b / 64) (sym may), one-within)
   untouched-at Anywhere may = omega arith
 
-  untouched-fitted : (b : ℕ) → i ≡ b / 64 → f x ≡ 0 → sum_untouched f Nowhere (set s i x) ≤ sum_untouched f (In b) s
+  untouched-fitted : (b : ℕ) → i ≡ b / 64 → sum_untouched f Nowhere (set s i x) ≤ sum_untouched f (In b) s + f x
   unfolding sum_untouched
-  untouched-fitted b e none = omega (arith, one-set, none, one-there (b / 64) (sym e), one-within)
+  untouched-fitted b e = omega (arith, one-set, one-there (b / 64) (sym e), one-within)
+
+  untouched-less : f x + 1 ≤ f (get_or s i (64, 64)) → sum_untouched f Nowhere (set s i x) + 1 ≤ sum_untouched f Nowhere s
+  unfolding sum_untouched
+  untouched-less le = omega (arith, one-set, le)
 
   -- the sum by f after the change and that by a larger h before
   sum-next : (h : ℕ × ℕ → ℕ) (d : ℕ) → ((y : ℕ × ℕ) → f y ≤ h y) → f (64, 64) ≡ 0 → h (64, 64) ≡ 0 → f x + d ≤ h (get_or s i (64, 64)) → sum_by f (set s i x) + d ≤ sum_by h s
@@ -126,6 +130,22 @@ pub places-none : (V : Type 0) → places_of (sizes_of {V = V} []) ≡ 0
 unfolding places_of sizes_of
 places-none V = refl
 
+pub bounded : (beyond n : ℕ) → min n (2 ^ 64 - 1) ≤ beyond → IsBoundedBy beyond n
+unfolding IsBoundedBy
+bounded beyond n le = le
+
+pub bounds : (beyond n : ℕ) → IsBoundedBy beyond n → min n (2 ^ 64 - 1) ≤ beyond
+unfolding IsBoundedBy
+bounds beyond n is = is
+
+pub loose-anywhere : (s : List (ℕ × ℕ)) → loose_of Anywhere s ≡ 0
+unfolding sum_untouched
+loose-anywhere s = refl
+
+pub loose-none : (V : Type 0) → loose_of Nowhere (sizes_of {V = V} []) ≡ 0
+unfolding sum_untouched sizes_of
+loose-none V = refl
+
 pub no-untouched : (f : ℕ × ℕ → ℕ) → sum_untouched f Nowhere [] ≡ 0
 unfolding sum_untouched
 no-untouched f = refl
@@ -171,20 +191,34 @@ module _ {V : Type 0} where
   length-sizes [] = refl
   length-sizes (u ∷ us) = omega (arith, length-sizes us)
 
-  places_of-groups : (us : List (Group V)) → places_of (sizes_of us) ≡ sum_by (λ g. vec_capacity g.items) us
-  unfolding places_of sizes_of
-  places_of-groups [] = refl
-  places_of-groups (u ∷ us) =
-      sum_by-cons (λ (y : ℕ × ℕ). y.1) (list_size u) (sizes_of us)
-      ∙ ap (λ n. vec_capacity u.items + n) (places_of-groups us)
-      ∙ sym (sum_by-cons (λ (x : Group V). vec_capacity x.items) u us)
+  sum_groups : (f : ℕ × ℕ → ℕ) (us : List (Group V)) → sum_by f (sizes_of us) ≡ sum_by (λ g. f (list_size g)) us
+  unfolding sizes_of
+  sum_groups f [] = refl
+  sum_groups f (u ∷ us) =
+      sum_by-cons f (list_size u) (sizes_of us)
+      ∙ ap (λ n. f (list_size u) + n) (sum_groups f us)
+      ∙ sym (sum_by-cons (λ (x : Group V). f (list_size x)) u us)
 
-  -- the places of the first lists and of one more
+  -- the sum over the first lists and one more
+  sum-more : (f : ℕ × ℕ → ℕ) (us : List (Group V)) (i : ℕ) (u e : Group V) → i < length us → u ≡ get_or us i e
+      → sum_by f (sizes_of (take (i + 1) us)) ≡ sum_by f (sizes_of (take i us)) + f (list_size u)
+  sum-more f us i u e inside is =
+      let more = sum_by_more (λ (x : Group V). f (list_size x)) us i e inside in
+      let here : f (list_size (get_or us i e)) ≡ f (list_size u) = ap (λ (x : Group V). f (list_size x)) (sym is) in
+      omega (arith, sum_groups f (take (i + 1) us), sum_groups f (take i us), more, here)
+
+  -- the places of the first lists and of one more, and the free ones beyond four
   pub places-more : (us : List (Group V)) (i : ℕ) (u e : Group V) → i < length us → u ≡ get_or us i e → places_of (sizes_of (take (i + 1) us)) ≡ places_of (sizes_of (take i us)) + vec_capacity u.items
-  places-more us i u e inside is =
-      let more = sum_by_more (λ (x : Group V). vec_capacity x.items) us i e inside in
-      let here : vec_capacity (get_or us i e).items ≡ vec_capacity u.items = ap (λ (x : Group V). vec_capacity x.items) (sym is) in
-      omega (arith, places_of-groups (take (i + 1) us), places_of-groups (take i us), more, here)
+  unfolding places_of
+  places-more us i u e inside is = sum-more (λ s. s.1) us i u e inside is
+
+  pub loose-more : (us : List (Group V)) (i : ℕ) (u e : Group V) → i < length us → u ≡ get_or us i e
+      → loose_of Nowhere (sizes_of (take (i + 1) us)) ≡ loose_of Nowhere (sizes_of (take i us)) + (vec_capacity u.items - (vec_len u.items + 4))
+  unfolding sum_untouched extra
+  loose-more us i u e inside is = sum-more extra us i u e inside is
+
+  pub loose-all : (us : List (Group V)) (n : ℕ) → n ≡ length us → loose_of Nowhere (sizes_of (take n us)) ≡ loose_of Nowhere (sizes_of us)
+  loose-all us n is = ap (λ l. loose_of Nowhere (sizes_of l)) (take_all n us (omega (arith, is)))
 
   pub places-all : (us : List (Group V)) (n : ℕ) → n ≡ length us → places_of (sizes_of (take n us)) ≡ places_of (sizes_of us)
   places-all us n is = ap (λ l. places_of (sizes_of l)) (take_all n us (omega (arith, is)))
@@ -200,6 +234,15 @@ module _ {V : Type 0} where
   pub extra-few : (u w : Group V) → vec_len w.items ≡ vec_len u.items → vec_capacity w.items ≤ max (vec_capacity u.items) (vec_len w.items + 4) → extra (list_size w) ≤ extra (list_size u)
   unfolding extra
   extra-few u w len few = omega arith
+
+  pub extra-less : (u w : Group V) (left : ℕ) → vec_capacity w.items ≡ vec_capacity u.items → vec_len w.items ≡ vec_len u.items + 1 → left ≡ vec_capacity w.items - vec_len w.items → 4 ≤ left
+      → extra (list_size w) + 1 ≤ extra (list_size u)
+  unfolding extra
+  extra-less u w left capacity len is few = omega arith
+
+  pub extra-is : (w : Group V) (n : ℕ) → n ≡ vec_capacity w.items - (vec_len w.items + 4) → extra (list_size w) ≡ n
+  unfolding extra
+  extra-is w n is = sym is
 
   pub extra-none : (w : Group V) → IsTrimmed w → extra (list_size w) ≡ 0
   unfolding extra
@@ -258,10 +301,17 @@ module _ {V : Type 0} where
         let now : sum_untouched f g (sizes_of (set us i w)) ≡ sum_untouched f g (set (sizes_of us) i (list_size w)) = ap (sum_untouched f g) (sizes-set us i w) in
         omega (arith, untouched-at f (sizes_of us) i (list_size w) inside_sizes g may, now)
 
-    pub untouched_in-fitted : (f : ℕ × ℕ → ℕ) (b : ℕ) → i ≡ b / 64 → f (list_size w) ≡ 0 → sum_untouched f Nowhere (sizes_of (set us i w)) ≤ sum_untouched f (In b) (sizes_of us)
-    untouched_in-fitted f b at none =
+    pub untouched_in-fitted : (f : ℕ × ℕ → ℕ) (b : ℕ) → i ≡ b / 64 → sum_untouched f Nowhere (sizes_of (set us i w)) ≤ sum_untouched f (In b) (sizes_of us) + f (list_size w)
+    untouched_in-fitted f b at =
         let now : sum_untouched f Nowhere (sizes_of (set us i w)) ≡ sum_untouched f Nowhere (set (sizes_of us) i (list_size w)) = ap (sum_untouched f Nowhere) (sizes-set us i w) in
-        omega (arith, untouched-fitted f (sizes_of us) i (list_size w) inside_sizes b at none, now)
+        omega (arith, untouched-fitted f (sizes_of us) i (list_size w) inside_sizes b at, now)
+
+    pub untouched_in-less : (f : ℕ × ℕ → ℕ) → f (list_size w) + 1 ≤ f (list_size u) → sum_untouched f Nowhere (sizes_of (set us i w)) + 1 ≤ sum_untouched f Nowhere (sizes_of us)
+    untouched_in-less f le =
+        let now : sum_untouched f Nowhere (sizes_of (set us i w)) ≡ sum_untouched f Nowhere (set (sizes_of us) i (list_size w)) = ap (sum_untouched f Nowhere) (sizes-set us i w) in
+        let before : f (get_or (sizes_of us) i (64, 64)) ≡ f (list_size u) = ap f size-at in
+        let less : f (list_size w) + 1 ≤ f (get_or (sizes_of us) i (64, 64)) = omega (arith, le, before) in
+        omega (arith, untouched-less f (sizes_of us) i (list_size w) inside_sizes less, now)
 
     -- one place less is asked for of each list, and w in place of u has one item more, or a long list
     pub lacking_in-next : (n d : ℕ) → lacks n (list_size w) + d ≤ lacks (n + 1) (list_size u) → lacking n Nowhere (sizes_of (set us i w)) + d ≤ lacking (n + 1) Nowhere (sizes_of us)

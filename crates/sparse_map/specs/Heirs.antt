@@ -71,8 +71,8 @@ module _ {V : Type 0} where
       (q : ℕ) → q / 2 < first → q / 2 < length plan.counts / 2
       → slice_index_or (with_items n plan (items_in (take (q / 2) old))).counts q 0 ≡ 0 → slice_index_or noted q false ≡ true
 
-  -- new group q can take over the list of old group s: it gets more than the other of the two, the list fits what goes there in all, of
-  -- which nothing comes from the groups before s
+  -- new group q can take over the list of old group s: it gets no less than the other of the two, the list fits what goes there in all,
+  -- of which nothing comes from the groups before s
   pub record IsHeir (n : ℕ) (plan : Plan) (old : List (Group V)) (s q : ℕ) : Type 0 where
     pub inside : q < length plan.counts
     pub more : GetsMore (with_items n plan (items_in old)).counts s q
@@ -98,7 +98,7 @@ module _ {V : Type 0} where
         ⊎ ((q : ℕ) × GetsMore (with_items n plan (items_in old)).counts s q × IsNoHeir n plan old heirs s q)
 
   -- once the lists of old groups are handed on to their heirs, each of the new groups has one that fits: those that are made have one
-  -- free place, and those that are handed on bring eight beyond four a list, in all, for two new groups
+  -- free place, and those that are handed on bring at most eight beyond four a list, in all, for two new groups
   pub record ListsFit (n : ℕ) (groups old : List (Group V)) (heirs : List (Option ℕ)) : Type 0 where
     pub handed : AreHeirs n (plan_of n groups) old heirs
     pub rooms : AreRooms (rooms_of groups) (with_items n (plan_of n groups) (items_in old)).counts heirs 0

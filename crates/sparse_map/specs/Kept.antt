@@ -6,11 +6,11 @@ use Rattle.sparse_map.specs.declared.table.Touched.TheVariants.{Nowhere}
 use Rattle.sparse_map.specs.Home.{IsTableSize, buckets_for}
 use Rattle.sparse_map.specs.Slots.{items_of}
 use Rattle.sparse_map.specs.Groups.{slots_of, IsTable}
-use Rattle.sparse_map.specs.Places.{sizes_of, lacking}
+use Rattle.sparse_map.specs.Places.{sizes_of, loose_of, lacking, IsBoundedBy}
 use Rattle.sparse_map.specs.Packed.{IsPacked}
 
 -- `bits` is the number of bits of a bucket number, or 0 with no bucket; there are blank lists for the next new keys, or for all lists
--- without places for so many; a list without a free place, and with fewer than 64, belongs to a group that was
+-- without places for so many; a list without a free place, and with fewer than 64, belongs to a group that may have been
 -- touched
 pub record KeepsTable {V : Type 0} (bits len spare blanks : ℕ) (touched : Touched) (groups : List (Group V)) : Type 0 where
   pub few : bits ≤ 31
@@ -21,6 +21,11 @@ pub record KeepsTable {V : Type 0} (bits len spare blanks : ℕ) (touched : Touc
   pub room : 4 * (len + spare) ≤ 3 * buckets_for bits
   pub stocked : min spare (lacking spare Nowhere (sizes_of groups)) ≤ blanks
   pub ready : lacking 1 touched (sizes_of groups) ≡ 0
+
+-- it keeps its table, and a bound of the free places beyond four of the lists of all groups that can't have been touched
+pub record KeepsBound {V : Type 0} (bits len spare blanks : ℕ) (touched : Touched) (beyond : ℕ) (groups : List (Group V)) : Type 0 where
+  pub table : KeepsTable bits len spare blanks touched groups
+  pub bound : IsBoundedBy beyond (loose_of touched (sizes_of groups))
 
 -- 2^bits buckets under the packed law, of which at least one is free
 pub record HasFreeBucket {V : Type 0} (bits : ℕ) (groups : List (Group V)) : Type 0 where

@@ -16,7 +16,8 @@ pub record IsPacked {V : Type 0} (slots : List (Option (ℕ × V))) : Type 0 whe
 
 -- the buckets in order, each empty or with a key and its value, and how many new keys there is room for; of the memory the places of
 -- the groups' lists, the blank lists of 64 places that are kept ready, and the free places beyond four for each 32 buckets, in all,
--- that removals may have left; and the places that old and new lists had, all together, as the buckets doubled last
+-- that removals may have left in lists that weren't touched; and the places that old and new lists had, all together, as the buckets
+-- doubled last
 pub record PackedTable (V : Type 0) : Type 0 where
   pub slots : List (Option (ℕ × V))
   pub spare : ℕ

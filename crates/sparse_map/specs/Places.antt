@@ -1,5 +1,5 @@
 -- The sizes of the groups' lists: how many items each has, and how many places.
-use Rattle.std.specs.Prelude.{ℕ, ◌+◌, ◌-◌, ◌/◌, nat_lt, min, List, map, slice_index_or, if◌then◌else◌}
+use Rattle.std.specs.Prelude.{ℕ, ◌+◌, ◌-◌, ◌/◌, ◌^◌, ◌≤◌, nat_lt, min, List, map, slice_index_or, if◌then◌else◌}
 use Rattle.std.specs.List.{sum_by}
 use Rattle.std.specs.Vec.{vec_len, vec_capacity}
 use Rattle.sparse_map.specs.declared.group.Group.{Group}
@@ -27,7 +27,7 @@ extra s = s.1 - (s.0 + 4)
 unfoldable pub lacks : ℕ → ℕ × ℕ → ℕ
 lacks n s = if nat_lt s.1 (min 64 (s.0 + n)) then 1 else 0
 
--- the sum over all groups but those that may have been touched since the last reservation
+-- the sum over all groups but those that may have been touched
 unfoldable pub sum_untouched : (ℕ × ℕ → ℕ) → Touched → List (ℕ × ℕ) → ℕ
 sum_untouched f Nowhere s = sum_by f s
 sum_untouched f (In bucket) s = sum_by f s - f (slice_index_or s (bucket / 64) (64, 64))
@@ -40,3 +40,7 @@ loose_of = sum_untouched extra
 -- how many of their lists have no place for n items more, nor for all that a group can hold
 abbrev pub lacking : ℕ → Touched → List (ℕ × ℕ) → ℕ
 lacking n = sum_untouched (lacks n)
+
+-- such a number is bounded by `beyond`, where that is less than 2^64 - 1, which bounds nothing
+unfoldable pub IsBoundedBy : ℕ → ℕ → Type 0
+IsBoundedBy beyond n = min n (2 ^ 64 - 1) ≤ beyond

@@ -5,8 +5,16 @@ ghost use Rattle.std.specs.Vec.{vec_capacity};
 use std::alloc::{AllocError, Global};
 use std::mem::{self, size_of};
 
-/// Free places of a list when it is made to fit, so that not each insertion lengthens it.
+/// A few free places: a list that is trimmed keeps no more, and a full one grows by so many at least, up to 64 places,
+/// so that not each insertion lengthens it.
 pub const SLACK: usize = 4;
+
+/// By how many places a full list grows at most, where the lists together may have more free ones.
+pub const MORE_SLACK: usize = 8;
+
+/// Three quarters of the 64 buckets of a list: the lists have no more items on average. Beyond so many places a full
+/// list grows by a few alone.
+const ITEMS_AT_DOUBLING: usize = 48;
 
 /// An empty list with room for the items of a whole group, kept ready for a group whose own list is full.
 #[derive(Drop)]
@@ -81,7 +89,7 @@ fn insert_from_end<V: Drop>(items: &mut Vec<(u64, V)>, place: usize, item: (u64,
 }
 
 impl<V: Drop> Group<V> {
-    ghost use Rattle.std.specs.Prelude.{◌≡◌, ◌≢◌, ◌+◌, ◌*◌, ◌<◌, ◌≤◌, ◌↔◌, ℕ, length, count_ones, vec_len, min, max, Some, None, IsSome, IfSome, IfNone, IfOk, IsTrue, OnOk, OnErr, is_some, option_map, slice_set};
+    ghost use Rattle.std.specs.Prelude.{◌≡◌, ◌≢◌, ◌+◌, ◌-◌, ◌*◌, ◌<◌, ◌≤◌, ◌↔◌, ℕ, length, count_ones, vec_len, min, max, Some, None, IsSome, IfSome, IfNone, IfOk, IsTrue, OnOk, OnErr, is_some, option_map, slice_set};
     ghost use Rattle.std.specs.Vec.{vec_capacity};
     ghost use Rattle.sparse_map.specs.Slots.{slot_at, key_at, rank, exchanged, unpacked, items_of, group};
     ghost use Rattle.sparse_map.specs.Groups.{slots_in};
@@ -244,6 +252,20 @@ impl<V: Drop> Group<V> {
         &mut self.items[place as usize].1
     }
 
+    /// How many places of the list are free.
+    pub fn free_places(&self) -> usize
+        ensures { result ≡ vec_capacity self.now.items - vec_len self.now.items }
+    {
+        self.items.capacity() - self.items.len()
+    }
+
+    /// How many free places beyond a few the list has.
+    pub fn beyond_few(&self) -> usize
+        ensures { result ≡ vec_capacity self.now.items - (vec_len self.now.items + 4) }
+    {
+        self.free_places().saturating_sub(SLACK)
+    }
+
     /// Whether an insertion would need memory.
     pub fn is_full(&self) -> bool
         ensures { IsTrue result ↔ (vec_len self.now.items ≡ vec_capacity self.now.items) }
@@ -265,7 +287,7 @@ impl<V: Drop> Group<V> {
         self.occupied |= 1 << k;
     }
 
-    /// The same, in less time where few occupied buckets come after this one.
+    /// The same, from the end of the list on, in less time where few occupied buckets come after this one.
     pub fn insert_late(&mut self, k: u32, place: u32, item: (u64, V))
         requires within { k < 64 }
         requires place { place ≡ rank self.old.occupied k }
@@ -362,13 +384,15 @@ impl<V: Drop> Group<V> {
         Ok(())
     }
 
-    /// Moves the items of a list that is full into one that is a little longer, but no longer than a whole group needs.
-    /// Refused, for want of memory for it, the list is as before.
-    pub fn grow(&mut self, alloc: Global) -> Result<(), AllocError>
+    /// Moves the items of a list that is full into one with so many places more, but with no more than 48 places, or a
+    /// few more than items where these are more, and with no more than a whole group needs. Refused, for want of memory
+    /// for it, the list is as before.
+    pub fn grow(&mut self, alloc: Global, more: usize) -> Result<(), AllocError>
+        requires { 4 ≤ more }
         ensures occupied { self.new.occupied ≡ self.old.occupied }
         ensures items { self.new.items.items ≡ self.old.items.items }
         ensures capacity { vec_capacity self.old.items ≤ vec_capacity self.new.items }
-        ensures few { vec_capacity self.new.items ≤ max (vec_capacity self.old.items) (vec_len self.new.items + 4) }
+        ensures few { vec_capacity self.new.items ≤ max (vec_capacity self.old.items) (vec_len self.new.items + more) }
         ensures ok { OnOk result (IsReady self.new) }
         ensures err { OnErr result (vec_capacity self.new.items ≡ vec_capacity self.old.items) }
     {
@@ -376,7 +400,8 @@ impl<V: Drop> Group<V> {
         if len < self.items.capacity() || len >= 64 {
             return Ok(());
         }
-        let places = (len + SLACK).min(64);
+        let most = ITEMS_AT_DOUBLING.max(len + SLACK);
+        let places = more.saturating_add(len).min(most).min(64);
         let mut list = Vec::with_capacity(alloc, places)?;
         let mut full = mem::replace(&mut self.items, Vec::new(alloc));
         match list.append(&mut full) {
@@ -394,18 +419,22 @@ impl<V: Drop> Group<V> {
         Ok(())
     }
 
-    /// Makes the list fit: it has a free place then, or places for a whole group, and no more than a few are free. Refused,
-    /// for want of memory, it has no more places than before.
-    pub fn fit(&mut self, alloc: Global) -> Result<(), AllocError>
+    /// Makes the list fit: it has a free place then, or places for a whole group, and no more are free than `more`, the
+    /// most places by which one grows that is full. Answers how many are free beyond a few. Refused, for want of
+    /// memory, the list has no more places than before.
+    pub fn fit(&mut self, alloc: Global, more: usize) -> Result<usize, AllocError>
+        requires { 4 ≤ more }
         ensures occupied { self.new.occupied ≡ self.old.occupied }
         ensures items { self.new.items.items ≡ self.old.items.items }
         ensures room { min (vec_capacity self.old.items) (vec_len self.old.items + 4) ≤ vec_capacity self.new.items }
-        ensures few { vec_capacity self.new.items ≤ max (vec_capacity self.old.items) (vec_len self.new.items + 4) }
-        ensures trimmed { OnOk result (IsTrimmed self.new) }
+        ensures few { vec_capacity self.new.items ≤ max (vec_capacity self.old.items) (vec_len self.new.items + more) }
+        ensures trimmed { OnOk result (vec_capacity self.new.items ≤ vec_len self.new.items + more) }
+        ensures beyond { IfOk result (λ n. n ≡ vec_capacity self.new.items - (vec_len self.new.items + 4)) }
         ensures ready { OnOk result (IsReady self.new) }
         ensures err { OnErr result (vec_capacity self.new.items ≤ vec_capacity self.old.items) }
     {
         self.trim()?;
-        self.grow(alloc)
+        self.grow(alloc, more)?;
+        Ok(self.beyond_few())
     }
 }

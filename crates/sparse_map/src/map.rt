@@ -13,8 +13,8 @@ use crate::group::{Blank, Group};
 use crate::home::{bits_for, bucket_count};
 use crate::moving::{Widening, groups_ahead, place_groups};
 use crate::table::{
-    Place, Touched, blanks_for, find, fit_touched, places_of, probe, put, remove_at, replace,
-    value_at,
+    Place, Touched, beyond_of, blanks_for, find, fit_touched, places_of, probe, put, remove_at,
+    replace, value_at,
 };
 use std::alloc::{AllocError, Global};
 use std::marker::Model;
@@ -29,8 +29,11 @@ pub struct SparseMap<V> {
     len: u64,
     spare: u64,
     stock: Vec<Blank<V>>,
-    // The groups whose lists became full, or gave way to a blank one, since the last `reserve`.
+    // The groups whose lists may have become full, or given way to a blank one, since they were last made to fit.
     touched: Touched,
+    // At least the free places beyond four that the lists of other groups have, all together. The largest number bounds
+    // nothing.
+    beyond: u64,
     peak: u64,
 }
 
@@ -38,7 +41,7 @@ impl<V> Model for SparseMap<V> {
     ghost use Rattle.std.specs.Prelude.{vec_len};
     ghost use Rattle.sparse_map.specs.Packed.{PackedTable, table_code};
     ghost use Rattle.sparse_map.specs.Seen.{seen_of};
-    ghost use Rattle.sparse_map.specs.Kept.{KeepsTable};
+    ghost use Rattle.sparse_map.specs.Kept.{KeepsBound};
 
     ghost Value = { PackedTable V };
 
@@ -46,7 +49,7 @@ impl<V> Model for SparseMap<V> {
 
     ghost view = { λ m. seen_of m.bits m.groups.items m.spare (vec_len m.stock) m.touched m.peak };
 
-    ghost invariant = { λ m. KeepsTable m.bits m.len m.spare (vec_len m.stock) m.touched m.groups.items };
+    ghost invariant = { λ m. KeepsBound m.bits m.len m.spare (vec_len m.stock) m.touched m.beyond m.groups.items };
 }
 
 impl<V: Drop> SparseMap<V> {
@@ -72,6 +75,7 @@ impl<V: Drop> SparseMap<V> {
             spare: 0,
             stock: Vec::new(alloc),
             touched: Touched::Nowhere,
+            beyond: 0,
             peak: 0,
         }
     }
@@ -120,15 +124,16 @@ impl<V: Drop> SparseMap<V> {
     }
 
     /// How many items the map has memory for: the places of all groups' lists, free ones included, and 64 for each blank
-    /// list that is kept ready.
+    /// list that is kept ready. The count ends at 2^64 - 1.
     pub fn places(&self) -> u64
         ensures { result ≡ min (memory_of self.now) (2 ^ 64 - 1) }
     {
         places_with(self.groups.as_slice(), self.stock.as_slice())
     }
 
-    /// How many items the map had memory for when its buckets doubled last, old and new lists together, blank ones included:
-    /// 0 where none was there yet.
+    /// The places that old and new lists had as the buckets last became more, blank ones included: no fewer than the
+    /// map had before or after, and no more than both together. The count ends at 2^64 - 1, and is 0 before there are
+    /// buckets.
     pub fn peak_places(&self) -> u64
         ensures { result ≡ self.now.peak }
     {
@@ -193,7 +198,7 @@ impl<V: Drop> SparseMap<V> {
                 Some(old)
             }
             Place::Free(bucket) => {
-                let touched = put(
+                let left = put(
                     self.alloc,
                     self.groups.as_mut_slice(),
                     &mut self.stock,
@@ -203,13 +208,15 @@ impl<V: Drop> SparseMap<V> {
                 );
                 self.len += 1;
                 self.spare -= 1;
-                self.touched = self.touched.with(touched, bucket);
+                self.beyond = self.touched.counted(self.beyond, left);
+                self.touched = self.touched.with(left == 0, bucket);
                 None
             }
         }
     }
 
-    /// Takes a key out of the map, and gives its value. The buckets and the room stay, and so do the places of the lists.
+    /// Takes a key out of the map, and gives its value. The buckets and the room stay, and so does what `places`
+    /// counts.
     pub fn remove(&mut self, key: u64) -> Option<V>
         ensures value { result ≡ map.get (map_of self.old) key }
         ensures map { map_of self.new ≡ map.remove (map_of self.old) key }
@@ -230,6 +237,7 @@ impl<V: Drop> SparseMap<V> {
             seat.rank,
         );
         self.len -= 1;
+        self.beyond = self.beyond.saturating_add(1);
         Some(value)
     }
 
@@ -260,8 +268,9 @@ impl<V: Drop> SparseMap<V> {
         }
     }
 
-    /// Makes room for `n` new keys within the buckets that there are: the lists of the groups that were touched are made to
-    /// fit, and blank ones are made for more than one key. What can be refused and adds memory to a list comes last.
+    /// Makes room for `n` new keys within the buckets that there are: the lists of the groups that may have been
+    /// touched are made to fit, and blank ones are made for more than one key, or where any list may be full. What can
+    /// be refused and adds memory to a list comes last.
     fn stock_up(&mut self, n: u64) -> Result<(), AllocError>
         requires { 4 * (len_of self.old + n) ≤ 3 * buckets_of self.old }
         ensures slots { self.new.slots ≡ self.old.slots }
@@ -274,7 +283,7 @@ impl<V: Drop> SparseMap<V> {
             × (self.new.blanks ≤ max self.old.blanks (max self.old.spare n))) }
     {
         let spare = self.spare.max(n);
-        // Most often no list was touched, so that any has a place for one key.
+        // Where no list was touched, each with a free bucket has a place for one key.
         if spare <= 1 && self.stock.is_empty() {
             if let Touched::Nowhere = self.touched {
                 self.spare = spare;
@@ -283,7 +292,12 @@ impl<V: Drop> SparseMap<V> {
         }
         let wanted = blanks_for(self.touched, spare, self.groups.len() as u64);
         add_blanks(self.alloc, &mut self.stock, wanted)?;
-        fit_touched(self.alloc, self.groups.as_mut_slice(), &mut self.touched)?;
+        fit_touched(
+            self.alloc,
+            self.groups.as_mut_slice(),
+            &mut self.touched,
+            &mut self.beyond,
+        )?;
         self.stock.truncate(wanted as usize);
         self.spare = spare;
         Ok(())
@@ -318,6 +332,7 @@ impl<V: Drop> SparseMap<V> {
         let old = mem::replace(&mut self.groups, Vec::new(self.alloc));
         place_groups(groups.as_mut_slice(), bits, heirs.as_slice(), held, old);
         self.bits = bits;
+        self.beyond = beyond_of(groups.as_slice());
         self.groups = groups;
         self.spare = spare;
         self.stock = stock;
@@ -327,7 +342,7 @@ impl<V: Drop> SparseMap<V> {
     }
 }
 
-/// How many places the lists of these groups have, and blank ones of 64.
+/// How many places the lists of these groups have, and blank ones of 64. The count ends at 2^64 - 1.
 fn places_with<V: Drop>(groups: &[Group<V>], stock: &[Blank<V>]) -> u64
     ensures { result ≡ min (places_of (sizes_of groups.now) + 64 * length stock.now) (2 ^ 64 - 1) }
 {

@@ -184,8 +184,8 @@ fn hand_on<V: Drop>(groups: &mut [Group<V>], heir: u32, list: Vec<(u64, V)>)
     groups[heir as usize].take_list(list);
 }
 
-/// Puts in the items of all old groups, one after another. The list of a group is handed on before its items go in, so that
-/// they find it at its heir.
+/// Puts in the items of all old groups, one after another. A list that goes to an heir is handed on before its items go
+/// in, so that they find it there.
 pub fn place_groups<V: Drop>(
     groups: &mut [Group<V>],
     bits: u32,

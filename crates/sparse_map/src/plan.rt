@@ -56,7 +56,7 @@ fn mark_items<V: Drop>(marks: &mut [bool], counts: &mut [u32], bits: u32, items:
 }
 
 /// Notes of two new groups, with twice the number of an old one and one more, whether nothing goes to them from the groups
-/// before that one. Where the groups double, most of its items go to these two.
+/// before that one. Where the groups double, the keys whose home was in that one have theirs in these two.
 fn note_clear(clear: &mut [bool], counts: &[u32], source: usize)
     requires level { length clear.old ≡ length counts.now }
     ensures all { (q : ℕ) → q / 2 ≡ source → source < length counts.now / 2 → slice_index_or counts.now q 0 ≡ 0
@@ -147,7 +147,7 @@ fn brought(counts: &[u32], heir: Option<u32>, places: usize) -> usize
     }
 }
 
-/// The heirs of all old groups. What their lists bring beyond a few free places each stays, in all, within as many again for
+/// The heirs of all old groups. What their lists bring beyond a few free places each stays, in all, within eight for
 /// each two new groups.
 fn heirs_of<V: Drop>(
     alloc: Global,

@@ -1,5 +1,5 @@
 //! The buckets of all groups as one table: bucket b is bucket b % 64 of group b / 64.
-ghost use Rattle.std.specs.Prelude.{◌≡◌, ◌≢◌, ℕ, ◌+◌, ◌*◌, ◌%◌, ◌^◌, ◌<◌, ◌≤◌, length, vec_len, Some, None, IfSome, IfOk, MatchOption, is_some, option_map, OnOk, OnErr, is_ok, slice_set, ◌/◌, ◌-◌, ◌⊎◌, ◌==◌, if◌then◌else◌, IsTrue, true, false, min};
+ghost use Rattle.std.specs.Prelude.{◌≡◌, ◌≢◌, ℕ, ◌+◌, ◌*◌, ◌%◌, ◌^◌, ◌<◌, ◌≤◌, length, vec_len, Some, None, IfSome, IfOk, MatchOption, is_some, option_map, OnOk, OnErr, is_ok, slice_set, ◌/◌, ◌-◌, ◌⊎◌, ◌==◌, if◌then◌else◌, IsTrue, true, false, min, max};
 ghost use Rattle.std.specs.Ordering.{nat_cmp};
 ghost use Rattle.std.specs.FinMap.{find};
 ghost use Rattle.std.specs.Vec.{vec_capacity};
@@ -16,7 +16,7 @@ ghost use Rattle.sparse_map.specs.Places.{sizes_of, places_of, loose_of, lacking
 ghost use Rattle.sparse_map.specs.declared.table.Touched.{Touched};
 ghost use Rattle.sparse_map.specs.declared.table.Touched.TheVariants.{Nowhere, In, Anywhere};
 
-use crate::group::{Blank, Group};
+use crate::group::{Blank, Group, MORE_SLACK, SLACK};
 use crate::home::{bucket_count, home_of, leads_over, next_bucket};
 use std::alloc::{AllocError, Global};
 
@@ -48,8 +48,8 @@ pub struct Seat {
     pub rank: u32,
 }
 
-/// Which groups may have been touched since the last reservation: a new key took the last free place of their list, or their
-/// list gave way to a blank one.
+/// Which groups may have been touched since their lists were last made to fit: a new key took the last free place of
+/// their list, or their list gave way to a blank one.
 #[derive(Clone, Copy)]
 pub enum Touched {
     /// No group.
@@ -80,6 +80,20 @@ impl Touched {
             _ if !touched => self,
             Touched::In(last) if last / 64 == bucket / 64 => self,
             _ => Touched::Anywhere,
+        }
+    }
+
+    /// What bounds the free places beyond a few of all lists that weren't touched, once a new key went into one that has
+    /// so many free places `left`: one less where no group was touched and that list had such a place. The largest
+    /// number bounds nothing, and stays.
+    pub fn counted(self, beyond: u64, left: usize) -> u64
+        ensures bounds { (before after : ℕ) → min before (2 ^ 64 - 1) ≤ beyond → after ≤ before
+            → (self ≡ Nowhere → 4 ≤ left → after + 1 ≤ before) → min after (2 ^ 64 - 1) ≤ result }
+        ensures less { self ≡ Nowhere → 4 ≤ left → beyond < 2 ^ 64 - 1 → result ≡ beyond - 1 }
+    {
+        match self {
+            Touched::Nowhere if left >= SLACK && beyond < u64::MAX => beyond.saturating_sub(1),
+            _ => beyond,
         }
     }
 }
@@ -133,8 +147,16 @@ fn make_room<V: Drop>(alloc: Global, group: &mut Group<V>, stock: &mut Vec<Blank
     true
 }
 
-/// Sets the item of a free bucket, with a blank list for a group whose own is full. Answers whether the group was touched:
-/// it took a blank list, or its own is full now.
+/// How many places of a list count as free: none of one that gave way to a blank one.
+fn left_in(grew: bool, free: usize) -> usize
+    ensures blank { IsTrue grew → result ≡ 0 }
+    ensures own { grew ≡ false → result ≡ free }
+{
+    if grew { 0 } else { free }
+}
+
+/// Sets the item of a free bucket, with a blank list for a group whose own is full. Answers how many places of the list are
+/// free then, but 0 where the group took a blank one: with 0 it was touched.
 pub fn put<V: Drop>(
     alloc: Global,
     groups: &mut [Group<V>],
@@ -142,7 +164,7 @@ pub fn put<V: Drop>(
     bucket: u64,
     rank: u32,
     item: (u64, V),
-) -> bool
+) -> usize
     requires within { bucket < 64 * length groups.old }
     requires free { slot_at (all_slots groups.old) bucket ≡ None }
     requires rank { IsRankOf groups.old bucket rank }
@@ -152,17 +174,18 @@ pub fn put<V: Drop>(
     ensures fewer_lack { (n : ℕ) → vec_len stock.old + lacking n Nowhere (sizes_of groups.new)
         ≤ vec_len stock.new + lacking (n + 1) Nowhere (sizes_of groups.old) }
     ensures places { places_of (sizes_of groups.new) + 64 * vec_len stock.new ≤ places_of (sizes_of groups.old) + 64 * vec_len stock.old }
-    ensures loose { (before after : Touched) → (IsTrue result → MayBeTouched after (bucket / 64))
+    ensures less { 4 ≤ result → loose_of Nowhere (sizes_of groups.new) + 1 ≤ loose_of Nowhere (sizes_of groups.old) }
+    ensures loose { (before after : Touched) → (result ≡ 0 → MayBeTouched after (bucket / 64))
         → ((i : ℕ) → MayBeTouched before i → MayBeTouched after i)
         → loose_of after (sizes_of groups.new) ≤ loose_of before (sizes_of groups.old) }
-    ensures ready { (before after : Touched) → (IsTrue result → MayBeTouched after (bucket / 64))
+    ensures ready { (before after : Touched) → (result ≡ 0 → MayBeTouched after (bucket / 64))
         → ((i : ℕ) → MayBeTouched before i → MayBeTouched after i)
         → lacking 1 after (sizes_of groups.new) ≤ lacking 1 before (sizes_of groups.old) }
 {
     let group = &mut groups[(bucket / 64) as usize];
     let grew = make_room(alloc, group, stock);
     group.insert((bucket % 64) as u32, rank, item);
-    grew | group.is_full()
+    left_in(grew, group.free_places())
 }
 
 /// Sets the item of an occupied bucket, and gives the old one.
@@ -397,7 +420,8 @@ fn trim_all<V: Drop>(groups: &mut [Group<V>]) -> Result<(), AllocError>
     Ok(())
 }
 
-/// Gives each group whose list is full a little longer one. Refused at the first one for which there is no memory.
+/// Gives each group whose list is full, with fewer than 64 items, a little longer one. Refused at the first one for
+/// which there is no memory.
 fn grow_all<V: Drop>(alloc: Global, groups: &mut [Group<V>]) -> Result<(), AllocError>
     ensures slots { all_slots groups.new ≡ all_slots groups.old }
     ensures loose { (t : Touched) → loose_of t (sizes_of groups.new) ≤ loose_of t (sizes_of groups.old) }
@@ -405,25 +429,33 @@ fn grow_all<V: Drop>(alloc: Global, groups: &mut [Group<V>]) -> Result<(), Alloc
     ensures none_lacks { OnOk result (lacking 1 Nowhere (sizes_of groups.new) ≡ 0) }
 {
     for group in groups.iter_mut() {
-        group.grow(alloc)?;
+        group.grow(alloc, SLACK)?;
     }
     Ok(())
 }
 
-/// Makes the list of the group of a bucket fit.
-fn fit_one<V: Drop>(alloc: Global, groups: &mut [Group<V>], bucket: u64) -> Result<(), AllocError>
+/// Makes the list of the group of a bucket fit, with at most so many places more where it is full. Answers how many
+/// free places beyond a few it has then.
+fn fit_one<V: Drop>(
+    alloc: Global,
+    groups: &mut [Group<V>],
+    bucket: u64,
+    more: usize,
+) -> Result<usize, AllocError>
+    requires { 4 ≤ more }
     ensures slots { all_slots groups.new ≡ all_slots groups.old }
-    ensures loose { (t : Touched) → loose_of t (sizes_of groups.new) ≤ loose_of t (sizes_of groups.old) }
+    ensures few { IfOk result (λ n. n + 4 ≤ more) }
+    ensures loose { loose_of (In bucket) (sizes_of groups.new) ≤ loose_of (In bucket) (sizes_of groups.old) }
     ensures lacking { (t : Touched) → lacking 1 t (sizes_of groups.new) ≤ lacking 1 t (sizes_of groups.old) }
-    ensures not_loose { OnOk result (loose_of Nowhere (sizes_of groups.new) ≤ loose_of (In bucket) (sizes_of groups.old)) }
+    ensures not_loose { IfOk result (λ n. loose_of Nowhere (sizes_of groups.new) ≤ loose_of (In bucket) (sizes_of groups.old) + n) }
     ensures not_lacking { OnOk result (lacking 1 Nowhere (sizes_of groups.new) ≤ lacking 1 (In bucket) (sizes_of groups.old)) }
     ensures err { OnErr result (places_of (sizes_of groups.new) ≤ places_of (sizes_of groups.old)) }
 {
     let i = (bucket / 64) as usize;
     if i >= groups.len() {
-        return Ok(());
+        return Ok(0);
     }
-    groups[i].fit(alloc)
+    groups[i].fit(alloc, more)
 }
 
 /// Makes the lists of all groups fit, and answers whether each has a free place, or places for a whole group: where memory
@@ -440,15 +472,34 @@ fn fit_all<V: Drop>(alloc: Global, groups: &mut [Group<V>]) -> Result<bool, Allo
     Ok(grow_all(alloc, groups).is_ok())
 }
 
-/// Makes the lists fit that may have been touched. Where any may have been, and memory fails for one that is full, any stays
-/// touched. Refused, for want of memory, no list got longer.
+/// By how many places a full list grows at most: by eight where four more free places beyond a few leave the lists with
+/// no more of them than eight for each two lists, and else by four.
+fn places_more(beyond: u64, lists: usize) -> usize
+    requires small { lists < 2 ^ 32 }
+    ensures { ((result ≡ 8) × (beyond + 4 ≤ 8 * (lists / 2))) ⊎ ((result ≡ 4) × (8 * (lists / 2) < beyond + 4)) }
+{
+    let room = (2 * SLACK * (lists / 2)) as u64;
+    if beyond.saturating_add((MORE_SLACK - SLACK) as u64) <= room {
+        MORE_SLACK
+    } else {
+        SLACK
+    }
+}
+
+/// Makes the lists fit that may have been touched, and keeps `beyond` a bound of the free places beyond a few of those
+/// that weren't. Where any may have been touched, and memory fails for one that is full, any stays so. Refused, for want
+/// of memory, the lists have no more places than before, all together.
 pub fn fit_touched<V: Drop>(
     alloc: Global,
     groups: &mut [Group<V>],
     touched: &mut Touched,
+    beyond: &mut u64,
 ) -> Result<(), AllocError>
+    requires small { length groups.old < 2 ^ 32 }
+    requires counted { min (loose_of touched.old (sizes_of groups.old)) (2 ^ 64 - 1) ≤ beyond.old }
     ensures slots { all_slots groups.new ≡ all_slots groups.old }
-    ensures loose { loose_of touched.new (sizes_of groups.new) ≤ loose_of touched.old (sizes_of groups.old) }
+    ensures counted { min (loose_of touched.new (sizes_of groups.new)) (2 ^ 64 - 1) ≤ beyond.new }
+    ensures loose { loose_of touched.new (sizes_of groups.new) ≤ max (loose_of touched.old (sizes_of groups.old)) (8 * (length groups.old / 2)) }
     ensures ready { lacking 1 touched.new (sizes_of groups.new) ≤ lacking 1 touched.old (sizes_of groups.old) }
     ensures lacking { lacking 1 Nowhere (sizes_of groups.new) ≤ lacking 1 Nowhere (sizes_of groups.old) }
     ensures none_loose { OnOk result (loose_of Nowhere (sizes_of groups.new) ≤ loose_of touched.new (sizes_of groups.new)) }
@@ -457,9 +508,15 @@ pub fn fit_touched<V: Drop>(
 {
     match *touched {
         Touched::Nowhere => return Ok(()),
-        Touched::In(bucket) => fit_one(alloc, groups, bucket)?,
+        Touched::In(bucket) => {
+            let more = places_more(*beyond, groups.len());
+            let here = fit_one(alloc, groups, bucket, more)?;
+            *beyond = beyond.saturating_add(here as u64);
+        }
         Touched::Anywhere => {
-            if !fit_all(alloc, groups)? {
+            let all = fit_all(alloc, groups)?;
+            *beyond = 0;
+            if !all {
                 return Ok(());
             }
         }
@@ -480,7 +537,18 @@ pub fn blanks_for(touched: Touched, spare: u64, groups: u64) -> u64
     }
 }
 
-/// How many places the lists of all groups have, free ones included.
+/// How many free places beyond a few the lists of all groups have. The count ends at 2^64 - 1.
+pub fn beyond_of<V: Drop>(groups: &[Group<V>]) -> u64
+    ensures { result ≡ min (loose_of Nowhere (sizes_of groups.now)) (2 ^ 64 - 1) }
+{
+    let mut beyond = 0u64;
+    for group in groups {
+        beyond = beyond.saturating_add(group.beyond_few() as u64);
+    }
+    beyond
+}
+
+/// How many places the lists of all groups have, free ones included. The count ends at 2^64 - 1.
 pub fn places_of<V: Drop>(groups: &[Group<V>]) -> u64
     ensures { result ≡ min (places_of (sizes_of groups.now)) (2 ^ 64 - 1) }
 {

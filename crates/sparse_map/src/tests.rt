@@ -149,6 +149,29 @@ fn a_doubling_leaves_a_list_with_too_many_free_places(rt: HostRuntime) -> Result
     Ok(())
 }
 
+/// How many buckets and places a map has with the keys below `to`, put in one after another.
+fn places_below(alloc: Global, to: u64) -> Result<[u64; 2], AllocError> {
+    let mut map = SparseMap::new(alloc);
+    fill(&mut map, 0, to)?;
+    Ok([map.buckets(), map.places()])
+}
+
+#[test]
+fn a_full_list_grows_by_eight_where_the_lists_may_have_them(rt: HostRuntime) -> Result<(), Fail> {
+    let alloc = rt.alloc();
+    // One list alone grows by four.
+    assert_eq!(rt; places_below(alloc, 45)?, [64, 45]);
+    assert_eq!(rt; places_below(alloc, 46)?, [64, 49]);
+    // Of two lists each is made with one free place, and both grow by eight.
+    assert_eq!(rt; places_below(alloc, 49)?, [128, 50]);
+    assert_eq!(rt; places_below(alloc, 51)?, [128, 66]);
+    // A list of 42 gets 48 places, and one of 48 grows by four.
+    assert_eq!(rt; places_below(alloc, 82)?, [128, 90]);
+    assert_eq!(rt; places_below(alloc, 83)?, [128, 96]);
+    assert_eq!(rt; places_below(alloc, 95)?, [128, 100]);
+    Ok(())
+}
+
 #[test]
 fn many_keys_are_found_through_doublings_and_removals(rt: HostRuntime) -> Result<(), Fail> {
     let mut map = SparseMap::new(rt.alloc());

@@ -56,7 +56,7 @@ FullExactly g s a (Ok done) = IsFull g s a → ⊥
 abbrev pub PendsWith : List Buffered → List Buffered → Buffered → Type 0
 PendsWith old new own = (new ≡ old ++ own ∷ []) ⊎ (new ≡ own ∷ []) ⊎ (new ≡ [])
 
--- the address is held, or isn't
+-- the address is held
 abbrev pub IsHeldIn : CacheList → ℕ → Type 0
 IsHeldIn s a = (h : Held) × (get s a ≡ Some h)
 

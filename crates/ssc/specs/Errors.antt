@@ -5,12 +5,13 @@ use Rattle.ft_media.specs.declared.media.MediaError.TheVariants as media
 use Rattle.ssc.specs.declared.error.SscError.{SscError}
 use Rattle.ssc.specs.declared.error.SscError.TheVariants.{FlashFault, PowerLost, OutOfMemory}
 
--- the flash failed, or power was lost
+-- the flash failed
 abbrev pub ssc_failed : {T : Type 0} → Result T SscError → Bool
 ssc_failed (Err FlashFault) = true
 ssc_failed (Err e) = false
 ssc_failed (Ok value) = false
 
+-- power was lost
 abbrev pub ssc_lost : {T : Type 0} → Result T SscError → Bool
 ssc_lost (Err PowerLost) = true
 ssc_lost (Err e) = false

@@ -26,7 +26,7 @@ IsDataPage page at a = (b : Block) × (page at ≡ Whole b (data_spare a))
 abbrev pub AreDataPages : (Place → Page) → Entries → Type 0
 AreDataPages page m = (a : ℕ) (e : Entry) → get m a ≡ Some e → IsDataPage page e.place a
 
--- the page of a held address has other spare bytes than those
+-- the page of a held address isn't whole with those spare bytes
 pub record IsStrange (page : Place → Page) (m : Entries) (at : Place) : Type 0 where
   pub lba : ℕ
   pub entry : Entry

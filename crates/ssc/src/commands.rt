@@ -27,8 +27,8 @@ use std::alloc::AllocError;
 impl Ssc {
     /// Holds the block at an address, dirty, on the flash when it answers Ok.
     ///
-    /// Full is decided first, then want of memory; both change nothing, but in want of memory the map may
-    /// have more buckets.
+    /// Full is decided first, then want of memory. Full changes nothing, and want of memory nothing but the
+    /// buckets of the map and the order of its records.
     pub fn write_dirty<M: Media>(
         &mut self,
         media: &mut M,
@@ -222,8 +222,8 @@ impl Ssc {
         }
     }
 
-    /// Adds the dirty ones of the `count` addresses from `from` on, ascending. Refused, `out` is as
-    /// before.
+    /// Adds the dirty ones of the `count` addresses from `from` on, ascending. Refused, `out` has the
+    /// items that it had.
     pub fn exists(&self, from: u64, count: u64, out: &mut Vec<u64>) -> Result<(), AllocError>
         requires { from + count ≤ (geometry_of self.now).size }
         ensures done { OnOk result ((contents : Contents) (s : CacheList) → Holds self.now contents s → out.new.items ≡ out.old.items

@@ -21,7 +21,7 @@ pub enum SscError {
     /// Power was lost, and the count of cuts rose.
     #[error("power was lost")]
     PowerLost,
-    /// There was no memory. Nothing was changed, but the map may have more buckets.
+    /// There was no memory. Nothing was changed but the buckets of the map and the order of its records.
     #[error("out of memory")]
     OutOfMemory,
 }

@@ -13,8 +13,7 @@ use ft_base::Geometry;
 use ft_media::Media;
 
 impl Ssc {
-    /// Makes the flash that of an empty cache: both checkpoint regions and the first log region are
-    /// erased, and an empty checkpoint is sealed. Refused or cut, the flash may stand for nothing.
+    /// Makes the flash that of an empty cache. Refused or cut, the flash may stand for nothing.
     pub fn format<M: Media>(media: &mut M, geometry: &Geometry) -> Result<(), SscError>
         requires shape { FitsOn geometry.now (M.state media.old).contents.shape }
         ensures done { OnOk result (FlashStandsFor geometry.now (M.state media.new).contents.flash.page empty) }

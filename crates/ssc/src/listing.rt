@@ -7,7 +7,7 @@ use std::alloc::AllocError;
 
 // The steps of `exists`.
 impl Ssc {
-    /// Adds each address that is dirty, at least `from` and below `end`, in the order of their pages.
+    /// Adds each address that is dirty, at least `from` and below `end`, once.
     /// Whatever it answers, what was in `out` stands there still.
     pub(crate) fn list_dirty(
         &self,
@@ -25,7 +25,7 @@ impl Ssc {
     }
 
     /// Adds the address of the entry of number `i`, where it is dirty, at least `from` and below `end`.
-    /// Refused, `out` is as before.
+    /// Refused, `out` has the items that it had.
     fn list_number(&self, i: u32, from: u64, end: u64, out: &mut Vec<u64>) -> Result<(), AllocError>
         ensures done { OnOk result (AddsNumber self.now.parts.map.geometry (entries_of self.now) from end i out.old.items out.new.items) }
         ensures refused { OnErr result (out.new.items ≡ out.old.items) }

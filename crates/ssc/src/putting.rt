@@ -91,7 +91,7 @@ pub(crate) fn write_committed<M: Media>(
     commit(parts, media)
 }
 
-/// Puts a clean block at an address that is absent. It is only buffered, unless the buffer is full.
+/// Puts a block at an address, clean. That is only buffered, unless the buffer is full.
 pub(crate) fn write_buffered<M: Media>(
     parts: &mut Parts,
     media: &mut M,

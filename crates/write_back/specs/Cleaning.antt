@@ -26,7 +26,8 @@ IsOnDisk v contents a = (s : CacheList) → Holds v.cache contents s → (h : He
 abbrev pub IsFlushed : Contents → Type 0
 IsFlushed contents = (a : ℕ) → (contents.disk a).earlier ≡ []
 
--- a part of a write-back, in which so many blocks went to the disk: the plain disk is as before, and what was held is
+-- a part of a write-back: with Ok so many blocks went to the disk, else no more; the plain disk is as before, and while it is up
+-- what was held is
 pub record Proceeds (n : ℕ) (old new : CachedDisk) (before after : State) (result : Result (Unit {0}) VolumeError) : Type 0 where
   pub left : IsLeft new after.contents
   pub stands : KeepsPlainDisk (told_of old) before.contents after.contents

@@ -13,7 +13,7 @@ use ft_media::{Media, MediaError};
 use ft_volume::VolumeError;
 use std::alloc::AllocError;
 
-/// Writes the dirty blocks of a group to the disk, ascending, flushes the disk, and marks the blocks clean.
+/// Writes the dirty blocks of a group to the disk, flushes the disk, and marks the blocks clean.
 /// The plain disk is as before, whatever is answered.
 pub(crate) fn write_group_back<M: Media>(
     disk: &mut CachedDisk,

@@ -98,8 +98,8 @@ impl WriteBack {
         }
     }
 
-    /// Writes the oldest group back where more are dirty than may stay so; else makes a checkpoint where
-    /// that is due.
+    /// Writes the last group of the table back where more are dirty than may stay so; else makes a checkpoint
+    /// where that is due.
     fn idle_up<M: Media>(&mut self, media: &mut M) -> Result<Idled, VolumeError>
         requires left { IsLeft self.old (M.state media.old).contents }
         requires up { kept.is_down self.old.disk ≡ false }

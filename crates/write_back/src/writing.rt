@@ -44,7 +44,7 @@ impl WriteBack {
         }
     }
 
-    /// Writes the oldest group back where this one is not in the table, which is full.
+    /// Writes the last group of the table back where this one is not in it and it is full.
     fn make_room<M: Media>(&mut self, media: &mut M, group: u64) -> Result<(), VolumeError>
         requires left { IsLeft self.old (M.state media.old).contents }
         requires up { kept.is_down self.old.disk ≡ false }

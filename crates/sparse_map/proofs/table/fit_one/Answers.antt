@@ -1,16 +1,17 @@
-use Rattle.std.proofs.Common.{◌≡◌, ◌/◌, ◌≤◌, length, get_or, refl, ap, arith}
+use Rattle.std.proofs.Common.{◌≡◌, ◌+◌, ◌-◌, ◌/◌, ◌≤◌, length, get_or, set, refl, ap, arith}
 use Rattle.std.specs.Vec.{vec_len, vec_capacity}
-use Rattle.sparse_map.specs.Trimmed.{IsTrimmed, IsReady}
-use Rattle.sparse_map.specs.Places.{sizes_of, extra, lacks}
+use Rattle.sparse_map.specs.Trimmed.{IsReady}
+use Rattle.sparse_map.specs.declared.table.Touched.TheVariants.{Nowhere, In}
+use Rattle.sparse_map.specs.Places.{sizes_of, extra, lacks, loose_of}
 use Rattle.sparse_map.proofs.TableLemmas.{all_slots_trimmed}
-use Rattle.sparse_map.proofs.PlacesLemmas.{extra-few, extra-none, extra-full, lacks-room, lacks-none, lacks-full, places_in-set, untouched_in-set, untouched_in-fitted, untouched-past, length-sizes}
-use Rattle.std.proofs.lemmas.Result.{on_ok_weaker, on_err_weaker}
+use Rattle.sparse_map.proofs.PlacesLemmas.{extra-is, extra-full, lacks-room, lacks-none, lacks-full, places_in-set, untouched_in-set, untouched_in-at, untouched_in-fitted, untouched-past, length-sizes}
+use Rattle.std.proofs.lemmas.Result.{IfOk-weaker, on_ok_weaker, on_err_weaker}
 use Rattle.sparse_map.proofs.table.fit_one.Goals as goal
 
 pub returns-then-i-groups-clause-not_loose : goal.returns-then-i-groups-clause-not_loose
 returns-then-i-groups-clause-not_loose g c =
     let us = c.args.groups.now in
-    untouched-past extra (sizes_of us) c.args.bucket extra-full (omega (arith, c.if-i-groups.true, length-sizes us))
+    omega (arith, untouched-past extra (sizes_of us) c.args.bucket extra-full (omega (arith, c.if-i-groups.true, length-sizes us)))
 
 pub returns-then-i-groups-clause-not_lacking : goal.returns-then-i-groups-clause-not_lacking
 returns-then-i-groups-clause-not_lacking g c =
@@ -25,11 +26,7 @@ pub returns-clause-loose : goal.returns-clause-loose
 returns-clause-loose g c =
     let us = c.args.groups.now in
     let read = c.index-groups-i.result in
-    let u = get_or us (c.args.bucket / 64) read in
-    let w = c.fit.new.self in
-    let len : vec_len w.items ≡ vec_len u.items = omega (arith, ap length c.fit.ensures.items, u.items.ok.0, w.items.ok.0) in
-    let few = extra-few u w len c.fit.ensures.few in
-    λ t. omega (arith, untouched_in-set us (c.args.bucket / 64) u read w c.if-i-groups.false refl extra t 0 (omega (arith, few)))
+    untouched_in-at us (c.args.bucket / 64) (get_or us (c.args.bucket / 64) read) read c.fit.new.self c.if-i-groups.false refl extra (In c.args.bucket) refl
 
 pub returns-clause-lacking : goal.returns-clause-lacking
 returns-clause-lacking g c =
@@ -47,9 +44,10 @@ returns-clause-not_loose g c =
     let read = c.index-groups-i.result in
     let u = get_or us (c.args.bucket / 64) read in
     let w = c.fit.new.self in
-    on_ok_weaker {P = IsTrimmed w} c.fit.result
-    (λ trimmed. untouched_in-fitted us (c.args.bucket / 64) u read w c.if-i-groups.false refl extra c.args.bucket refl (extra-none w trimmed))
-    c.fit.ensures.trimmed
+    IfOk-weaker c.fit.result (λ n. n ≡ vec_capacity w.items - (vec_len w.items + 4))
+    (λ n. loose_of Nowhere (sizes_of (set us (c.args.bucket / 64) w)) ≤ loose_of (In c.args.bucket) (sizes_of us) + n)
+    (λ n is. omega (arith, untouched_in-fitted us (c.args.bucket / 64) u read w c.if-i-groups.false refl extra c.args.bucket refl, extra-is w n is))
+    c.fit.ensures.beyond
 
 pub returns-clause-not_lacking : goal.returns-clause-not_lacking
 returns-clause-not_lacking g c =
@@ -58,7 +56,7 @@ returns-clause-not_lacking g c =
     let u = get_or us (c.args.bucket / 64) read in
     let w = c.fit.new.self in
     on_ok_weaker {P = IsReady w} c.fit.result
-    (λ ready. untouched_in-fitted us (c.args.bucket / 64) u read w c.if-i-groups.false refl (lacks 1) c.args.bucket refl (lacks-none w ready))
+    (λ ready. omega (arith, untouched_in-fitted us (c.args.bucket / 64) u read w c.if-i-groups.false refl (lacks 1) c.args.bucket refl, lacks-none w ready))
     c.fit.ensures.ready
 
 pub returns-clause-err : goal.returns-clause-err

@@ -1,21 +1,12 @@
-use Rattle.std.proofs.Common.{◌<◌, ◌+◌, ◌%◌, ◌/◌, Some, Bool, true, false, refl, sym, ap, ◌∙◌, get_or, inl, inr, arith, length, set}
-use Rattle.std.specs.Prelude.{IsTrue, ◌||◌}
+use Rattle.std.proofs.Common.{◌≡◌, ◌<◌, ◌+◌, ◌%◌, ◌/◌, Some, refl, sym, ap, ◌∙◌, get_or, inl, inr, arith, length, set}
 use Rattle.std.specs.Vec.{vec_len, vec_capacity}
-use Rattle.std.proofs.lemmas.Bool.{cases_eq, false≢true}
+use Rattle.std.proofs.lemmas.Bool.{cases_eq}
 use Rattle.sparse_map.specs.Slots.{rank, slot_at}
 use Rattle.sparse_map.proofs.GroupLemmas.{free_below_64}
 use Rattle.sparse_map.proofs.TableLemmas.{slot_of_bucket, set_bucket}
 use Rattle.sparse_map.specs.Places.{list_size, sizes_of, extra, lacks}
-use Rattle.sparse_map.proofs.PlacesLemmas.{untouched-wider, extra-most, lacks-le, lacks-no, lacks-yes, places_in-set, untouched_in-set, untouched_in-at, lacking_in-next, lacking-one}
+use Rattle.sparse_map.proofs.PlacesLemmas.{untouched-wider, extra-most, extra-less, lacks-le, lacks-no, lacks-yes, places_in-set, untouched_in-set, untouched_in-at, untouched_in-less, lacking_in-next, lacking-one}
 use Rattle.sparse_map.proofs.table.put.Goals as goal
-
-or_left : (a b : Bool) → IsTrue a → IsTrue (a || b)
-or_left true b e = refl
-or_left false b e = absurd (false≢true e)
-
-or_right : (a b : Bool) → IsTrue b → IsTrue (a || b)
-or_right true b e = refl
-or_right false b e = e
 
 pub make_room-grew-requires-clause-below : goal.make_room-grew-requires-clause-below
 make_room-grew-requires-clause-below g c =
@@ -109,7 +100,23 @@ returns-clause-loose g c =
       | inl kept ↦
           let most = extra-most u w 0 (omega (arith, c.insert.ensures.capacity, kept.1)) (omega (arith, c.insert.ensures.len, c.make_room-grew.ensures.len)) in
           omega (arith, wider, untouched_in-set us i u read w inside refl extra after 0 most)
-      | inr grew ↦ omega (arith, wider, untouched_in-at us i u read w inside refl extra after (may (or_left c.make_room-grew.result c.is_full.result grew.0)))
+      | inr grew ↦ omega (arith, wider, untouched_in-at us i u read w inside refl extra after (may (c.left_in.ensures.blank grew.0)))
+    ]
+
+pub returns-clause-less : goal.returns-clause-less
+returns-clause-less g c =
+    let read = c.index-groups-bucket.result in
+    let us = c.args.groups.now in
+    let i = c.args.bucket / 64 in
+    let u = get_or us i read in
+    let w = c.insert.new.self in
+    let inside : i < length us = omega (arith, c.requires.within) in
+    λ some. elim c.make_room-grew.ensures.widened [
+      | inl kept ↦
+          let less = extra-less u w c.left_in.result (omega (arith, c.insert.ensures.capacity, kept.1)) (omega (arith, c.insert.ensures.len, c.make_room-grew.ensures.len))
+          (omega (arith, c.left_in.ensures.own kept.0, c.free_places.ensures)) some in
+          untouched_in-less us i u read w inside refl extra less
+      | inr grew ↦ absurd (omega (arith, c.left_in.ensures.blank grew.0, some))
     ]
 
 pub returns-clause-ready : goal.returns-clause-ready
@@ -122,8 +129,13 @@ returns-clause-ready g c =
     let inside : i < length us = omega (arith, c.requires.within) in
     λ before after may more.
     let wider = untouched-wider (lacks 1) (sizes_of us) before after more in
+    let none_left : vec_len w.items ≡ vec_capacity w.items → c.left_in.result ≡ 0 =
+    λ full. elim c.make_room-grew.ensures.widened [
+      | inl kept ↦ omega (arith, c.left_in.ensures.own kept.0, c.free_places.ensures, full)
+      | inr grew ↦ c.left_in.ensures.blank grew.0
+    ] in
     elim (cases_eq (vec_len w.items) (vec_capacity w.items)) [
-      | inl full ↦ omega (arith, wider, untouched_in-at us i u read w inside refl (lacks 1) after (may (or_right c.make_room-grew.result c.is_full.result (c.is_full.ensures.1 full))))
+      | inl full ↦ omega (arith, wider, untouched_in-at us i u read w inside refl (lacks 1) after (may (none_left full)))
       | inr ne ↦
           let none = lacks-no 1 (list_size w) (omega (arith, ne, c.make_room-grew.ensures.room, c.insert.ensures.len, c.insert.ensures.capacity)) in
           omega (arith, wider, untouched_in-set us i u read w inside refl (lacks 1) after 0 (omega (arith, none)))

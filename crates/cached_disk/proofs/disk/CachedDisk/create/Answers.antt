@@ -1,6 +1,7 @@
 use Rattle.std.proofs.Common.{refl, rules, sym, subst, ◌∙◌, false, ap, ℕ}
 use Rattle.ft_base.specs.Contents.{Shape, Values}
 use Rattle.ft_volume.specs.Opening.{nothing_held}
+use Rattle.ft_media.proofs.PassesLemmas.{passes_then}
 use Rattle.op_log.specs.Log.{FitsOn}
 use Rattle.cached_disk.specs.declared.disk.CachedDisk.{CachedDisk}
 use Rattle.cached_disk.proofs.OpenedLemmas.{empty_volume, none_agrees, none_suits, opened_fresh, opened_left, opened_stands}
@@ -32,7 +33,9 @@ returns-in-Ok-clause-creates g c =
       disk_reads = search rules;
       disk_writes = search rules;
       cause = search rules;
-      passes = search rules;
+      passes =
+          passes_then (g.M.Media.state c.args.media.now) (g.M.Media.state c.format.new.media) (g.M.Media.state c.open_cache.new.media) false
+          c.in_default.ensures.drives.passes c.in-Ok.ensures.opening.goes.passes;
     }
 
 pub returns-in-Err-clause-creates : goal.returns-in-Err-clause-creates

@@ -11,7 +11,7 @@ pub index-requires : goal.index-requires
 index-requires g c =
     let m = c.self.inside in
     let t = c.args.self.now in
-    omega (arith, seen_buckets m t c.self.invariant c.self.view_is, seen_halves m t c.self.invariant c.self.view_is, seen_lists m t c.self.invariant c.self.view_is, c.requires)
+    omega (arith, seen_buckets m t c.self.invariant.table c.self.view_is, seen_halves m t c.self.invariant.table c.self.view_is, seen_lists m t c.self.invariant.table c.self.view_is, c.requires)
 
 pub returns-clause-placed : goal.returns-clause-placed
 returns-clause-placed g c =
@@ -21,9 +21,9 @@ returns-clause-placed g c =
     let u = c.index.result.now in
     let i = c.args.i in
     let n = buckets_for m.bits in
-    let seen = seen_buckets m t c.self.invariant c.self.view_is in
-    let half = seen_halves m t c.self.invariant c.self.view_is in
-    let inside : i / 2 < length us = omega (arith, seen, half, seen_lists m t c.self.invariant c.self.view_is, c.requires, m.groups.ok.0) in
+    let seen = seen_buckets m t c.self.invariant.table c.self.view_is in
+    let half = seen_halves m t c.self.invariant.table c.self.view_is in
+    let inside : i / 2 < length us = omega (arith, seen, half, seen_lists m t c.self.invariant.table c.self.view_is, c.requires, m.groups.ok.0) in
     λ k lt.
     let low : 32 * (i % 2) + k < 64 = omega arith in
     let at : 64 * (i / 2) + (32 * (i % 2) + k) ≡ 32 * i + k = omega arith in
@@ -32,7 +32,7 @@ returns-clause-placed g c =
     ∙ sym (slot_in_group us (i / 2) (32 * (i % 2) + k) u u inside low c.index.ensures)
     ∙ ap (slot_at (all_slots us)) at
     ∙ sym (slot_below n us (32 * i + k) within)
-    ∙ ap (λ s. slot_at s (32 * i + k)) (seen_slots m t c.self.invariant c.self.view_is)
+    ∙ ap (λ s. slot_at s (32 * i + k)) (seen_slots m t c.self.invariant.table c.self.view_is)
 
 pub returns-clause-items : goal.returns-clause-items
 returns-clause-items g c =
@@ -42,9 +42,9 @@ returns-clause-items g c =
     let u = c.index.result.now in
     let i = c.args.i in
     let n = buckets_for m.bits in
-    let seen = seen_buckets m t c.self.invariant c.self.view_is in
-    let half = seen_halves m t c.self.invariant c.self.view_is in
-    let inside : i / 2 < length us = omega (arith, seen, half, seen_lists m t c.self.invariant c.self.view_is, c.requires, m.groups.ok.0) in
+    let seen = seen_buckets m t c.self.invariant.table c.self.view_is in
+    let half = seen_halves m t c.self.invariant.table c.self.view_is in
+    let inside : i / 2 < length us = omega (arith, seen, half, seen_lists m t c.self.invariant.table c.self.view_is, c.requires, m.groups.ok.0) in
     let long : 32 * (i % 2) + 32 ≤ length (slots_in u) = omega (arith, length-slots_in u) in
     let far : 32 * i + 32 ≤ length t.slots = omega (arith, seen, half, c.requires) in
     let same : (k : ℕ) → k < 32 → slot_at (slots_in u) (32 * (i % 2) + k) ≡ slot_at t.slots (32 * i + k) = λ k lt.
@@ -54,8 +54,8 @@ returns-clause-items g c =
     sym (slot_in_group us (i / 2) (32 * (i % 2) + k) u u inside low c.index.ensures)
     ∙ ap (slot_at (all_slots us)) at
     ∙ sym (slot_below n us (32 * i + k) within)
-    ∙ ap (λ s. slot_at s (32 * i + k)) (seen_slots m t c.self.invariant c.self.view_is) in
+    ∙ ap (λ s. slot_at s (32 * i + k)) (seen_slots m t c.self.invariant.table c.self.view_is) in
     c.half.ensures.items ∙ ap items_of (same_group_slots (slots_in u) t.slots (i % 2) i long far same)
 
 pub returns-clause-sound : goal.returns-clause-sound
-returns-clause-sound g c = seen_sound c.self.inside c.args.self.now c.self.invariant c.self.view_is
+returns-clause-sound g c = seen_sound c.self.inside c.args.self.now c.self.invariant.table c.self.view_is

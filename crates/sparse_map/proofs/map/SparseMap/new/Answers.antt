@@ -2,12 +2,15 @@ use Rattle.std.proofs.Common.{refl, ap, arith}
 use Rattle.std.specs.Vec.{vec_len}
 use Rattle.sparse_map.specs.declared.table.Touched.TheVariants.{Nowhere}
 use Rattle.sparse_map.specs.Places.{places_of, extra, loose_of}
-use Rattle.sparse_map.proofs.PlacesLemmas.{sizes-new, no-places, no-untouched}
+use Rattle.sparse_map.proofs.PlacesLemmas.{sizes-new, no-places, no-untouched, bounded}
 use Rattle.sparse_map.proofs.MapLemmas.{kept_new, buckets-new, map_of-new, kept_sound}
 use Rattle.sparse_map.proofs.map.SparseMap.new.Goals as goal
 
 pub invariant_of-result : goal.invariant_of-result
-invariant_of-result g c = kept_new c.new.result.items (vec_len c.new-2.result) c.new.ensures.items
+invariant_of-result g c = record {
+  table = kept_new c.new.result.items (vec_len c.new-2.result) c.new.ensures.items;
+  bound = bounded _ _ (omega (arith, ap (loose_of Nowhere) (sizes-new c.new.result.items c.new.ensures.items), no-untouched extra));
+}
 
 pub returns-clause-none : goal.returns-clause-none
 returns-clause-none g c = buckets-new c.new.result.items

@@ -12,17 +12,17 @@ use Rattle.sparse_map.proofs.map.SparseMap.reserve.Goals as goal
 
 pub bits_for-bits-requires-clause-room : goal.bits_for-bits-requires-clause-room
 bits_for-bits-requires-clause-room g c =
-    let len = seen_len c.self.inside c.args.self.now c.self.invariant c.self.view_is in
+    let len = seen_len c.self.inside c.args.self.now c.self.invariant.table c.self.view_is in
     omega (arith, len, c.requires, c.from-n.ensures)
 
 pub stock_up-requires : goal.stock_up-requires
 stock_up-requires g c =
     let m = c.self.inside in
     let t = c.args.self.now in
-    let len = seen_len m t c.self.invariant c.self.view_is in
+    let len = seen_len m t c.self.invariant.table c.self.view_is in
     let some : 0 < m.bits = omega (arith, c.bits_for-bits.ensures.size.many, c.if-bits-self.true) in
-    let size = kept_buckets m.bits m.len m.spare (vec_len m.stock) m.touched m.groups.items c.self.invariant some in
-    let long : length (slots_of (buckets_for m.bits) m.groups.items) ≡ buckets_of t = ap length (seen_slots m t c.self.invariant c.self.view_is) in
+    let size = kept_buckets m.bits m.len m.spare (vec_len m.stock) m.touched m.groups.items c.self.invariant.table some in
+    let long : length (slots_of (buckets_for m.bits) m.groups.items) ≡ buckets_of t = ap length (seen_slots m t c.self.invariant.table c.self.view_is) in
     let wide : 2 ^ c.bits_for-bits.result ≡ 2 ^ m.bits = ap (λ b. 2 ^ b) c.if-bits-self.true in
     omega (arith, c.bits_for-bits.ensures.doubled.enough, wide, size, long, len)
 
@@ -30,13 +30,13 @@ pub widen-requires-clause-wider : goal.widen-requires-clause-wider
 widen-requires-clause-wider g c =
     let m = c.self.inside in
     let t = c.args.self.now in
-    let narrow : cond (eqb m.bits 0) 0 (2 ^ m.bits) ≡ buckets_of t = seen_buckets m t c.self.invariant c.self.view_is in
+    let narrow : cond (eqb m.bits 0) 0 (2 ^ m.bits) ≡ buckets_of t = seen_buckets m t c.self.invariant.table c.self.view_is in
     let grows = doubled_grows (m.len + c.from-n.result) (cond (eqb m.bits 0) 0 (2 ^ m.bits)) (2 ^ c.bits_for-bits.result) c.bits_for-bits.ensures.doubled in
     subst (λ n. n ≤ 2 ^ c.bits_for-bits.result) narrow grows
 
 pub widen-requires-clause-room : goal.widen-requires-clause-room
 widen-requires-clause-room g c =
-    let len = seen_len c.self.inside c.args.self.now c.self.invariant c.self.view_is in
+    let len = seen_len c.self.inside c.args.self.now c.self.invariant.table c.self.view_is in
     omega (arith, c.bits_for-bits.ensures.doubled.enough, len)
 
 pub returns-then-bits-self-clause-map : goal.returns-then-bits-self-clause-map
@@ -47,12 +47,12 @@ returns-then-bits-self-clause-buckets g c =
     let m = c.self.inside in
     let t = c.args.self.now in
     let some : 0 < m.bits = omega (arith, c.bits_for-bits.ensures.size.many, c.if-bits-self.true) in
-    let need : m.len + c.from-n.result ≡ len_of t + c.args.n = λ i. seen_len m t c.self.invariant c.self.view_is i + c.from-n.ensures i in
-    let narrow : cond (eqb m.bits 0) 0 (2 ^ m.bits) ≡ buckets_of t = seen_buckets m t c.self.invariant c.self.view_is in
+    let need : m.len + c.from-n.result ≡ len_of t + c.args.n = λ i. seen_len m t c.self.invariant.table c.self.view_is i + c.from-n.ensures i in
+    let narrow : cond (eqb m.bits 0) 0 (2 ^ m.bits) ≡ buckets_of t = seen_buckets m t c.self.invariant.table c.self.view_is in
     let wide : 2 ^ c.bits_for-bits.result ≡ buckets_of c.stock_up.new.self =
     ap (λ b. 2 ^ b) c.if-bits-self.true
-    ∙ sym (kept_buckets m.bits m.len m.spare (vec_len m.stock) m.touched m.groups.items c.self.invariant some)
-    ∙ ap length (seen_slots m t c.self.invariant c.self.view_is ∙ sym c.stock_up.ensures.slots) in
+    ∙ sym (kept_buckets m.bits m.len m.spare (vec_len m.stock) m.touched m.groups.items c.self.invariant.table some)
+    ∙ ap length (seen_slots m t c.self.invariant.table c.self.view_is ∙ sym c.stock_up.ensures.slots) in
     on_ok c.stock_up.result (IsDoubledFor (len_of t + c.args.n) (buckets_of t) (buckets_of c.stock_up.new.self))
     (subst (λ x. IsDoubledFor x (buckets_of t) (buckets_of c.stock_up.new.self)) need
     (subst (λ x. IsDoubledFor (m.len + c.from-n.result) x (buckets_of c.stock_up.new.self)) narrow
@@ -62,12 +62,12 @@ pub returns-then-bits-self-clause-sound : goal.returns-then-bits-self-clause-sou
 returns-then-bits-self-clause-sound g c =
     let m = c.self.inside in
     let t = c.args.self.now in
-    let len = seen_len m t c.self.invariant c.self.view_is in
+    let len = seen_len m t c.self.invariant.table c.self.view_is in
     let some : 0 < m.bits = omega (arith, c.bits_for-bits.ensures.size.many, c.if-bits-self.true) in
-    let size = kept_buckets m.bits m.len m.spare (vec_len m.stock) m.touched m.groups.items c.self.invariant some in
-    let long : length (slots_of (buckets_for m.bits) m.groups.items) ≡ buckets_of t = ap length (seen_slots m t c.self.invariant c.self.view_is) in
+    let size = kept_buckets m.bits m.len m.spare (vec_len m.stock) m.touched m.groups.items c.self.invariant.table some in
+    let long : length (slots_of (buckets_for m.bits) m.groups.items) ≡ buckets_of t = ap length (seen_slots m t c.self.invariant.table c.self.view_is) in
     let wide : 2 ^ c.bits_for-bits.result ≡ 2 ^ m.bits = ap (λ b. 2 ^ b) c.if-bits-self.true in
-    sound_stocked c.stock_up.result t c.stock_up.new.self c.from-n.result (seen_sound m t c.self.invariant c.self.view_is)
+    sound_stocked c.stock_up.result t c.stock_up.new.self c.from-n.result (seen_sound m t c.self.invariant.table c.self.view_is)
     (omega (arith, c.bits_for-bits.ensures.doubled.enough, wide, size, long, len))
     c.stock_up.ensures.slots c.stock_up.ensures.spare c.stock_up.ensures.err
 
@@ -75,8 +75,8 @@ pub returns-else-bits-self-clause-buckets : goal.returns-else-bits-self-clause-b
 returns-else-bits-self-clause-buckets g c =
     let m = c.self.inside in
     let t = c.args.self.now in
-    let need : m.len + c.from-n.result ≡ len_of t + c.args.n = λ i. seen_len m t c.self.invariant c.self.view_is i + c.from-n.ensures i in
-    let narrow : cond (eqb m.bits 0) 0 (2 ^ m.bits) ≡ buckets_of t = seen_buckets m t c.self.invariant c.self.view_is in
+    let need : m.len + c.from-n.result ≡ len_of t + c.args.n = λ i. seen_len m t c.self.invariant.table c.self.view_is i + c.from-n.ensures i in
+    let narrow : cond (eqb m.bits 0) 0 (2 ^ m.bits) ≡ buckets_of t = seen_buckets m t c.self.invariant.table c.self.view_is in
     on_ok_weaker {P = buckets_of c.widen.new.self ≡ 2 ^ c.bits_for-bits.result} {Q = IsDoubledFor (len_of t + c.args.n) (buckets_of t) (buckets_of c.widen.new.self)} c.widen.result
     (λ wide.
     subst (λ x. IsDoubledFor x (buckets_of t) (buckets_of c.widen.new.self)) need
@@ -86,7 +86,7 @@ returns-else-bits-self-clause-buckets g c =
 
 pub returns-else-bits-self-clause-sound : goal.returns-else-bits-self-clause-sound
 returns-else-bits-self-clause-sound g c =
-    sound_either c.widen.result c.args.self.now c.widen.new.self (seen_sound c.self.inside c.args.self.now c.self.invariant c.self.view_is) c.widen.ensures.sound c.widen.ensures.err
+    sound_either c.widen.result c.args.self.now c.widen.new.self (seen_sound c.self.inside c.args.self.now c.self.invariant.table c.self.view_is) c.widen.ensures.sound c.widen.ensures.err
 
 pub returns-then-bits-self-clause-fitted : goal.returns-then-bits-self-clause-fitted
 returns-then-bits-self-clause-fitted g c = c.stock_up.ensures.fitted
@@ -112,7 +112,7 @@ pub returns-else-bits-self-clause-stays : goal.returns-else-bits-self-clause-sta
 returns-else-bits-self-clause-stays g c =
     let m = c.self.inside in
     let t = c.args.self.now in
-    let narrow : cond (eqb m.bits 0) 0 (2 ^ m.bits) ≡ buckets_of t = seen_buckets m t c.self.invariant c.self.view_is in
+    let narrow : cond (eqb m.bits 0) 0 (2 ^ m.bits) ≡ buckets_of t = seen_buckets m t c.self.invariant.table c.self.view_is in
     let other : buckets_of t ≢ 2 ^ c.bits_for-bits.result = subst (λ n. n ≢ 2 ^ c.bits_for-bits.result) narrow (other_buckets m.bits c.bits_for-bits.result (λ e. c.if-bits-self.false (sym e))) in
     stays_either c.widen.result t c.widen.new.self c.widen.ensures.err (2 ^ c.bits_for-bits.result) other c.widen.ensures.buckets
 
@@ -120,7 +120,7 @@ pub returns-else-bits-self-clause-peak : goal.returns-else-bits-self-clause-peak
 returns-else-bits-self-clause-peak g c =
     let m = c.self.inside in
     let t = c.args.self.now in
-    let narrow : cond (eqb m.bits 0) 0 (2 ^ m.bits) ≡ buckets_of t = seen_buckets m t c.self.invariant c.self.view_is in
+    let narrow : cond (eqb m.bits 0) 0 (2 ^ m.bits) ≡ buckets_of t = seen_buckets m t c.self.invariant.table c.self.view_is in
     let other : buckets_of t ≢ 2 ^ c.bits_for-bits.result = subst (λ n. n ≢ 2 ^ c.bits_for-bits.result) narrow (other_buckets m.bits c.bits_for-bits.result (λ e. c.if-bits-self.false (sym e))) in
     peak_either c.widen.result t c.widen.new.self c.widen.ensures.err (2 ^ c.bits_for-bits.result) other c.widen.ensures.buckets
 

@@ -19,28 +19,28 @@ use Rattle.sparse_map.proofs.ViewLemmas.{seen_len, seen_slots, seen_buckets, see
 use Rattle.sparse_map.proofs.ChangeLemmas.{written}
 use Rattle.sparse_map.proofs.MoveLemmas.{kept_groups}
 use Rattle.sparse_map.proofs.HeirLemmas.{fit_ready, lists_read}
-use Rattle.sparse_map.proofs.PlacesLemmas.{length-sizes, places-bound, stocked_for}
+use Rattle.sparse_map.proofs.PlacesLemmas.{length-sizes, places-bound, stocked_for, bounded}
 use Rattle.sparse_map.proofs.TakingLemmas.{can_widen, widened}
 use Rattle.sparse_map.proofs.map.SparseMap.widen.Goals as goal
 
 pub groups_ahead-requires-clause-small : goal.groups_ahead-requires-clause-small
 groups_ahead-requires-clause-small g c =
     let m = c.self.inside in
-    let len = seen_len m c.args.self.now c.self.invariant c.self.view_is in
+    let len = seen_len m c.args.self.now c.self.invariant.table c.self.view_is in
     let read = ap (λ us. length (items_in us)) c.as_slice.ensures.value in
-    let count = ap length (items_of-groups (buckets_for m.bits) m.groups.items c.self.invariant.table.rest) in
+    let count = ap length (items_of-groups (buckets_for m.bits) m.groups.items c.self.invariant.table.table.rest) in
     let most = (shifted_one c.args.bits c.requires.size.few).1 in
-    omega (arith, len, read, count, most, c.self.invariant.counted, c.requires.room)
+    omega (arith, len, read, count, most, c.self.invariant.table.counted, c.requires.room)
 
 pub place_groups-requires-clause-ready : goal.place_groups-requires-clause-ready
 place_groups-requires-clause-ready g c =
     let m = c.self.inside in
     let new = c.in_ok-ahead.ahead.groups in
-    let len = seen_len m c.args.self.now c.self.invariant c.self.view_is in
+    let len = seen_len m c.args.self.now c.self.invariant.table c.self.view_is in
     let some = pow_pos c.args.bits in
-    can_widen (buckets_for m.bits) (2 ^ c.args.bits) m.groups.items c.replace-old.result.items new.items c.as_mut_slice.result.now c.self.invariant.table.rest
+    can_widen (buckets_for m.bits) (2 ^ c.args.bits) m.groups.items c.replace-old.result.items new.items c.as_mut_slice.result.now c.self.invariant.table.table.rest
     (ap (λ v. v.items) c.replace-old.ensures.value) c.as_mut_slice.ensures.value c.in_ok-ahead.ensures.free
-    c.self.invariant.packed (omega (arith, c.in_ok-ahead.ensures.count, new.ok.0)) (omega (arith, len, some, c.self.invariant.counted, c.requires.room))
+    c.self.invariant.table.packed (omega (arith, c.in_ok-ahead.ensures.count, new.ok.0)) (omega (arith, len, some, c.self.invariant.table.counted, c.requires.room))
 
 pub place_groups-requires-clause-lists : goal.place_groups-requires-clause-lists
 place_groups-requires-clause-lists g c =
@@ -61,21 +61,23 @@ invariant_of-self g c =
     let new = c.in_ok-ahead.ahead.groups in
     let ws = c.place_groups.new.groups in
     let long : length ws ≡ vec_len new = c.place_groups.auto.groups ∙ c.as_mut_slice.ensures.len in
-    let w = widened (buckets_for m.bits) (2 ^ c.args.bits) m.groups.items c.replace-old.result.items new.items c.as_mut_slice.result.now c.self.invariant.table.rest
+    let w = widened (buckets_for m.bits) (2 ^ c.args.bits) m.groups.items c.replace-old.result.items new.items c.as_mut_slice.result.now c.self.invariant.table.table.rest
     (ap (λ v. v.items) c.replace-old.ensures.value) c.as_mut_slice.ensures.value c.in_ok-ahead.ensures.free ws c.place_groups.ensures.taken in
-    let len = seen_len m t c.self.invariant c.self.view_is in
+    let len = seen_len m t c.self.invariant.table c.self.view_is in
     let table : IsTable (2 ^ c.args.bits) ws = record { count = omega (arith, long, c.in_ok-ahead.ensures.count); rest = w.rest } in
-    let before = seen_buckets m t c.self.invariant c.self.view_is in
+    let before = seen_buckets m t c.self.invariant.table c.self.view_is in
     let ready = fit_ready ws c.place_groups.ensures.fit in
     let enough : (min c.max-spare.result (length (sizes_of ws)) ≤ vec_len c.add_blanks.new.stock) ⊎ ((c.max-spare.result ≤ 1) × (lacking 1 Nowhere (sizes_of ws) ≡ 0)) = elim c.blanks_for-wanted.ensures.enough [
       | inl all ↦ inl (omega (arith, all, c.in_ok-add_blanks.ensures.ok, c.len.ensures, long, length-sizes ws))
       | inr one ↦ inr (one.0, ready)
     ] in
-    subst (λ us. KeepsTable c.args.bits m.len c.max-spare.result (vec_len c.add_blanks.new.stock) Nowhere us) (sym (written new ws long))
+    let kept = subst (λ us. KeepsTable c.args.bits m.len c.max-spare.result (vec_len c.add_blanks.new.stock) Nowhere us) (sym (written new ws long))
     (kept_groups c.args.bits m.len c.max-spare.result (vec_len c.add_blanks.new.stock) ws c.requires.size table w.packed
-    (c.self.invariant.counted ∙ sym w.count)
-    (omega (arith, c.requires.room, c.requires.wider, c.max-spare.ensures, len, before, c.self.invariant.room))
-    (stocked_for c.max-spare.result (vec_len c.add_blanks.new.stock) (sizes_of ws) enough) ready)
+    (c.self.invariant.table.counted ∙ sym w.count)
+    (omega (arith, c.requires.room, c.requires.wider, c.max-spare.ensures, len, before, c.self.invariant.table.room))
+    (stocked_for c.max-spare.result (vec_len c.add_blanks.new.stock) (sizes_of ws) enough) ready) in
+    let read = ap (λ us. loose_of Nowhere (sizes_of us)) c.as_slice-5.ensures.value in
+    record { table = kept; bound = bounded _ _ (omega (arith, read, c.beyond_of-self-inside.ensures)) }
 
 pub returns-clause-map : goal.returns-clause-map
 returns-clause-map g c =
@@ -84,14 +86,14 @@ returns-clause-map g c =
     let new = c.in_ok-ahead.ahead.groups in
     let ws = c.place_groups.new.groups in
     let long : length ws ≡ vec_len new = c.place_groups.auto.groups ∙ c.as_mut_slice.ensures.len in
-    let w = widened (buckets_for m.bits) (2 ^ c.args.bits) m.groups.items c.replace-old.result.items new.items c.as_mut_slice.result.now c.self.invariant.table.rest
+    let w = widened (buckets_for m.bits) (2 ^ c.args.bits) m.groups.items c.replace-old.result.items new.items c.as_mut_slice.result.now c.self.invariant.table.table.rest
     (ap (λ v. v.items) c.replace-old.ensures.value) c.as_mut_slice.ensures.value c.in_ok-ahead.ensures.free ws c.place_groups.ensures.taken in
     let wide = some_buckets c.args.bits (omega (arith, c.requires.size.many)) in
     map_of-same t _ (λ q.
     ap (λ n. find nat_cmp q (items_of (slots_of n (vec.with_items new ws).items))) wide
     ∙ ap (λ us. find nat_cmp q (items_of (slots_of (2 ^ c.args.bits) us))) (written new ws long)
     ∙ w.found q
-    ∙ ap (λ s. find nat_cmp q (items_of s)) (seen_slots m t c.self.invariant c.self.view_is))
+    ∙ ap (λ s. find nat_cmp q (items_of s)) (seen_slots m t c.self.invariant.table c.self.view_is))
 
 pub returns-clause-buckets : goal.returns-clause-buckets
 returns-clause-buckets g c =
@@ -107,11 +109,11 @@ returns-clause-fitted g c =
     let new = c.in_ok-ahead.ahead.groups in
     let ws = c.place_groups.new.groups in
     let long : length ws ≡ vec_len new = c.place_groups.auto.groups ∙ c.as_mut_slice.ensures.len in
-    let w = widened (buckets_for m.bits) (2 ^ c.args.bits) m.groups.items c.replace-old.result.items new.items c.as_mut_slice.result.now c.self.invariant.table.rest
+    let w = widened (buckets_for m.bits) (2 ^ c.args.bits) m.groups.items c.replace-old.result.items new.items c.as_mut_slice.result.now c.self.invariant.table.table.rest
     (ap (λ v. v.items) c.replace-old.ensures.value) c.as_mut_slice.ensures.value c.in_ok-ahead.ensures.free ws c.place_groups.ensures.taken in
-    let len = seen_len m t c.self.invariant c.self.view_is in
+    let len = seen_len m t c.self.invariant.table c.self.view_is in
     let table : IsTable (2 ^ c.args.bits) ws = record { count = omega (arith, long, c.in_ok-ahead.ensures.count); rest = w.rest } in
-    let before = seen_buckets m t c.self.invariant c.self.view_is in
+    let before = seen_buckets m t c.self.invariant.table c.self.view_is in
     let ready = fit_ready ws c.place_groups.ensures.fit in
     let enough : (min c.max-spare.result (length (sizes_of ws)) ≤ vec_len c.add_blanks.new.stock) ⊎ ((c.max-spare.result ≤ 1) × (lacking 1 Nowhere (sizes_of ws) ≡ 0)) = elim c.blanks_for-wanted.ensures.enough [
       | inl all ↦ inl (omega (arith, all, c.in_ok-add_blanks.ensures.ok, c.len.ensures, long, length-sizes ws))
@@ -119,8 +121,8 @@ returns-clause-fitted g c =
     ] in
     let kept : KeepsTable c.args.bits m.len c.max-spare.result (vec_len c.add_blanks.new.stock) Nowhere ws =
     kept_groups c.args.bits m.len c.max-spare.result (vec_len c.add_blanks.new.stock) ws c.requires.size table w.packed
-    (c.self.invariant.counted ∙ sym w.count)
-    (omega (arith, c.requires.room, c.requires.wider, c.max-spare.ensures, len, before, c.self.invariant.room))
+    (c.self.invariant.table.counted ∙ sym w.count)
+    (omega (arith, c.requires.room, c.requires.wider, c.max-spare.ensures, len, before, c.self.invariant.table.room))
     (stocked_for c.max-spare.result (vec_len c.add_blanks.new.stock) (sizes_of ws) enough) ready in
     let now = written new ws long in
     let count = kept_len c.args.bits m.len c.max-spare.result (vec_len c.add_blanks.new.stock) Nowhere ws kept (seen_of c.args.bits (vec.with_items new ws).items c.max-spare.result (vec_len c.add_blanks.new.stock) Nowhere c.saturating_add-peak.result) (ap (slots_of (buckets_for c.args.bits)) now) in
@@ -128,7 +130,7 @@ returns-clause-fitted g c =
     let wide = length-wide c.args.bits c.requires.size (vec.with_items new ws).items (ap length now ∙ table.count) in
     let size = sized c.args.bits c.requires.size in
     record {
-      places = omega (arith, places-bound ws, ap (λ us. places_of (sizes_of us)) now, ap (λ us. loose_of Nowhere (sizes_of us)) now, wide, table.count, more_free-is (2 ^ c.args.bits) size, all, count, c.self.invariant.counted, w.count, kept.counted);
+      places = omega (arith, places-bound ws, ap (λ us. places_of (sizes_of us)) now, ap (λ us. loose_of Nowhere (sizes_of us)) now, wide, table.count, more_free-is (2 ^ c.args.bits) size, all, count, c.self.invariant.table.counted, w.count, kept.counted);
       blanks = omega (arith, wide, c.in_ok-ahead.ensures.count, c.len.ensures, c.in_ok-add_blanks.ensures.ok, c.blanks_for-wanted.ensures.few);
     }
 
@@ -147,7 +149,7 @@ returns-clause-widened g c =
     let start = ap (λ us. places_of (sizes_of us)) c.as_mut_slice.ensures.value in
     let was : c.replace-old.result.items ≡ m.groups.items = ap (λ v. v.items) c.replace-old.ensures.value in
     let old = ap (λ us. places_of (sizes_of us)) was in
-    let before = seen_memory m t c.self.invariant c.self.view_is in
+    let before = seen_memory m t c.self.invariant.table c.self.view_is in
     record {
       loose = omega (arith, ap (λ us. loose_of Nowhere (sizes_of us)) (written new ws long), wide, few_enough (2 ^ c.args.bits) size, ap (λ k. k / 2) count, c.place_groups.ensures.few);
       blanks = λ one. let none = c.blanks_for-wanted.ensures.one one (λ e. cc) in omega (arith, none, c.in_ok-add_blanks.ensures.ok);
@@ -162,11 +164,11 @@ returns-clause-sound g c =
     let new = c.in_ok-ahead.ahead.groups in
     let ws = c.place_groups.new.groups in
     let long : length ws ≡ vec_len new = c.place_groups.auto.groups ∙ c.as_mut_slice.ensures.len in
-    let w = widened (buckets_for m.bits) (2 ^ c.args.bits) m.groups.items c.replace-old.result.items new.items c.as_mut_slice.result.now c.self.invariant.table.rest
+    let w = widened (buckets_for m.bits) (2 ^ c.args.bits) m.groups.items c.replace-old.result.items new.items c.as_mut_slice.result.now c.self.invariant.table.table.rest
     (ap (λ v. v.items) c.replace-old.ensures.value) c.as_mut_slice.ensures.value c.in_ok-ahead.ensures.free ws c.place_groups.ensures.taken in
-    let len = seen_len m t c.self.invariant c.self.view_is in
+    let len = seen_len m t c.self.invariant.table c.self.view_is in
     let table : IsTable (2 ^ c.args.bits) ws = record { count = omega (arith, long, c.in_ok-ahead.ensures.count); rest = w.rest } in
-    let before = seen_buckets m t c.self.invariant c.self.view_is in
+    let before = seen_buckets m t c.self.invariant.table c.self.view_is in
     let ready = fit_ready ws c.place_groups.ensures.fit in
     let enough : (min c.max-spare.result (length (sizes_of ws)) ≤ vec_len c.add_blanks.new.stock) ⊎ ((c.max-spare.result ≤ 1) × (lacking 1 Nowhere (sizes_of ws) ≡ 0)) = elim c.blanks_for-wanted.ensures.enough [
       | inl all ↦ inl (omega (arith, all, c.in_ok-add_blanks.ensures.ok, c.len.ensures, long, length-sizes ws))
@@ -174,7 +176,7 @@ returns-clause-sound g c =
     ] in
     let kept : KeepsTable c.args.bits m.len c.max-spare.result (vec_len c.add_blanks.new.stock) Nowhere ws =
     kept_groups c.args.bits m.len c.max-spare.result (vec_len c.add_blanks.new.stock) ws c.requires.size table w.packed
-    (c.self.invariant.counted ∙ sym w.count)
-    (omega (arith, c.requires.room, c.requires.wider, c.max-spare.ensures, len, before, c.self.invariant.room))
+    (c.self.invariant.table.counted ∙ sym w.count)
+    (omega (arith, c.requires.room, c.requires.wider, c.max-spare.ensures, len, before, c.self.invariant.table.room))
     (stocked_for c.max-spare.result (vec_len c.add_blanks.new.stock) (sizes_of ws) enough) ready in
     kept_sound c.args.bits m.len c.max-spare.result (vec_len c.add_blanks.new.stock) Nowhere ws kept _ (ap (slots_of (buckets_for c.args.bits)) (written new ws long)) refl
