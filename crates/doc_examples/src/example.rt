@@ -1,10 +1,12 @@
-//! One example is run, and what it prints is compared with what is shown of it.
+//! One example is run, and what it prints is compared with what is shown of it, and with the text beside its trace.
 
 use crate::page::Example;
 use flashtier_cli::run;
 use ft_base::{MemSink, MemSource};
 use mem_rig::MemRig;
 use std::alloc::{AllocError, Global};
+use std::rt::Files;
+use std::{fs, io};
 
 /// Room for what an example prints.
 const ROOM: usize = 65_536;
@@ -12,15 +14,19 @@ const ROOM: usize = 65_536;
 /// How an example differs from the program.
 #[derive(Clone, Copy, Debug, PartialEq, Eq)]
 pub(crate) enum Difference {
-    /// It ends with another status than 0.
+    /// It ends with another status.
     Status(u8),
     /// The program prints something else.
     Text,
 }
 
 /// Runs an example. None where it is as shown.
-pub(crate) fn differs(alloc: Global, example: &Example) -> Result<Option<Difference>, AllocError> {
-    let trace = joined(alloc, example.lines.as_slice())?;
+pub(crate) fn differs(
+    rt: &(impl AllocGlobal + Files),
+    example: &Example,
+) -> io::Result<Option<Difference>> {
+    let alloc = rt.alloc();
+    let trace = trace_of(rt, example)?;
     let bytes = Vec::from_slice(alloc, trace.as_bytes())?;
     let mut source = MemSource::new(bytes, 4096, Vec::new(alloc));
     let mut sink = MemSink::new(alloc, ROOM, ROOM, Vec::new(alloc))?;
@@ -32,15 +38,50 @@ pub(crate) fn differs(alloc: Global, example: &Example) -> Result<Option<Differe
         &mut sink,
         &mut rig,
     );
-    if status != 0 {
+    if status != example.status {
         return Ok(Some(Difference::Status(status)));
     }
-    let is_shown = example.shown.is_empty() || is_text(example.shown.as_slice(), sink.bytes());
+    let is_shown = is_in_table(example, sink.bytes())
+        && is_beside_trace(rt, example, sink.bytes())?;
     Ok(if is_shown {
         None
     } else {
         Some(Difference::Text)
     })
+}
+
+/// The trace of an example: the one that it names, or the lines of its table.
+fn trace_of(rt: &(impl AllocGlobal + Files), example: &Example) -> io::Result<String> {
+    match &example.name {
+        Some(name) => read_file(rt, name.as_str(), "trace"),
+        None => Ok(joined(rt.alloc(), example.lines.as_slice())?),
+    }
+}
+
+/// The file of a name, and of a kind.
+fn read_file(rt: &(impl AllocGlobal + Files), name: &str, kind: &str) -> io::Result<String> {
+    let path = format!(in rt.alloc(); "{name}.{kind}")?;
+    fs::read_to_string(rt, path.as_str())
+}
+
+/// Whether the table of an example shows this text. One without a table shows any.
+fn is_in_table(example: &Example, text: &[u8]) -> bool {
+    example.shown.is_empty() || is_text(example.shown.as_slice(), text)
+}
+
+/// Whether this text stands beside the trace that an example names, where that is replayed.
+fn is_beside_trace(
+    rt: &(impl AllocGlobal + Files),
+    example: &Example,
+    text: &[u8],
+) -> io::Result<bool> {
+    match &example.name {
+        Some(name) if example.is_replay() => {
+            let wanted = read_file(rt, name.as_str(), "text")?;
+            Ok(wanted.as_bytes() == text)
+        }
+        _ => Ok(true),
+    }
 }
 
 /// The lines as a trace.

@@ -1,5 +1,6 @@
-//! Runs each command line that README and the page on traces show, and compares what the program prints
-//! with the text of the table after it, word for word. A command line without a table has to end with 0.
+//! Runs each command line that README and the page on traces show, over the trace that it names or the lines of the
+//! table after it, and compares what the program prints with the text of that table, word for word, and with the text
+//! that stands beside the trace. Each command line has to end with 0, or with the status that it says.
 #![tactic(auto)]
 
 mod example;
@@ -21,20 +22,32 @@ fn try_page(rt: &(impl AllocGlobal + Files + Print)) -> io::Result<bool> {
     let page = fs::read_to_string(rt, PAGE)?;
     let examples = examples_in(rt.alloc(), page.as_str())?;
     let mut tables = 0_usize;
+    let mut texts = 0_usize;
     let mut are_shown = true;
     for example in examples.iter() {
         tables = tables.saturating_add(usize::from(!example.shown.is_empty()));
-        if let Some(difference) = differs(rt.alloc(), example)? {
-            match difference {
-                Difference::Status(status) => println!(rt; "a command ends with {status}")?,
-                Difference::Text => println!(rt; "table {tables} shows another text")?,
-            }
+        texts = texts.saturating_add(usize::from(example.name.is_some() && example.is_replay()));
+        if let Some(difference) = differs(rt, example)? {
+            tell(rt, difference, tables, texts)?;
             are_shown = false;
         }
     }
     let commands = examples.len();
-    println!(rt; "{commands} commands are tried, and {tables} tables compared")?;
+    println!(rt; "{commands} commands are tried, {tables} tables and {texts} texts compared")?;
     Ok(are_shown)
+}
+
+/// Says what differs, after so many tables and texts.
+fn tell(
+    rt: &(impl AllocGlobal + Print),
+    difference: Difference,
+    tables: usize,
+    texts: usize,
+) -> io::Result<()> {
+    match difference {
+        Difference::Status(status) => println!(rt; "a command ends with {status}"),
+        Difference::Text => println!(rt; "table {tables} or text {texts} is another"),
+    }
 }
 
 fn main(rt: HostRuntime) -> ExitCode {

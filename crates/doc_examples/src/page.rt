@@ -6,11 +6,21 @@ use std::io;
 /// The head of a table that shows a trace and the text that it prints.
 const HEAD: &str = "| Trace | Text | What happens |";
 
+/// What stands between the words of a command and the name of the trace that it runs, without `.trace`.
+const FROM: &str = " < examples/";
+
+/// What stands before the status that a command ends with, where that isn't 0.
+const STATUS: &str = " # ends with ";
+
 /// A command line of a page, and the table after it where there is one.
 #[derive(Drop)]
 pub(crate) struct Example {
     /// The words after the program's name.
     pub(crate) words: Vec<String>,
+    /// The name of the trace that it runs, of those in `examples/`.
+    pub(crate) name: Option<String>,
+    /// The status that it ends with.
+    pub(crate) status: u8,
     /// The lines of the table's first column.
     pub(crate) lines: Vec<String>,
     /// Those of its second column.
@@ -18,21 +28,39 @@ pub(crate) struct Example {
 }
 
 impl Example {
-    /// That of a command line, from the word after the program's name on.
+    /// That of a command line, from the word after the program's name on. A status that is none counts as 0.
     fn of(alloc: Global, command: &str) -> Result<Example, AllocError> {
-        let spelled = match command.split_once(" < ") {
-            Some((spelled, _)) => spelled,
-            None => command,
+        let (command, status) = match command.split_once(STATUS) {
+            Some((front, status)) => (front, status.parse().unwrap_or(0)),
+            None => (command, 0),
+        };
+        let (spelled, name) = match command.split_once(FROM) {
+            Some((spelled, file)) => (spelled, file.strip_suffix(".trace")),
+            None => (command, None),
         };
         let mut words = Vec::new(alloc);
         for word in spelled.split_whitespace() {
             words.push(String::from_str(alloc, word)?)?;
         }
+        let name = match name {
+            Some(name) => Some(String::from_str(alloc, name)?),
+            None => None,
+        };
         Ok(Example {
             words,
+            name,
+            status,
             lines: Vec::new(alloc),
             shown: Vec::new(alloc),
         })
+    }
+
+    /// Whether it runs a trace and prints what each line answered.
+    pub(crate) fn is_replay(&self) -> bool {
+        match self.words.first() {
+            Some(word) => word.as_str() == "replay",
+            None => false,
+        }
     }
 
     /// Adds a row of its table.

@@ -5,10 +5,14 @@ use std::test::Fail;
 #[test]
 fn a_table_belongs_to_the_command_before_it(rt: HostRuntime) -> Result<(), Fail> {
     let alloc = rt.alloc();
-    let page = "    ./flashtier gen --count 5\n\n`./flashtier replay --pages 4`:\n\n\
+    let page =
+        "    ./flashtier gen --count 5 < examples/some.trace # ends with 2\n\n`./flashtier replay --pages 4`:\n\n\
         | Trace | Text | What happens |\n|---|---|---|\n| `w 0 1 1`, `i` | `wrote 0 1` | |\n| | `idle` | |\n\nEnd.\n";
     let examples = examples_in(alloc, page)?;
     assert_eq!(rt; examples.len(), 2);
+    assert_eq!(rt; (examples[0].status, examples[1].status), (2, 0));
+    assert!(rt; matches!(&examples[0].name, Some(name) if name.as_str() == "some"));
+    assert!(rt; examples[1].name.is_none() && examples[1].is_replay() && !examples[0].is_replay());
     assert_eq!(rt; (examples[0].words.len(), examples[0].lines.len()), (3, 0));
     assert_eq!(rt;
         (
