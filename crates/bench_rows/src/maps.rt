@@ -18,7 +18,7 @@ fn each_map_finds_and_loses_a_thousand_keys(rt: HostRuntime) -> Result<(), Fail>
     let sparse = Size {
         entries: 1_000,
         buckets: 2_048,
-        bytes: 20_352,
+        bytes: 20_400,
     };
     assert_eq!(rt; first.size, sparse);
     let dense = Size {
