@@ -1,12 +1,12 @@
 -- The places of entries, looked at in ascending order of address.
-use Rattle.std.proofs.Common.{◌≡◌, ℕ, ◌+◌, ◌<◌, ◌≤◌, ◌==◌, Bool, true, false, cond, List, [], ◌∷◌, ◌++◌, length, get_or, Option, Some, None, Result, Ok, Err, refl, sym, ◌∙◌, ap, subst, arith, inl, inr, nat_cmp}
+use Rattle.std.proofs.Common.{◌≡◌, ℕ, ◌+◌, ◌<◌, ◌≤◌, ◌==◌, Bool, true, false, cond, List, [], ◌∷◌, ◌++◌, length, take, get_or, Option, Some, None, Result, Ok, Err, refl, sym, ◌∙◌, ap, subst, arith, inl, inr, nat_cmp}
 use Rattle.std.specs.Option.{option_map, IfSome, IfNone}
 use Rattle.std.specs.List.{AllByRecursion, AllWithin, Contains}
 use Rattle.std.specs.List.Sorted.{IsNonDecreasing, IsPermutation, IsSorted}
 use Rattle.std.specs.FinMap.{get, entries, find, is_sorted, entries_sorted, get-entries}
 use Rattle.std.specs.FinMap.Entries.{below_all}
 use Rattle.std.proofs.lemmas.Bool.{cases_Bool, cases_lt, and_parts}
-use Rattle.std.proofs.lemmas.List.{get_or_default}
+use Rattle.std.proofs.lemmas.List.{get_or_default, take_at}
 use Rattle.std.proofs.lemmas.List.Elements.{AllWithin-more, AllWithin-upto, All-from_all_within, All-contains, Contains-push, Contains-append_left}
 use Rattle.std.proofs.lemmas.List.Sorted.{Contains-permutation, IsNonDecreasingBy-from_sort}
 use Rattle.std.proofs.lemmas.Option.{same_Some}
@@ -67,8 +67,15 @@ pub gathered_all : (g : Geometry) (m : Entries) (addresses : List ℕ) (numbers 
 gathered_all g m addresses numbers i all past so a e held = let low = all a e held in so.each a e held (omega (arith, low, past))
 
 -- and so they are once they are sorted
-pub has_sorted : (m : Entries) (addresses sorted items : List ℕ) → IsPermutation addresses sorted → items ≡ sorted → HasAddresses m addresses → HasAddresses m items
-has_sorted m addresses sorted items moved is has a e held = subst (λ (l : List ℕ). Contains l a) (sym is) (Contains-permutation addresses sorted a moved (has a e held))
+pub has_sorted : (m : Entries) (addresses given sorted items : List ℕ) → given ≡ addresses → IsPermutation given sorted → items ≡ sorted
+    → HasAddresses m addresses → HasAddresses m items
+has_sorted m addresses given sorted items from moved is has a e held =
+    subst (λ (l : List ℕ). Contains l a) (sym is)
+    (Contains-permutation given sorted a moved (subst (λ (l : List ℕ). Contains l a) (sym from) (has a e held)))
+
+-- what stands in a list whose items were written over by as many others
+pub written_back : (items sorted rest : List ℕ) (n : ℕ) → items ≡ take n (sorted ++ rest) → length sorted ≡ n → items ≡ sorted
+written_back items sorted rest n is len = is ∙ take_at sorted rest n len
 
 pub rises : (sorted items : List ℕ) → items ≡ sorted → IsSorted nat_cmp sorted → IsNonDecreasing items
 rises sorted items is up = subst (λ (l : List ℕ). IsNonDecreasing l) (sym is) (IsNonDecreasingBy-from_sort (λ x. x) sorted up)

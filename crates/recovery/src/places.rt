@@ -31,7 +31,7 @@ pub(crate) fn look_at_places<M: Media>(
     ensures reads { ReadsFlash (M.state media.old) (M.state media.new) (open_failed result) (open_lost result) }
 {
     let mut addresses = held_addresses(alloc, map)?;
-    addresses.sort()?;
+    addresses.as_mut_slice().sort_unstable();
     for lba in &addresses {
         if let Some((at, _)) = map.place(*lba) {
             look_at(media, geometry, at)?;

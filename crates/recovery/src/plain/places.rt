@@ -22,7 +22,7 @@ pub(crate) fn first_not_whole(
         ≡ Err (loading.Damaged at))) }
 {
     let mut addresses = addresses_in(alloc, map)?;
-    addresses.sort()?;
+    addresses.as_mut_slice().sort_unstable();
     for lba in &addresses {
         if let Some((at, _)) = map.place(*lba) {
             if !is_whole(&page_at(pages, geometry, at)) {
