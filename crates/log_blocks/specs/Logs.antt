@@ -5,7 +5,7 @@ use Rattle.std.specs.List.{list_any, IsDistinct}
 use Rattle.ft_base.specs.declared.geometry.Geometry.{Geometry}
 use Rattle.ft_base.specs.declared.block.Place.{Place}
 
--- the log blocks in the order in which they were taken, the open one, and how many of its pages are left
+-- the log blocks in the order in which they were put into the list, the open one, and how many of its pages are left
 pub record LogBlocksValue : Type 0 where
   pub geometry : Geometry
   pub used : List ℕ

@@ -1,4 +1,4 @@
-//! The log blocks in use, in the order in which they were taken, and the open one, whose pages are
+//! The log blocks in use, as a list to whose end each new one goes, and the open one, whose pages are
 //! programmed one after another.
 //!
 //! The layer above relies on this: the list has distinct erase blocks, at most L of them; the open block

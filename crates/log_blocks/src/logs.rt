@@ -14,7 +14,7 @@ use page_oob::write_spare;
 use std::alloc::{AllocError, Global};
 use std::marker::Model;
 
-/// The log blocks in use, the one taken first in front, of which there are at most L.
+/// The log blocks in use, each in the list after those that were there when it was put in; there are at most L.
 #[derive(Drop)]
 pub struct LogBlocks {
     geometry: Geometry,
@@ -57,7 +57,7 @@ impl LogBlocks {
         self.room
     }
 
-    /// The block that was taken first, and `None` exactly where none is in use.
+    /// The front block of the list, which has been in it longest, and `None` exactly where none is in use.
     pub fn oldest(&self) -> Option<u32>
         ensures oldest { result ≡ slice_get self.now.used 0 }
         ensures in_use { IfSome result (IsInUse self.now) }
@@ -73,7 +73,7 @@ impl LogBlocks {
         self.used.len() as u32
     }
 
-    /// Block `i` of the list, counted from the one that was taken first.
+    /// Block `i` of the list, counted from its front.
     pub fn nth(&self, i: u32) -> u32
         requires { i < length self.now.used }
         ensures nth { Some result ≡ slice_get self.now.used i }

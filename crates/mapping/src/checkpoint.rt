@@ -1,5 +1,5 @@
 //! The records of a checkpoint, offered one after another.
-ghost use Rattle.std.specs.Prelude.{◌≡◌, ◌<◌, ◌≤◌, ◌+◌, ◌-◌, ◌^◌, ◌++◌, ◌∷◌, [], List, map, length, ◌⊎◌, true};
+ghost use Rattle.std.specs.Prelude.{◌≡◌, ◌<◌, ◌≤◌, ◌+◌, ◌-◌, ◌^◌, ◌++◌, ◌∷◌, [], List, map, length, ◌⊎◌, true, false};
 ghost use Rattle.ft_base.specs.declared.record.Record.{Record as RecordValue};
 ghost use Rattle.sparse_map.specs.Slots.{items_of};
 ghost use Rattle.mapping.specs.Checkpoint.{HasWindow};
@@ -20,10 +20,11 @@ fn offer(out: &mut [Record], from: usize, at: usize, change: Record)
     }
 }
 
-/// True only where the window from number `from` on has none of so many records after the first ones.
+/// Whether the window from number `from` on lies before or after all of so many records that follow the first ones.
 fn is_outside(out: &[Record], from: usize, before: usize, count: usize) -> bool
     requires { before + count < 2 ^ 64 }
-    ensures { result ≡ true → (before + count ≤ from) ⊎ (from + length out.now ≤ before) }
+    ensures outside { result ≡ true → (before + count ≤ from) ⊎ (from + length out.now ≤ before) }
+    ensures inside { result ≡ false → (from < before + count) × (before < from + length out.now) }
 {
     before + count <= from || before >= from && before - from >= out.len()
 }

@@ -57,10 +57,12 @@ impl Model for Held {
 }
 
 impl Held {
-    /// No entries.
+    /// No entries, and no room.
     pub fn new(alloc: Global, geometry: &Geometry) -> Held
         ensures geometry { result.geometry ≡ geometry.now }
         ensures entries { result.entries ≡ no_entries }
+        ensures spare { (result.spare_pages ≡ 0) × (result.spare_blocks ≡ 0) }
+        ensures buckets { (result.buckets ≡ 0) × (result.group_buckets ≡ 0) }
     {
         Held {
             geometry: *geometry,

@@ -9,12 +9,13 @@ use Rattle.ft_media.specs.declared.media.MediaError.TheVariants as device
 use Rattle.op_log.specs.declared.error.OpenError.{OpenError}
 use Rattle.op_log.specs.declared.error.OpenError.TheVariants.{NotFormatted, OtherGeometry, Damaged, FlashFault, DiskFault, PowerLost, OutOfMemory}
 
--- the flash failed, or power was lost
+-- the flash failed
 abbrev pub open_failed : {T : Type 0} → Result T OpenError → Bool
 open_failed (Err FlashFault) = true
 open_failed (Err e) = false
 open_failed (Ok value) = false
 
+-- power was lost
 abbrev pub open_lost : {T : Type 0} → Result T OpenError → Bool
 open_lost (Err PowerLost) = true
 open_lost (Err e) = false

@@ -393,6 +393,9 @@ impl<V: Drop> Group<V> {
         ensures items { self.new.items.items ≡ self.old.items.items }
         ensures capacity { vec_capacity self.old.items ≤ vec_capacity self.new.items }
         ensures few { vec_capacity self.new.items ≤ max (vec_capacity self.old.items) (vec_len self.new.items + more) }
+        ensures grown { OnOk result (vec_len self.old.items ≡ vec_capacity self.old.items → vec_len self.old.items < 64
+            → vec_capacity self.new.items ≡ min (vec_len self.old.items + more) (min 64 (max 48 (vec_len self.old.items + 4)))) }
+        ensures same { vec_len self.old.items < vec_capacity self.old.items → vec_capacity self.new.items ≡ vec_capacity self.old.items }
         ensures ok { OnOk result (IsReady self.new) }
         ensures err { OnErr result (vec_capacity self.new.items ≡ vec_capacity self.old.items) }
     {

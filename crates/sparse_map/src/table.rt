@@ -1,5 +1,5 @@
 //! The buckets of all groups as one table: bucket b is bucket b % 64 of group b / 64.
-ghost use Rattle.std.specs.Prelude.{◌≡◌, ◌≢◌, ℕ, ◌+◌, ◌*◌, ◌%◌, ◌^◌, ◌<◌, ◌≤◌, length, vec_len, Some, None, IfSome, IfOk, MatchOption, is_some, option_map, OnOk, OnErr, is_ok, slice_set, ◌/◌, ◌-◌, ◌⊎◌, ◌==◌, if◌then◌else◌, IsTrue, true, false, min, max};
+ghost use Rattle.std.specs.Prelude.{◌≡◌, ◌≢◌, ℕ, ◌+◌, ◌*◌, ◌%◌, ◌^◌, ◌<◌, ◌≤◌, length, slice_index_or, vec_len, Some, None, IfSome, IfOk, MatchOption, is_some, option_map, OnOk, OnErr, is_ok, slice_set, ◌/◌, ◌-◌, ◌⊎◌, ◌==◌, if◌then◌else◌, IsTrue, true, false, min, max};
 ghost use Rattle.std.specs.Ordering.{nat_cmp};
 ghost use Rattle.std.specs.FinMap.{find};
 ghost use Rattle.std.specs.Vec.{vec_capacity};
@@ -13,6 +13,7 @@ ghost use Rattle.sparse_map.specs.Probe.{IsPlaceOf, IsFirstFree, IsShifted};
 ghost use Rattle.sparse_map.specs.Removal.{shifted_back};
 ghost use Rattle.sparse_map.specs.Trimmed.{MayBeTouched};
 ghost use Rattle.sparse_map.specs.Places.{sizes_of, places_of, loose_of, lacking};
+ghost use Rattle.sparse_map.specs.Plan.{lens_of, rooms_of};
 ghost use Rattle.sparse_map.specs.declared.table.Touched.{Touched};
 ghost use Rattle.sparse_map.specs.declared.table.Touched.TheVariants.{Nowhere, In, Anywhere};
 
@@ -174,6 +175,10 @@ pub fn put<V: Drop>(
     ensures fewer_lack { (n : ℕ) → vec_len stock.old + lacking n Nowhere (sizes_of groups.new)
         ≤ vec_len stock.new + lacking (n + 1) Nowhere (sizes_of groups.old) }
     ensures places { places_of (sizes_of groups.new) + 64 * vec_len stock.new ≤ places_of (sizes_of groups.old) + 64 * vec_len stock.old }
+    ensures free { slice_index_or (rooms_of groups.new) (bucket / 64) 0 ≡ slice_index_or (rooms_of groups.old) (bucket / 64) 0
+        → slice_index_or (lens_of groups.new) (bucket / 64) 0 + result ≡ slice_index_or (rooms_of groups.new) (bucket / 64) 0 }
+    ensures blank { slice_index_or (rooms_of groups.new) (bucket / 64) 0 ≢ slice_index_or (rooms_of groups.old) (bucket / 64) 0
+        → result ≡ 0 }
     ensures less { 4 ≤ result → loose_of Nowhere (sizes_of groups.new) + 1 ≤ loose_of Nowhere (sizes_of groups.old) }
     ensures loose { (before after : Touched) → (result ≡ 0 → MayBeTouched after (bucket / 64))
         → ((i : ℕ) → MayBeTouched before i → MayBeTouched after i)

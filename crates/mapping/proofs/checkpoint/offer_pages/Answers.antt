@@ -6,7 +6,7 @@ use Rattle.mapping.proofs.CheckpointLemmas.{items_none, items_more, items_all, i
 use Rattle.mapping.proofs.checkpoint.offer_pages.Goals as goal
 
 pub returns-then-is_outside : goal.returns-then-is_outside
-returns-then-is_outside c = items_skipped page_record c.args.items.now c.args.before c.args.from c.args.out.now (c.is_outside.ensures c.if-is_outside.true)
+returns-then-is_outside c = items_skipped page_record c.args.items.now c.args.before c.args.from c.args.out.now (c.is_outside.ensures.outside c.if-is_outside.true)
 
 pub loop-item-init : goal.loop-item-init
 loop-item-init c = items_none page_record c.args.items.now c.args.before c.args.from c.args.out.now

@@ -1,9 +1,11 @@
 use Rattle.std.proofs.Common.{◌≡◌, ◌<◌, ◌+◌, ◌%◌, ◌/◌, Some, refl, sym, ap, ◌∙◌, get_or, inl, inr, arith, length, set}
+use Rattle.std.proofs.lemmas.List.{get_or-set_same, length-set}
 use Rattle.std.specs.Vec.{vec_len, vec_capacity}
 use Rattle.std.proofs.lemmas.Bool.{cases_eq}
 use Rattle.sparse_map.specs.Slots.{rank, slot_at}
 use Rattle.sparse_map.proofs.GroupLemmas.{free_below_64}
 use Rattle.sparse_map.proofs.TableLemmas.{slot_of_bucket, set_bucket}
+use Rattle.sparse_map.proofs.PlanLemmas.{len_at, room_at}
 use Rattle.sparse_map.specs.Places.{list_size, sizes_of, extra, lacks}
 use Rattle.sparse_map.proofs.PlacesLemmas.{untouched-wider, extra-most, extra-less, lacks-le, lacks-no, lacks-yes, places_in-set, untouched_in-set, untouched_in-at, untouched_in-less, lacking_in-next, lacking-one}
 use Rattle.sparse_map.proofs.table.put.Goals as goal
@@ -139,4 +141,40 @@ returns-clause-ready g c =
       | inr ne ↦
           let none = lacks-no 1 (list_size w) (omega (arith, ne, c.make_room-grew.ensures.room, c.insert.ensures.len, c.insert.ensures.capacity)) in
           omega (arith, wider, untouched_in-set us i u read w inside refl (lacks 1) after 0 (omega (arith, none)))
+    ]
+
+pub returns-clause-free : goal.returns-clause-free
+returns-clause-free g c =
+    let read = c.index-groups-bucket.result in
+    let us = c.args.groups.now in
+    let i = c.args.bucket / 64 in
+    let u = get_or us i read in
+    let w = c.insert.new.self in
+    let inside : i < length us = omega (arith, c.requires.within) in
+    let within : i < length (set us i w) = omega (arith, length-set us i w, inside) in
+    let is = sym (get_or-set_same us i w read inside) in
+    let len = len_at (set us i w) i w read w within is in
+    let room = room_at (set us i w) i w read w within is in
+    let before = room_at us i u read u inside refl in
+    let lt : c.args.bucket % 64 < 64 = omega arith in
+    let below = free_below_64 u (c.args.bucket % 64) lt (sym (slot_of_bucket us c.args.bucket u read c.requires.within refl) ∙ c.requires.free) in
+    λ same. elim c.make_room-grew.ensures.widened [
+      | inl kept ↦ omega (arith, len, room, c.left_in.ensures.own kept.0, c.free_places.ensures, c.make_room-grew.ensures.room, c.make_room-grew.ensures.len, c.insert.ensures.len, c.insert.ensures.capacity)
+      | inr grew ↦ absurd (omega (arith, same, room, before, c.insert.ensures.capacity, grew.1, grew.2, below))
+    ]
+
+pub returns-clause-blank : goal.returns-clause-blank
+returns-clause-blank g c =
+    let read = c.index-groups-bucket.result in
+    let us = c.args.groups.now in
+    let i = c.args.bucket / 64 in
+    let u = get_or us i read in
+    let w = c.insert.new.self in
+    let inside : i < length us = omega (arith, c.requires.within) in
+    let within : i < length (set us i w) = omega (arith, length-set us i w, inside) in
+    let room = room_at (set us i w) i w read w within (sym (get_or-set_same us i w read inside)) in
+    let before = room_at us i u read u inside refl in
+    λ other. elim c.make_room-grew.ensures.widened [
+      | inl kept ↦ absurd (other (omega (arith, room, before, c.insert.ensures.capacity, kept.1)))
+      | inr grew ↦ c.left_in.ensures.blank grew.0
     ]
