@@ -67,12 +67,13 @@ impl Model for Map {
 }
 
 impl Map {
-    /// A map of no entries, with no room.
+    /// A map of no entries, with no room and no bucket.
     pub fn new(alloc: Global, geometry: &Geometry) -> Result<Map, AllocError>
         ensures geometry { IfOk result (λ m. m.geometry ≡ geometry.now) }
         ensures entries { IfOk result (λ m. m.entries ≡ no_entries) }
         ensures pages { IfOk result (λ m. m.spare_pages ≡ 0) }
         ensures groups { IfOk result (λ m. m.spare_groups ≡ 0) }
+        ensures buckets { IfOk result (λ m. (m.buckets ≡ 0) × (m.group_buckets ≡ 0)) }
     {
         Ok(Map {
             geometry: *geometry,
