@@ -1,6 +1,6 @@
 //! Each map once, through the trait: a thousand keys, and how large the map is with them; and a row of each table.
 use crate::clock::Slowing;
-use map_bench::churn::churn;
+use map_bench::churn::churn_in_turns;
 use map_bench::keys::Keys;
 use map_bench::measured::Size;
 use map_bench::round::{Times, peak, rounds_in_turns};
@@ -95,8 +95,9 @@ fn a_map_is_largest_as_it_moves(rt: HostRuntime) -> Result<(), Fail> {
 
 #[test]
 fn a_map_keeps_its_size_while_entries_come_and_go(rt: HostRuntime) -> Result<(), Fail> {
-    let mut churned = churn::<SparseMap<u64>>(&rt, 100, 250)?;
+    let (mut churned, dense) = churn_in_turns::<SparseMap<u64>, HashMap<u64, u64>>(&rt, 100, 250)?;
     assert_eq!(rt; [churned.size.entries, churned.size.buckets], [100, 256]);
+    assert_eq!(rt; [dense.size.entries, u64::from(dense.steps)], [100, 250]);
     churned.time = Duration::from_micros(25);
     let row = churn_line(rt.alloc(), "sparse", &churned)?;
     assert!(rt; row.as_str().ends_with("      100.0"));

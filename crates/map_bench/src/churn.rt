@@ -1,5 +1,5 @@
 //! The time of one step in a map whose number of entries stays: its oldest address is taken out, and a new one set.
-ghost use Rattle.std.specs.Prelude.{◌≡◌, ◌*◌, ◌<◌, ◌≤◌, IfOk};
+ghost use Rattle.std.specs.Prelude.{◌≡◌, ◌<◌, ◌≤◌, IfOk};
 
 use crate::measured::{Measured, Size};
 use std::alloc::{AllocError, Global};
@@ -18,28 +18,79 @@ pub struct Churned {
     pub time: Duration,
 }
 
-/// Sets the addresses below a number, then takes so many steps.
-pub fn churn<M: Measured>(
+/// How many steps one map takes before it is the other's turn.
+const STEPS_A_TURN: u32 = 10_000;
+
+/// A map whose entries come and go, with what its steps showed so far.
+#[derive(Drop)]
+struct Turning<M> {
+    map: M,
+    found: u32,
+    time: Duration,
+}
+
+impl<M: Measured> Turning<M> {
+    /// A map of the addresses below a number, before its first step.
+    fn new(alloc: Global, addresses: u32) -> Result<Self, AllocError> {
+        Ok(Turning {
+            map: first_addresses::<M>(alloc, addresses)?,
+            found: 0,
+            time: Duration::ZERO,
+        })
+    }
+
+    /// Takes so many steps, the first of which has the number `from`.
+    fn take_turn(
+        &mut self,
+        rt: &impl Clock,
+        addresses: u32,
+        from: u32,
+        steps: u32,
+    ) -> io::Result<()>
+        requires { 0 < addresses }
+    {
+        let start = Instant::now(rt)?;
+        let found = turn_over(&mut self.map, addresses, from, steps)?;
+        self.time = self.time.saturating_add(start.elapsed(rt)?);
+        self.found = self.found.saturating_add(found);
+        Ok(())
+    }
+
+    /// What the steps showed, of which there were so many.
+    fn churned(&self, steps: u32) -> io::Result<Churned>
+        ensures { IfOk result (λ c. c.steps ≡ steps) }
+    {
+        // What was found is looked at, so that no compiler leaves the work out.
+        if self.found != steps {
+            return Err(io::Error::other("a map lost an address"));
+        }
+        Ok(Churned {
+            size: self.map.size(),
+            steps: self.found,
+            time: self.time,
+        })
+    }
+}
+
+/// Sets the addresses below a number in each of two maps, and takes so many steps in each, some of them at a time, in
+/// turns: what slows the machine for a while slows both.
+pub fn churn_in_turns<M: Measured, N: Measured>(
     rt: &(impl AllocGlobal + Clock),
     addresses: u32,
     steps: u32,
-) -> io::Result<Churned>
+) -> io::Result<(Churned, Churned)>
     requires { 0 < addresses }
-    ensures { IfOk result (λ c. c.steps ≡ steps) }
+    ensures { IfOk result (λ c. (c.0.steps ≡ steps) × (c.1.steps ≡ steps)) }
 {
-    let mut map = first_addresses::<M>(rt.alloc(), addresses)?;
-    let start = Instant::now(rt)?;
-    let found = turn_over(&mut map, addresses, steps)?;
-    let time = start.elapsed(rt)?;
-    // What was found is looked at, so that no compiler leaves the work out.
-    if found != steps {
-        return Err(io::Error::other("a map lost an address"));
+    let mut first = Turning::<M>::new(rt.alloc(), addresses)?;
+    let mut second = Turning::<N>::new(rt.alloc(), addresses)?;
+    for turn in 0..=steps / STEPS_A_TURN {
+        let from = turn * STEPS_A_TURN;
+        let count = (steps - from).min(STEPS_A_TURN);
+        first.take_turn(rt, addresses, from, count)?;
+        second.take_turn(rt, addresses, from, count)?;
     }
-    Ok(Churned {
-        size: map.size(),
-        steps: found,
-        time,
-    })
+    Ok((first.churned(steps)?, second.churned(steps)?))
 }
 
 /// A map of the addresses below a number, each with itself as its value.
@@ -51,20 +102,26 @@ fn first_addresses<M: Measured>(alloc: Global, addresses: u32) -> Result<M, Allo
     Ok(map)
 }
 
-/// Takes so many steps: the oldest address goes, and the one after the newest comes, going round twice their number.
-/// Gives how many had themselves as their value.
-fn turn_over<M: Measured>(map: &mut M, addresses: u32, steps: u32) -> Result<u32, AllocError>
+/// Takes so many steps, the first of which has the number `from`: the oldest address goes, and the one after the newest
+/// comes, going round twice their number. Gives how many had themselves as their value.
+fn turn_over<M: Measured>(
+    map: &mut M,
+    addresses: u32,
+    from: u32,
+    steps: u32,
+) -> Result<u32, AllocError>
     requires { 0 < addresses }
     ensures { IfOk result (λ found. found ≤ steps) }
 {
     let all = 2 * u64::from(addresses);
     let mut found = 0;
     for step in 0..steps {
-        let oldest = u64::from(step) % all;
+        let number = u64::from(from) + u64::from(step);
+        let oldest = number % all;
         if map.take(oldest) == Some(oldest) {
             found += 1;
         }
-        let next = (u64::from(step) + u64::from(addresses)) % all;
+        let next = (number + u64::from(addresses)) % all;
         map.set(next, next)?;
     }
     Ok(found)

@@ -13,7 +13,7 @@ pub mod measured;
 pub mod round;
 pub mod row;
 
-use churn::churn;
+use churn::churn_in_turns;
 use keys::Keys;
 use measured::Measured;
 use round::{Rounds, peak, rounds_in_turns};
@@ -43,14 +43,11 @@ pub fn measure(rt: &(impl AllocGlobal + Clock + Print)) -> io::Result<()> {
         print_row::<HashMap<u64, u64>>(rt, &keys, count, dense)?;
     }
     print_churn_head(rt)?;
-    churn_one::<SparseMap<u64>>(rt)?;
-    churn_one::<HashMap<u64, u64>>(rt)
-}
-
-/// Prints the row of one map whose entries come and go.
-fn churn_one<M: Measured>(rt: &(impl AllocGlobal + Clock + Print)) -> io::Result<()> {
-    let churned = churn::<M>(rt, ADDRESSES, STEPS)?;
-    print_churn(rt, M::NAME, &churned)
+    let (sparse, dense) = churn_in_turns::<SparseMap<u64>, HashMap<u64, u64>>(
+        rt, ADDRESSES, STEPS,
+    )?;
+    print_churn(rt, <SparseMap<u64> as Measured>::NAME, &sparse)?;
+    print_churn(rt, <HashMap<u64, u64> as Measured>::NAME, &dense)
 }
 
 /// Prints the row of one map, of which so many rounds showed this.
