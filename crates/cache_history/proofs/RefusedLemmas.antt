@@ -1,5 +1,5 @@
 -- A command that was refused, and gave nothing up: the cache was full, or memory was wanting.
-use Rattle.std.proofs.Common.{◌≡◌, ℕ, false, List, Result, Ok, Err, OnErr, refl, sym, ◌∙◌, ap, subst}
+use Rattle.std.proofs.Common.{◌≡◌, ℕ, false, List, Result, Ok, Err, OnErr, refl, sym, inl, ◌∙◌, ap, subst}
 use Rattle.std.specs.Prelude.{IsErrOf}
 use Rattle.std.proofs.lemmas.Bool.{false≢true}
 use Rattle.ft_base.specs.Contents.{Contents}
@@ -15,7 +15,7 @@ use Rattle.cache_history.specs.History.{TwoLists}
 use Rattle.cache_history.specs.Moment.{IsMoment}
 
 as_itself : (c d : Ssc) → d ≡ c → IsAsBefore c d
-as_itself c d same = subst (λ (k : Ssc). IsAsBefore c k) (sym same) (record { parts = refl; map = refl })
+as_itself c d same = subst (λ (k : Ssc). IsAsBefore c k) (sym same) (record { parts = refl; map = refl; buckets = inl refl })
 
 module _ (c d : Ssc) (s t : State) where
   abbrev Unchanged : Type 0

@@ -1,5 +1,5 @@
 -- The sizes of the groups' lists: how many items each has, and how many places.
-use Rattle.std.specs.Prelude.{ℕ, ◌+◌, ◌-◌, ◌/◌, ◌^◌, ◌≤◌, nat_lt, min, List, map, slice_index_or, if◌then◌else◌}
+use Rattle.std.specs.Prelude.{ℕ, ◌+◌, ◌-◌, ◌/◌, ◌^◌, ◌≤◌, nat_lt, min, max, List, map, slice_index_or, if◌then◌else◌}
 use Rattle.std.specs.List.{sum_by}
 use Rattle.std.specs.Vec.{vec_len, vec_capacity}
 use Rattle.sparse_map.specs.declared.group.Group.{Group}
@@ -22,6 +22,11 @@ places_of = sum_by (λ s. s.1)
 -- the free places of a list beyond four
 unfoldable pub extra : ℕ × ℕ → ℕ
 extra s = s.1 - (s.0 + 4)
+
+-- how many places a full list of so many items gets where it may have `more` places more: 48 at most, or four more than items where
+-- these are more, and at most 64
+abbrev pub grown_to : ℕ → ℕ → ℕ
+grown_to len more = min (len + more) (min 64 (max 48 (len + 4)))
 
 -- 1 for a list that has no place for n items more, nor for all that a group can hold; 0 for any other
 unfoldable pub lacks : ℕ → ℕ × ℕ → ℕ

@@ -1,5 +1,5 @@
 -- Where keys come to stand that go into a table one after another, and how many in each group: found out before any item moves.
-use Rattle.std.specs.Prelude.{ℕ, zero, suc, ◌+◌, ◌/◌, ◌^◌, ◌<◌, ◌≤◌, ◌==◌, Bool, true, false, List, [], ◌∷◌, length, map, replicate, is_some, slice_index_or, slice_set, if◌then◌else◌}
+use Rattle.std.specs.Prelude.{◌≡◌, ◌≢◌, ℕ, zero, suc, ◌+◌, ◌/◌, ◌^◌, ◌<◌, ◌≤◌, ◌==◌, Bool, true, false, List, [], ◌∷◌, length, map, replicate, is_some, slice_index_or, slice_set, if◌then◌else◌}
 use Rattle.std.specs.Vec.{vec_len, vec_capacity}
 use Rattle.sparse_map.specs.declared.group.Group.{Group}
 use Rattle.sparse_map.specs.Home.{home}
@@ -36,6 +36,12 @@ blank_plan n = planned (replicate n false) (replicate (lists_for n) 0)
 -- a list in each group for what is counted there
 abbrev pub RoomsFit : List ℕ → List ℕ → Type 0
 RoomsFit rooms counts = (i : ℕ) → i < length rooms → slice_index_or counts i 0 ≤ slice_index_or rooms i 0
+
+-- after an insertion into the list of group i so many of its places are free; but 0 is said where a list of another size has come in
+-- its stead
+pub record TellsFree (lens before after : List ℕ) (i free : ℕ) : Type 0 where
+  pub own : slice_index_or after i 0 ≡ slice_index_or before i 0 → slice_index_or lens i 0 + free ≡ slice_index_or after i 0
+  pub other : slice_index_or after i 0 ≢ slice_index_or before i 0 → free ≡ 0
 
 module _ {V : Type 0} where
   -- with the keys of these items, one after another

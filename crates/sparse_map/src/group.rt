@@ -94,6 +94,7 @@ impl<V: Drop> Group<V> {
     ghost use Rattle.sparse_map.specs.Slots.{slot_at, key_at, rank, exchanged, unpacked, items_of, group};
     ghost use Rattle.sparse_map.specs.Groups.{slots_in};
     ghost use Rattle.sparse_map.specs.Trimmed.{IsTrimmed, IsReady};
+    ghost use Rattle.sparse_map.specs.Places.{grown_to};
     ghost use Rattle.std.specs.Borrow.{sem};
     ghost use Rattle.sparse_map.specs.Lending.{LendsGroupValue};
 
@@ -394,7 +395,7 @@ impl<V: Drop> Group<V> {
         ensures capacity { vec_capacity self.old.items ≤ vec_capacity self.new.items }
         ensures few { vec_capacity self.new.items ≤ max (vec_capacity self.old.items) (vec_len self.new.items + more) }
         ensures grown { OnOk result (vec_len self.old.items ≡ vec_capacity self.old.items → vec_len self.old.items < 64
-            → vec_capacity self.new.items ≡ min (vec_len self.old.items + more) (min 64 (max 48 (vec_len self.old.items + 4)))) }
+            → vec_capacity self.new.items ≡ grown_to (vec_len self.old.items) more) }
         ensures same { vec_len self.old.items < vec_capacity self.old.items → vec_capacity self.new.items ≡ vec_capacity self.old.items }
         ensures ok { OnOk result (IsReady self.new) }
         ensures err { OnErr result (vec_capacity self.new.items ≡ vec_capacity self.old.items) }
@@ -422,8 +423,8 @@ impl<V: Drop> Group<V> {
         Ok(())
     }
 
-    /// Makes the list fit: it has a free place then, or places for a whole group, and no more are free than `more`, the
-    /// most places by which one grows that is full. Answers how many are free beyond a few. Refused, for want of
+    /// Makes the list fit: it has a free place then, or places for a whole group. One with free places keeps a few of them
+    /// at most, and one that is full grows as `grow` says. Answers how many are free beyond a few. Refused, for want of
     /// memory, the list has no more places than before.
     pub fn fit(&mut self, alloc: Global, more: usize) -> Result<usize, AllocError>
         requires { 4 ≤ more }
@@ -432,6 +433,10 @@ impl<V: Drop> Group<V> {
         ensures room { min (vec_capacity self.old.items) (vec_len self.old.items + 4) ≤ vec_capacity self.new.items }
         ensures few { vec_capacity self.new.items ≤ max (vec_capacity self.old.items) (vec_len self.new.items + more) }
         ensures trimmed { OnOk result (vec_capacity self.new.items ≤ vec_len self.new.items + more) }
+        ensures own { OnOk result (vec_len self.old.items < vec_capacity self.old.items
+            → vec_capacity self.new.items ≡ min (vec_capacity self.old.items) (vec_len self.old.items + 4)) }
+        ensures grown { OnOk result (vec_len self.old.items ≡ vec_capacity self.old.items → vec_len self.old.items < 64
+            → vec_capacity self.new.items ≡ grown_to (vec_len self.old.items) more) }
         ensures beyond { IfOk result (λ n. n ≡ vec_capacity self.new.items - (vec_len self.new.items + 4)) }
         ensures ready { OnOk result (IsReady self.new) }
         ensures err { OnErr result (vec_capacity self.new.items ≤ vec_capacity self.old.items) }

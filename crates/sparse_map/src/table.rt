@@ -1,5 +1,5 @@
 //! The buckets of all groups as one table: bucket b is bucket b % 64 of group b / 64.
-ghost use Rattle.std.specs.Prelude.{◌≡◌, ◌≢◌, ℕ, ◌+◌, ◌*◌, ◌%◌, ◌^◌, ◌<◌, ◌≤◌, length, slice_index_or, vec_len, Some, None, IfSome, IfOk, MatchOption, is_some, option_map, OnOk, OnErr, is_ok, slice_set, ◌/◌, ◌-◌, ◌⊎◌, ◌==◌, if◌then◌else◌, IsTrue, true, false, min, max};
+ghost use Rattle.std.specs.Prelude.{◌≡◌, ◌≢◌, ℕ, ◌+◌, ◌*◌, ◌%◌, ◌^◌, ◌<◌, ◌≤◌, length, vec_len, Some, None, IfSome, IfOk, MatchOption, is_some, option_map, OnOk, OnErr, is_ok, slice_set, ◌/◌, ◌-◌, ◌⊎◌, ◌==◌, if◌then◌else◌, IsTrue, true, false, min, max};
 ghost use Rattle.std.specs.Ordering.{nat_cmp};
 ghost use Rattle.std.specs.FinMap.{find};
 ghost use Rattle.std.specs.Vec.{vec_capacity};
@@ -13,7 +13,7 @@ ghost use Rattle.sparse_map.specs.Probe.{IsPlaceOf, IsFirstFree, IsShifted};
 ghost use Rattle.sparse_map.specs.Removal.{shifted_back};
 ghost use Rattle.sparse_map.specs.Trimmed.{MayBeTouched};
 ghost use Rattle.sparse_map.specs.Places.{sizes_of, places_of, loose_of, lacking};
-ghost use Rattle.sparse_map.specs.Plan.{lens_of, rooms_of};
+ghost use Rattle.sparse_map.specs.Plan.{lens_of, rooms_of, TellsFree};
 ghost use Rattle.sparse_map.specs.declared.table.Touched.{Touched};
 ghost use Rattle.sparse_map.specs.declared.table.Touched.TheVariants.{Nowhere, In, Anywhere};
 
@@ -175,10 +175,7 @@ pub fn put<V: Drop>(
     ensures fewer_lack { (n : ℕ) → vec_len stock.old + lacking n Nowhere (sizes_of groups.new)
         ≤ vec_len stock.new + lacking (n + 1) Nowhere (sizes_of groups.old) }
     ensures places { places_of (sizes_of groups.new) + 64 * vec_len stock.new ≤ places_of (sizes_of groups.old) + 64 * vec_len stock.old }
-    ensures free { slice_index_or (rooms_of groups.new) (bucket / 64) 0 ≡ slice_index_or (rooms_of groups.old) (bucket / 64) 0
-        → slice_index_or (lens_of groups.new) (bucket / 64) 0 + result ≡ slice_index_or (rooms_of groups.new) (bucket / 64) 0 }
-    ensures blank { slice_index_or (rooms_of groups.new) (bucket / 64) 0 ≢ slice_index_or (rooms_of groups.old) (bucket / 64) 0
-        → result ≡ 0 }
+    ensures free { TellsFree (lens_of groups.new) (rooms_of groups.old) (rooms_of groups.new) (bucket / 64) result }
     ensures less { 4 ≤ result → loose_of Nowhere (sizes_of groups.new) + 1 ≤ loose_of Nowhere (sizes_of groups.old) }
     ensures loose { (before after : Touched) → (result ≡ 0 → MayBeTouched after (bucket / 64))
         → ((i : ℕ) → MayBeTouched before i → MayBeTouched after i)
@@ -504,7 +501,8 @@ pub fn fit_touched<V: Drop>(
     requires counted { min (loose_of touched.old (sizes_of groups.old)) (2 ^ 64 - 1) ≤ beyond.old }
     ensures slots { all_slots groups.new ≡ all_slots groups.old }
     ensures counted { min (loose_of touched.new (sizes_of groups.new)) (2 ^ 64 - 1) ≤ beyond.new }
-    ensures loose { loose_of touched.new (sizes_of groups.new) ≤ max (loose_of touched.old (sizes_of groups.old)) (8 * (length groups.old / 2)) }
+    ensures loose { loose_of touched.new (sizes_of groups.new)
+        ≤ max (loose_of touched.old (sizes_of groups.old)) (8 * (length groups.old / 2)) }
     ensures ready { lacking 1 touched.new (sizes_of groups.new) ≤ lacking 1 touched.old (sizes_of groups.old) }
     ensures lacking { lacking 1 Nowhere (sizes_of groups.new) ≤ lacking 1 Nowhere (sizes_of groups.old) }
     ensures none_loose { OnOk result (loose_of Nowhere (sizes_of groups.new) ≤ loose_of touched.new (sizes_of groups.new)) }

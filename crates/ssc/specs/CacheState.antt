@@ -1,5 +1,5 @@
 -- A cache and its flash: the list that they hold, and what of it is only buffered.
-use Rattle.std.specs.Prelude.{◌≡◌, ◌≤◌, ◌-◌, ℕ, Bool, true, false, not, max, IsTrue, List, [], ◌∷◌}
+use Rattle.std.specs.Prelude.{◌≡◌, ◌⊎◌, ◌≤◌, ◌-◌, ℕ, Bool, true, false, not, max, IsTrue, List, [], ◌∷◌}
 use Rattle.std.specs.List.{list_all}
 use Rattle.ft_base.specs.declared.geometry.Geometry.{Geometry}
 use Rattle.ft_base.specs.declared.record.Record.{Record}
@@ -9,6 +9,7 @@ use Rattle.ft_base.specs.Layout.{log_pages}
 use Rattle.cache_model.specs.Records.{Entries}
 use Rattle.cache_model.specs.Cache.{Buffered, Inserted, Cleaned, MayWait, undo}
 use Rattle.cache_model.specs.CacheList.{CacheList}
+use Rattle.mapping.specs.Room.{GrewForPages, GrewForGroups}
 use Rattle.merge_engine.specs.declared.parts.Parts.{Parts}
 use Rattle.merge_engine.specs.Agreement.{PartsAgree, Lists}
 use Rattle.ssc.specs.declared.cache.Ssc.{Ssc}
@@ -72,12 +73,16 @@ pub record IsUp (c : Ssc) (contents : Contents) : Type 0 where
   pub holds : Holds c contents list
   pub up : c.stopped ≡ false
 
--- the cache is as before, but for the buckets of its map and the order of its records
+-- the cache is as before, but for the order of its map's records and the map's buckets, which may have doubled as the room of a write asks
 pub record IsAsBefore (old new : Ssc) : Type 0 where
   pub parts : new ≡ record old { parts = record old.parts { map = new.parts.map } }
   pub map : new.parts.map ≡ record old.parts.map { records = new.parts.map.records; buckets = new.parts.map.buckets }
+  pub buckets : (new.parts.map.buckets ≡ old.parts.map.buckets)
+      ⊎ GrewForPages old.parts.map new.parts.map (max old.parts.map.spare_pages 1)
 
--- the room of a write was taken, and no more: for one page, and for the groups of one log block
+-- the room of a write was taken, and no more: for one page, and for the groups of one log block; the buckets doubled as that room asks
 pub record TookRoom (old new : Parts) : Type 0 where
   pub pages : new.map.spare_pages ≡ max old.map.spare_pages 1
   pub groups : new.map.spare_groups ≡ max old.map.spare_groups old.geometry.p
+  pub buckets : GrewForPages old.map new.map new.map.spare_pages
+  pub group_buckets : GrewForGroups old.map new.map new.map.spare_groups

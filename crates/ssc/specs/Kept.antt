@@ -37,7 +37,7 @@ pub record RunsInPlace {T : Type 0} (old new : Ssc) (before after : State) (resu
 
 -- ---- the writes
 
--- refused for want of room or of memory, a write changes nothing but the buckets of the map and the order of its records
+-- refused for want of room or of memory, a write changes nothing but the order of the map's records and its buckets, which may have doubled
 pub record RefusesWrite {T : Type 0} (old new : Ssc) (before after : State) (result : Result T SscError) : Type 0 where
   pub full_keeps : (n l : ℕ) → IsErrOf result (Full n l) → (new ≡ old) × (after ≡ before)
   pub memory : IsErrOf result OutOfMemory → (old.ready ≡ false) × IsAsBefore old new × (after ≡ before)

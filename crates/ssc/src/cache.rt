@@ -89,7 +89,7 @@ impl Ssc {
     }
 
     /// Takes the memory of the next write: for its page, and for the groups that it may merge. Refused,
-    /// all is as before, but for the buckets of the map and the order of its records.
+    /// all is as before, but for the order of the map's records and its buckets, which may have doubled as that asks.
     pub fn reserve(&mut self) -> Result<(), AllocError>
         ensures holds { (contents : Contents) (s : CacheList) → Holds self.old contents s → Holds self.new contents s }
         ensures same { geometry_of self.new ≡ geometry_of self.old }

@@ -28,7 +28,7 @@ impl Ssc {
     /// Holds the block at an address, dirty, on the flash when it answers Ok.
     ///
     /// Full is decided first, then want of memory. Full changes nothing, and want of memory nothing but the
-    /// buckets of the map and the order of its records.
+    /// order of the map's records and its buckets, which may have doubled as `reserve` says.
     pub fn write_dirty<M: Media>(
         &mut self,
         media: &mut M,

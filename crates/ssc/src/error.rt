@@ -21,7 +21,8 @@ pub enum SscError {
     /// Power was lost, and the count of cuts rose.
     #[error("power was lost")]
     PowerLost,
-    /// There was no memory. Nothing was changed but the buckets of the map and the order of its records.
+    /// There was no memory. Nothing was changed but the order of the map's records and its buckets, which may have
+    /// doubled as the room that was asked for wants.
     #[error("out of memory")]
     OutOfMemory,
 }

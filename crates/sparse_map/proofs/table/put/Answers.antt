@@ -158,23 +158,13 @@ returns-clause-free g c =
     let before = room_at us i u read u inside refl in
     let lt : c.args.bucket % 64 < 64 = omega arith in
     let below = free_below_64 u (c.args.bucket % 64) lt (sym (slot_of_bucket us c.args.bucket u read c.requires.within refl) ∙ c.requires.free) in
-    λ same. elim c.make_room-grew.ensures.widened [
-      | inl kept ↦ omega (arith, len, room, c.left_in.ensures.own kept.0, c.free_places.ensures, c.make_room-grew.ensures.room, c.make_room-grew.ensures.len, c.insert.ensures.len, c.insert.ensures.capacity)
-      | inr grew ↦ absurd (omega (arith, same, room, before, c.insert.ensures.capacity, grew.1, grew.2, below))
-    ]
-
-pub returns-clause-blank : goal.returns-clause-blank
-returns-clause-blank g c =
-    let read = c.index-groups-bucket.result in
-    let us = c.args.groups.now in
-    let i = c.args.bucket / 64 in
-    let u = get_or us i read in
-    let w = c.insert.new.self in
-    let inside : i < length us = omega (arith, c.requires.within) in
-    let within : i < length (set us i w) = omega (arith, length-set us i w, inside) in
-    let room = room_at (set us i w) i w read w within (sym (get_or-set_same us i w read inside)) in
-    let before = room_at us i u read u inside refl in
-    λ other. elim c.make_room-grew.ensures.widened [
-      | inl kept ↦ absurd (other (omega (arith, room, before, c.insert.ensures.capacity, kept.1)))
-      | inr grew ↦ c.left_in.ensures.blank grew.0
-    ]
+    record {
+      own = λ same. elim c.make_room-grew.ensures.widened [
+        | inl kept ↦ omega (arith, len, room, c.left_in.ensures.own kept.0, c.free_places.ensures, c.make_room-grew.ensures.room, c.make_room-grew.ensures.len, c.insert.ensures.len, c.insert.ensures.capacity)
+        | inr grew ↦ absurd (omega (arith, same, room, before, c.insert.ensures.capacity, grew.1, grew.2, below))
+      ];
+      other = λ another. elim c.make_room-grew.ensures.widened [
+        | inl kept ↦ absurd (another (omega (arith, room, before, c.insert.ensures.capacity, kept.1)))
+        | inr grew ↦ c.left_in.ensures.blank grew.0
+      ];
+    }
