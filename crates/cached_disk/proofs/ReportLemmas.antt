@@ -214,10 +214,12 @@ module _ (v w : CachedDisk) (contents : Contents) (options : w.options ≡ v.opt
   loads_left = ap (λ (g : Geometry). load g contents.flash.page) (sym own) ∙ loads_entries w.cache contents left.held held_now none
 
   pub report_is : (report : Report) → report.held ≡ held_count (entries_of w.cache) → ((c : Contents) (s : CacheList) → Holds w.cache c s → report.dirty_groups ≡ length (dirty_groups (geometry_of w.cache) s))
+      → ((c : Contents) (s : CacheList) → Holds w.cache c s → report.dirty_groups ≤ (geometry_of w.cache).c)
       → AreBucketsFor (entries_of w.cache) report.buckets → report.scrubbed ≡ held_count (entries_of w.cache) → IsReport v.options.geometry (entries_of w.cache) report
-  report_is report held groups buckets scrubbed = record {
+  report_is report held groups most buckets scrubbed = record {
     held = held;
     dirty_groups = groups contents left.held held_now ∙ groups_of w.cache contents left.held held_now none ∙ ap (λ (g : Geometry). length (groups_with g (λ e. e.dirty) (entries_of w.cache))) own;
+    few = subst (λ (g : Geometry). report.dirty_groups ≤ g.c) own (most contents left.held held_now);
     buckets = buckets;
     scrubbed = scrubbed;
   }

@@ -1,4 +1,4 @@
-ghost use Rattle.std.specs.Prelude.{◌≡◌, true, false, IsOk, OnOk, OnErr, length};
+ghost use Rattle.std.specs.Prelude.{◌≡◌, ◌≤◌, true, false, IsOk, OnOk, OnErr, length};
 ghost use Rattle.std.specs.FinMap.{entries};
 ghost use Rattle.ft_base.specs.Contents.{Contents};
 ghost use Rattle.cache_model.specs.Buckets.{AreBucketsFor};
@@ -32,10 +32,11 @@ impl Ssc {
         self.stopped
     }
 
-    /// How many groups have a dirty block.
+    /// How many groups have a dirty block: C at most.
     pub fn dirty_groups(&self) -> u32
-        ensures { (contents : Contents) (s : CacheList) → Holds self.now contents s
+        ensures count { (contents : Contents) (s : CacheList) → Holds self.now contents s
             → result ≡ length (dirty_groups (geometry_of self.now) s) }
+        ensures most { (contents : Contents) (s : CacheList) → Holds self.now contents s → result ≤ (geometry_of self.now).c }
     {
         self.parts.map.dirty_groups()
     }
