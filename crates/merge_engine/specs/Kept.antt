@@ -53,10 +53,12 @@ pub record IsNoted (g : Geometry) (change : Record) (old new : MapValue) : Type 
   pub buckets : new.buckets ≡ old.buckets
   pub group_buckets : new.group_buckets ≡ old.group_buckets
 
--- the map has memory for as many pages as before, and for at most so many groups fewer
+-- the map has memory for as many pages as before, and for at most so many groups fewer; its buckets stay
 pub record KeepsRoom (old new : MapValue) (n : ℕ) : Type 0 where
   pub pages : new.spare_pages ≡ old.spare_pages
   pub groups : old.spare_groups ≤ new.spare_groups + n
+  pub buckets : new.buckets ≡ old.buckets
+  pub group_buckets : new.group_buckets ≡ old.group_buckets
 
 -- ---- what it keeps of the list
 

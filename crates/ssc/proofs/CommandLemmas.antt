@@ -1,5 +1,5 @@
 -- What a command answers and leaves, between two states of the cache that holds a list.
-use Rattle.std.proofs.Common.{◌≡◌, ◌↔◌, ℕ, ◌<◌, ◌==◌, Bool, true, false, cond, Option, Some, None, Result, Ok, Err, OnOk, IsTrue, refl, sym, ◌∙◌, ap, subst, arith, inl, inr, eqb-true}
+use Rattle.std.proofs.Common.{◌≡◌, ◌↔◌, ℕ, ◌<◌, ◌==◌, Bool, true, false, cond, Option, Some, None, Result, Ok, Err, OnOk, OnErr, IsTrue, refl, sym, ◌∙◌, ap, subst, arith, inl, inr, eqb-true}
 use Rattle.std.specs.Result.{is_err}
 use Rattle.std.specs.Option.{option_map, is_some}
 use Rattle.std.specs.Cmp.{nat_cmp_total}
@@ -51,11 +51,15 @@ pub images_before : (g : Geometry) (contents : Contents) (undone before after : 
 images_before g contents undone before after (inl s) = image_of g contents undone before after (AsUndone s)
 images_before g contents undone before after (inr s) = image_of g contents undone before after (AsBefore s)
 
--- ---- an answer that isn't a refusal
+-- ---- an answer that isn't a refusal, and one that is
 
 pub not_refused : {T E P : Type 0} (r : Result T E) (b : Bool) → b ≡ is_err r → b ≡ false → OnOk r P → P
 not_refused (Ok v) b is f h = h
 not_refused (Err e) b is f h = absurd (both_ways b f is)
+
+pub was_refused : {T E P : Type 0} (r : Result T E) (b : Bool) → b ≡ is_err r → b ≡ true → OnErr r P → P
+was_refused (Ok v) b is t h = absurd (both_ways b is t)
+was_refused (Err e) b is t h = h
 
 -- ---- given up
 

@@ -11,5 +11,6 @@ pub mod PlaceLemmas
 pub mod WrittenLemmas
 pub mod SpendLemmas
 pub mod WriteLemmas
+pub mod GrowthLemmas
 pub mod OwnLemmas
 pub mod Words

@@ -1,5 +1,5 @@
 -- What the commands have in common, and what the writes and the opening leave.
-use Rattle.std.specs.Prelude.{◌≡◌, ◌≤◌, ◌+◌, ◌++◌, ◌∷◌, [], ℕ, length, false, None, Result, OnOk, IsErrOf}
+use Rattle.std.specs.Prelude.{◌≡◌, ◌⊎◌, ◌≤◌, ◌+◌, ◌++◌, ◌∷◌, [], ℕ, length, max, false, None, Result, OnOk, IsErrOf}
 use Rattle.std.specs.FinMap.{get}
 use Rattle.ft_base.specs.declared.geometry.Geometry.{Geometry}
 use Rattle.ft_base.specs.Contents.{Contents}
@@ -10,6 +10,9 @@ use Rattle.ft_media.specs.Passes.{ProgramsPages}
 use Rattle.ft_media.specs.Media.{program_counted}
 use Rattle.cache_model.specs.Cache.{Inserted}
 use Rattle.cache_model.specs.CacheList.{CacheList}
+use Rattle.mapping.specs.MapValue.{MapValue}
+use Rattle.mapping.specs.Room.{GrewForPages, GrewForGroups}
+use Rattle.merge_engine.specs.declared.parts.Parts.{Parts}
 use Rattle.merge_engine.specs.Steps.{HasLogBlock}
 use Rattle.ssc.specs.declared.cache.Ssc.{Ssc}
 use Rattle.ssc.specs.declared.error.SscError.{SscError}
@@ -20,17 +23,31 @@ use Rattle.ssc.specs.Commands.{ImagesOf}
 
 -- ---- every command that drives the flash
 
--- the geometry stays, the cache is given up exactly where the flash failed or power was lost, and the flash alone is driven
+-- the map has as many buckets as before
+pub record KeepsBuckets (old new : MapValue) : Type 0 where
+  pub pages : new.buckets ≡ old.buckets
+  pub groups : new.group_buckets ≡ old.group_buckets
+
+-- it has as many as before, or they doubled as the room of a write asks
+pub record GrewForWrite (old new : Parts) : Type 0 where
+  pub pages : (new.map.buckets ≡ old.map.buckets) ⊎ GrewForPages old.map new.map (max old.map.spare_pages 1)
+  pub groups : (new.map.group_buckets ≡ old.map.group_buckets) ⊎ GrewForGroups old.map new.map (max old.map.spare_groups old.geometry.p)
+
+-- a write: the geometry stays, the map grows as its room asks, the cache is given up exactly where the flash failed or power was lost,
+-- and the flash alone is driven
 pub record RunsCommand {T : Type 0} (old new : Ssc) (before after : State) (result : Result T SscError) : Type 0 where
   pub geometry : geometry_of new ≡ geometry_of old
+  pub buckets : GrewForWrite old.parts new.parts
   pub stopped : new.stopped ≡ stops result
   pub drives : DrivesFlash before after (ssc_failed result) (ssc_lost result)
 
--- the same of a command that takes no memory: it never answers that it's full or that memory is wanted, and what a write has ready stays so
+-- the same of a command that takes no memory: it never answers that it's full or that memory is wanted, the buckets of the map stay, and
+-- what a write has ready stays so
 pub record RunsInPlace {T : Type 0} (old new : Ssc) (before after : State) (result : Result T SscError) : Type 0 where
   pub geometry : geometry_of new ≡ geometry_of old
   pub full : (n l : ℕ) → IsErrOf result (Full n l) → ⊥
   pub memory : IsErrOf result OutOfMemory → ⊥
+  pub buckets : KeepsBuckets old.parts.map new.parts.map
   pub stopped : new.stopped ≡ stops result
   pub ready : new.ready ≡ old.ready
   pub drives : DrivesFlash before after (ssc_failed result) (ssc_lost result)

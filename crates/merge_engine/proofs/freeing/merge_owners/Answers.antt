@@ -33,6 +33,8 @@ loop-page-preserved g c =
       log_blocks = logs;
       pages = c.merge_owner.ensures.room.pages ∙ k.pages;
       groups = let first = k.groups in let then = c.merge_owner.ensures.room.groups in omega arith;
+      buckets = c.merge_owner.ensures.room.buckets ∙ k.buckets;
+      group_buckets = c.merge_owner.ensures.room.group_buckets ∙ k.group_buckets;
       agree = e.goes.agree;
       room = e.goes.room;
       nothing = λ unheld. let was = k.nothing unheld in let now = c.merge_owner.ensures.nothing (unowned_in c.args.cache.now l.cache c.args.block l.page was.0 unheld) in (now.1 ∙ was.0, now.2 ∙ was.1);

@@ -2,10 +2,12 @@ use Rattle.std.proofs.Common.{rules, ◌<◌, true, inl, refl, sym, subst, ap}
 use Rattle.ft_base.specs.declared.geometry.Geometry.{Geometry}
 use Rattle.cache_model.specs.Cache.{written_block, undo, written_dirty}
 use Rattle.ssc.specs.CacheState.{pending}
-use Rattle.ssc.proofs.CommandLemmas.{not_refused, drives_given_up}
+use Rattle.ssc.proofs.CommandLemmas.{not_refused, was_refused, drives_given_up}
+use Rattle.ssc.proofs.GrowthLemmas.{grew_still, grew_refused, grew_written}
 use Rattle.ssc.proofs.HoldsLemmas.{few_buffered}
 use Rattle.ssc.proofs.WriteLemmas.{full_is, not_full, not_full_from, images_kept, images_written, log_room_left, written_from, inside_from, settled_unready, left_committed, log_left, room_left, room_for}
 use Rattle.ssc.proofs.OwnLemmas.{given_up_not, kept_held, kept_write}
+use Rattle.ssc.specs.Kept.{GrewForWrite}
 use Rattle.ssc.specs.declared.cache.Ssc.{Ssc}
 use Rattle.ssc.proofs.cache.Ssc.write_dirty.Goals as goal
 
@@ -66,9 +68,37 @@ pub returns-in-Err-clause-own : goal.returns-in-Err-clause-own
 returns-in-Err-clause-own g c = kept_write c.args.self.now c.give_up.new.self (g.M.Media.state c.args.media.now).contents (g.M.Media.state c.write_committed.new.media).contents c.args.lba c.args.block.now true
     (λ up. given_up_not c.give_up.new.self (ap (λ (k : Ssc). k.stopped) c.give_up.ensures.cache) up) (returns-in-Err-clause-images g c)
 
+pub returns-then-is_full-clause-runs : goal.returns-then-is_full-clause-runs
+returns-then-is_full-clause-runs g c = record {
+  geometry = search rules;
+  buckets = grew_still c.args.self.now.parts;
+  stopped = search rules;
+  drives = search rules;
+}
+
+pub returns-then-is_err-clause-runs : goal.returns-then-is_err-clause-runs
+returns-then-is_err-clause-runs g c = record {
+  geometry = search rules;
+  buckets = grew_refused c.args.self.now c.reserve.new.self (was_refused c.reserve.result c.is_err.result c.is_err.ensures.value c.if-is_err.true c.reserve.ensures.refused).1;
+  stopped = search rules;
+  drives = search rules;
+}
+
+pub returns-in-Ok-clause-runs : goal.returns-in-Ok-clause-runs
+returns-in-Ok-clause-runs g c = record {
+  geometry = search rules;
+  buckets = grew_written c.args.self.now c.reserve.new.self c.write_committed.new.parts (λ is. (c.reserve.ensures.there is).1)
+      (not_refused c.reserve.result c.is_err.result c.is_err.ensures.value c.if-is_err.false c.reserve.ensures.room) c.write_committed.ensures.buckets;
+  stopped = search rules;
+  drives = search rules;
+}
+
 pub returns-in-Err-clause-runs : goal.returns-in-Err-clause-runs
 returns-in-Err-clause-runs g c = record {
   geometry = search rules;
+  buckets = subst (λ (k : Ssc). GrewForWrite c.args.self.now.parts k.parts) (sym c.give_up.ensures.cache)
+      (grew_written c.args.self.now c.reserve.new.self c.write_committed.new.parts (λ is. (c.reserve.ensures.there is).1)
+      (not_refused c.reserve.result c.is_err.result c.is_err.ensures.value c.if-is_err.false c.reserve.ensures.room) c.write_committed.ensures.buckets);
   stopped = search rules;
   drives = drives_given_up (Unit {0}) (g.M.Media.state c.args.media.now) (g.M.Media.state c.write_committed.new.media) c.give_up.result c.in-Err.error c.give_up.ensures.error c.in-Err.ensures.drives.flash;
 }
