@@ -28,7 +28,12 @@ pub record KeepsBuckets (old new : MapValue) : Type 0 where
   pub pages : new.buckets ≡ old.buckets
   pub groups : new.group_buckets ≡ old.group_buckets
 
--- it has as many as before, or they doubled as the room of a write asks
+-- so it has, and the geometry stays
+pub record KeepsTables (old new : Parts) : Type 0 where
+  pub geometry : new.geometry ≡ old.geometry
+  pub buckets : KeepsBuckets old.map new.map
+
+-- the map has as many buckets as before, or they doubled as the room of a write asks
 pub record GrewForWrite (old new : Parts) : Type 0 where
   pub pages : (new.map.buckets ≡ old.map.buckets) ⊎ GrewForPages old.map new.map (max old.map.spare_pages 1)
   pub groups : (new.map.group_buckets ≡ old.map.group_buckets) ⊎ GrewForGroups old.map new.map (max old.map.spare_groups old.geometry.p)

@@ -13,7 +13,7 @@ ghost use Rattle.merge_engine.specs.Room.{FlashStandsForGiven};
 ghost use Rattle.merge_engine.specs.Steps.{HasLogBlock, HasRoomFor, dirty_groups_with};
 ghost use Rattle.ssc.specs.Errors as errors;
 ghost use Rattle.ssc.specs.CacheState.{HasMemory, entries_of, geometry_of};
-ghost use Rattle.ssc.specs.Kept.{KeepsBuckets};
+ghost use Rattle.ssc.specs.Kept.{KeepsTables};
 ghost use Rattle.ssc.specs.Steps.{IsPushed, LeavesPut, LeftOf, ListsAfter, MayStep, PutsBlock, FlashStandsForEither};
 
 use crate::error::of_media;
@@ -75,8 +75,7 @@ pub(crate) fn write_committed<M: Media>(
     requires may { MayStep parts.old (M.state media.old).contents lba }
     requires memory { HasMemory parts.old }
     requires dirty { dirty ≡ true → HasRoomFor parts.old.geometry parts.old.map.entries lba }
-    ensures geometry { parts.new.geometry ≡ parts.old.geometry }
-    ensures buckets { KeepsBuckets parts.old.map parts.new.map }
+    ensures kept { KeepsTables parts.old parts.new }
     ensures agree { OnOk result (PartsAgree parts.new (M.state media.new).contents) }
     ensures nothing_waits { OnOk result (parts.new.log.buffered ≡ []) }
     ensures lists { OnOk result ((list durable : CacheList) → Lists parts.old (M.state media.old).contents.flash.page list durable
@@ -102,8 +101,7 @@ pub(crate) fn write_buffered<M: Media>(
 ) -> Result<(), MediaError>
     requires may { MayStep parts.old (M.state media.old).contents lba }
     requires memory { HasMemory parts.old }
-    ensures geometry { parts.new.geometry ≡ parts.old.geometry }
-    ensures buckets { KeepsBuckets parts.old.map parts.new.map }
+    ensures kept { KeepsTables parts.old parts.new }
     ensures agree { OnOk result (PartsAgree parts.new (M.state media.new).contents) }
     ensures few { OnOk result (length parts.new.log.buffered < page_records parts.new.log.geometry) }
     ensures lists { OnOk result ((list durable : CacheList) → Lists parts.old (M.state media.old).contents.flash.page list durable
@@ -131,8 +129,7 @@ fn write_page<M: Media>(
     requires may { MayStep parts.old (M.state media.old).contents lba }
     requires memory { HasMemory parts.old }
     requires dirty { dirty ≡ true → HasRoomFor parts.old.geometry parts.old.map.entries lba }
-    ensures geometry { parts.new.geometry ≡ parts.old.geometry }
-    ensures buckets { KeepsBuckets parts.old.map parts.new.map }
+    ensures kept { KeepsTables parts.old parts.new }
     ensures agree { OnOk result (PartsAgree parts.new (M.state media.new).contents) }
     ensures waits { OnOk result (parts.new.log.buffered ≢ []) }
     ensures lists { OnOk result ((list durable : CacheList) → Lists parts.old (M.state media.old).contents.flash.page list durable
@@ -161,8 +158,7 @@ pub(crate) fn take_out<M: Media>(
     lba: u64,
 ) -> Result<(), MediaError>
     requires may { MayStep parts.old (M.state media.old).contents lba }
-    ensures geometry { parts.new.geometry ≡ parts.old.geometry }
-    ensures buckets { KeepsBuckets parts.old.map parts.new.map }
+    ensures kept { KeepsTables parts.old parts.new }
     ensures reserved { HasMemory parts.old → HasMemory parts.new }
     ensures agree { OnOk result (PartsAgree parts.new (M.state media.new).contents) }
     ensures nothing_waits { OnOk result (parts.new.log.buffered ≡ []) }
@@ -186,8 +182,7 @@ pub(crate) fn mark_clean<M: Media>(
     lba: u64,
 ) -> Result<(), MediaError>
     requires may { MayStep parts.old (M.state media.old).contents lba }
-    ensures geometry { parts.new.geometry ≡ parts.old.geometry }
-    ensures buckets { KeepsBuckets parts.old.map parts.new.map }
+    ensures kept { KeepsTables parts.old parts.new }
     ensures reserved { HasMemory parts.old → HasMemory parts.new }
     ensures agree { OnOk result (PartsAgree parts.new (M.state media.new).contents) }
     ensures room { OnOk result (length parts.new.log.buffered < page_records parts.new.log.geometry) }

@@ -22,10 +22,10 @@ pub returns-clause-leaves : goal.returns-clause-leaves
 returns-clause-leaves g c =
     record {
       stands = λ list durable lists. step_then c.args.parts.now c.write_page.new.parts (g.M.Media.state c.write_page.new.media).contents.flash.page (g.M.Media.state c.commit_if_full.new.media).contents.flash.page c.args.lba
-          (written_block c.args.lba c.args.block.now false) c.write_page.ensures.geometry list durable
+          (written_block c.args.lba c.args.block.now false) c.write_page.ensures.kept.geometry list durable
           c.commit_if_full.ensures.stands (c.in_ok-write_page.ensures.lists list durable lists);
       kept = λ room list durable lists. kept_then c.args.parts.now c.write_page.new.parts (g.M.Media.state c.write_page.new.media).contents.flash.page (g.M.Media.state c.commit_if_full.new.media).contents.flash.page c.args.lba
-          (written_block c.args.lba c.args.block.now false) c.write_page.ensures.geometry list durable
+          (written_block c.args.lba c.args.block.now false) c.write_page.ensures.kept.geometry list durable
           c.commit_if_full.ensures.stands room (c.in_ok-write_page.ensures.lists list durable lists);
     }
 

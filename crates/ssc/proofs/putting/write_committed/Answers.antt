@@ -22,16 +22,16 @@ pub returns-clause-leaves : goal.returns-clause-leaves
 returns-clause-leaves g c =
     record {
       stands = λ list durable lists. step_then c.args.parts.now c.write_page.new.parts (g.M.Media.state c.write_page.new.media).contents.flash.page (g.M.Media.state c.commit.new.media).contents.flash.page c.args.lba
-          (written_block c.args.lba c.args.block.now c.args.dirty) c.write_page.ensures.geometry list durable
+          (written_block c.args.lba c.args.block.now c.args.dirty) c.write_page.ensures.kept.geometry list durable
           c.commit.ensures.kept.stands (c.in_ok-write_page.ensures.lists list durable lists);
       kept = λ room list durable lists. kept_then c.args.parts.now c.write_page.new.parts (g.M.Media.state c.write_page.new.media).contents.flash.page (g.M.Media.state c.commit.new.media).contents.flash.page c.args.lba
-          (written_block c.args.lba c.args.block.now c.args.dirty) c.write_page.ensures.geometry list durable
+          (written_block c.args.lba c.args.block.now c.args.dirty) c.write_page.ensures.kept.geometry list durable
           c.commit.ensures.kept.stands room (c.in_ok-write_page.ensures.lists list durable lists);
     }
 
 pub returns-clause-two_programs : goal.returns-clause-two_programs
 returns-clause-two_programs g c = on_ok_from c.commit.result (λ v is. λ room left.
-    counted_twice c.args.parts.now c.write_page.new.parts c.args.lba c.args.dirty c.write_page.ensures.geometry _ _ _ (c.in_ok-write_page.ensures.one_program room) c.in_ok-write_page.ensures.waits left (ok_at c.commit.result v is c.commit.ensures.one_page))
+    counted_twice c.args.parts.now c.write_page.new.parts c.args.lba c.args.dirty c.write_page.ensures.kept.geometry _ _ _ (c.in_ok-write_page.ensures.one_program room) c.in_ok-write_page.ensures.waits left (ok_at c.commit.result v is c.commit.ensures.one_page))
 
 pub returns-clause-programs : goal.returns-clause-programs
 returns-clause-programs g c = on_ok_from c.commit.result (λ v is. record {

@@ -24,7 +24,7 @@ pub put_clean-requires-clause-memory : goal.put_clean-requires-clause-memory
 put_clean-requires-clause-memory g c = (c.reserve.ensures.holds (g.M.Media.state c.args.media.now).contents c.requires.up.list c.requires.up.holds).memory (not_refused c.reserve.result c.is_err.result c.is_err.ensures.value c.if-is_err.false c.reserve.ensures.ready)
 
 pub returns-in-Ok-clause-done : goal.returns-in-Ok-clause-done
-returns-in-Ok-clause-done g c = λ s holds. written_from c.reserve.new.self.parts _ (g.M.Media.state c.put_clean.new.media).contents s c.args.lba (written_clean c.args.lba c.args.block.now) c.put_clean.ensures.geometry
+returns-in-Ok-clause-done g c = λ s holds. written_from c.reserve.new.self.parts _ (g.M.Media.state c.put_clean.new.media).contents s c.args.lba (written_clean c.args.lba c.args.block.now) c.put_clean.ensures.kept.geometry
     (left_clean c.reserve.new.self _ (g.M.Media.state c.args.media.now).contents (g.M.Media.state c.put_clean.new.media).contents s c.args.lba c.args.block.now (c.reserve.ensures.holds (g.M.Media.state c.args.media.now).contents s holds)
     (settled_unready c.put_clean.new.self (g.M.Media.state c.put_clean.new.media).contents (ap (λ (v : Ssc). v.ready) c.put_clean.ensures.cache) c.in-Ok.ensures.agree)
     c.in-Ok.ensures.few c.in-Ok.ensures.over_held (held_none c.reserve.new.self (g.M.Media.state c.args.media.now).contents s c.args.lba
@@ -72,7 +72,7 @@ pub returns-in-Ok-clause-runs : goal.returns-in-Ok-clause-runs
 returns-in-Ok-clause-runs g c = record {
   geometry = search rules;
   buckets = grew_written c.args.self.now c.reserve.new.self c.put_clean.new.self.parts (λ is. (c.reserve.ensures.there is).1)
-      (not_refused c.reserve.result c.is_err.result c.is_err.ensures.value c.if-is_err.false c.reserve.ensures.room) c.put_clean.ensures.buckets;
+      (not_refused c.reserve.result c.is_err.result c.is_err.ensures.value c.if-is_err.false c.reserve.ensures.room) c.put_clean.ensures.kept.buckets;
   stopped = search rules;
   drives = search rules;
 }
@@ -82,7 +82,7 @@ returns-in-Err-clause-runs g c = record {
   geometry = search rules;
   buckets = subst (λ (k : Ssc). GrewForWrite c.args.self.now.parts k.parts) (sym c.give_up.ensures.cache)
       (grew_written c.args.self.now c.reserve.new.self c.put_clean.new.self.parts (λ is. (c.reserve.ensures.there is).1)
-      (not_refused c.reserve.result c.is_err.result c.is_err.ensures.value c.if-is_err.false c.reserve.ensures.room) c.put_clean.ensures.buckets);
+      (not_refused c.reserve.result c.is_err.result c.is_err.ensures.value c.if-is_err.false c.reserve.ensures.room) c.put_clean.ensures.kept.buckets);
   stopped = search rules;
   drives = drives_given_up (Unit {0}) (g.M.Media.state c.args.media.now) (g.M.Media.state c.put_clean.new.media) c.give_up.result c.in-Err.error c.give_up.ensures.error c.in-Err.ensures.drives.flash;
 }

@@ -41,7 +41,7 @@ pub returns-in-Err-clause-full : goal.returns-in-Err-clause-full
 returns-in-Err-clause-full g c = λ s holds. not_full_from c.args.self.now (g.M.Media.state c.args.media.now).contents s c.args.lba holds (Unit {0}) c.give_up.result c.in-Err.error c.give_up.ensures.error (c.is_full.ensures.room c.if-is_full.false)
 
 pub returns-in-Ok-clause-done : goal.returns-in-Ok-clause-done
-returns-in-Ok-clause-done g c = λ s holds. written_from c.reserve.new.self.parts _ (g.M.Media.state c.write_committed.new.media).contents s c.args.lba (written_dirty c.args.lba c.args.block.now) c.write_committed.ensures.geometry
+returns-in-Ok-clause-done g c = λ s holds. written_from c.reserve.new.self.parts _ (g.M.Media.state c.write_committed.new.media).contents s c.args.lba (written_dirty c.args.lba c.args.block.now) c.write_committed.ensures.kept.geometry
     (left_committed c.reserve.new.self.parts _ (g.M.Media.state c.write_committed.new.media).contents s c.args.lba (written_block c.args.lba c.args.block.now true) (settled_unready _ (g.M.Media.state c.write_committed.new.media).contents refl c.in-Ok.ensures.agree) c.in-Ok.ensures.nothing_waits
     (c.in-Ok.ensures.lists s (undo (pending c.reserve.new.self) s) (c.reserve.ensures.holds (g.M.Media.state c.args.media.now).contents s holds).lists))
 
@@ -88,7 +88,7 @@ pub returns-in-Ok-clause-runs : goal.returns-in-Ok-clause-runs
 returns-in-Ok-clause-runs g c = record {
   geometry = search rules;
   buckets = grew_written c.args.self.now c.reserve.new.self c.write_committed.new.parts (λ is. (c.reserve.ensures.there is).1)
-      (not_refused c.reserve.result c.is_err.result c.is_err.ensures.value c.if-is_err.false c.reserve.ensures.room) c.write_committed.ensures.buckets;
+      (not_refused c.reserve.result c.is_err.result c.is_err.ensures.value c.if-is_err.false c.reserve.ensures.room) c.write_committed.ensures.kept.buckets;
   stopped = search rules;
   drives = search rules;
 }
@@ -98,7 +98,7 @@ returns-in-Err-clause-runs g c = record {
   geometry = search rules;
   buckets = subst (λ (k : Ssc). GrewForWrite c.args.self.now.parts k.parts) (sym c.give_up.ensures.cache)
       (grew_written c.args.self.now c.reserve.new.self c.write_committed.new.parts (λ is. (c.reserve.ensures.there is).1)
-      (not_refused c.reserve.result c.is_err.result c.is_err.ensures.value c.if-is_err.false c.reserve.ensures.room) c.write_committed.ensures.buckets);
+      (not_refused c.reserve.result c.is_err.result c.is_err.ensures.value c.if-is_err.false c.reserve.ensures.room) c.write_committed.ensures.kept.buckets);
   stopped = search rules;
   drives = drives_given_up (Unit {0}) (g.M.Media.state c.args.media.now) (g.M.Media.state c.write_committed.new.media) c.give_up.result c.in-Err.error c.give_up.ensures.error c.in-Err.ensures.drives.flash;
 }
