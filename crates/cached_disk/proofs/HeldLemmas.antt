@@ -43,6 +43,7 @@ holds_beside c old disk s holds =
       kinds = holds.kinds;
       waits = holds.waits;
       memory = holds.memory;
+      few = holds.few;
     }
 
 pub holds_over : (c : Ssc) (old new : Contents) (s : CacheList) → new.flash ≡ old.flash → new.shape ≡ old.shape → Holds c old s → Holds c new s

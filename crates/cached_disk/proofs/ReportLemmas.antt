@@ -1,9 +1,10 @@
 -- A report: a flush, and then each page that is held is read.
-use Rattle.std.proofs.Common.{◌≡◌, ◌≢◌, ◌+◌, ◌≤◌, Bool, true, false, List, [], ◌∷◌, None, Result, Ok, Err, length, inl, inr, refl, sym, ◌∙◌, ap, subst, arith}
+use Rattle.std.proofs.Common.{◌≡◌, ◌≢◌, ◌+◌, ◌*◌, ◌≤◌, Bool, true, false, List, [], ◌∷◌, None, Result, Ok, Err, length, inl, inr, refl, sym, ◌∙◌, ap, subst, arith}
 use Rattle.std.specs.Prelude.{IfOk, IsErrOf, OnOk}
 use Rattle.std.proofs.lemmas.Bool.{false≢true}
 use Rattle.ft_base.specs.Contents.{Contents}
 use Rattle.ft_base.specs.Count.{RoseBy}
+use Rattle.ft_base.specs.Layout.{most_page_records}
 use Rattle.ft_base.specs.PlainDisk.{PlainDisk, BlockWrite}
 use Rattle.ft_base.specs.Told.{Told}
 use Rattle.ft_base.specs.declared.block.Page.{Page}
@@ -23,7 +24,7 @@ use Rattle.ft_volume.specs.declared.volume.Report.{Report}
 use Rattle.ft_volume.specs.declared.volume.VolumeError.{VolumeError}
 use Rattle.ft_volume.specs.declared.volume.VolumeError.TheVariants as volume
 use Rattle.ft_volume.proofs.UpLemmas.{cause_at, cause_then, err_at, lost_at}
-use Rattle.cache_model.specs.Buckets.{AreBucketsFor}
+use Rattle.cache_model.specs.Buckets.{AreBucketsFor, AreFewFor}
 use Rattle.cache_model.specs.Cache.{dirty_groups, undo}
 use Rattle.cache_model.specs.CacheList.{CacheList}
 use Rattle.cache_model.specs.Entries.{groups_with}
@@ -215,12 +216,15 @@ module _ (v w : CachedDisk) (contents : Contents) (options : w.options ≡ v.opt
 
   pub report_is : (report : Report) → report.held ≡ held_count (entries_of w.cache) → ((c : Contents) (s : CacheList) → Holds w.cache c s → report.dirty_groups ≡ length (dirty_groups (geometry_of w.cache) s))
       → ((c : Contents) (s : CacheList) → Holds w.cache c s → report.dirty_groups ≤ (geometry_of w.cache).c)
-      → AreBucketsFor (entries_of w.cache) report.buckets → report.scrubbed ≡ held_count (entries_of w.cache) → IsReport v.options.geometry (entries_of w.cache) report
-  report_is report held groups most buckets scrubbed = record {
+      → AreBucketsFor (entries_of w.cache) report.buckets
+      → ((c : Contents) (s : CacheList) → Holds w.cache c s → AreFewFor ((geometry_of w.cache).l * (geometry_of w.cache).p + most_page_records) report.buckets)
+      → report.scrubbed ≡ held_count (entries_of w.cache) → IsReport v.options.geometry (entries_of w.cache) report
+  report_is report held groups most buckets few_buckets scrubbed = record {
     held = held;
     dirty_groups = groups contents left.held held_now ∙ groups_of w.cache contents left.held held_now none ∙ ap (λ (g : Geometry). length (groups_with g (λ e. e.dirty) (entries_of w.cache))) own;
     few = subst (λ (g : Geometry). report.dirty_groups ≤ g.c) own (most contents left.held held_now);
     buckets = buckets;
+    few_buckets = subst (λ (g : Geometry). AreFewFor (g.l * g.p + most_page_records) report.buckets) own (few_buckets contents left.held held_now);
     scrubbed = scrubbed;
   }
 

@@ -15,6 +15,7 @@ pub mod PackedLemmas
 pub mod TallyLemmas
 pub mod RangeLemmas
 pub mod StepLemmas
+pub mod FewLemmas
 pub mod ListingLemmas
 pub mod SeekingLemmas
 pub mod ApplyLemmas

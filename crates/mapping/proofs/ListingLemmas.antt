@@ -1,6 +1,6 @@
 -- The records of a checkpoint in the order of the buckets: each data block and each mapped page once.
 use Rattle.std.proofs.Common.{◌≡◌, ℕ, zero, suc, ◌+◌, ◌*◌, ◌/◌, ◌%◌, ◌^◌, ◌<◌, ◌≤◌, ◌==◌, ◌||◌, Bool, true, false, cond, not, List, [], ◌∷◌, ◌++◌, length, map}
-use Rattle.std.proofs.Common.{filter, Option, Some, None, Result, Ok, Err, OnOk, OnErr, refl, sym, ◌∙◌, ap, ap₂, arith, inl, inr, ◌⊎◌, nat_cmp, nat_le, eqb-true, eq-eqb, ne_eqb, pow-suc}
+use Rattle.std.proofs.Common.{filter, Option, Some, None, Result, Ok, Err, OnOk, OnErr, refl, sym, ◌∙◌, ap, ap₂, subst, arith, inl, inr, ◌⊎◌, nat_cmp, nat_le, eqb-true, eq-eqb, ne_eqb}
 use Rattle.std.specs.Bool.{then_some}
 use Rattle.std.specs.List.{AllByRecursion}
 use Rattle.std.specs.FinMap.{get, entries, find}
@@ -32,6 +32,7 @@ use Rattle.cache_model.specs.Buckets.{AreBucketsFor}
 use Rattle.mapping.proofs.MarksLemmas.{same_bools, member_from, member_to}
 use Rattle.mapping.proofs.PackedLemmas.{get_held, data_block_is}
 use Rattle.mapping.proofs.ChosenLemmas.{blocks_as}
+use Rattle.mapping.proofs.FewLemmas.{start_or_few}
 use Rattle.mapping.proofs.TallyLemmas.{tally_is}
 use Rattle.mapping.proofs.SeekingLemmas.{none_some}
 
@@ -288,24 +289,14 @@ module _ (g : Geometry) (pages : PackedTable MappedPage) (blocks : PackedTable B
 
 -- a table that doubled for no more than 2^30 keys has no more than 2^32 buckets
 pub doubled_few : (need narrow wide : ℕ) → need ≤ 2 ^ 30 → narrow ≤ 2 ^ 32 → IsDoubledFor need narrow wide → wide ≤ 2 ^ 32
-doubled_few need narrow wide few old doubled = by_doublings doubled.doublings doubled.is doubled.needed
+doubled_few need narrow wide few old doubled = elim (start_or_few need narrow wide doubled) [
+  | inl is ↦ subst (λ n. n ≤ 2 ^ 32) (sym is) (start_few (nat_le 32 narrow))
+  | inr under ↦ omega (arith, under, few)
+]
   where
-    base_few : (b : Bool) → cond b narrow 32 ≤ 2 ^ 32
-    base_few true = old
-    base_few false = omega arith
-
-    by_doublings : (k : ℕ) → wide ≡ cond (nat_le 32 narrow) narrow 32 * 2 ^ k → ((j : ℕ) → j < k → 3 * (cond (nat_le 32 narrow) narrow 32 * 2 ^ j) < 4 * need) → wide ≤ 2 ^ 32
-    by_doublings zero is needed = let base = base_few (nat_le 32 narrow) in let same = times_one (cond (nat_le 32 narrow) narrow 32) in omega (arith, is, base, same)
-      where
-        times_one : (n : ℕ) → n * 2 ^ 0 ≡ n
-        times_one n = omega arith
-    by_doublings (suc j) is needed =
-        let last = needed j (omega arith) in
-        let twice = times_two (cond (nat_le 32 narrow) narrow 32) j in
-        omega (arith, is, last, twice, few)
-      where
-        times_two : (n j : ℕ) → n * 2 ^ suc j ≡ n * 2 ^ j + n * 2 ^ j
-        times_two n j = rw pow-suc (omega arith)
+    start_few : (b : Bool) → cond b narrow 32 ≤ 2 ^ 32
+    start_few true = old
+    start_few false = omega arith
 
 -- the same where the call may have been refused
 pub doubled_or_same : {T E : Type 0} (r : Result T E) (need narrow wide : ℕ) → need ≤ 2 ^ 30 → narrow ≤ 2 ^ 32 → OnOk r (IsDoubledFor need narrow wide) → OnErr r (wide ≡ narrow) → wide ≤ 2 ^ 32

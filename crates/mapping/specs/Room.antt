@@ -1,6 +1,9 @@
 -- How many buckets there are after a reservation: as many as before, or 32 in place of none, doubled just as often as the items and so
 -- many more ask; and what other calls keep.
-use Rattle.std.specs.Prelude.{◌≡◌, ℕ, ◌+◌}
+use Rattle.std.specs.Prelude.{◌≡◌, ◌≤◌, ℕ, ◌+◌, ◌*◌}
+use Rattle.ft_base.specs.Layout.{most_page_records}
+use Rattle.cache_model.specs.Entries.{IsMap}
+use Rattle.cache_model.specs.Buckets.{AreFewFor}
 use Rattle.sparse_map.specs.Home.{IsDoubledFor}
 use Rattle.mapping.specs.Counts.{page_mapped_count, data_block_count}
 use Rattle.mapping.specs.MapValue.{MapValue}
@@ -13,7 +16,30 @@ GrewForPages old new more = IsDoubledFor (page_mapped_count old.entries + more) 
 abbrev pub GrewForGroups : MapValue → MapValue → ℕ → Type 0
 GrewForGroups old new more = IsDoubledFor (data_block_count old.geometry old.entries + more) old.group_buckets new.group_buckets
 
--- the same of the two packed maps within
+-- room for no more pages and groups than the records of one page take; and buckets that are few for all page-mapped addresses, and all
+-- groups with a data block, that a map of its geometry may have, with that room beside them
+pub record HasFewBuckets (m : MapValue) : Type 0 where
+  pub pages : m.spare_pages ≤ most_page_records
+  pub groups : m.spare_groups ≤ most_page_records
+  pub buckets : AreFewFor (m.geometry.l * m.geometry.p + most_page_records) m.buckets
+  pub group_buckets : AreFewFor (m.geometry.c + most_page_records) m.group_buckets
+
+-- a map of its geometry stays one, and keeps few buckets where it had few
+pub record KeepsFewBuckets (old new : MapValue) : Type 0 where
+  pub is_map : IsMap old.geometry old.entries → IsMap new.geometry new.entries
+  pub few : IsMap old.geometry old.entries → HasFewBuckets old → HasFewBuckets new
+
+-- there is no more room than there was
+pub record HasNoMoreRoom (old new : MapValue) : Type 0 where
+  pub pages : new.spare_pages ≤ old.spare_pages
+  pub groups : new.spare_groups ≤ old.spare_groups
+
+-- as many buckets as before
+pub record KeepsBuckets (old new : MapValue) : Type 0 where
+  pub pages : new.buckets ≡ old.buckets
+  pub groups : new.group_buckets ≡ old.group_buckets
+
+-- how the two packed maps within grew
 abbrev pub LogsGrew : HeldValue → HeldValue → ℕ → Type 0
 LogsGrew old new more = IsDoubledFor (page_mapped_count old.entries + more) old.buckets new.buckets
 

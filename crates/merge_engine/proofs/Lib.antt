@@ -1,3 +1,4 @@
+pub mod ReservedLemmas
 pub mod ResultLemmas
 pub mod BesideLemmas
 pub mod RoleLemmas

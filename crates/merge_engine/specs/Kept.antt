@@ -53,10 +53,11 @@ pub record IsNoted (g : Geometry) (change : Record) (old new : MapValue) : Type 
   pub buckets : new.buckets ≡ old.buckets
   pub group_buckets : new.group_buckets ≡ old.group_buckets
 
--- the map has memory for as many pages as before, and for at most so many groups fewer; its buckets stay
+-- the map has memory for as many pages as before, and for no more groups, and at most so many fewer; its buckets stay
 pub record KeepsRoom (old new : MapValue) (n : ℕ) : Type 0 where
   pub pages : new.spare_pages ≡ old.spare_pages
   pub groups : old.spare_groups ≤ new.spare_groups + n
+  pub no_more : new.spare_groups ≤ old.spare_groups
   pub buckets : new.buckets ≡ old.buckets
   pub group_buckets : new.group_buckets ≡ old.group_buckets
 

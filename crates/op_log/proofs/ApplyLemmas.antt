@@ -1,16 +1,21 @@
 -- Records applied one after the other, with room for all of them.
-use Rattle.std.proofs.Common.{◌≡◌, ℕ, ◌+◌, ◌<◌, ◌≤◌, ◌==◌, Bool, true, false, cond, List, length, get_or, drop, None, refl, sym, ◌∙◌, ap, ap₂, subst, arith}
+use Rattle.std.proofs.Common.{◌≡◌, ℕ, ◌+◌, ◌<◌, ◌≤◌, ◌==◌, Bool, true, false, cond, List, length, get_or, drop, Some, None, refl, sym, ◌∙◌, ap, ap₂, subst, arith}
+use Rattle.std.specs.Prelude.{IsTrue}
+use Rattle.std.specs.Bool.{OnTrue}
 use Rattle.std.proofs.lemmas.List.{at_drop_more}
 use Rattle.std.proofs.lemmas.List.Sums.{sum_by-drop_more}
 use Rattle.ft_base.specs.declared.geometry.Geometry.{Geometry}
+use Rattle.ft_base.specs.Layout.{most_page_records}
 use Rattle.ft_base.specs.declared.record.Record.{Record}
 use Rattle.ft_base.specs.declared.record.Record.TheVariants.{SetPage, Remove, Clean, SetGroup, RemoveGroup}
 use Rattle.cache_model.specs.Records.{after}
-use Rattle.cache_model.specs.Entries.{Fits, fits}
+use Rattle.cache_model.specs.Entries.{Fits, fits, IsMap}
 use Rattle.cache_model.specs.Loading.{after_all}
-use Rattle.cache_model.proofs.FitsLemmas.{fits-true, fits-from}
+use Rattle.cache_model.proofs.FitsLemmas.{fits-true, fits-from, after_all-map}
 use Rattle.mapping.specs.MapValue.{MapValue, pages_taken, groups_taken}
-use Rattle.op_log.specs.Walk.{pages_needed, groups_needed, TakesRoom, HasNoMoreRoom}
+use Rattle.mapping.specs.Room.{HasNoMoreRoom, KeepsBuckets, KeepsFewBuckets}
+use Rattle.mapping.proofs.FewLemmas.{few_kept, keeps_then, keeps_reserved, IsReserved}
+use Rattle.op_log.specs.Walk.{pages_needed, groups_needed, TakesRoom}
 
 page_taken : (r : Record) → cond (pages_taken r == 1) 1 0 ≡ pages_taken r
 page_taken (SetPage lba place dirty) = refl
@@ -38,6 +43,7 @@ pub record AppliedWithRoom (changes : List Record) (i : ℕ) (first now : MapVal
   pub groups : groups_needed (drop i changes) ≤ now.spare_groups
   pub pages_gone : now.spare_pages + pages_needed changes ≡ first.spare_pages + pages_needed (drop i changes)
   pub groups_gone : now.spare_groups + groups_needed changes ≡ first.spare_groups + groups_needed (drop i changes)
+  pub buckets : KeepsBuckets first now
 
 -- the record that is next fits
 fits_here : (changes : List Record) (i : ℕ) (r : Record) (first now : MapValue) → AppliedSoFar changes i first now → Fits now.geometry r now.entries → fits first.geometry r now.entries ≡ true
@@ -78,8 +84,9 @@ module _ (changes : List Record) (i : ℕ) (d : Record) (within : i < length cha
 
   pub applied_more : (first now next : MapValue) → AppliedWithRoom changes i first now → Fits now.geometry (get_or changes i d) now.entries → next.geometry ≡ now.geometry
       → next.entries ≡ after now.geometry (get_or changes i d) now.entries → next.spare_pages + pages_taken (get_or changes i d) ≡ now.spare_pages
-      → next.spare_groups + groups_taken (get_or changes i d) ≡ now.spare_groups → AppliedWithRoom changes (i + 1) first next
-  applied_more first now next so fit geometry entries pages groups =
+      → next.spare_groups + groups_taken (get_or changes i d) ≡ now.spare_groups → next.buckets ≡ now.buckets → next.group_buckets ≡ now.group_buckets
+      → AppliedWithRoom changes (i + 1) first next
+  applied_more first now next so fit geometry entries pages groups buckets group_buckets =
       let some = so.pages in
       let others = so.groups in
       let gone = so.pages_gone in
@@ -90,9 +97,28 @@ module _ (changes : List Record) (i : ℕ) (d : Record) (within : i < length cha
         groups = omega (arith, groups_left);
         pages_gone = omega (arith, pages_left);
         groups_gone = omega (arith, groups_left);
+        buckets = record { pages = buckets ∙ so.buckets.pages; groups = group_buckets ∙ so.buckets.groups };
       }
 
 -- ---- the room that is left
 
 pub room_taken : (changes : List Record) (first old new : MapValue) → HasNoMoreRoom first old → TakesRoom changes old new → HasNoMoreRoom first new
 room_taken changes first old new so took = let p = so.pages in let q = so.groups in let p' = took.pages in let q' = took.groups in record { pages = omega arith; groups = omega arith }
+
+-- ---- the buckets
+
+-- room was made for the records of a page, and then they took it
+pub few_applied : (changes : List Record) (p q : ℕ) (old ready new : MapValue) → p ≤ most_page_records → q ≤ most_page_records → IsReserved p q old ready → new.geometry ≡ ready.geometry
+    → HasNoMoreRoom ready new → KeepsBuckets ready new → after_all ready.geometry changes ready.entries ≡ Some new.entries → KeepsFewBuckets old new
+few_applied changes p q old ready new few_p few_q reserved same room kept applied = keeps_then old ready new (keeps_reserved p q old ready few_p few_q reserved) (record {
+  is_map = λ is. subst (λ (g : Geometry). IsMap g new.entries) (sym same) (after_all-map ready.geometry changes ready.entries new.entries is applied);
+  few = λ is few. few_kept ready new same room kept few;
+})
+
+-- the same of what the calls answered
+pub few_records : (changes : List Record) (applied : Bool) (p q : ℕ) (old ready new : MapValue) → p ≤ most_page_records → q ≤ most_page_records → IsReserved p q old ready → new.geometry ≡ ready.geometry
+    → OnTrue applied (new.spare_pages + pages_needed changes ≡ ready.spare_pages) → OnTrue applied (new.spare_groups + groups_needed changes ≡ ready.spare_groups) → KeepsBuckets ready new
+    → after_all ready.geometry changes ready.entries ≡ cond applied (Some new.entries) None → IsTrue applied → KeepsFewBuckets old new
+few_records changes true p q old ready new few_p few_q reserved same pages groups kept value is =
+    few_applied changes p q old ready new few_p few_q reserved same (record { pages = omega (arith, pages); groups = omega (arith, groups) }) kept value
+few_records changes false p q old ready new few_p few_q reserved same pages groups kept value is = absurd (cc)

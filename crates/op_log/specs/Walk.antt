@@ -74,8 +74,3 @@ records_at kind era sequence page = unwrap_or (option_and_then (λ h. said (read
 pub record TakesRoom (changes : List Record) (old new : MapValue) : Type 0 where
   pub pages : new.spare_pages ≡ old.spare_pages - pages_needed changes
   pub groups : new.spare_groups ≡ old.spare_groups - groups_needed changes
-
--- there is no more room than there was
-pub record HasNoMoreRoom (old new : MapValue) : Type 0 where
-  pub pages : new.spare_pages ≤ old.spare_pages
-  pub groups : new.spare_groups ≤ old.spare_groups

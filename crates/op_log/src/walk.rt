@@ -7,8 +7,9 @@ ghost use Rattle.cache_model.specs.declared.format.PageKind.TheVariants.{Log as 
 ghost use Rattle.cache_model.specs.Loading.{after_all, after_pages, is_page, log_region, when};
 ghost use Rattle.cache_model.specs.Reading.{read_page_header as header_read, read_records as records_read};
 ghost use Rattle.mapping.specs.MapValue.{pages_taken, groups_taken};
+ghost use Rattle.mapping.specs.Room.{HasNoMoreRoom, KeepsBuckets, KeepsFewBuckets};
 ghost use Rattle.op_log.specs.Log.{FitsOn};
-ghost use Rattle.op_log.specs.Walk.{page_step, pages_in_order, Stepped, IsReadAs, found_whole, pages_needed, groups_needed, after_records, records_at, TakesRoom, HasNoMoreRoom};
+ghost use Rattle.op_log.specs.Walk.{page_step, pages_in_order, Stepped, IsReadAs, found_whole, pages_needed, groups_needed, after_records, records_at, TakesRoom};
 ghost use Rattle.op_log.specs.Refusals.{open_failed, open_lost, IsRefusal, IsOfFlash, IsOfPages};
 
 use crate::OpenError;
@@ -39,6 +40,7 @@ pub fn apply_page<M: Media>(
     ensures kinds { IfErr result IsOfPages }
     ensures room { IfOk result (λ applied. TakesRoom (records_at kind era sequence ((M.state media.old).contents.flash.page at))
         map.old map.new) }
+    ensures few { IfOk result (λ applied. KeepsFewBuckets map.old map.new) }
     ensures answers { Stepped result map.old.entries map.new.entries
         (page_step geometry.now kind era sequence at ((M.state media.old).contents.flash.page at) map.old.entries) }
     ensures reads { ReadsFlash (M.state media.old) (M.state media.new) (open_failed result) (open_lost result) }
@@ -109,6 +111,7 @@ fn apply_records(page: &Block, header: &Header, map: &mut Map) -> Result<bool, A
     requires header { header_read page.now.0 ≡ Some header.now }
     ensures geometry { map.new.geometry ≡ map.old.geometry }
     ensures room { IfOk result (λ applied. IsTrue applied → TakesRoom (unwrap_or (records_read header.now page.now.0) []) map.old map.new) }
+    ensures few { IfOk result (λ applied. IsTrue applied → KeepsFewBuckets map.old map.new) }
     ensures value { IfOk result (λ applied. after_records map.old.geometry header.now page.now.0
         map.old.entries ≡ (if applied then Some map.new.entries else None)) }
 {
@@ -159,6 +162,7 @@ fn apply_all(changes: &[Record], map: &mut Map) -> bool
     ensures geometry { map.new.geometry ≡ map.old.geometry }
     ensures pages { OnTrue result (map.new.spare_pages + pages_needed changes.now ≡ map.old.spare_pages) }
     ensures groups { OnTrue result (map.new.spare_groups + groups_needed changes.now ≡ map.old.spare_groups) }
+    ensures buckets { KeepsBuckets map.old map.new }
     ensures value { after_all map.old.geometry changes.now map.old.entries ≡ (if result then Some map.new.entries else None) }
 {
     for change in changes {
@@ -187,6 +191,7 @@ pub fn roll<M: Media>(
     ensures count { IfOk result (λ n. n ≡ pages_in_order log_page era 0
         (log_region geometry.now (M.state media.old).contents.flash.page region)) }
     ensures room { IfOk result (λ n. HasNoMoreRoom map.old map.new) }
+    ensures few { IfOk result (λ n. KeepsFewBuckets map.old map.new) }
     ensures refused { IfErr result (λ e. IsRefusal geometry.now e
         (after_pages geometry.now log_page era (log_at geometry.now region) 0
         (log_region geometry.now (M.state media.old).contents.flash.page region) map.old.entries)) }

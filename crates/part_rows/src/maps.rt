@@ -177,6 +177,40 @@ fn room_for_pages_makes_buckets(rt: HostRuntime) -> Result<(), Fail> {
     Ok(())
 }
 
+/// The first tables that a packed map doubles through.
+const TABLES: [u32; 6] = [32, 64, 128, 256, 512, 1024];
+
+/// How many buckets so many items ask of a map that has none: the first table of which a quarter stays free.
+fn asked_by(items: u32) -> u32 {
+    for buckets in TABLES {
+        if 4 * items as u64 <= 3 * buckets as u64 {
+            return buckets;
+        }
+    }
+    0
+}
+
+/// Whether buckets are few for so many items, as the contracts have it.
+fn are_few(items: u32, buckets: u32) -> bool {
+    buckets <= 32 || 3 * (buckets as u64) < 8 * items as u64
+}
+
+// A table is few for so many items exactly where it is no larger than what they ask of a map that has none.
+#[test]
+fn few_buckets_are_what_the_items_ask(rt: HostRuntime) -> Result<(), Fail> {
+    for items in 0..768 {
+        for buckets in TABLES {
+            assert_eq!(rt; are_few(items, buckets), buckets <= asked_by(items));
+        }
+    }
+    for items in [1, 24, 25, 48, 49, 127, 384, 385] {
+        let mut map = empty(rt.alloc())?;
+        map.reserve(items, 1)?;
+        assert_eq!(rt; map.buckets(), asked_by(items) as u64);
+    }
+    Ok(())
+}
+
 /// Whether the whole of a checkpoint is these two records, written into a list with room for three.
 fn is_checkpoint(map: &Map, first: &Record, second: &Record) -> bool {
     let mut out = [Record::Remove { lba: 0 }; 3];

@@ -12,6 +12,11 @@ use Rattle.ft_media.proofs.DrivesLemmas.{reads_then}
 use Rattle.cache_model.specs.declared.format.PageKind.TheVariants.{Log, Map}
 use Rattle.cache_model.specs.Records.{Entries, no_entries}
 use Rattle.cache_model.specs.Loading.{Refusal, ◌>>=◌, Complete, pages_from, after_pages, log_region, checkpoint_of, replayed, replayed_entries, all_whole, load}
+use Rattle.cache_model.specs.Entries.{IsMap}
+use Rattle.cache_model.proofs.FitsLemmas.{no_entries-map}
+use Rattle.mapping.specs.MapValue.{MapValue}
+use Rattle.mapping.specs.Room.{HasFewBuckets, KeepsFewBuckets}
+use Rattle.mapping.proofs.FewLemmas.{few_new}
 use Rattle.op_log.specs.declared.error.OpenError.{OpenError}
 use Rattle.op_log.specs.declared.error.OpenError.TheVariants.{NotFormatted, OtherGeometry, Damaged, FlashFault, DiskFault, PowerLost, OutOfMemory}
 use Rattle.op_log.specs.Refusals.{IsRefusal, open_failed, open_lost}
@@ -80,3 +85,10 @@ reads_refused U {T} a b c (Err x) e is first later = subst (λ (y : OpenError). 
     told DiskFault is = is
     told PowerLost is = is
     told OutOfMemory is = is
+
+-- ---- its buckets
+
+-- from an empty map on
+pub few_loaded : (empty map : MapValue) → empty.entries ≡ no_entries → empty.spare_pages ≡ 0 → empty.spare_groups ≡ 0 → empty.buckets ≡ 0 → empty.group_buckets ≡ 0 → KeepsFewBuckets empty map → HasFewBuckets map
+few_loaded empty map nothing pages groups buckets group_buckets kept =
+    kept.few (subst (λ m. IsMap empty.geometry m) (sym nothing) (no_entries-map empty.geometry)) (few_new empty pages groups buckets group_buckets)

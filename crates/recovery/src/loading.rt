@@ -5,6 +5,7 @@ ghost use Rattle.ft_media.specs.Reads.{ReadsFlash};
 ghost use Rattle.cache_model.specs.declared.format.PageKind.TheVariants.{Map as map_page};
 ghost use Rattle.cache_model.specs.Records.{no_entries};
 ghost use Rattle.cache_model.specs.Loading.{after_pages, load, pages_from, replayed};
+ghost use Rattle.mapping.specs.Room.{KeepsFewBuckets};
 ghost use Rattle.op_log.specs.Log.{FitsOn};
 ghost use Rattle.op_log.specs.Refusals.{open_failed, open_lost, IsRefusal};
 ghost use Rattle.checkpoint.specs.Found.{found_in};
@@ -68,6 +69,7 @@ fn replay<M: Media>(
     requires map { map.old.geometry ≡ geometry.now }
     requires nothing { map.old.entries ≡ no_entries }
     ensures geometry { map.new.geometry ≡ map.old.geometry }
+    ensures few { OnOk result (KeepsFewBuckets map.old map.new) }
     ensures replayed { OnOk result (replayed geometry.now (M.state media.old).contents.flash.page
         (found_in newest.now) ≡ Ok map.new.entries) }
     ensures refused { IfErr result (λ e. IsRefusal geometry.now e
@@ -91,6 +93,7 @@ fn apply_maps<M: Media>(
     requires pages { newest.now.pages ≤ checkpoint_pages geometry.now }
     requires map { map.old.geometry ≡ geometry.now }
     ensures geometry { map.new.geometry ≡ map.old.geometry }
+    ensures few { OnOk result (KeepsFewBuckets map.old map.new) }
     ensures applied { OnOk result (after_pages geometry.now map_page newest.now.era (checkpoint_at geometry.now newest.now.region) 0
         (pages_from (M.state media.old).contents.flash.page (checkpoint_at geometry.now newest.now.region) 0 newest.now.pages)
         map.old.entries ≡ Ok map.new.entries) }

@@ -2,11 +2,11 @@
 use Rattle.std.proofs.Common.{◌≡◌, ◌+◌, ℕ, true, false, inl, inr, refl, sym, ◌∙◌, ap, subst}
 use Rattle.std.proofs.lemmas.Bool.{cases_Bool}
 use Rattle.mapping.specs.MapValue.{MapValue}
-use Rattle.mapping.specs.Room.{GrewForPages, GrewForGroups}
+use Rattle.mapping.specs.Room.{GrewForPages, GrewForGroups, KeepsBuckets}
 use Rattle.merge_engine.specs.declared.parts.Parts.{Parts}
 use Rattle.ssc.specs.declared.cache.Ssc.{Ssc}
 use Rattle.ssc.specs.CacheState.{IsAsBefore, TookRoom}
-use Rattle.ssc.specs.Kept.{GrewForWrite, KeepsBuckets}
+use Rattle.ssc.specs.Kept.{GrewForWrite}
 
 pub grew_still : (parts : Parts) → GrewForWrite parts parts
 grew_still parts = record { pages = inl refl; groups = inl refl }

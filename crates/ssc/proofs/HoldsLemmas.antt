@@ -1,9 +1,10 @@
 -- What is buffered between two commands, and the list without it.
-use Rattle.std.proofs.Common.{◌≡◌, ℕ, suc, ◌+◌, ◌<◌, ◌==◌, ◌||◌, true, false, cond, List, [], ◌∷◌, ◌++◌, length, Option, Some, None, refl, sym, ◌∙◌, ap, subst, arith, inl, inr, eqb-true, ne_eqb, map, length-append}
+use Rattle.std.proofs.Common.{◌≡◌, ◌⊎◌, ℕ, suc, max, ◌+◌, ◌<◌, ◌≤◌, ◌==◌, ◌||◌, true, false, cond, List, [], ◌∷◌, ◌++◌, length, Option, Some, None, refl, sym, ◌∙◌, ap, subst, arith, inl, inr, eqb-true, ne_eqb, map, length-append}
+use Rattle.std.proofs.Math.Nat.{le-max_right}
 use Rattle.std.specs.Option.{option_and_then, option_map}
 use Rattle.std.specs.List.{list_all, AllByRecursion}
 use Rattle.std.specs.FinMap.{get}
-use Rattle.std.proofs.lemmas.Bool.{cases_Bool, and_parts, and_from, or_parts}
+use Rattle.std.proofs.lemmas.Bool.{false≢true, cases_Bool, and_parts, and_from, or_parts}
 use Rattle.ft_base.specs.declared.block.Block.{Block}
 use Rattle.ft_base.specs.declared.block.Place.{Place}
 use Rattle.ft_base.specs.declared.geometry.Geometry.{Geometry}
@@ -13,17 +14,24 @@ use Rattle.ft_base.specs.Contents.{Contents}
 use Rattle.cache_model.specs.declared.entry.Entry.{Entry}
 use Rattle.cache_model.specs.Cache.{written_block, Buffered, Inserted, Cleaned, address_of, AreApart, MayWait, undo, written_clean, made_clean, marked_as}
 use Rattle.cache_model.specs.CacheList.{Held, held, CacheList}
-use Rattle.cache_model.specs.Stands.{held_at}
+use Rattle.cache_model.specs.Entries.{IsMap}
+use Rattle.cache_model.specs.Stands.{FlashStandsFor, held_at}
 use Rattle.cache_model.proofs.StandLemmas.{whole_held}
 use Rattle.cache_model.proofs.MapLemmas.{get_insert}
 use Rattle.cache_model.proofs.CountLemmas.{member, same_number, equals_turned}
 use Rattle.cache_model.proofs.UndoLemmas.{undone_at, undo_inserted, undo_cleaned, get_marked}
 use Rattle.mapping.proofs.CountsLemmas.{member_push}
+use Rattle.mapping.specs.MapValue.{MapValue}
+use Rattle.mapping.specs.Room.{GrewForPages, HasFewBuckets}
+use Rattle.mapping.proofs.FewLemmas.{few_kept, few_refused, keeps_reserved, IsReserved}
 use Rattle.merge_engine.specs.declared.parts.Parts.{Parts}
-use Rattle.merge_engine.specs.Agreement.{PartsAgree, Lists}
+use Rattle.merge_engine.specs.Agreement.{PartsAgree, IsListOn, Lists}
+use Rattle.merge_engine.proofs.ReservedLemmas.{agree_reserved}
+use Rattle.merge_engine.proofs.TakeLemmas.{agree_map}
 use Rattle.ssc.specs.declared.cache.Ssc.{Ssc}
 use Rattle.ssc.specs.CacheState.{HasMemory, Holds, entries_of, geometry_of, may_wait, waiting_as, waiting, pending}
 use Rattle.ssc.specs.Commands.{PendsWith}
+use Rattle.ssc.specs.Kept.{TakesNoMemory}
 use Rattle.ssc.specs.Steps.{ListsAfter}
 
 -- ---- what waits, record by record
@@ -99,14 +107,77 @@ waits_push g g' q own s s' never same clean few waits =
 
 -- ---- the cache between two commands
 
--- its parts agree with the flash, and the memory of a write is there where it is said to be
+-- its parts agree with the flash, the memory of a write is there where it is said to be, and the buckets are few
 pub record IsSettled (c : Ssc) (contents : Contents) : Type 0 where
   pub agree : PartsAgree c.parts contents
   pub memory : c.ready ≡ true → HasMemory c.parts
+  pub few : HasFewBuckets c.parts.map
 
 -- a step that changes the log alone leaves the memory
 pub memory_logged : (old new : Parts) → new ≡ record old { log = new.log } → HasMemory old → HasMemory new
 memory_logged old new is memory = subst HasMemory (sym is) (record { pages = memory.pages; groups = memory.groups })
+
+-- and the buckets
+pub few_logged : (old new : Parts) → new ≡ record old { log = new.log } → HasFewBuckets old.map → HasFewBuckets new.map
+few_logged old new is few = subst (λ (m : MapValue). HasFewBuckets m) (sym (ap (λ (p : Parts). p.map) is)) few
+
+-- what was loaded, once a checkpoint of it is made
+pub settled_opened : (c : Ssc) (contents : Contents) → c.ready ≡ false → PartsAgree c.parts contents → (parts : Parts) (map : MapValue) → c.parts ≡ record parts { log = c.parts.log } → parts.map ≡ map → HasFewBuckets map → IsSettled c contents
+settled_opened c contents unready agree parts map is same few = record {
+  agree = agree;
+  memory = λ ready. absurd (false≢true (sym unready ∙ ready));
+  few = few_logged parts c.parts is (subst (λ (m : MapValue). HasFewBuckets m) (sym same) few);
+}
+
+-- a step that takes no memory leaves them few
+pub few_stepped : (old new : Parts) (before after : Contents) → PartsAgree old before → PartsAgree new after → TakesNoMemory old new → HasFewBuckets old.map → HasFewBuckets new.map
+few_stepped old new before after was now step few =
+    few_kept old.map new.map (now.sound.of_one.map ∙ step.geometry ∙ sym was.sound.of_one.map) step.room step.buckets few
+
+-- the memory of a write was asked for, and the map alone may have changed
+pub holds_reserved : (old new : Ssc) (contents : Contents) (s : CacheList) → new.parts ≡ record old.parts { map = new.parts.map } → new.parts.map.geometry ≡ old.parts.map.geometry → entries_of new ≡ entries_of old
+    → (new.ready ≡ true → HasMemory new.parts) → HasFewBuckets new.parts.map → Holds old contents s → Holds new contents s
+holds_reserved old new contents s is same entries memory few holds =
+    let buffered : new.parts.log.buffered ≡ old.parts.log.buffered = ap (λ (p : Parts). p.log.buffered) is in
+    let own : geometry_of new ≡ geometry_of old = ap (λ (p : Parts). p.geometry) is in
+    record {
+      agree = agree_reserved old.parts new.parts contents is same entries holds.agree;
+      lists = record {
+        held = subst (λ m. IsListOn contents.flash.page m s) (sym entries) holds.lists.held;
+        stands = subst (λ (g : Geometry). FlashStandsFor g contents.flash.page (undo (pending new) s)) (sym own)
+            (subst (λ (l : List Record). FlashStandsFor (geometry_of old) contents.flash.page (undo (waiting l) s)) (sym buffered) holds.lists.stands);
+      };
+      kinds = subst (λ (l : List Record). list_all may_wait l ≡ true) (sym buffered) holds.kinds;
+      waits = subst (λ (g : Geometry). MayWait g (pending new) s) (sym own) (subst (λ (l : List Record). MayWait (geometry_of old) (waiting l) s) (sym buffered) holds.waits);
+      memory = memory;
+      few = few;
+    }
+
+-- a map over one geometry is a map of it
+own_map : (parts : Parts) (contents : Contents) → PartsAgree parts contents → IsMap parts.map.geometry parts.map.entries
+own_map parts contents agree = subst (λ (g : Geometry). IsMap g parts.map.entries) (sym agree.sound.of_one.map) (agree_map parts contents agree)
+
+-- it was given
+pub holds_taken : (old new : Ssc) (contents : Contents) (s : CacheList) → new.parts ≡ record old.parts { map = new.parts.map } → IsReserved 1 old.parts.geometry.p old.parts.map new.parts.map → Holds old contents s → Holds new contents s
+holds_taken old new contents s is taken holds =
+    let pages = le-max_right old.parts.map.spare_pages 1 in
+    let groups = le-max_right old.parts.map.spare_groups old.parts.geometry.p in
+    let own : new.parts.geometry ≡ old.parts.geometry = ap (λ (p : Parts). p.geometry) is in
+    holds_reserved old new contents s is taken.geometry taken.entries
+    (λ ready. record {
+      pages = subst (λ n. 1 ≤ n) (sym taken.pages) pages;
+      groups = subst (λ (g : Geometry). g.p ≤ new.parts.map.spare_groups) (sym own) (subst (λ n. old.parts.geometry.p ≤ n) (sym taken.groups) groups);
+    })
+    ((keeps_reserved 1 old.parts.geometry.p old.parts.map new.parts.map (omega arith) (omega (arith, old.parts.geometry.in_range.p_high)) taken).few (own_map old.parts contents holds.agree) holds.few) holds
+
+-- it was refused
+pub holds_refused : (old new : Ssc) (contents : Contents) (s : CacheList) → new.parts ≡ record old.parts { map = new.parts.map } → new.ready ≡ false → new.parts.map.geometry ≡ old.parts.map.geometry → entries_of new ≡ entries_of old
+    → new.parts.map.spare_pages ≡ old.parts.map.spare_pages → new.parts.map.spare_groups ≡ old.parts.map.spare_groups
+    → (new.parts.map.buckets ≡ old.parts.map.buckets) ⊎ GrewForPages old.parts.map new.parts.map (max old.parts.map.spare_pages 1) → new.parts.map.group_buckets ≡ old.parts.map.group_buckets
+    → Holds old contents s → Holds new contents s
+holds_refused old new contents s is unready same entries pages groups buckets group_buckets holds =
+    holds_reserved old new contents s is same entries (λ ready. absurd (false≢true (sym unready ∙ ready)))
+    (few_refused 1 old.parts.map new.parts.map (omega arith) (own_map old.parts contents holds.agree) same pages groups buckets group_buckets holds.few) holds
 
 holds_from : (c : Ssc) (contents : Contents) (s durable : CacheList) (buffered : List Record) → IsSettled c contents → c.parts.log.buffered ≡ buffered → undo (waiting buffered) s ≡ durable
     → Lists c.parts contents.flash.page s durable → list_all may_wait buffered ≡ true → MayWait (geometry_of c) (waiting buffered) s → Holds c contents s
@@ -116,6 +187,7 @@ holds_from c contents s durable buffered settled is undone lists kinds waits = r
   kinds = subst (λ (l : List Record). list_all may_wait l ≡ true) (sym is) kinds;
   waits = subst (λ (l : List Record). MayWait (geometry_of c) (waiting l) s) (sym is) waits;
   memory = settled.memory;
+  few = settled.few;
 }
 
 pub holds_committed : (c : Ssc) (contents : Contents) (s : CacheList) → IsSettled c contents → c.parts.log.buffered ≡ [] → Lists c.parts contents.flash.page s s → Holds c contents s

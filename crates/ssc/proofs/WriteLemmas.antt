@@ -30,9 +30,10 @@ use Rattle.ssc.specs.declared.error.SscError.TheVariants as error
 use Rattle.ssc.specs.Errors.{of_media}
 use Rattle.ssc.specs.CacheState.{Holds, entries_of, geometry_of, log_room, open_room, pending, waiting}
 use Rattle.ssc.specs.Commands.{FullExactly, HoldsWritten, ImagesOf, ImagesOfWrite, IsHeldIn, PendsWith, FlashStandsForOne, FlashStandsForWrite, AsUndone, AsLeft, AsWritten}
+use Rattle.ssc.specs.Kept.{TakesNoMemory}
 use Rattle.ssc.specs.Steps.{IsPushed, LeftOf, ListsAfter, PutsBlock, FlashStandsForStep}
 use Rattle.ssc.proofs.DirtyLemmas.{with_same}
-use Rattle.ssc.proofs.HoldsLemmas.{IsSettled, holds_committed, inserted_behind, inserted_alone, held_none, held_some, length_waiting, pends_after, waiting_push}
+use Rattle.ssc.proofs.HoldsLemmas.{IsSettled, few_stepped, holds_committed, inserted_behind, inserted_alone, held_none, held_some, length_waiting, pends_after, waiting_push}
 use Rattle.ssc.proofs.WrittenLemmas.{push_some, stays_absent}
 
 -- ---- full
@@ -94,8 +95,12 @@ pub inside_from : (parts : Parts) (new : Ssc) (contents : Contents) (s : CacheLi
 inside_from parts new contents s step room x = subst (λ (v : CacheList). Holds new contents (step v)) (x.1.inside room) x.2
 
 -- the memory of the next write is yet to be taken
-pub settled_unready : (new : Ssc) (contents : Contents) → new.ready ≡ false → PartsAgree new.parts contents → IsSettled new contents
-settled_unready new contents unready agree = record { agree = agree; memory = λ t. absurd (false≢true (sym unready ∙ t)) }
+pub settled_unready : (old new : Ssc) (before after : Contents) (s : CacheList) → Holds old before s → new.ready ≡ false → PartsAgree new.parts after → TakesNoMemory old.parts new.parts → IsSettled new after
+settled_unready old new before after s holds unready agree step = record {
+  agree = agree;
+  memory = λ t. absurd (false≢true (sym unready ∙ t));
+  few = few_stepped old.parts new.parts before after holds.agree agree step holds.few;
+}
 
 -- all is committed
 pub left_committed : (parts : Parts) (new : Ssc) (contents : Contents) (s : CacheList) (lba : ℕ) (block : Held) → IsSettled new contents → new.parts.log.buffered ≡ []

@@ -9,7 +9,7 @@ use Rattle.ft_base.specs.Layout.{log_pages}
 use Rattle.cache_model.specs.Records.{Entries}
 use Rattle.cache_model.specs.Cache.{Buffered, Inserted, Cleaned, MayWait, undo}
 use Rattle.cache_model.specs.CacheList.{CacheList}
-use Rattle.mapping.specs.Room.{GrewForPages, GrewForGroups}
+use Rattle.mapping.specs.Room.{GrewForPages, GrewForGroups, HasFewBuckets}
 use Rattle.merge_engine.specs.declared.parts.Parts.{Parts}
 use Rattle.merge_engine.specs.Agreement.{PartsAgree, Lists}
 use Rattle.ssc.specs.declared.cache.Ssc.{Ssc}
@@ -59,13 +59,15 @@ pub record HasMemory (parts : Parts) : Type 0 where
   pub pages : 1 ≤ parts.map.spare_pages
   pub groups : parts.geometry.p ≤ parts.map.spare_groups
 
--- between two commands: the cache has left the flash so, and holds this list; without what is buffered, the flash stands for it
+-- between two commands: the cache has left the flash so, and holds this list, in few buckets; without what is buffered, the flash
+-- stands for it
 pub record Holds (c : Ssc) (contents : Contents) (s : CacheList) : Type 0 where
   pub agree : PartsAgree c.parts contents
   pub lists : Lists c.parts contents.flash.page s (undo (pending c) s)
   pub kinds : IsTrue (list_all may_wait c.parts.log.buffered)
   pub waits : MayWait (geometry_of c) (pending c) s
   pub memory : c.ready ≡ true → HasMemory c.parts
+  pub few : HasFewBuckets c.parts.map
 
 -- it holds some list, and was not given up
 pub record IsUp (c : Ssc) (contents : Contents) : Type 0 where

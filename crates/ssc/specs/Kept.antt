@@ -10,8 +10,7 @@ use Rattle.ft_media.specs.Passes.{ProgramsPages}
 use Rattle.ft_media.specs.Media.{program_counted}
 use Rattle.cache_model.specs.Cache.{Inserted}
 use Rattle.cache_model.specs.CacheList.{CacheList}
-use Rattle.mapping.specs.MapValue.{MapValue}
-use Rattle.mapping.specs.Room.{GrewForPages, GrewForGroups}
+use Rattle.mapping.specs.Room.{GrewForPages, GrewForGroups, HasNoMoreRoom, KeepsBuckets}
 use Rattle.merge_engine.specs.declared.parts.Parts.{Parts}
 use Rattle.merge_engine.specs.Steps.{HasLogBlock}
 use Rattle.ssc.specs.declared.cache.Ssc.{Ssc}
@@ -23,14 +22,10 @@ use Rattle.ssc.specs.Commands.{ImagesOf}
 
 -- ---- every command that drives the flash
 
--- the map has as many buckets as before
-pub record KeepsBuckets (old new : MapValue) : Type 0 where
-  pub pages : new.buckets ≡ old.buckets
-  pub groups : new.group_buckets ≡ old.group_buckets
-
--- so it has, and the geometry stays
-pub record KeepsTables (old new : Parts) : Type 0 where
+-- the geometry stays, and no memory is taken: the map has no more room than before, and as many buckets
+pub record TakesNoMemory (old new : Parts) : Type 0 where
   pub geometry : new.geometry ≡ old.geometry
+  pub room : HasNoMoreRoom old.map new.map
   pub buckets : KeepsBuckets old.map new.map
 
 -- the map has as many buckets as before, or they doubled as the room of a write asks

@@ -1,7 +1,8 @@
-ghost use Rattle.std.specs.Prelude.{◌≡◌, ◌≤◌, true, false, IsOk, OnOk, OnErr, length};
+ghost use Rattle.std.specs.Prelude.{◌≡◌, ◌≤◌, ◌+◌, ◌*◌, true, false, IsOk, OnOk, OnErr, length};
 ghost use Rattle.std.specs.FinMap.{entries};
 ghost use Rattle.ft_base.specs.Contents.{Contents};
-ghost use Rattle.cache_model.specs.Buckets.{AreBucketsFor};
+ghost use Rattle.ft_base.specs.Layout.{most_page_records};
+ghost use Rattle.cache_model.specs.Buckets.{AreBucketsFor, AreFewFor};
 ghost use Rattle.cache_model.specs.Cache.{dirty_groups};
 ghost use Rattle.cache_model.specs.CacheList.{CacheList};
 ghost use Rattle.mapping.specs.Bits.{chosen_of};
@@ -60,10 +61,13 @@ impl Ssc {
     }
 
     /// The buckets of the map of page-mapped addresses: none, or a power of two from 32 on, of which at least a
-    /// quarter is free.
+    /// quarter is free; 32 at most, or so many that half of them are too few for the pages of the log blocks and the
+    /// records of one page.
     pub fn buckets(&self) -> u64
         ensures count { result ≡ self.now.parts.map.buckets }
         ensures bound { AreBucketsFor (entries_of self.now) result }
+        ensures few { (contents : Contents) (s : CacheList) → Holds self.now contents s
+            → AreFewFor ((geometry_of self.now).l * (geometry_of self.now).p + most_page_records) result }
     {
         self.parts.map.buckets()
     }

@@ -12,7 +12,7 @@ ghost use Rattle.ft_media.specs.Passes.{ProgramsPages};
 ghost use Rattle.merge_engine.specs.Agreement.{PartsAgree, Lists};
 ghost use Rattle.ssc.specs.Errors.{ssc_failed, ssc_lost};
 ghost use Rattle.ssc.specs.CacheState.{HasMemory, Holds, IsUp, entries_of, geometry_of, log_room, open_room, pending};
-ghost use Rattle.ssc.specs.Kept.{CostsClean, CostsDirty, KeepsInRoom, KeepsTables, RefusesWrite, RunsCommand, RunsInPlace};
+ghost use Rattle.ssc.specs.Kept.{CostsClean, CostsDirty, KeepsInRoom, TakesNoMemory, RefusesWrite, RunsCommand, RunsInPlace};
 ghost use Rattle.ssc.specs.Own.{KeepsOwn};
 ghost use Rattle.ssc.specs.Steps.{IsPushed, LeavesPut, MayStep, PutsBlock};
 ghost use Rattle.ssc.specs.Commands.{ImagesOf, ImagesOfWrite, FullExactly, HoldsWritten, PendsWith, IsDirtyIn, IsHeldIn, ReadOf, UnlessFound};
@@ -114,7 +114,7 @@ impl Ssc {
         requires may { MayStep self.old.parts (M.state media.old).contents lba }
         requires memory { HasMemory self.old.parts }
         ensures cache { self.new ≡ record self.old { parts = self.new.parts } }
-        ensures kept { KeepsTables self.old.parts self.new.parts }
+        ensures kept { TakesNoMemory self.old.parts self.new.parts }
         ensures agree { OnOk result (PartsAgree self.new.parts (M.state media.new).contents) }
         ensures few { OnOk result (length self.new.parts.log.buffered < page_records self.new.parts.log.geometry) }
         ensures lists { OnOk result ((list durable : CacheList) → Lists self.old.parts (M.state media.old).contents.flash.page list durable

@@ -13,7 +13,7 @@ ghost use Rattle.merge_engine.specs.Room.{FlashStandsForGiven};
 ghost use Rattle.merge_engine.specs.Steps.{HasLogBlock, HasRoomFor, dirty_groups_with};
 ghost use Rattle.ssc.specs.Errors as errors;
 ghost use Rattle.ssc.specs.CacheState.{HasMemory, entries_of, geometry_of};
-ghost use Rattle.ssc.specs.Kept.{KeepsTables};
+ghost use Rattle.ssc.specs.Kept.{TakesNoMemory};
 ghost use Rattle.ssc.specs.Steps.{IsPushed, LeavesPut, LeftOf, ListsAfter, MayStep, PutsBlock, FlashStandsForEither};
 
 use crate::error::of_media;
@@ -75,7 +75,7 @@ pub(crate) fn write_committed<M: Media>(
     requires may { MayStep parts.old (M.state media.old).contents lba }
     requires memory { HasMemory parts.old }
     requires dirty { dirty ≡ true → HasRoomFor parts.old.geometry parts.old.map.entries lba }
-    ensures kept { KeepsTables parts.old parts.new }
+    ensures kept { TakesNoMemory parts.old parts.new }
     ensures agree { OnOk result (PartsAgree parts.new (M.state media.new).contents) }
     ensures nothing_waits { OnOk result (parts.new.log.buffered ≡ []) }
     ensures lists { OnOk result ((list durable : CacheList) → Lists parts.old (M.state media.old).contents.flash.page list durable
@@ -101,7 +101,7 @@ pub(crate) fn write_buffered<M: Media>(
 ) -> Result<(), MediaError>
     requires may { MayStep parts.old (M.state media.old).contents lba }
     requires memory { HasMemory parts.old }
-    ensures kept { KeepsTables parts.old parts.new }
+    ensures kept { TakesNoMemory parts.old parts.new }
     ensures agree { OnOk result (PartsAgree parts.new (M.state media.new).contents) }
     ensures few { OnOk result (length parts.new.log.buffered < page_records parts.new.log.geometry) }
     ensures lists { OnOk result ((list durable : CacheList) → Lists parts.old (M.state media.old).contents.flash.page list durable
@@ -129,7 +129,7 @@ fn write_page<M: Media>(
     requires may { MayStep parts.old (M.state media.old).contents lba }
     requires memory { HasMemory parts.old }
     requires dirty { dirty ≡ true → HasRoomFor parts.old.geometry parts.old.map.entries lba }
-    ensures kept { KeepsTables parts.old parts.new }
+    ensures kept { TakesNoMemory parts.old parts.new }
     ensures agree { OnOk result (PartsAgree parts.new (M.state media.new).contents) }
     ensures waits { OnOk result (parts.new.log.buffered ≢ []) }
     ensures lists { OnOk result ((list durable : CacheList) → Lists parts.old (M.state media.old).contents.flash.page list durable
@@ -158,7 +158,7 @@ pub(crate) fn take_out<M: Media>(
     lba: u64,
 ) -> Result<(), MediaError>
     requires may { MayStep parts.old (M.state media.old).contents lba }
-    ensures kept { KeepsTables parts.old parts.new }
+    ensures kept { TakesNoMemory parts.old parts.new }
     ensures reserved { HasMemory parts.old → HasMemory parts.new }
     ensures agree { OnOk result (PartsAgree parts.new (M.state media.new).contents) }
     ensures nothing_waits { OnOk result (parts.new.log.buffered ≡ []) }
@@ -182,7 +182,7 @@ pub(crate) fn mark_clean<M: Media>(
     lba: u64,
 ) -> Result<(), MediaError>
     requires may { MayStep parts.old (M.state media.old).contents lba }
-    ensures kept { KeepsTables parts.old parts.new }
+    ensures kept { TakesNoMemory parts.old parts.new }
     ensures reserved { HasMemory parts.old → HasMemory parts.new }
     ensures agree { OnOk result (PartsAgree parts.new (M.state media.new).contents) }
     ensures room { OnOk result (length parts.new.log.buffered < page_records parts.new.log.geometry) }

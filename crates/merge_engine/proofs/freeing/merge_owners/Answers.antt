@@ -33,6 +33,7 @@ loop-page-preserved g c =
       log_blocks = logs;
       pages = c.merge_owner.ensures.room.pages ∙ k.pages;
       groups = let first = k.groups in let then = c.merge_owner.ensures.room.groups in omega arith;
+      no_more = let first = k.no_more in let then = c.merge_owner.ensures.room.no_more in omega arith;
       buckets = c.merge_owner.ensures.room.buckets ∙ k.buckets;
       group_buckets = c.merge_owner.ensures.room.group_buckets ∙ k.group_buckets;
       agree = e.goes.agree;

@@ -18,6 +18,7 @@ invariant-loop-page g l =
       log_blocks : LogsStayOrLose l.block l.fn.cache.log_blocks l.cache.log_blocks;
       pages : l.cache.map.spare_pages ≡ l.fn.cache.map.spare_pages;
       groups : l.fn.cache.map.spare_groups ≤ l.cache.map.spare_groups + l.page;
+      no_more : l.cache.map.spare_groups ≤ l.fn.cache.map.spare_groups;
       buckets : l.cache.map.buckets ≡ l.fn.cache.map.buckets;
       group_buckets : l.cache.map.group_buckets ≡ l.fn.cache.map.group_buckets;
       agree : PartsAgree l.cache now.contents;

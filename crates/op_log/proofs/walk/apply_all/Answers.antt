@@ -8,4 +8,5 @@ returns-then-not-fits-clause-value c =
 
 pub loop-change-preserved : goal.loop-change-preserved
 loop-change-preserved c =
-    applied_more c.args.changes.now c.loop-change.change-index _ c.loop-change-test.true c.args.map.now c.loop-change.map c.apply.new.self c.loop-change.invariant (c.fits.ensures.0 c.if-not-fits.false) c.apply.ensures.geometry c.apply.ensures.entries c.apply.ensures.pages c.apply.ensures.groups
+    applied_more c.args.changes.now c.loop-change.change-index _ c.loop-change-test.true c.args.map.now c.loop-change.map c.apply.new.self c.loop-change.invariant (c.fits.ensures.0 c.if-not-fits.false)
+    c.apply.ensures.geometry c.apply.ensures.entries c.apply.ensures.pages c.apply.ensures.groups c.apply.ensures.buckets c.apply.ensures.group_buckets

@@ -7,6 +7,7 @@ use Rattle.cache_model.specs.Loading.{after_pages, log_region}
 use Rattle.op_log.specs.declared.error.OpenError.{OpenError}
 use Rattle.op_log.specs.Refusals.{IsRefusal}
 use Rattle.cache_model.proofs.LoadLemmas.{log_below}
+use Rattle.mapping.proofs.FewLemmas.{keeps_then}
 use Rattle.op_log.proofs.ApplyLemmas.{room_taken}
 use Rattle.op_log.proofs.WalkLemmas.{if_err, turn_more, turn_end, turn_refused}
 use Rattle.op_log.proofs.walk.roll.Goals as goal
@@ -40,6 +41,9 @@ returns-then-not-branch-clause-count g c =
 pub returns-then-not-branch-clause-room : goal.returns-then-not-branch-clause-room
 returns-then-not-branch-clause-room g c = room_taken _ c.args.map.now c.loop-i.map c.apply_page.new.map c.loop-i.invariant.room c.in_ok-apply_page.ensures.room
 
+pub returns-then-not-branch-clause-few : goal.returns-then-not-branch-clause-few
+returns-then-not-branch-clause-few g c = keeps_then c.args.map.now c.loop-i.map c.apply_page.new.map c.loop-i.invariant.few c.in_ok-apply_page.ensures.few
+
 pub loop-i-preserved : goal.loop-i-preserved
 loop-i-preserved g c = record {
   geometry = search rules;
@@ -47,5 +51,6 @@ loop-i-preserved g c = record {
       (g.M.Media.state c.loop-i.media).contents c.loop-i.invariant.reads.contents c.args.map.now.entries c.loop-i.map.entries c.apply_page.new.map.entries c.loop-i.i c.log_at-at.result
       c.log_at-at.ensures c.loop-i-test.true c.loop-i.invariant.rolled c.in_ok-apply_page.field-0 c.if-not-branch.false c.in_ok-apply_page.ensures.answers;
   room = room_taken _ c.args.map.now c.loop-i.map c.apply_page.new.map c.loop-i.invariant.room c.in_ok-apply_page.ensures.room;
+  few = keeps_then c.args.map.now c.loop-i.map c.apply_page.new.map c.loop-i.invariant.few c.in_ok-apply_page.ensures.few;
   reads = reads_then (g.M.Media.state c.args.media.now) (g.M.Media.state c.loop-i.media) (g.M.Media.state c.apply_page.new.media) false false c.loop-i.invariant.reads c.in_ok-apply_page.ensures.reads;
 }

@@ -1,6 +1,6 @@
 use Rattle.std.proofs.Common.{◌≡◌, false}
 use Rattle.ft_media.specs.Reads.{ReadsFlash}
-use Rattle.op_log.specs.Walk.{HasNoMoreRoom}
+use Rattle.mapping.specs.Room.{HasNoMoreRoom, KeepsFewBuckets}
 use Rattle.op_log.proofs.WalkLemmas.{RolledSoFar}
 use Rattle.op_log.proofs.walk.roll.Given as goal
 
@@ -10,5 +10,6 @@ invariant-loop-i g l = record {
   geometry : l.map.geometry ≡ l.geometry;
   rolled : RolledSoFar l.geometry l.region l.era (g.M.Media.state l.fn.media).contents.flash.page l.fn.map.entries l.i l.map.entries;
   room : HasNoMoreRoom l.fn.map l.map;
+  few : KeepsFewBuckets l.fn.map l.map;
   reads : ReadsFlash (g.M.Media.state l.fn.media) (g.M.Media.state l.media) false false;
 }

@@ -3,6 +3,7 @@ use Rattle.ft_base.specs.Contents.{Contents}
 use Rattle.ft_base.specs.Layout.{checkpoint_at}
 use Rattle.ft_media.proofs.DrivesLemmas.{reads_then}
 use Rattle.cache_model.specs.declared.format.PageKind.TheVariants.{Map as map_page}
+use Rattle.mapping.proofs.FewLemmas.{keeps_then}
 use Rattle.recovery.proofs.WalkLemmas.{map_block, stepped_on, stepped_off, stepped_refused}
 use Rattle.recovery.proofs.loading.apply_maps.Goals as goal
 
@@ -26,6 +27,9 @@ returns-then-not-branch-clause-applied g c =
     stepped_off g' map_page n.era (checkpoint_at g' n.region) (g.M.Media.state c.args.media.now).contents.flash.page n.pages c.args.map.now.entries c.loop-i.i c.loop-i.map.entries c.loop-i-test.true c.loop-i.invariant.walked
     c.checkpoint_at-at.result (g.M.Media.state c.loop-i.media).contents.flash.page c.checkpoint_at-at.ensures (ap (λ (k : Contents). k.flash.page) c.loop-i.invariant.reads.contents) c.in_ok-apply_page.field-0 c.apply_page.new.map.entries c.if-not-branch.true c.in_ok-apply_page.ensures.answers
 
+pub returns-then-not-branch-clause-few : goal.returns-then-not-branch-clause-few
+returns-then-not-branch-clause-few g c = keeps_then c.args.map.now c.loop-i.map c.apply_page.new.map c.loop-i.invariant.few c.in_ok-apply_page.ensures.few
+
 pub loop-i-preserved : goal.loop-i-preserved
 loop-i-preserved g c =
     let g' = c.args.geometry.now in
@@ -33,6 +37,7 @@ loop-i-preserved g c =
     record {
       reads = reads_then (g.M.Media.state c.args.media.now) (g.M.Media.state c.loop-i.media) (g.M.Media.state c.apply_page.new.media) false false c.loop-i.invariant.reads c.in_ok-apply_page.ensures.reads;
       geometry = c.in_ok-apply_page.ensures.geometry ∙ c.loop-i.invariant.geometry;
+      few = keeps_then c.args.map.now c.loop-i.map c.apply_page.new.map c.loop-i.invariant.few c.in_ok-apply_page.ensures.few;
       walked =
           stepped_on g' map_page n.era (checkpoint_at g' n.region) (g.M.Media.state c.args.media.now).contents.flash.page n.pages c.args.map.now.entries c.loop-i.i c.loop-i.map.entries c.loop-i-test.true c.loop-i.invariant.walked
           c.checkpoint_at-at.result (g.M.Media.state c.loop-i.media).contents.flash.page c.checkpoint_at-at.ensures (ap (λ (k : Contents). k.flash.page) c.loop-i.invariant.reads.contents)

@@ -3,7 +3,7 @@ use Rattle.ft_base.specs.Contents.{Contents}
 use Rattle.ft_media.proofs.DrivesLemmas.{reads_then}
 use Rattle.checkpoint.specs.Found.{found_in}
 use Rattle.recovery.proofs.WalkLemmas.{maps_within}
-use Rattle.recovery.proofs.LoadLemmas.{find_refused, replay_refused, places_refused, places_whole, reads_refused}
+use Rattle.recovery.proofs.LoadLemmas.{few_loaded, find_refused, replay_refused, places_refused, places_whole, reads_refused}
 use Rattle.recovery.proofs.loading.load.Goals as goal
 
 pub returns-in_err-newest-clause-refused : goal.returns-in_err-newest-clause-refused
@@ -50,6 +50,7 @@ returns-clause-loaded g c = record {
       (ap (λ (k : Contents). k.flash.page) c.in_ok-newest.ensures.reads.contents) c.replay.new.map.entries c.in_ok-replay.ensures.replayed (g.M.Media.state c.replay.new.media).contents.flash.page
       (ap (λ (k : Contents). k.flash.page) (c.in_ok-replay.ensures.reads.contents ∙ c.in_ok-newest.ensures.reads.contents)) c.in_ok-look_at_places.ensures.whole;
   geometry = c.in_ok-replay.ensures.geometry ∙ c.in_ok-map.ensures.geometry;
+  few = few_loaded c.in_ok-map.map c.replay.new.map c.in_ok-map.ensures.entries c.in_ok-map.ensures.pages c.in_ok-map.ensures.groups c.in_ok-map.ensures.buckets.0 c.in_ok-map.ensures.buckets.1 c.in_ok-replay.ensures.few;
   newest = (found_in c.in_ok-newest.newest).1;
   chosen = c.in_ok-newest.ensures.found;
   era = refl;

@@ -1,6 +1,7 @@
 use Rattle.std.proofs.Common.{ap, rules}
 use Rattle.ft_base.specs.Contents.{Contents}
 use Rattle.checkpoint.specs.Found.{found_in}
+use Rattle.mapping.proofs.FewLemmas.{keeps_then}
 use Rattle.recovery.proofs.LoadLemmas.{maps_refused, log_refused, log_rolled}
 use Rattle.recovery.proofs.loading.replay.Goals as goal
 
@@ -21,3 +22,6 @@ pub returns-clause-replayed : goal.returns-clause-replayed
 returns-clause-replayed g c =
     log_rolled c.args.geometry.now (g.M.Media.state c.args.media.now).contents.flash.page (found_in c.args.newest.now) c.requires.pages c.args.map.now.entries c.requires.nothing c.apply_maps.new.map.entries c.in_ok-apply_maps.ensures.applied
     (g.M.Media.state c.apply_maps.new.media).contents.flash.page (ap (λ (k : Contents). k.flash.page) c.in_ok-apply_maps.ensures.reads.contents) c.roll.new.map.entries c.in_ok-roll.ensures.applied
+
+pub returns-clause-few : goal.returns-clause-few
+returns-clause-few g c = keeps_then c.args.map.now c.apply_maps.new.map c.roll.new.map c.in_ok-apply_maps.ensures.few c.in_ok-roll.ensures.few

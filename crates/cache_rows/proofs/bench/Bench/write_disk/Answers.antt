@@ -19,6 +19,7 @@ holds_beside c a b s k =
       kinds = k.kinds;
       waits = k.waits;
       memory = k.memory;
+      few = k.few;
     }
 
 -- the cache looks at the flash alone

@@ -1,16 +1,19 @@
-use Rattle.std.proofs.Common.{Err, ◌*◌, ◌<◌, ◌≤◌, ◌^◌, length, refl, rules, sym, ◌∙◌, ap}
+use Rattle.std.proofs.Common.{◌≡◌, Err, ◌*◌, ◌<◌, ◌≤◌, ◌^◌, length, refl, rules, sym, ◌∙◌, ap}
 use Rattle.std.proofs.lemmas.List.{length-map}
 use Rattle.ft_base.proofs.Images.{newest_image, with_newest}
 use Rattle.ft_volume.specs.Volume.{Idles}
+use Rattle.ft_volume.specs.declared.volume.Idled.{Idled}
 use Rattle.ft_volume.specs.declared.volume.Idled.TheVariants.{Checkpointed}
+use Rattle.ssc.specs.declared.error.SscError.TheVariants.{OutOfMemory}
 use Rattle.ssc.specs.CacheState.{geometry_of, log_room, pending}
 use Rattle.ssc.specs.Errors.{ssc_failed, ssc_lost}
 use Rattle.cached_disk.specs.declared.disk.CachedDisk.{CachedDisk}
 use Rattle.cached_disk.specs.Kept.{dirty_of, state_in, told_of, waiting_in}
 use Rattle.cached_disk.proofs.AddressLemmas.{holds_held}
-use Rattle.cached_disk.proofs.CallLemmas.{answered_same, gives_up, idle_same, refused_same, same_costs}
+use Rattle.cached_disk.proofs.CallLemmas.{answered_same, gives_up, goes_down, goes_driven, idle_same, refused_same, same_costs}
 use Rattle.cached_disk.proofs.HeldLemmas.{is_up, stopped_down}
-use Rattle.cached_disk.proofs.ReadLemmas.{commit_shows, done_dirty, done_left, done_stands, drove_held, due, may_none, not_due, refused_left, refused_stands, room_fits, shows_itself}
+use Rattle.cached_disk.proofs.ReportLemmas.{goes_at}
+use Rattle.cached_disk.proofs.ReadLemmas.{commit_shows, done_dirty, done_left, done_stands, drove_held, due, may_none, not_due, refused_left, refused_stands, room_fits, shows_itself, still_up}
 use Rattle.cached_disk.proofs.disk.CachedDisk.checkpoint_if_due.Goals as goal
 
 pub overflow_mul-log_room : goal.overflow_mul-log_room
@@ -47,7 +50,8 @@ returns-in-Ok-clause-serves g c =
       left = done_left v c.checkpoint.new.self old new s by s (shows_itself v old s is) (c.in-Ok.ensures.done s is.holds) (λ a dirty. dirty) (may_none v.mode (pending c.checkpoint.new.self) c.in-Ok.ensures.nothing_waits);
       was = λ order base stand. answered_same Idles (state_in order v) (state_in order w) new base refl refl
           (done_stands v c.checkpoint.new.self old new s by s (shows_itself v old s is) (c.in-Ok.ensures.done s is.holds) (λ a dirty. dirty) (may_none v.mode (pending c.checkpoint.new.self) c.in-Ok.ensures.nothing_waits) base stand) Checkpointed refl tt;
-      goes = search rules;
+      goes = λ order. goes_driven Checkpointed (g.M.Media.state c.args.media.now) (g.M.Media.state c.checkpoint.new.media) (state_in order v) (state_in order w) refl
+          (still_up v c.checkpoint.new.self c.requires.may.up c.in-Ok.ensures.runs.stopped) c.in-Ok.ensures.runs.drives;
       dirty = λ still. done_dirty v c.checkpoint.new.self old new s by s (shows_itself v old s is) (c.in-Ok.ensures.done s is.holds) (λ a dirty. dirty) (λ a dirty. dirty);
       made = search rules;
       within = search rules;
@@ -78,11 +82,15 @@ returns-in-Err-clause-serves g c =
     let by = drove_held v c.checkpoint.new.self (g.M.Media.state c.args.media.now) (g.M.Media.state c.checkpoint.new.media) (ssc_failed c.checkpoint.result) (ssc_lost c.checkpoint.result) c.requires.may.left c.requires.may.up c.checkpoint.ensures.runs.geometry c.checkpoint.ensures.runs.drives in
     let shown = commit_shows v old s c.requires.may.left.own is new.flash.page (c.checkpoint.ensures.images s is.holds (with_newest new) (newest_image new)) in
     let w : CachedDisk = record v { cache = c.checkpoint.new.self } in
+    let memory : c.in-Err.error ≡ OutOfMemory → ⊥ = λ none. c.in-Err.ensures.runs.memory (ap Err none) in
+    let down = stopped_down v c.checkpoint.new.self (c.in-Err.ensures.runs.stopped ∙ gives_up c.in-Err.error (λ n limit full. c.in-Err.ensures.runs.full n limit (ap Err full)) memory) in
     record {
       left = refused_left v c.checkpoint.new.self old new s by shown.list shown.shows shown.stands
-          (stopped_down v c.checkpoint.new.self (c.in-Err.ensures.runs.stopped ∙ gives_up c.in-Err.error (λ n limit full. c.in-Err.ensures.runs.full n limit (ap Err full)) (λ none. c.in-Err.ensures.runs.memory (ap Err none))));
+          down;
       was = λ order base stand. refused_same Idles (state_in order v) (state_in order w) new base refl refl (refused_stands v c.checkpoint.new.self old new s by shown.list shown.shows shown.stands base stand) c.cache_error.result;
-      goes = search rules;
+      goes = λ order. goes_at {S = Unit {0}} {T = Idled} (state_in order v) (state_in order w) (g.M.Media.state c.args.media.now) (g.M.Media.state c.checkpoint.new.media) c.cache_error.result
+          (goes_down (g.M.Media.state c.args.media.now) (g.M.Media.state c.checkpoint.new.media) (state_in order v) (state_in order w) c.in-Err.error c.cache_error.result refl down
+          c.cache_error.ensures memory c.in-Err.ensures.runs.drives);
       dirty = search rules;
       made = search rules;
       within = search rules;

@@ -1,14 +1,15 @@
-use Rattle.std.proofs.Common.{Err, refl, rules, sym, ◌∙◌, ap}
+use Rattle.std.proofs.Common.{◌≡◌, Err, refl, rules, sym, ◌∙◌, ap}
 use Rattle.ft_base.proofs.Images.{newest_image, with_newest}
 use Rattle.ft_volume.specs.Volume.{Flushes}
+use Rattle.ssc.specs.declared.error.SscError.TheVariants.{OutOfMemory}
 use Rattle.ssc.specs.CacheState.{pending}
 use Rattle.ssc.specs.Errors.{ssc_failed, ssc_lost}
 use Rattle.cached_disk.specs.declared.disk.CachedDisk.{CachedDisk}
 use Rattle.cached_disk.specs.Kept.{state_in, waiting_in}
 use Rattle.cached_disk.proofs.AddressLemmas.{holds_held}
-use Rattle.cached_disk.proofs.CallLemmas.{answered_same, gives_up, refused_same, same_costs}
+use Rattle.cached_disk.proofs.CallLemmas.{answered_same, gives_up, goes_down, goes_driven, refused_same, same_costs}
 use Rattle.cached_disk.proofs.HeldLemmas.{is_up, stopped_down}
-use Rattle.cached_disk.proofs.ReadLemmas.{commit_shows, done_dirty, done_left, done_stands, drove_held, may_none, refused_left, refused_stands, shows_itself}
+use Rattle.cached_disk.proofs.ReadLemmas.{commit_shows, done_dirty, done_left, done_stands, drove_held, may_none, refused_left, refused_stands, shows_itself, still_up}
 use Rattle.cached_disk.proofs.disk.CachedDisk.flush.Goals as goal
 
 pub commit-requires : goal.commit-requires
@@ -27,7 +28,8 @@ returns-in-Ok-clause-serves g c =
       left = done_left v c.commit.new.self old new s by s (shows_itself v old s is) (c.in-Ok.ensures.done s is.holds) (λ a dirty. dirty) (may_none v.mode (pending c.commit.new.self) c.in-Ok.ensures.nothing_waits);
       was = λ order base stand. answered_same Flushes (state_in order v) (state_in order w) new base refl refl
           (done_stands v c.commit.new.self old new s by s (shows_itself v old s is) (c.in-Ok.ensures.done s is.holds) (λ a dirty. dirty) (may_none v.mode (pending c.commit.new.self) c.in-Ok.ensures.nothing_waits) base stand) tt refl tt;
-      goes = search rules;
+      goes = λ order. goes_driven tt (g.M.Media.state c.args.media.now) (g.M.Media.state c.commit.new.media) (state_in order v) (state_in order w) refl
+          (still_up v c.commit.new.self c.requires.may.up c.in-Ok.ensures.runs.stopped) c.in-Ok.ensures.runs.drives;
       dirty = λ still. done_dirty v c.commit.new.self old new s by s (shows_itself v old s is) (c.in-Ok.ensures.done s is.holds) (λ a dirty. dirty) (λ a dirty. dirty);
       made = search rules;
       within = search rules;
@@ -57,11 +59,14 @@ returns-in-Err-clause-serves g c =
     let by = drove_held v c.commit.new.self (g.M.Media.state c.args.media.now) (g.M.Media.state c.commit.new.media) (ssc_failed c.commit.result) (ssc_lost c.commit.result) c.requires.may.left c.requires.may.up c.commit.ensures.runs.geometry c.commit.ensures.runs.drives in
     let shown = commit_shows v old s c.requires.may.left.own is new.flash.page (c.commit.ensures.images s is.holds (with_newest new) (newest_image new)) in
     let w : CachedDisk = record v { cache = c.commit.new.self } in
+    let memory : c.in-Err.error ≡ OutOfMemory → ⊥ = λ none. c.in-Err.ensures.runs.memory (ap Err none) in
+    let down = stopped_down v c.commit.new.self (c.in-Err.ensures.runs.stopped ∙ gives_up c.in-Err.error (λ n limit full. c.in-Err.ensures.runs.full n limit (ap Err full)) memory) in
     record {
       left = refused_left v c.commit.new.self old new s by shown.list shown.shows shown.stands
-          (stopped_down v c.commit.new.self (c.in-Err.ensures.runs.stopped ∙ gives_up c.in-Err.error (λ n limit full. c.in-Err.ensures.runs.full n limit (ap Err full)) (λ none. c.in-Err.ensures.runs.memory (ap Err none))));
+          down;
       was = λ order base stand. refused_same Flushes (state_in order v) (state_in order w) new base refl refl (refused_stands v c.commit.new.self old new s by shown.list shown.shows shown.stands base stand) c.cache_error.result;
-      goes = search rules;
+      goes = λ order. goes_down (g.M.Media.state c.args.media.now) (g.M.Media.state c.commit.new.media) (state_in order v) (state_in order w) c.in-Err.error c.cache_error.result refl down
+          c.cache_error.ensures memory c.in-Err.ensures.runs.drives;
       dirty = search rules;
       made = search rules;
       within = search rules;

@@ -88,7 +88,7 @@ returns-in-Ok-clause-report g c =
     let after = (g.M.Media.state c.scrub.new.media).contents in
     let left = left_same u c.scrub.new.self mid after c.scrub.ensures.same c.scrub.ensures.reads.contents c.flush.ensures.serves.left in
     let up : is_down w ≡ false = ap (λ (k : Ssc). is_down (record u { cache = k })) c.scrub.ensures.same ∙ (c.in_default.ensures.serves.goes []).up in
-    report_is c.args.self.now w after c.flush.ensures.serves.made.0 left up (ap pending c.scrub.ensures.same ∙ c.in_default.ensures.nothing_waits) _ c.held.ensures.count c.dirty_groups.ensures.count c.dirty_groups.ensures.most c.buckets.ensures.bound
+    report_is c.args.self.now w after c.flush.ensures.serves.made.0 left up (ap pending c.scrub.ensures.same ∙ c.in_default.ensures.nothing_waits) _ c.held.ensures.count c.dirty_groups.ensures.count c.dirty_groups.ensures.most c.buckets.ensures.bound c.buckets.ensures.few
     (c.in-Ok.ensures.found.pages ∙ ap (λ (k : Ssc). held_count (entries_of k)) (sym c.scrub.ensures.same))
 
 pub returns-in-Ok-clause-loads : goal.returns-in-Ok-clause-loads

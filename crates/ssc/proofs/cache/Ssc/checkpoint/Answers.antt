@@ -2,7 +2,7 @@ use Rattle.std.proofs.Common.{ap}
 use Rattle.cache_model.specs.Cache.{undo}
 use Rattle.op_log.specs.Log.{LogValue}
 use Rattle.ssc.specs.CacheState.{pending, geometry_of}
-use Rattle.ssc.proofs.HoldsLemmas.{holds_committed, memory_logged}
+use Rattle.ssc.proofs.HoldsLemmas.{few_logged, holds_committed, memory_logged}
 use Rattle.ssc.proofs.CommandLemmas.{images_before}
 use Rattle.ssc.proofs.OwnLemmas.{given_up_not, kept_step}
 use Rattle.ssc.specs.declared.cache.Ssc.{Ssc}
@@ -11,7 +11,7 @@ use Rattle.ssc.proofs.cache.Ssc.checkpoint.Goals as goal
 pub returns-in-Ok-clause-done : goal.returns-in-Ok-clause-done
 returns-in-Ok-clause-done g c = λ s holds.
     holds_committed _ (g.M.Media.state c.make_checkpoint.new.media).contents s
-    (record { agree = c.in-Ok.ensures.kept.agree; memory = λ ready. memory_logged c.args.self.now.parts c.make_checkpoint.new.cache c.make_checkpoint.ensures.cache (holds.memory ready) })
+    (record { agree = c.in-Ok.ensures.kept.agree; memory = λ ready. memory_logged c.args.self.now.parts c.make_checkpoint.new.cache c.make_checkpoint.ensures.cache (holds.memory ready); few = few_logged c.args.self.now.parts c.make_checkpoint.new.cache c.make_checkpoint.ensures.cache holds.few })
     (ap (λ (l : LogValue). l.buffered) c.in-Ok.ensures.log) (c.in-Ok.ensures.kept.lists s (undo (pending c.args.self.now) s) holds.lists)
 
 pub returns-in-Ok-clause-images : goal.returns-in-Ok-clause-images

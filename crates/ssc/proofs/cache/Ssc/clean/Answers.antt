@@ -4,7 +4,7 @@ use Rattle.ft_base.specs.declared.record.Record.TheVariants.{Clean}
 use Rattle.cache_model.specs.Cache.{undo, made_clean}
 use Rattle.cache_model.specs.CacheList.{CacheList}
 use Rattle.ssc.specs.CacheState.{Holds, pending, geometry_of}
-use Rattle.ssc.proofs.HoldsLemmas.{few_buffered, length_waiting, holds_cleaned, pends_after}
+use Rattle.ssc.proofs.HoldsLemmas.{few_buffered, few_stepped, length_waiting, holds_cleaned, pends_after}
 use Rattle.ssc.proofs.CommandLemmas.{images_after, dirty_entry, no_dirty_entry}
 use Rattle.ssc.proofs.OwnLemmas.{given_up_not, kept_step, kept_held, cleaned_own}
 use Rattle.ssc.specs.declared.cache.Ssc.{Ssc}
@@ -24,7 +24,11 @@ returns-in-Ok-clause-done g c = λ s holds.
     let old = (g.M.Media.state c.args.media.now).contents in
     let h = dirty_entry c.args.self.now old s c.args.lba holds (c.if-not-is_dirty.ensures.0 refl) in
     holds_cleaned s c.args.lba h.0 h.1 h.2 c.args.self.now _ old (g.M.Media.state c.mark_clean.new.media).contents holds
-    (record { agree = c.in-Ok.ensures.agree; memory = λ ready. c.mark_clean.ensures.reserved (holds.memory ready) }) c.in-Ok.ensures.room
+    (record {
+      agree = c.in-Ok.ensures.agree;
+      memory = λ ready. c.mark_clean.ensures.reserved (holds.memory ready);
+      few = few_stepped c.args.self.now.parts c.mark_clean.new.parts (g.M.Media.state c.args.media.now).contents (g.M.Media.state c.mark_clean.new.media).contents holds.agree c.in-Ok.ensures.agree c.mark_clean.ensures.kept holds.few;
+    }) c.in-Ok.ensures.room
     (c.in-Ok.ensures.lists s (undo (pending c.args.self.now) s) holds.lists)
 
 pub returns-in-Ok-clause-of_dirty : goal.returns-in-Ok-clause-of_dirty

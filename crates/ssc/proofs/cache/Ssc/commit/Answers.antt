@@ -3,7 +3,7 @@ use Rattle.std.proofs.lemmas.Bool.{false≢true}
 use Rattle.cache_model.specs.Cache.{undo}
 use Rattle.merge_engine.specs.declared.parts.Parts.{Parts}
 use Rattle.ssc.specs.CacheState.{pending, geometry_of, waiting}
-use Rattle.ssc.proofs.HoldsLemmas.{holds_committed, memory_logged, waiting-none}
+use Rattle.ssc.proofs.HoldsLemmas.{few_logged, holds_committed, memory_logged, waiting-none}
 use Rattle.ssc.proofs.CommandLemmas.{images_before}
 use Rattle.ssc.proofs.OwnLemmas.{given_up_not, kept_step}
 use Rattle.ssc.specs.declared.cache.Ssc.{Ssc}
@@ -17,6 +17,7 @@ returns-in-Ok-clause-done g c = λ s holds.
     holds_committed _ (g.M.Media.state c.commit.new.media).contents s (record {
       agree = c.in-Ok.ensures.kept.agree;
       memory = λ ready. memory_logged c.args.self.now.parts c.commit.new.cache c.commit.ensures.cache (holds.memory ready);
+      few = few_logged c.args.self.now.parts c.commit.new.cache c.commit.ensures.cache holds.few;
     }) c.in-Ok.ensures.kept.nothing_waits
     (c.in-Ok.ensures.kept.lists s (undo (pending c.args.self.now) s) holds.lists)
 

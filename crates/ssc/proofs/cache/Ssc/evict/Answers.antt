@@ -3,7 +3,7 @@ use Rattle.std.proofs.lemmas.Bool.{false≢true}
 use Rattle.cache_model.specs.Cache.{undo, evicted}
 use Rattle.cache_model.specs.CacheList.{CacheList}
 use Rattle.ssc.specs.CacheState.{Holds, pending, geometry_of}
-use Rattle.ssc.proofs.HoldsLemmas.{holds_committed, few_buffered}
+use Rattle.ssc.proofs.HoldsLemmas.{holds_committed, few_buffered, few_stepped}
 use Rattle.ssc.proofs.CommandLemmas.{images_after, evicted_absent, no_entry, an_entry}
 use Rattle.ssc.proofs.OwnLemmas.{given_up_not, kept_step, kept_held, evicted_own}
 use Rattle.ssc.specs.declared.cache.Ssc.{Ssc}
@@ -21,7 +21,11 @@ take_out-requires g c = record { may = record { agree = c.requires.up.holds.agre
 pub returns-in-Ok-clause-done : goal.returns-in-Ok-clause-done
 returns-in-Ok-clause-done g c = λ s holds.
     holds_committed _ (g.M.Media.state c.take_out.new.media).contents (evicted c.args.lba s)
-    (record { agree = c.in-Ok.ensures.agree; memory = λ ready. c.take_out.ensures.reserved (holds.memory ready) }) c.in-Ok.ensures.nothing_waits
+    (record {
+      agree = c.in-Ok.ensures.agree;
+      memory = λ ready. c.take_out.ensures.reserved (holds.memory ready);
+      few = few_stepped c.args.self.now.parts c.take_out.new.parts (g.M.Media.state c.args.media.now).contents (g.M.Media.state c.take_out.new.media).contents holds.agree c.in-Ok.ensures.agree c.take_out.ensures.kept holds.few;
+    }) c.in-Ok.ensures.nothing_waits
     (c.in-Ok.ensures.lists s (undo (pending c.args.self.now) s) holds.lists)
 
 pub returns-in-Ok-clause-absent : goal.returns-in-Ok-clause-absent

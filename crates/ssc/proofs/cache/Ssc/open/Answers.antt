@@ -1,5 +1,4 @@
 use Rattle.std.proofs.Common.{rules, Err, true, false, refl, ◌∙◌, ap, subst}
-use Rattle.std.proofs.lemmas.Bool.{false≢true}
 use Rattle.ft_base.specs.Count.{Rose}
 use Rattle.ft_media.specs.declared.rig.Counts.{Counts}
 use Rattle.ft_media.specs.declared.media.MediaError.{MediaError}
@@ -10,7 +9,7 @@ use Rattle.ft_media.proofs.PassesLemmas.{spends_after}
 use Rattle.op_log.specs.Log.{LogValue}
 use Rattle.merge_engine.specs.declared.parts.Parts.{Parts}
 use Rattle.ssc.proofs.OpenLemmas.{full_room, loaded_era, reads_drives, sound_loaded, lists_loaded, images_loaded, load-loaded}
-use Rattle.ssc.proofs.HoldsLemmas.{holds_committed}
+use Rattle.ssc.proofs.HoldsLemmas.{settled_opened, holds_committed}
 use Rattle.ssc.proofs.ListLemmas.{stands_some}
 use Rattle.ssc.proofs.cache.Ssc.open.Goals as goal
 
@@ -25,7 +24,9 @@ make_checkpoint-requires g c = record {
 pub returns-in-Ok-clause-holds : goal.returns-in-Ok-clause-holds
 returns-in-Ok-clause-holds g c = λ s stands.
     let lists = lists_loaded c.args.geometry.now (g.M.Media.state c.args.media.now).contents (g.M.Media.state c.load.new.media).contents c.in_ok-loaded.loaded c.in_ok-parts.parts c.in_ok-loaded.ensures.loaded c.in_ok-loaded.ensures.reads.contents c.in_ok-parts.ensures s stands in
-    holds_committed _ (g.M.Media.state c.make_checkpoint.new.media).contents s (record { agree = c.in-Ok.ensures.kept.agree; memory = λ ready. absurd (false≢true ready) }) (ap (λ (l : LogValue). l.buffered) c.in-Ok.ensures.log) (c.in-Ok.ensures.kept.lists s s lists)
+    holds_committed _ (g.M.Media.state c.make_checkpoint.new.media).contents s
+    (settled_opened _ (g.M.Media.state c.make_checkpoint.new.media).contents refl c.in-Ok.ensures.kept.agree c.in_ok-parts.parts c.in_ok-loaded.loaded.map c.make_checkpoint.ensures.cache c.in_ok-parts.ensures.map c.in_ok-loaded.ensures.loaded.few)
+    (ap (λ (l : LogValue). l.buffered) c.in-Ok.ensures.log) (c.in-Ok.ensures.kept.lists s s lists)
 
 pub returns-in-Ok-clause-drives : goal.returns-in-Ok-clause-drives
 returns-in-Ok-clause-drives g c = drives_then (g.M.Media.state c.args.media.now) (g.M.Media.state c.load.new.media) (g.M.Media.state c.make_checkpoint.new.media) false false
@@ -73,7 +74,9 @@ returns-in-Ok-clause-is_up g c =
     let lists = lists_loaded c.args.geometry.now (g.M.Media.state c.args.media.now).contents (g.M.Media.state c.load.new.media).contents c.in_ok-loaded.loaded c.in_ok-parts.parts c.in_ok-loaded.ensures.loaded c.in_ok-loaded.ensures.reads.contents c.in_ok-parts.ensures some.0 some.1 in
     record {
       list = some.0;
-      holds = holds_committed _ (g.M.Media.state c.make_checkpoint.new.media).contents some.0 (record { agree = c.in-Ok.ensures.kept.agree; memory = λ ready. absurd (false≢true ready) }) (ap (λ (l : LogValue). l.buffered) c.in-Ok.ensures.log) (c.in-Ok.ensures.kept.lists some.0 some.0 lists);
+      holds = holds_committed _ (g.M.Media.state c.make_checkpoint.new.media).contents some.0
+          (settled_opened _ (g.M.Media.state c.make_checkpoint.new.media).contents refl c.in-Ok.ensures.kept.agree c.in_ok-parts.parts c.in_ok-loaded.loaded.map c.make_checkpoint.ensures.cache c.in_ok-parts.ensures.map c.in_ok-loaded.ensures.loaded.few)
+          (ap (λ (l : LogValue). l.buffered) c.in-Ok.ensures.log) (c.in-Ok.ensures.kept.lists some.0 some.0 lists);
       up = refl;
     }
 

@@ -26,7 +26,8 @@ put_clean-requires-clause-memory g c = (c.reserve.ensures.holds (g.M.Media.state
 pub returns-in-Ok-clause-done : goal.returns-in-Ok-clause-done
 returns-in-Ok-clause-done g c = λ s holds. written_from c.reserve.new.self.parts _ (g.M.Media.state c.put_clean.new.media).contents s c.args.lba (written_clean c.args.lba c.args.block.now) c.put_clean.ensures.kept.geometry
     (left_clean c.reserve.new.self _ (g.M.Media.state c.args.media.now).contents (g.M.Media.state c.put_clean.new.media).contents s c.args.lba c.args.block.now (c.reserve.ensures.holds (g.M.Media.state c.args.media.now).contents s holds)
-    (settled_unready c.put_clean.new.self (g.M.Media.state c.put_clean.new.media).contents (ap (λ (v : Ssc). v.ready) c.put_clean.ensures.cache) c.in-Ok.ensures.agree)
+    (settled_unready c.reserve.new.self c.put_clean.new.self (g.M.Media.state c.args.media.now).contents (g.M.Media.state c.put_clean.new.media).contents s
+    (c.reserve.ensures.holds (g.M.Media.state c.args.media.now).contents s holds) (ap (λ (v : Ssc). v.ready) c.put_clean.ensures.cache) c.in-Ok.ensures.agree c.put_clean.ensures.kept)
     c.in-Ok.ensures.few c.in-Ok.ensures.over_held (held_none c.reserve.new.self (g.M.Media.state c.args.media.now).contents s c.args.lba
     (c.reserve.ensures.holds (g.M.Media.state c.args.media.now).contents s holds))
     (c.in-Ok.ensures.lists s (undo (pending c.reserve.new.self) s) (c.reserve.ensures.holds (g.M.Media.state c.args.media.now).contents s holds).lists))
@@ -91,13 +92,15 @@ pub returns-in-Ok-clause-in_room : goal.returns-in-Ok-clause-in_room
 returns-in-Ok-clause-in_room g c = record {
   inside = λ room s holds. inside_from c.reserve.new.self.parts _ (g.M.Media.state c.put_clean.new.media).contents s (written_clean c.args.lba c.args.block.now) (inl (room_left c.args.self.now c.reserve.new.self c.reserve.ensures.parts room))
       (left_clean c.reserve.new.self _ (g.M.Media.state c.args.media.now).contents (g.M.Media.state c.put_clean.new.media).contents s c.args.lba c.args.block.now (c.reserve.ensures.holds (g.M.Media.state c.args.media.now).contents s holds)
-      (settled_unready c.put_clean.new.self (g.M.Media.state c.put_clean.new.media).contents (ap (λ (v : Ssc). v.ready) c.put_clean.ensures.cache) c.in-Ok.ensures.agree)
+      (settled_unready c.reserve.new.self c.put_clean.new.self (g.M.Media.state c.args.media.now).contents (g.M.Media.state c.put_clean.new.media).contents s
+      (c.reserve.ensures.holds (g.M.Media.state c.args.media.now).contents s holds) (ap (λ (v : Ssc). v.ready) c.put_clean.ensures.cache) c.in-Ok.ensures.agree c.put_clean.ensures.kept)
       c.in-Ok.ensures.few c.in-Ok.ensures.over_held (held_none c.reserve.new.self (g.M.Media.state c.args.media.now).contents s c.args.lba
       (c.reserve.ensures.holds (g.M.Media.state c.args.media.now).contents s holds))
       (c.in-Ok.ensures.lists s (undo (pending c.reserve.new.self) s) (c.reserve.ensures.holds (g.M.Media.state c.args.media.now).contents s holds).lists));
   kept = λ room s holds. inside_from c.reserve.new.self.parts _ (g.M.Media.state c.put_clean.new.media).contents s (written_clean c.args.lba c.args.block.now) (log_room_left c.args.self.now c.reserve.new.self c.reserve.ensures.parts c.reserve.ensures.entries room)
       (left_clean c.reserve.new.self _ (g.M.Media.state c.args.media.now).contents (g.M.Media.state c.put_clean.new.media).contents s c.args.lba c.args.block.now (c.reserve.ensures.holds (g.M.Media.state c.args.media.now).contents s holds)
-      (settled_unready c.put_clean.new.self (g.M.Media.state c.put_clean.new.media).contents (ap (λ (v : Ssc). v.ready) c.put_clean.ensures.cache) c.in-Ok.ensures.agree)
+      (settled_unready c.reserve.new.self c.put_clean.new.self (g.M.Media.state c.args.media.now).contents (g.M.Media.state c.put_clean.new.media).contents s
+      (c.reserve.ensures.holds (g.M.Media.state c.args.media.now).contents s holds) (ap (λ (v : Ssc). v.ready) c.put_clean.ensures.cache) c.in-Ok.ensures.agree c.put_clean.ensures.kept)
       c.in-Ok.ensures.few c.in-Ok.ensures.over_held (held_none c.reserve.new.self (g.M.Media.state c.args.media.now).contents s c.args.lba
       (c.reserve.ensures.holds (g.M.Media.state c.args.media.now).contents s holds))
       (c.in-Ok.ensures.lists s (undo (pending c.reserve.new.self) s) (c.reserve.ensures.holds (g.M.Media.state c.args.media.now).contents s holds).lists));

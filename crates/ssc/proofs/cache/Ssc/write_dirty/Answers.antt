@@ -42,7 +42,9 @@ returns-in-Err-clause-full g c = λ s holds. not_full_from c.args.self.now (g.M.
 
 pub returns-in-Ok-clause-done : goal.returns-in-Ok-clause-done
 returns-in-Ok-clause-done g c = λ s holds. written_from c.reserve.new.self.parts _ (g.M.Media.state c.write_committed.new.media).contents s c.args.lba (written_dirty c.args.lba c.args.block.now) c.write_committed.ensures.kept.geometry
-    (left_committed c.reserve.new.self.parts _ (g.M.Media.state c.write_committed.new.media).contents s c.args.lba (written_block c.args.lba c.args.block.now true) (settled_unready _ (g.M.Media.state c.write_committed.new.media).contents refl c.in-Ok.ensures.agree) c.in-Ok.ensures.nothing_waits
+    (left_committed c.reserve.new.self.parts _ (g.M.Media.state c.write_committed.new.media).contents s c.args.lba (written_block c.args.lba c.args.block.now true)
+    (settled_unready c.reserve.new.self _ (g.M.Media.state c.args.media.now).contents (g.M.Media.state c.write_committed.new.media).contents s
+    (c.reserve.ensures.holds (g.M.Media.state c.args.media.now).contents s holds) refl c.in-Ok.ensures.agree c.write_committed.ensures.kept) c.in-Ok.ensures.nothing_waits
     (c.in-Ok.ensures.lists s (undo (pending c.reserve.new.self) s) (c.reserve.ensures.holds (g.M.Media.state c.args.media.now).contents s holds).lists))
 
 pub returns-in-Ok-clause-images : goal.returns-in-Ok-clause-images
@@ -106,10 +108,14 @@ returns-in-Err-clause-runs g c = record {
 pub returns-in-Ok-clause-in_room : goal.returns-in-Ok-clause-in_room
 returns-in-Ok-clause-in_room g c = record {
   inside = λ room s holds. inside_from c.reserve.new.self.parts _ (g.M.Media.state c.write_committed.new.media).contents s (written_dirty c.args.lba c.args.block.now) (inl (room_left c.args.self.now c.reserve.new.self c.reserve.ensures.parts room))
-      (left_committed c.reserve.new.self.parts _ (g.M.Media.state c.write_committed.new.media).contents s c.args.lba (written_block c.args.lba c.args.block.now true) (settled_unready _ (g.M.Media.state c.write_committed.new.media).contents refl c.in-Ok.ensures.agree) c.in-Ok.ensures.nothing_waits
+      (left_committed c.reserve.new.self.parts _ (g.M.Media.state c.write_committed.new.media).contents s c.args.lba (written_block c.args.lba c.args.block.now true)
+      (settled_unready c.reserve.new.self _ (g.M.Media.state c.args.media.now).contents (g.M.Media.state c.write_committed.new.media).contents s
+      (c.reserve.ensures.holds (g.M.Media.state c.args.media.now).contents s holds) refl c.in-Ok.ensures.agree c.write_committed.ensures.kept) c.in-Ok.ensures.nothing_waits
       (c.in-Ok.ensures.lists s (undo (pending c.reserve.new.self) s) (c.reserve.ensures.holds (g.M.Media.state c.args.media.now).contents s holds).lists));
   kept = λ room s holds. inside_from c.reserve.new.self.parts _ (g.M.Media.state c.write_committed.new.media).contents s (written_dirty c.args.lba c.args.block.now) (log_room_left c.args.self.now c.reserve.new.self c.reserve.ensures.parts c.reserve.ensures.entries room)
-      (left_committed c.reserve.new.self.parts _ (g.M.Media.state c.write_committed.new.media).contents s c.args.lba (written_block c.args.lba c.args.block.now true) (settled_unready _ (g.M.Media.state c.write_committed.new.media).contents refl c.in-Ok.ensures.agree) c.in-Ok.ensures.nothing_waits
+      (left_committed c.reserve.new.self.parts _ (g.M.Media.state c.write_committed.new.media).contents s c.args.lba (written_block c.args.lba c.args.block.now true)
+      (settled_unready c.reserve.new.self _ (g.M.Media.state c.args.media.now).contents (g.M.Media.state c.write_committed.new.media).contents s
+      (c.reserve.ensures.holds (g.M.Media.state c.args.media.now).contents s holds) refl c.in-Ok.ensures.agree c.write_committed.ensures.kept) c.in-Ok.ensures.nothing_waits
       (c.in-Ok.ensures.lists s (undo (pending c.reserve.new.self) s) (c.reserve.ensures.holds (g.M.Media.state c.args.media.now).contents s holds).lists));
   kept_images = λ room s holds.
       images_kept c.args.self.now c.reserve.new.self (g.M.Media.state c.write_committed.new.media).contents s (written_dirty c.args.lba c.args.block.now s) c.reserve.ensures.same c.reserve.ensures.pending

@@ -1,10 +1,12 @@
-use Rattle.std.proofs.Common.{Err, ap, ◌∙◌, rules}
+use Rattle.std.proofs.Common.{◌≡◌, Err, [], ap, refl, ◌∙◌, rules}
 use Rattle.ft_base.proofs.Images.{newest_image, with_newest}
 use Rattle.cache_model.specs.Cache.{evicted}
+use Rattle.ssc.specs.declared.error.SscError.TheVariants.{OutOfMemory}
 use Rattle.ssc.specs.Errors.{ssc_failed, ssc_lost}
-use Rattle.cached_disk.proofs.CallLemmas.{gives_up}
+use Rattle.cached_disk.specs.Kept.{state_in}
+use Rattle.cached_disk.proofs.CallLemmas.{gives_up, goes_down, goes_driven}
 use Rattle.cached_disk.proofs.HeldLemmas.{is_up, stopped_down}
-use Rattle.cached_disk.proofs.ReadLemmas.{done_left, done_stands, drove_held, refused_left, refused_stands}
+use Rattle.cached_disk.proofs.ReadLemmas.{done_left, done_stands, drove_held, refused_left, refused_stands, still_up}
 use Rattle.write_through.proofs.TakeLemmas.{evict_shows, evicted_absent, evicted_held, evicted_keeps, evicted_may, evicted_shows}
 use Rattle.write_through.proofs.volume.WriteThrough.take_out.Goals as goal
 
@@ -31,7 +33,7 @@ returns-in-Ok-clause-steps g c =
         disk = done_left v k before.contents after.contents s by (evicted lba s) (evicted_shows v before.contents s left.own is through lba) (c.in-Ok.ensures.done s is.holds) (evicted_keeps v before.contents s left.own is through lba) may;
         mode = through;
       };
-      goes = search rules;
+      goes = goes_driven tt before after (state_in [] v) (state_in [] (record v { cache = k })) refl (still_up v k c.requires.may.up c.in-Ok.ensures.runs.stopped) c.in-Ok.ensures.runs.drives;
       within = search rules;
     }
 
@@ -73,13 +75,14 @@ returns-in-Err-clause-steps g c =
     let through = c.requires.may.left.mode in
     let by = drove_held v k before after (ssc_failed c.evict.result) (ssc_lost c.evict.result) left c.requires.may.up c.evict.ensures.runs.geometry c.evict.ensures.runs.drives in
     let shown = evict_shows v before.contents s left.own is through c.args.lba after.contents.flash.page (c.evict.ensures.images s is.holds (with_newest after.contents) (newest_image after.contents)) in
+    let memory : c.in-Err.error ≡ OutOfMemory → ⊥ = λ none. c.in-Err.ensures.runs.memory (ap Err none) in
+    let down = stopped_down v k (c.in-Err.ensures.runs.stopped ∙ gives_up c.in-Err.error (λ n limit full. c.in-Err.ensures.runs.full n limit (ap Err full)) memory) in
     record {
       left = record {
-        disk = refused_left v k before.contents after.contents s by shown.list shown.shows shown.stands
-            (stopped_down v k (c.in-Err.ensures.runs.stopped ∙ gives_up c.in-Err.error (λ n limit full. c.in-Err.ensures.runs.full n limit (ap Err full)) (λ none. c.in-Err.ensures.runs.memory (ap Err none))));
+        disk = refused_left v k before.contents after.contents s by shown.list shown.shows shown.stands down;
         mode = through;
       };
-      goes = search rules;
+      goes = goes_down before after (state_in [] v) (state_in [] (record v { cache = k })) c.in-Err.error c.cache_error.result refl down c.cache_error.ensures memory c.in-Err.ensures.runs.drives;
       within = search rules;
     }
 
