@@ -64,10 +64,10 @@ pub record AnswersLine (o : Told) (run : List Ran) (line : Line) (answers : List
   pub told : answers ≡ answers_of (as_ran line cuts kept lost) (disk_without lost run)
 
 -- the answers that come after the last line, however often the reads of the end are cut
-pub record AnswersEnd (run : List Ran) (answers : List Answer) : Type 0 where
+pub record AnswersEnd (o : Told) (run : List Ran) (answers : List Answer) : Type 0 where
   pub cuts : ℕ
   pub lost : ℕ
-  pub fits : FitsEnd run cuts lost
+  pub fits : FitsEnd o.ack run cuts lost
   pub told : answers ≡ end_answers run cuts lost
 
 -- what is told of a line: its refusal or its answers
@@ -77,7 +77,7 @@ AnswersTo o None run line answers = AnswersLine o run line answers
 
 -- what may be told next: of the next line its answers or its refusal; after the last one the end; nothing where no more is known
 abbrev pub MayTell : Told → Bool → List Ran → List Reading → List Answer → Type 0
-MayTell o true run [] answers = AnswersEnd run answers
+MayTell o true run [] answers = AnswersEnd o run answers
 MayTell o false run [] answers = answers ≡ []
 MayTell o whole run (Err cause ∷ left) answers = answers ≡ refusal run cause
 MayTell o whole run (Ok line ∷ left) answers = AnswersTo o (refusal_of run line) run line answers
