@@ -154,11 +154,11 @@ told_end x y taken same run answers more is said =
 
 -- a part of one more answer, where the sink failed
 abbrev pub BrokenBy : SinkState → SinkState → List Ran → List Answer → Option Answer → Type 0
-BrokenBy x y run answers None = ⊥
+BrokenBy x y run answers None = (line : Line) × (more : List Event) × (answers_in more ≡ answers) × BrokeMade x y (events_of run ++ more) (Gave line)
 BrokenBy x y run answers (Some next) = (more : List Event) × (answers_in more ≡ answers) × BrokeMade x y (events_of run ++ more) (Took next)
 
 pub shown_end : (x y : SinkState) (taken : Option (List ℕ)) → y.taken ≡ taken → (run : List Ran) (answers : List Answer) (next : Option Answer) → BrokenBy x y run answers next → TellsEndPart x (record { taken = taken; faults = 0; lent = [] }) run answers next
-shown_end x y taken same run answers None part = part
+shown_end x y taken same run answers None part = absurd part.3
 shown_end x y taken same run answers (Some next) part =
     let shown = subst (λ (r : List Answer). SaidPart x y r (Some next)) (ends_told run answers part.0 part.1) part.2.1 in
     (part.2.0, (shown.0, shown.1, subst (λ (z : Option (List ℕ)). Appends x.taken z (text (ends_in answers) ++ take shown.0 (text_of next))) same shown.2))
@@ -200,6 +200,6 @@ not_refused run (l ∷ lines) (r ∷ ran) (next ∷ left) cause go front why =
     not_refused run lines ran (next ∷ left) cause (and_parts (goes_on l) (list_all goes_on lines) go).1 (cc) why
 
 -- so no line of a made trace is
-pub never_refused : (g : TraceGen) (run : List Ran) (all left : List Reading) (whole : Bool) (cause : LineError) → Gives (lines_left g) all whole → all ≡ map accepted (lines_of run) ++ left → next_refusal run left ≡ Some cause → ⊥
-never_refused g run all left whole cause gives front why =
+pub never_refused : (g : TraceGen) (run : List Ran) (all left : List Reading) (given : ℕ) (whole : Bool) (cause : LineError) → Gives (lines_left g) given all whole → all ≡ map accepted (lines_of run) ++ left → next_refusal run left ≡ Some cause → ⊥
+never_refused g run all left given whole cause gives front why =
     not_refused run (lines_left g) (lines_of run) left cause (all_go_on g.size g.hot (g.given + 1) (g.count - g.given) g.words) (sym gives.0 ∙ front) why

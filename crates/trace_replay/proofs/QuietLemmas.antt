@@ -39,18 +39,19 @@ refusal_heard e cause = ap (λ (lines : List Line). answer.Refused (length lines
 
 -- ---- what is known of the lines
 
-pub reads_heard : (size : ℕ) (s a : SourceState) (e : List Event) (whole : Bool) → Reads size s a (map accepted (lines_given (heard e))) whole → Reads size s a (map accepted (lines_given e)) whole
-reads_heard size s a e whole reads = subst (λ (lines : List Line). Reads size s a (map accepted lines) whole) (lines_heard e) reads
+pub reads_heard : (size : ℕ) (s a : SourceState) (e : List Event) (whole : Bool) → Reads size s a (length (lines_given (heard e))) (map accepted (lines_given (heard e))) whole
+    → Reads size s a (length (lines_given e)) (map accepted (lines_given e)) whole
+reads_heard size s a e whole reads = subst (λ (lines : List Line). Reads size s a (length lines) (map accepted lines) whole) (lines_heard e) reads
 
 -- the next line is refused of all where it is of those that were heard
-pub refused_heard : {P Q : Type 0} {knows : SourceState → P → List Reading → Bool → Type 0} {knew : SourceState → Q → List Reading → Bool → Type 0} {now : P} {was : Q} (s : SourceState) (e : List Event) (armed : ℕ) (cause : LineError)
-    → ((all : List Reading) (whole : Bool) → knew s was all whole → knows s now all whole) → NextRefused knew s was (heard e) armed cause → NextRefused knows s now e armed cause
-refused_heard s e armed cause known refused = record {
+pub refused_heard : {P Q : Type 0} (knows : SourceState → P → ℕ → List Reading → Bool → Type 0) {knew : SourceState → Q → ℕ → List Reading → Bool → Type 0} (now : P) {was : Q} (s : SourceState) (e : List Event) (armed : ℕ) (cause : LineError)
+    → ((lines : ℕ) (all : List Reading) (whole : Bool) → knew s was lines all whole → knows s now lines all whole) → NextRefused knew s was (heard e) armed cause → NextRefused knows s now e armed cause
+refused_heard knows now s e armed cause known refused = record {
   all = refused.all;
   whole = refused.whole;
   next = refused.next;
   left = refused.left;
-  known = known _ _ refused.known;
+  known = subst (λ (lines : List Line). knows s now (length lines) refused.all refused.whole) (lines_heard e) (known _ _ _ refused.known);
   front = given_heard refused.all (refused.next ∷ refused.left) e refused.front;
   why = refused.why;
 }
@@ -101,12 +102,12 @@ told_refusal x y taken same run answers more is said =
 
 -- a part of one more answer, where the sink failed
 abbrev pub BrokenBy : SinkState → SinkState → List Ran → List Answer → Option Answer → Type 0
-BrokenBy x y run answers None = ⊥
+BrokenBy x y run answers None = (line : Line) × (more : List Event) × (answers_in more ≡ answers) × ((is_heard (Gave line) ≡ true) × BrokeStream x y (heard (events_of run ++ more)) (Gave line))
 BrokenBy x y run answers (Some next) = (more : List Event) × (answers_in more ≡ answers) × ((is_refusal next ≡ true) × BrokeStream x y (heard (events_of run ++ more)) (Took next))
 
 pub shown_refusal : (x y : SinkState) (taken : Option (List ℕ)) → y.taken ≡ taken → (run : List Ran) (answers : List Answer) (next : Option Answer) → BrokenBy x y run answers next
     → TellsRefusalPart x (record { taken = taken; faults = 0; lent = [] }) run answers next
-shown_refusal x y taken same run answers None part = part
+shown_refusal x y taken same run answers None part = absurd part.3.1
 shown_refusal x y taken same run answers (Some next) part =
     let shown = subst (λ (r : List Answer). SaidPart x y r (Some next)) (refusals_told run answers part.0 part.1) part.2.1 in
     (part.2.0, (shown.0, shown.1, subst (λ (z : Option (List ℕ)). Appends x.taken z (text (refusals_in answers) ++ take shown.0 (text_of next))) same shown.2))

@@ -1,5 +1,5 @@
 -- One more line that was run, and what may become of the next one.
-use Rattle.std.proofs.Common.{◌≡◌, ◌≢◌, inl, inr, ◌≤◌, ◌<◌, ◌+◌, ◌-◌, ◌==◌, ◌∷◌, ◌++◌, [], ℕ, Bool, true, false, cond, nat_le, List, Option, Some, None, drop, length, refl, sym, ap, ◌∙◌, subst, eqb-true, arith}
+use Rattle.std.proofs.Common.{◌≡◌, ◌≢◌, inl, inr, ◌≤◌, ◌<◌, ◌+◌, ◌-◌, ◌==◌, ◌∷◌, ◌++◌, [], ℕ, Bool, true, false, cond, if◌then◌else◌, nat_le, List, Option, Some, None, drop, length, refl, sym, ap, ◌∙◌, subst, eqb-true, arith}
 use Rattle.std.proofs.lemmas.Bool.{cases_Bool}
 use Rattle.std.proofs.lemmas.Bool.Decides.{nat_tests}
 use Rattle.std.proofs.lemmas.List.{length_push}
@@ -17,7 +17,7 @@ use Rattle.trace_model.specs.declared.line.Line.{Line}
 use Rattle.trace_model.specs.declared.line.Line.TheVariants as line
 use Rattle.trace_model.specs.declared.line.LineError.TheVariants.{TooManyStops}
 use Rattle.trace_model.specs.declared.ran.Ran.{Ran}
-use Rattle.trace_model.specs.Backs.{IsUncut}
+use Rattle.trace_model.specs.Backs.{IsUncut, wrote_in}
 use Rattle.trace_model.specs.Fits.{FitsLine, FitsNext, FitsWrite, IsAtMost, armed_after, arming, block_count, may_still, may_write}
 use Rattle.trace_model.specs.Readings.{Reading}
 use Rattle.trace_model.specs.Run.{after_line, cut_count, cuts_in, disk_after, disk_without, lines_of, read_count, reads_in, touching, write_count, writes_in}
@@ -30,6 +30,7 @@ use Rattle.trace_replay.specs.Ran.{RunKeepsFrame, IsTallied, IsTallyOf, RanSoFar
 use Rattle.trace_replay.specs.Said.{RoseAtLeast}
 use Rattle.trace_replay.specs.Spends.{IsQuiet, Spent, steps_of}
 use Rattle.trace_replay.specs.Went.{KeepsFrame}
+use Rattle.trace_replay.proofs.CutsLemmas.{counts_none, counts_then}
 use Rattle.trace_replay.proofs.SpendsLemmas.{run_more, spent_fresh}
 
 -- ---- how many device writes may still be made
@@ -80,6 +81,13 @@ rest_more run l cuts kept a b armed runs rest = elim (cases_Bool (cuts == 0)) [
 
 risen_more : (m n a b c : ℕ) → RoseAtLeast m a b → RoseAtLeast n b c → RoseAtLeast (m + n) a c
 risen_more m n a b c first next = λ below. let two = next below in let one = first (omega arith) in omega arith
+
+-- the blocks that a line wrote, each of which was programmed
+wrote_line : (l : Line) (cuts : ℕ) (a b : State) → RunsLine l cuts a b → RoseAtLeast (if cuts == 0 then block_count l else 0) a.counts.programs b.counts.programs
+wrote_line l cuts a b runs = elim (cases_Bool (cuts == 0)) [
+  | inl none ↦ subst (λ (t : Bool). RoseAtLeast (if t then block_count l else 0) a.counts.programs b.counts.programs) (sym none) (runs.programs (eqb-true cuts 0 none))
+  | inr some ↦ subst (λ (t : Bool). RoseAtLeast (if t then block_count l else 0) a.counts.programs b.counts.programs) (sym some) (λ below. let later = runs.counts.programs in omega arith)
+]
 
 -- ---- what is refused
 
@@ -148,6 +156,8 @@ so_far_none o stands s counted v told quiet table none dirty stood tally = recor
   stops = quiet.unarmed;
   rest = tt;
   risen = λ below. omega arith;
+  counts = counts_none s.counts;
+  programs = λ below. omega arith;
   ready = λ none block ready. ready;
   tally = tally;
   spent = λ uncut. spent_fresh o v s told quiet table none;
@@ -203,6 +213,8 @@ module _ (o : Told) (stands : Image → PlainDisk → Type 0) (first a : State) 
     stops = runs.stops ∙ ap (λ (q : List Stop). arming l (drop cuts q)) so_far.stops;
     rest = rest_more run l cuts kept a b so_far.stops runs so_far.rest;
     risen = risen_more (cuts_in run) (cuts + cut_count l) first.faults.cuts a.faults.cuts b.faults.cuts so_far.risen runs.risen;
+    counts = counts_then first.counts a.counts b.counts so_far.counts runs.counts;
+    programs = risen_more (wrote_in run) (if cuts == 0 then block_count l else 0) first.counts.programs a.counts.programs b.counts.programs so_far.programs (wrote_line l cuts a b runs);
     ready = λ none block ready. runs.ready (omega arith) block (so_far.ready (omega arith) block ready);
     tally = record {
       lines = one.lines ∙ ap (λ n. n + 1) so_far.tally.lines ∙ sym (length_push (lines_of run) l);
@@ -236,6 +248,7 @@ module _ {P : Type 0} (tells : P → ScriptState) where
         on = next.on;
         shape = next.shape ∙ first.shape;
         lent = next.lent ∙ first.lent;
+        counts = counts_then a.counts b.counts c.counts first.counts next.counts;
         flash = omega arith;
         disk = omega arith;
         source = omega arith;
@@ -247,15 +260,16 @@ module _ {P : Type 0} (tells : P → ScriptState) where
 
   -- a call of the script alone
   pub on_script : (x y : P) (a : State) → a.power.on ≡ true → (tells x).source_faults ≤ (tells y).source_faults → (tells x).sink_faults ≤ (tells y).sink_faults → (tells y).lent ≡ (tells x).lent → (tells y).size ≡ (tells x).size → (tells y).turns ≤ (tells x).turns → RunKeepsFrame tells x y a a
-  on_script x y a on source sink lent size turns = record { on = on; shape = refl; lent = refl; flash = omega arith; disk = omega arith; source = source; sink = sink; script_lent = lent; size = size; turns = turns }
+  on_script x y a on source sink lent size turns = record { on = on; shape = refl; lent = refl; counts = counts_none a.counts; flash = omega arith; disk = omega arith; source = source; sink = sink; script_lent = lent; size = size; turns = turns }
 
 -- and then a call of the volume and the script
-pub on_frame : {P : Type 0} (tells : P → ScriptState) (came : SourceState → SinkState → List Event → P → Type 0) (broke : SourceState → SinkState → List Event → Event → P → Type 0) (knows : SourceState → P → List Reading → Bool → Type 0)
+pub on_frame : {P : Type 0} (tells : P → ScriptState) (came : SourceState → SinkState → List Event → P → Type 0) (broke : SourceState → SinkState → List Event → Event → P → Type 0) (knows : SourceState → P → ℕ → List Reading → Bool → Type 0)
     (x y z : P) (a b c : State) → RunKeepsFrame tells x y a b → KeepsFrame tells came broke knows y z b c → RunKeepsFrame tells x z a c
 on_frame tells came broke knows x y z a b c first next = on_then tells x y z a b c first (record {
   on = next.on;
   shape = next.shape;
   lent = next.lent;
+  counts = next.counts;
   flash = next.flash;
   disk = next.disk;
   source = next.source;

@@ -1,12 +1,14 @@
 -- How a run ends: the records of the theorem from what the lines left.
-use Rattle.std.proofs.Common.{◌≡◌, ◌≤◌, ◌+◌, ◌∷◌, ◌++◌, [], ℕ, Bool, true, false, List, Option, Some, None, Ok, Err, map, drop, length, refl, sym, ap, ◌∙◌, subst, append_assoc, arith}
-use Rattle.std.proofs.lemmas.List.{append-nil}
+use Rattle.std.proofs.Common.{◌≡◌, ◌≤◌, ◌+◌, ◌∷◌, ◌++◌, [], ℕ, Bool, true, false, List, Option, Some, None, Ok, Err, map, drop, inl, inr, length, refl, sym, ap, ◌∙◌, subst, append_assoc, arith}
+use Rattle.std.proofs.lemmas.List.{append-nil, length_push}
 use Rattle.ft_base.specs.Contents.{Contents, Image}
 use Rattle.ft_base.specs.PlainDisk.{PlainDisk}
 use Rattle.ft_base.specs.StreamState.{SinkState, SourceState}
 use Rattle.ft_base.specs.Told.{Told}
 use Rattle.ft_base.specs.declared.power.Stop.{Stop}
+use Rattle.ft_base.specs.declared.told.Ack.{Ack}
 use Rattle.ft_base.specs.declared.told.Ack.TheVariants as ack
+use Rattle.ft_media.specs.Passes.{NeverFall}
 use Rattle.ft_media.specs.State.{State}
 use Rattle.ft_volume.specs.Volume.{VolumeState}
 use Rattle.ft_volume.specs.Standing.{StandFor}
@@ -16,8 +18,8 @@ use Rattle.trace_model.specs.declared.line.Line.{Line}
 use Rattle.trace_model.specs.declared.line.Line.TheVariants as line
 use Rattle.trace_model.specs.declared.line.LineError.{LineError}
 use Rattle.trace_model.specs.declared.ran.Ran.{Ran}
-use Rattle.trace_model.specs.Backs.{AreUncut}
-use Rattle.trace_model.specs.Fits.{armed_after}
+use Rattle.trace_model.specs.Backs.{AreUncut, wrote_in}
+use Rattle.trace_model.specs.Fits.{FitsLost, armed_after}
 use Rattle.trace_model.specs.Readings.{Reading, accepted}
 use Rattle.trace_model.specs.Run.{after_line, answers_of, cuts_in, digest_of, disk_after, disk_without, end_answers, end_of, lines_of, reads_in, stopped, touched_after, writes_after, writes_in}
 use Rattle.trace_model.specs.SoFar.{AnswersTo, MayTell, WasRun, as_ran, begun, begun_unless, blocks_unless, disk_within, next_refusal, refusal, refusal_of}
@@ -25,16 +27,17 @@ use Rattle.trace_model.proofs.RunLemmas.{disk_line, disk_without-none}
 use Rattle.trace_replay.specs.declared.ended.Ended.{Ended}
 use Rattle.trace_replay.specs.declared.ended.Ended.TheVariants as ended
 use Rattle.trace_replay.specs.declared.tally.Tally.{Tally}
-use Rattle.trace_replay.specs.Ends.{BreaksThrough, EndsEnd, EndsWithin, SaysThrough, StandForPart}
-use Rattle.trace_replay.specs.Events.{Breaks, BreaksBy, CameBy, Event, KnowsGiven, KnowsLines, NextRefused, Says, ScriptState, events_of, lines_given, refusal_after, refused_for, taking}
+use Rattle.trace_replay.specs.Ends.{BreaksThrough, CanBecome, EndsEnd, EndsWithin, SaysThrough, StandForPart}
+use Rattle.trace_replay.specs.Events.{Breaks, BreaksBy, BreaksNext, CameBy, Event, KnowsGiven, KnowsLines, NextRefused, NextSaid, Says, ScriptState, events_of, lines_given, refusal_after, refused_for, taking}
 use Rattle.trace_replay.specs.Events.Event.{Gave, Took}
-use Rattle.trace_replay.specs.Ran.{EndsRun, RanSoFar}
-use Rattle.trace_replay.specs.Said.{Cuts, Takes, TellsStops}
+use Rattle.trace_replay.specs.Ran.{RanSoFar}
+use Rattle.trace_replay.specs.Said.{Cuts, RoseAtLeast, Takes, TellsStops}
 use Rattle.trace_replay.specs.Spends.{IsQuiet, SpendsAtMost, Spent, fresh, steps_after, steps_of, touches_each}
-use Rattle.trace_replay.specs.Theorem.{EndsPart, EndsRefused, EndsUnread, LeavesLines, LeavesRig, RunsWhole, StandForNext}
+use Rattle.trace_replay.specs.Theorem.{EndsEarly, EndsPart, EndsRefused, EndsUnread, LeavesLines, LeavesRig, RunsWhole, StandForNext}
 use Rattle.trace_replay.proofs.BacksLemmas.{end_reads_few, end_writes_back, end_writes_none, reads_few, writes_none}
+use Rattle.trace_replay.proofs.CutsLemmas.{counts_none, counts_then}
 use Rattle.trace_replay.proofs.FromLemmas.{takes_from}
-use Rattle.trace_replay.proofs.GivenLemmas.{answers_in-taking, given_left, lines_given-run, next_left, told_bytes-run}
+use Rattle.trace_replay.proofs.GivenLemmas.{answers_in-taking, given_left, lines_given-next, lines_given-run, next_left, told_bytes-run}
 use Rattle.trace_replay.proofs.RanLemmas.{can_next, can_some}
 use Rattle.trace_replay.proofs.SpendsLemmas.{run_begun, run_end, run_most, run_then}
 
@@ -95,20 +98,43 @@ refused_next run armed (Ok l) left cause same is = subst (λ n. refused_for n (O
 
 -- ---- an end
 
-run_part : (o : Told) (reads : List Reading → Bool → Type 0) (says : List Ran → List Answer → Type 0) (short : List Ran → List Answer → Option Answer → Type 0) (stands : Image → PlainDisk → Type 0)
-    (first now : State) (e : Ended) → (e ≡ ended.Trace → ⊥) → (e ≡ ended.Source → ⊥) → EndsPart o reads says short stands first now e → EndsRun o reads says short stands first now e
-run_part o reads says short stands first now e not_trace not_source ends = record { refused = λ is. absurd (not_trace is); unread = λ is. absurd (not_source is); part = λ _ _. ends }
+-- no block write is lost
+none_lost : (acked : Ack) (run : List Ran) → FitsLost acked run 0
+none_lost acked run = record { none = λ _. refl; few = omega arith; since = omega arith; first = λ some. absurd (omega arith) }
+
+pub run_part : (o : Told) (reads : ℕ → List Reading → Bool → Type 0) (says : List Ran → List Answer → Type 0) (short : List Ran → List Answer → Option Answer → Type 0) (stands : Image → PlainDisk → Type 0)
+    (first now : State) (e : Ended) → (e ≡ ended.Trace → ⊥) → (e ≡ ended.Source → ⊥) → EndsPart o reads says short stands first now e → EndsEarly o reads says short stands first now e
+run_part o reads says short stands first now ended.Trace not_trace not_source ends = absurd (not_trace refl)
+run_part o reads says short stands first now ended.Source not_trace not_source ends = absurd (not_source refl)
+run_part o reads says short stands first now ended.Sink not_trace not_source ends = ends
+run_part o reads says short stands first now ended.Flash not_trace not_source ends = ends
+run_part o reads says short stands first now ended.Disk not_trace not_source ends = ends
+run_part o reads says short stands first now ended.Memory not_trace not_source ends = ends
+
+-- by how it ended
+pub early_by : (o : Told) (reads : ℕ → List Reading → Bool → Type 0) (says : List Ran → List Answer → Type 0) (short : List Ran → List Answer → Option Answer → Type 0) (stands : Image → PlainDisk → Type 0)
+    (first now : State) (e : Ended) → (e ≡ ended.Trace → EndsRefused o reads says stands first now) → (e ≡ ended.Source → EndsUnread o reads says stands first now)
+    → ((e ≡ ended.Trace → ⊥) → (e ≡ ended.Source → ⊥) → EndsPart o reads says short stands first now e) → EndsEarly o reads says short stands first now e
+early_by o reads says short stands first now ended.Trace refused unread part = refused refl
+early_by o reads says short stands first now ended.Source refused unread part = unread refl
+early_by o reads says short stands first now ended.Sink refused unread part = part (λ is. cc) (λ is. cc)
+early_by o reads says short stands first now ended.Flash refused unread part = part (λ is. cc) (λ is. cc)
+early_by o reads says short stands first now ended.Disk refused unread part = part (λ is. cc) (λ is. cc)
+early_by o reads says short stands first now ended.Memory refused unread part = part (λ is. cc) (λ is. cc)
 
 module _ (o : Told) (stands : Image → PlainDisk → Type 0) (first a : State) (counted : Tally) (v : VolumeState) (run : List Ran) (so_far : RanSoFar o stands first a counted v run) where
   lines_left : (all left : List Reading) → all ≡ map accepted (lines_of run) ++ left → WasRun o all run left
   lines_left all left front = record { lines = front; accepted = so_far.accepted; fits = so_far.fits }
 
+  programs_to : (b : State) → NeverFall a.counts b.counts → RoseAtLeast (wrote_in run) first.counts.programs b.counts.programs
+  programs_to b counts = λ below. let later = counts.programs in let rose = so_far.programs (omega arith) in omega arith
+
   -- what lines that were begun leave by then
-  rig_of : (lines : List Ran) (b : State) → b.power.on ≡ true → b.contents.shape ≡ first.contents.shape → (AreUncut run → SpendsAtMost (steps_after lines) (fresh o) first b) → LeavesRig o first b run lines
-  rig_of lines b on shape most = record { on = on; shape = shape; reads = reads_few o run lines first b most; writes = writes_none o run lines first b most so_far.dirty }
+  rig_of : (lines : List Ran) (b : State) → b.power.on ≡ true → b.contents.shape ≡ first.contents.shape → NeverFall a.counts b.counts → (AreUncut run → SpendsAtMost (steps_after lines) (fresh o) first b) → LeavesRig o first b run lines
+  rig_of lines b on shape counts most = record { on = on; shape = shape; counts = counts_then first.counts a.counts b.counts so_far.counts counts; programs = programs_to b counts; reads = reads_few o run lines first b most; writes = writes_none o run lines first b most so_far.dirty }
 
   rig_here : LeavesRig o first a run run
-  rig_here = rig_of run a so_far.on so_far.shape (run_most o first a v run so_far.spent)
+  rig_here = rig_of run a so_far.on so_far.shape (counts_none a.counts) (run_most o first a v run so_far.spent)
 
   -- before a step of the next line was made
   rig_before : (left : List Reading) → LeavesRig o first a run (begun run left)
@@ -117,7 +143,7 @@ module _ (o : Told) (stands : Image → PlainDisk → Type 0) (first a : State) 
   rig_before (Ok l ∷ left) = rig_unless (refusal_of run l)
     where
       rig_unless : (why : Option LineError) → LeavesRig o first a run (begun_unless why l run)
-      rig_unless None = rig_of (as_ran l 0 0 0 ∷ run) a so_far.on so_far.shape (run_begun o first a v run so_far.spent (steps_of l))
+      rig_unless None = rig_of (as_ran l 0 0 0 ∷ run) a so_far.on so_far.shape (counts_none a.counts) (run_begun o first a v run so_far.spent (steps_of l))
       rig_unless (Some cause) = rig_here
 
   leaves_lines : (left : List Reading) → LeavesLines o stands first a run left
@@ -125,7 +151,7 @@ module _ (o : Told) (stands : Image → PlainDisk → Type 0) (first a : State) 
 
   -- something may be told of whatever comes next
   tells_some : o.ack ≡ ack.Write → (whole : Bool) (left : List Reading) → (due : List Answer) × MayTell o whole run left due
-  tells_some acked true [] = (end_answers run 0 0, record { cuts = 0; lost = 0; fits = record { few = omega arith; none = refl }; told = refl })
+  tells_some acked true [] = (end_answers run 0 0, record { cuts = 0; lost = 0; fits = record { few = omega arith; cut = λ _. refl; losses = none_lost o.ack run }; told = refl })
   tells_some acked false [] = ([], refl)
   tells_some acked whole (Err cause ∷ left) = (refusal run cause, may_refuse o run whole (Err cause ∷ left) cause refl)
   tells_some acked whole (Ok l ∷ left) = let some = tells_line (refusal_of run l) in (some.0, may_answer o run whole l left some.0 some.1)
@@ -137,15 +163,18 @@ module _ (o : Told) (stands : Image → PlainDisk → Type 0) (first a : State) 
           (answers_of (as_ran l can.0 can.1 0) (disk_without 0 run), record { cuts = can.0; kept = can.1; lost = 0; fits = can_next o stands first a counted v run so_far l can.0 can.1 acked can.2; told = refl })
 
   -- before any answer of the next line was taken
-  ends_before : (reads : List Reading → Bool → Type 0) (says : List Ran → List Answer → Type 0) (short : List Ran → List Answer → Option Answer → Type 0) (e : Ended) (all : List Reading)
-      (whole : Bool) (left : List Reading) (due : List Answer) → reads all whole → all ≡ map accepted (lines_of run) ++ left → MayTell o whole run left due → Takes e (says run) (short run) [] due
+  ends_before : (reads : ℕ → List Reading → Bool → Type 0) (says : List Ran → List Answer → Type 0) (short : List Ran → List Answer → Option Answer → Type 0) (e : Ended) (given : ℕ) (all : List Reading)
+      (whole : Bool) (left : List Reading) (due : List Answer) → length (lines_of run) ≤ given → given ≤ length (lines_of run) + 1 → reads given all whole → all ≡ map accepted (lines_of run) ++ left → MayTell o whole run left due → Takes e (says run) (short run) [] due
       → EndsPart o reads says short stands first a e
-  ends_before reads says short e all whole left due trace front may taken = record {
+  ends_before reads says short e given all whole left due after next trace front may taken = record {
     all = all;
     whole = whole;
     run = run;
     left = left;
     due = due;
+    given = given;
+    after = after;
+    next = next;
     trace = trace;
     lines = lines_left all left front;
     may = may;
@@ -179,9 +208,9 @@ module _ (o : Told) (stands : Image → PlainDisk → Type 0) (first a : State) 
 
   -- ---- over a script
 
-  module _ {P : Type 0} (tells : P → ScriptState) (came : SourceState → SinkState → List Event → P → Type 0) (broke : SourceState → SinkState → List Event → Event → P → Type 0) (knows : SourceState → P → List Reading → Bool → Type 0) (s : SourceState) (b : SinkState) (x y : P) where
+  module _ {P : Type 0} (tells : P → ScriptState) (came : SourceState → SinkState → List Event → P → Type 0) (broke : SourceState → SinkState → List Event → Event → P → Type 0) (knows : SourceState → P → ℕ → List Reading → Bool → Type 0) (s : SourceState) (b : SinkState) (x y : P) where
     -- where the next line was given
-    module _ (l : Line) (come : came s b (events_of run ++ Gave l ∷ []) x) (given : KnowsGiven knows s x (events_of run ++ Gave l ∷ [])) (knew : (all : List Reading) (whole : Bool) → knows s x all whole → knows s y all whole) where
+    module _ (l : Line) (come : came s b (events_of run ++ Gave l ∷ []) x) (given : KnowsGiven knows s x (events_of run ++ Gave l ∷ [])) (knew : (lines : ℕ) (all : List Reading) (whole : Bool) → knows s x lines all whole → knows s y lines all whole) where
       says_next : (answers : List Answer) → Says came x y answers → CameBy came s b y run answers
       says_next answers says = (Gave l ∷ taking answers, answers_in-taking answers, subst (λ (r : List Event). came s b r y) (append_assoc (events_of run) (Gave l ∷ []) (taking answers)) (says s b (events_of run ++ Gave l ∷ []) come))
 
@@ -189,20 +218,26 @@ module _ (o : Told) (stands : Image → PlainDisk → Type 0) (first a : State) 
       breaks_next answers None breaks = absurd breaks
       breaks_next answers (Some next) breaks = (Gave l ∷ taking answers, answers_in-taking answers, subst (λ (r : List Event). broke s b r (Took next) y) (append_assoc (events_of run) (Gave l ∷ []) (taking answers)) (breaks s b (events_of run ++ Gave l ∷ []) come))
 
+      given_next : length (lines_given (events_of run ++ Gave l ∷ [])) ≡ length (lines_of run) + 1
+      given_next = ap length (lines_given-next run l) ∙ length_push (lines_of run) l
+
       left_next : given.all ≡ map accepted (lines_of run) ++ Ok l ∷ given.left
       left_next = next_left run l given.all given.left given.front
 
       -- it ended within it
-      pub ends_within : (more : Image → PlainDisk → Type 0) (c : State) (e : Ended) → o.ack ≡ ack.Write → refusal_of run l ≡ None → c.power.on ≡ true → c.contents.shape ≡ a.contents.shape
+      pub ends_within : (more : Image → PlainDisk → Type 0) (c : State) (e : Ended) → o.ack ≡ ack.Write → refusal_of run l ≡ None → c.power.on ≡ true → c.contents.shape ≡ a.contents.shape → NeverFall a.counts c.counts
           → (IsQuiet v a → SpendsAtMost (steps_of l) v a c) → EndsWithin tells came broke knows e x y a c l (disk_after run) → StandForPart more c.contents l (disk_after run)
-          → EndsRun o (knows s y) (CameBy came s b y) (BreaksBy broke s b y) more first c e
-      ends_within more c e acked none on shape most within part = run_part o _ _ _ more first c e within.blamed.not_trace within.blamed.not_source (record {
+          → EndsEarly o (knows s y) (CameBy came s b y) (BreaksBy broke s b y) more first c e
+      ends_within more c e acked none on shape counts most within part = run_part o _ _ _ more first c e within.blamed.not_trace within.blamed.not_source (record {
         all = given.all;
         whole = given.whole;
         run = run;
         left = Ok l ∷ given.left;
         due = answers_of (as_ran l within.cuts within.kept 0) (disk_after run);
-        trace = knew given.all given.whole given.known;
+        given = length (lines_given (events_of run ++ Gave l ∷ []));
+        after = let many = given_next in omega (arith, many);
+        next = let many = given_next in omega (arith, many);
+        trace = knew _ given.all given.whole given.known;
         lines = lines_left given.all (Ok l ∷ given.left) left_next;
         may = may_answer o run given.whole l given.left _ (subst (λ (r : Option LineError). AnswersTo o r run l (answers_of (as_ran l within.cuts within.kept 0) (disk_after run))) (sym none)
             (record { cuts = within.cuts; kept = within.kept; lost = 0; fits = can_next o stands first a counted v run so_far l within.cuts within.kept acked within.can; told = ap (answers_of (as_ran l within.cuts within.kept 0)) (sym (disk_without-none 0 run refl)) }));
@@ -215,15 +250,15 @@ module _ (o : Told) (stands : Image → PlainDisk → Type 0) (first a : State) 
         proper = within.proper;
         stops = stops_then e within.part.front c within.stops;
         media = media_line o more c.contents run l given.left none part;
-        rig = subst (λ (why : Option LineError). LeavesRig o first c run (begun_unless why l run)) (sym none) (rig_of (as_ran l 0 0 0 ∷ run) c on (shape ∙ so_far.shape) (run_end o first a v run so_far.spent (steps_of l) c most));
+        rig = subst (λ (why : Option LineError). LeavesRig o first c run (begun_unless why l run)) (sym none) (rig_of (as_ran l 0 0 0 ∷ run) c on (shape ∙ so_far.shape) counts (run_end o first a v run so_far.spent (steps_of l) c most));
       })
 
       -- memory was refused before it was counted
-      pub ends_uncounted : o.ack ≡ ack.Write → came s b (events_of run ++ Gave l ∷ []) y → EndsRun o (knows s y) (CameBy came s b y) (BreaksBy broke s b y) stands first a ended.Memory
+      pub ends_uncounted : o.ack ≡ ack.Write → came s b (events_of run ++ Gave l ∷ []) y → EndsEarly o (knows s y) (CameBy came s b y) (BreaksBy broke s b y) stands first a ended.Memory
       ends_uncounted acked now =
           let some = tells_some acked given.whole (Ok l ∷ given.left) in
           run_part o _ _ _ stands first a ended.Memory (λ is. cc) (λ is. cc)
-          (ends_before (knows s y) (CameBy came s b y) (BreaksBy broke s b y) ended.Memory given.all given.whole (Ok l ∷ given.left) some.0 (knew given.all given.whole given.known) left_next some.1 (Gave l ∷ [], refl, now))
+          (ends_before (knows s y) (CameBy came s b y) (BreaksBy broke s b y) ended.Memory _ given.all given.whole (Ok l ∷ given.left) some.0 (let many = given_next in omega (arith, many)) (let many = given_next in omega (arith, many)) (knew _ given.all given.whole given.known) left_next some.1 (Gave l ∷ [], refl, now))
 
     -- ---- where no line was given
 
@@ -232,6 +267,12 @@ module _ (o : Told) (stands : Image → PlainDisk → Type 0) (first a : State) 
 
     all_given : (all : List Reading) → all ≡ map accepted (lines_given (events_of run)) → all ≡ map accepted (lines_of run) ++ []
     all_given all is = left_here (events_of run) all [] refl (is ∙ sym (append-nil (map accepted (lines_given (events_of run)))))
+
+    given_here : length (lines_given (events_of run)) ≡ length (lines_of run)
+    given_here = ap length (lines_given-run run)
+
+    given_silent : length (lines_given (events_of run ++ [])) ≡ length (lines_of run)
+    given_silent = ap (λ (e : List Event). length (lines_given e)) (append-nil (events_of run)) ∙ given_here
 
     said_is : (cause : LineError) → refusal_after (events_of run) cause ∷ [] ≡ refusal run cause
     said_is cause = ap (λ (ls : List Line). answer.Refused (length ls + 1) cause ∷ []) (lines_given-run run)
@@ -244,7 +285,7 @@ module _ (o : Told) (stands : Image → PlainDisk → Type 0) (first a : State) 
       run = run;
       left = next.next ∷ next.left;
       cause = cause;
-      trace = next.known;
+      trace = subst (λ n. knows s y n next.all next.whole) given_here next.known;
       lines = lines_left next.all (next.next ∷ next.left) (left_here (events_of run) next.all (next.next ∷ next.left) refl next.front);
       why = refused_next run armed next.next next.left cause (armed_is ∙ ap (λ (q : List Stop). length q) so_far.stops) next.why;
       printed = (taking (refusal_after (events_of run) cause ∷ []), said_is cause, now);
@@ -256,7 +297,7 @@ module _ (o : Told) (stands : Image → PlainDisk → Type 0) (first a : State) 
     ends_source known now = record {
       all = map accepted (lines_given (events_of run));
       run = run;
-      trace = known;
+      trace = subst (λ n. knows s y n (map accepted (lines_given (events_of run))) false) given_here known;
       lines = lines_left _ [] (all_given _ refl);
       printed = ([], refl, now);
       leaves = leaves_lines [];
@@ -267,7 +308,7 @@ module _ (o : Told) (stands : Image → PlainDisk → Type 0) (first a : State) 
         → broke s b (events_of run) (Took (refusal_after (events_of run) cause)) y → EndsPart o (knows s y) (CameBy came s b y) (BreaksBy broke s b y) stands first a ended.Sink
     ends_sink armed cause armed_is next broken =
         let why = refused_next run armed next.next next.left cause (armed_is ∙ ap (λ (q : List Stop). length q) so_far.stops) next.why in
-        ends_before (knows s y) (CameBy came s b y) (BreaksBy broke s b y) ended.Sink next.all next.whole (next.next ∷ next.left) (refusal run cause) next.known
+        ends_before (knows s y) (CameBy came s b y) (BreaksBy broke s b y) ended.Sink _ next.all next.whole (next.next ∷ next.left) (refusal run cause) (let many = given_here in omega (arith, many)) (let many = given_here in omega (arith, many)) next.known
         (left_here (events_of run) next.all (next.next ∷ next.left) refl next.front) (may_refuse o run next.whole (next.next ∷ next.left) cause why) (
           [],
           refl,
@@ -275,16 +316,36 @@ module _ (o : Told) (stands : Image → PlainDisk → Type 0) (first a : State) 
               (subst (λ (ls : List Line). broke s b (events_of run) (Took (answer.Refused (length ls + 1) cause)) y) (lines_given-run run) broken),
         )
 
+    -- or while something was said for a line that has no answer
+    pub ends_said : o.ack ≡ ack.Write → NextSaid knows s y (events_of run) → broke s b (events_of run) (Gave line.Nothing) y → EndsPart o (knows s y) (CameBy came s b y) (BreaksBy broke s b y) stands first a ended.Sink
+    ends_said acked next broken =
+        let can : CanBecome line.Nothing 0 0 a.power (disk_after run) = record { few = omega arith; spends = λ _ _. omega arith; fits = refl } in
+        let none : AnswersTo o (refusal_of run line.Nothing) run line.Nothing [] = record { cuts = 0; kept = 0; lost = 0; fits = can_next o stands first a counted v run so_far line.Nothing 0 0 acked can; told = refl } in
+        ends_before (knows s y) (CameBy came s b y) (BreaksBy broke s b y) ended.Sink _ next.all next.whole (Ok line.Nothing ∷ next.left) [] (let many = given_here in omega (arith, many)) (let many = given_here in omega (arith, many)) next.known
+        (left_here (events_of run) next.all (Ok line.Nothing ∷ next.left) refl next.front) (may_answer o run next.whole line.Nothing next.left [] none) (
+          line.Nothing,
+          [],
+          refl,
+          subst (λ (r : List Event). broke s b r (Gave line.Nothing) y) (sym (append-nil (events_of run))) broken,
+        )
+
+    -- one of the two
+    pub ends_asked : (armed : ℕ) → armed ≡ length a.power.stops → o.ack ≡ ack.Write → BreaksNext knows broke s b (events_of run) armed y → EndsPart o (knows s y) (CameBy came s b y) (BreaksBy broke s b y) stands first a ended.Sink
+    ends_asked armed armed_is acked broken = elim broken [
+      | inl refused ↦ ends_sink armed refused.0 armed_is refused.1 refused.2
+      | inr said ↦ ends_said acked said.0 said.1
+    ]
+
     -- memory was refused before the next line
     pub ends_memory : o.ack ≡ ack.Write → KnowsGiven knows s y (events_of run ++ []) → came s b (events_of run ++ []) y → EndsPart o (knows s y) (CameBy came s b y) (BreaksBy broke s b y) stands first a ended.Memory
     ends_memory acked given now =
         let some = tells_some acked given.whole given.left in
-        ends_before (knows s y) (CameBy came s b y) (BreaksBy broke s b y) ended.Memory given.all given.whole given.left some.0 given.known (left_here (events_of run ++ []) given.all given.left (append-nil (events_of run)) given.front) some.1 ([], refl, now)
+        ends_before (knows s y) (CameBy came s b y) (BreaksBy broke s b y) ended.Memory _ given.all given.whole given.left some.0 (let many = given_silent in omega (arith, many)) (let many = given_silent in omega (arith, many)) given.known (left_here (events_of run ++ []) given.all given.left (append-nil (events_of run)) given.front) some.1 ([], refl, now)
 
     -- ---- the end line
 
-    module _ (come : came s b (events_of run) x) (known : KnowsLines knows s x (events_of run) true) (knew : (all : List Reading) (whole : Bool) → knows s x all whole → knows s y all whole)
-        (more : Image → PlainDisk → Type 0) (c : State) (stood : StandFor more c.contents (disk_after run)) (on : c.power.on ≡ true) (shape : c.contents.shape ≡ a.contents.shape) where
+    module _ (come : came s b (events_of run) x) (known : KnowsLines knows s x (events_of run) true) (knew : (lines : ℕ) (all : List Reading) (whole : Bool) → knows s x lines all whole → knows s y lines all whole)
+        (more : Image → PlainDisk → Type 0) (c : State) (stood : StandFor more c.contents (disk_after run)) (on : c.power.on ≡ true) (shape : c.contents.shape ≡ a.contents.shape) (counts : NeverFall a.counts c.counts) where
       through : (answers : List Answer) → SaysThrough came x y answers → CameBy came s b y run answers
       through answers says = says s b (events_of run) come (told_bytes-run run)
 
@@ -293,7 +354,7 @@ module _ (o : Told) (stands : Image → PlainDisk → Type 0) (first a : State) 
       broken_through answers (Some next) breaks = breaks s b (events_of run) come (told_bytes-run run)
 
       rig_end : (AreUncut run → SpendsAtMost (touches_each (touched_after run) ++ steps_after run) (fresh o) first c) → LeavesRig o first c run run
-      rig_end most = record { on = on; shape = shape ∙ so_far.shape; reads = end_reads_few o run first c most; writes = end_writes_none o run first c most so_far.dirty }
+      rig_end most = record { on = on; shape = shape ∙ so_far.shape; counts = counts_then first.counts a.counts c.counts so_far.counts counts; programs = programs_to c counts; reads = end_reads_few o run first c most; writes = end_writes_none o run first c most so_far.dirty }
 
       -- it was said
       pub ends_whole : (w : VolumeState) (cuts : ℕ) → (IsQuiet v a → Spent (touches_each counted.touched.keys) v w a c) → Cuts cuts 0 a c
@@ -306,12 +367,12 @@ module _ (o : Told) (stands : Image → PlainDisk → Type 0) (first a : State) 
             run = run;
             cuts = cuts;
             lost = 0;
-            trace = knew _ true known;
+            trace = subst (λ n. knows s y n (map accepted (lines_given (events_of run))) true) given_here (knew _ _ true known);
             lines = lines_left _ [] (all_given _ refl);
             printed = through (end_answers run cuts 0) (subst (λ (z : Answer). SaysThrough came x y (stopped cuts ++ z ∷ [])) end_is said);
             leaves = record {
               rig = rig_end (λ uncut. (spent uncut).most);
-              fits = record { few = subst (λ (q : List Stop). cuts ≤ length q) so_far.stops cut.few; none = refl };
+              fits = record { few = subst (λ (q : List Stop). cuts ≤ length q) so_far.stops cut.few; cut = λ _. refl; losses = none_lost o.ack run };
               disk = subst (λ (d : PlainDisk). StandFor more c.contents d) (sym (disk_without-none 0 run refl)) stood;
               stops = cut.stops ∙ ap (drop cuts) so_far.stops;
               risen = λ below. let two = cut.risen below in let one = so_far.risen (omega arith) in omega arith;
@@ -330,9 +391,12 @@ module _ (o : Told) (stands : Image → PlainDisk → Type 0) (first a : State) 
         run = run;
         left = [];
         due = stopped ends.cuts ++ answer.End counted.writes counted.reads (length counted.touched.keys) (digest_of counted.touched.keys (disk_after run)) ∷ [];
-        trace = knew _ true known;
+        given = length (lines_given (events_of run));
+        after = let many = given_here in omega (arith, many);
+        next = let many = given_here in omega (arith, many);
+        trace = knew _ _ true known;
         lines = lines_left _ [] (all_given _ refl);
-        may = record { cuts = ends.cuts; lost = 0; fits = record { few = subst (λ (q : List Stop). ends.cuts ≤ length q) so_far.stops ends.few; none = refl }; told = ap (λ (z : Answer). stopped ends.cuts ++ z ∷ []) end_is };
+        may = record { cuts = ends.cuts; lost = 0; fits = record { few = subst (λ (q : List Stop). ends.cuts ≤ length q) so_far.stops ends.few; cut = λ _. refl; losses = none_lost o.ack run }; told = ap (λ (z : Answer). stopped ends.cuts ++ z ∷ []) end_is };
         part = record {
           front = ends.part.front;
           rest = ends.part.rest;

@@ -1,27 +1,32 @@
 -- How a run of a trace ends, and what it leaves: the theorem.
-use Rattle.std.specs.Prelude.{◌≡◌, ◌+◌, ℕ, Bool, true, false, List, [], drop, Option, Some}
+use Rattle.std.specs.Prelude.{◌≡◌, ◌≤◌, ◌+◌, ℕ, Bool, true, false, List, [], length, drop, Option, Some, Result, Ok, Err}
 use Rattle.ft_base.specs.Contents.{Contents, Image, Now}
 use Rattle.ft_base.specs.PlainDisk.{PlainDisk}
 use Rattle.ft_base.specs.Told.{Told}
 use Rattle.ft_media.specs.Fitted.{KeepsReady}
+use Rattle.ft_media.specs.Passes.{NeverFall}
 use Rattle.ft_media.specs.State.{State}
 use Rattle.ft_volume.specs.Standing.{StandFor}
 use Rattle.trace_model.specs.declared.answer.Answer.{Answer}
 use Rattle.trace_model.specs.declared.line.LineError.{LineError}
 use Rattle.trace_model.specs.declared.ran.Ran.{Ran}
-use Rattle.trace_model.specs.Backs.{ReadsFew, WritesBack, WritesNone}
+use Rattle.trace_model.specs.Backs.{ReadsFew, WritesBack, WritesNone, wrote_in}
 use Rattle.trace_model.specs.Fits.{FitsEnd, armed_after}
 use Rattle.trace_model.specs.Readings.{Reading}
-use Rattle.trace_model.specs.Run.{cuts_in, disk_without, end_answers}
+use Rattle.trace_model.specs.Run.{cuts_in, disk_without, end_answers, lines_of}
 use Rattle.trace_model.specs.SoFar.{MayRemain, MayTell, WasRun, begun, disk_within, next_refusal, refusal}
 use Rattle.trace_replay.specs.declared.ended.Ended.{Ended}
+use Rattle.trace_replay.specs.declared.ended.Ended.TheVariants as ended
 use Rattle.trace_replay.specs.Said.{RoseAtLeast, TellsStops, TookPart}
 
 -- what every run leaves, of these lines that were run and these that were begun: power on, the shape to which the rig
--- was fitted, and few calls of the disk where no stop and no cut line was run and the addresses lie in few groups
+-- was fitted, no count lower than before, a page programmed for each block of a write that no stop cut, and few calls
+-- of the disk if no stop and no cut line was run and the addresses lie in few groups
 pub record LeavesRig (o : Told) (first now : State) (run lines : List Ran) : Type 0 where
   pub on : now.power.on ≡ true
   pub shape : now.contents.shape ≡ first.contents.shape
+  pub counts : NeverFall first.counts now.counts
+  pub programs : RoseAtLeast (wrote_in run) first.counts.programs now.counts.programs
   pub reads : ReadsFew o run lines first.counts.disk_reads now.counts.disk_reads
   pub writes : WritesNone o run lines first.counts.disk_writes now.counts.disk_writes
 
@@ -30,7 +35,7 @@ pub record LeavesRig (o : Told) (first now : State) (run lines : List Ran) : Typ
 -- ready is ready
 pub record Leaves (o : Told) (stands : Image → PlainDisk → Type 0) (first now : State) (run : List Ran) (cuts lost : ℕ) : Type 0 where
   pub rig : LeavesRig o first now run run
-  pub fits : FitsEnd run cuts lost
+  pub fits : FitsEnd o.ack run cuts lost
   pub disk : StandFor stands now.contents (disk_without lost run)
   pub stops : now.power.stops ≡ drop cuts (armed_after run)
   pub risen : RoseAtLeast (cuts_in run + cuts) first.faults.cuts now.faults.cuts
@@ -52,17 +57,17 @@ pub record LeavesLines (o : Told) (stands : Image → PlainDisk → Type 0) (fir
   pub risen : RoseAtLeast (cuts_in run) first.faults.cuts now.faults.cuts
   pub ready : cuts_in run ≡ 0 → KeepsReady first now
 
--- what a run is told by: what is known of its lines (of all of them or not), what was said of these lines and after
--- them, and that with a part of an answer
-module _ (o : Told) (reads : List Reading → Bool → Type 0) (says : List Ran → List Answer → Type 0) (stands : Image → PlainDisk → Type 0)
-    (first now : State) where
+-- what a run is told by: what is known of its lines when so many of them were given (of all of them or not), and what
+-- was said of these lines and after them
+module _ (o : Told) (reads : ℕ → List Reading → Bool → Type 0) (says : List Ran → List Answer → Type 0)
+    (stands : Image → PlainDisk → Type 0) (first now : State) where
   -- every line of the trace was run: a plain disk's answers were said, and the end line after its cuts
   pub record RunsWhole : Type 0 where
     pub all : List Reading
     pub run : List Ran
     pub cuts : ℕ
     pub lost : ℕ
-    pub trace : reads all true
+    pub trace : reads (length (lines_of run)) all true
     pub lines : WasRun o all run []
     pub printed : says run (end_answers run cuts lost)
     pub leaves : Leaves o stands first now run cuts lost
@@ -75,7 +80,7 @@ module _ (o : Told) (reads : List Reading → Bool → Type 0) (says : List Ran 
     pub run : List Ran
     pub left : List Reading
     pub cause : LineError
-    pub trace : reads all whole
+    pub trace : reads (length (lines_of run)) all whole
     pub lines : WasRun o all run left
     pub why : next_refusal run left ≡ Some cause
     pub printed : says run (refusal run cause)
@@ -85,26 +90,44 @@ module _ (o : Told) (reads : List Reading → Bool → Type 0) (says : List Ran 
   pub record EndsUnread : Type 0 where
     pub all : List Reading
     pub run : List Ran
-    pub trace : reads all false
+    pub trace : reads (length (lines_of run)) all false
     pub lines : WasRun o all run []
     pub printed : says run []
     pub leaves : LeavesLines o stands first now run []
 
--- it ended so after the answers of these lines and before the last one of the next line; the media are the plain disk
--- after the former, with first block writes of the latter
-pub record EndsPart (o : Told) (reads : List Reading → Bool → Type 0) (says : List Ran → List Answer → Type 0)
-    (short : List Ran → List Answer → Option Answer → Type 0) (stands : Image → PlainDisk → Type 0) (first now : State)
-    (e : Ended) : Type 0 where
-  pub all : List Reading
-  pub whole : Bool
-  pub run : List Ran
-  pub left : List Reading
-  pub due : List Answer
-  pub trace : reads all whole
-  pub lines : WasRun o all run left
-  pub may : MayTell o whole run left due
-  pub part : TookPart e (says run) (short run) due
-  pub proper : part.rest ≡ [] → due ≡ []
-  pub stops : TellsStops e part.front (cuts_in run) first now (armed_after run)
-  pub media : StandForNext o stands now.contents run left
-  pub rig : LeavesRig o first now run (begun run left)
+-- and that with a part of an answer
+module _ (o : Told) (reads : ℕ → List Reading → Bool → Type 0) (says : List Ran → List Answer → Type 0)
+    (short : List Ran → List Answer → Option Answer → Type 0) (stands : Image → PlainDisk → Type 0) (first now : State) where
+  -- it ended so after the answers of these lines and before the last one of the next line, which was given or not; the
+  -- media are the plain disk after the former, with first block writes of the latter
+  pub record EndsPart (e : Ended) : Type 0 where
+    pub all : List Reading
+    pub whole : Bool
+    pub run : List Ran
+    pub left : List Reading
+    pub due : List Answer
+    pub given : ℕ
+    pub after : length (lines_of run) ≤ given
+    pub next : given ≤ length (lines_of run) + 1
+    pub trace : reads given all whole
+    pub lines : WasRun o all run left
+    pub may : MayTell o whole run left due
+    pub part : TookPart e (says run) (short run) due
+    pub proper : part.rest ≡ [] → due ≡ []
+    pub stops : TellsStops e part.front (cuts_in run) first now (armed_after run)
+    pub media : StandForNext o stands now.contents run left
+    pub rig : LeavesRig o first now run (begun run left)
+
+  -- how a run ended early
+  abbrev pub EndsEarly : Ended → Type 0
+  EndsEarly ended.Trace = EndsRefused o reads says stands first now
+  EndsEarly ended.Source = EndsUnread o reads says stands first now
+  EndsEarly ended.Sink = EndsPart ended.Sink
+  EndsEarly ended.Flash = EndsPart ended.Flash
+  EndsEarly ended.Disk = EndsPart ended.Disk
+  EndsEarly ended.Memory = EndsPart ended.Memory
+
+  -- how a run ended that gave this result: the whole theorem
+  abbrev pub EndsAs : Result (Unit {0}) Ended → Type 0
+  EndsAs (Ok done) = RunsWhole o reads says stands first now
+  EndsAs (Err e) = EndsEarly e
