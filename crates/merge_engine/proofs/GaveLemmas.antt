@@ -1,5 +1,5 @@
 -- Groups that give way, in the entries and in the list.
-use Rattle.std.proofs.Common.{◌≡◌, ℕ, suc, ◌/◌, ◌<◌, ◌≤◌, ◌==◌, Bool, true, false, cond, not, List, [], ◌∷◌, length, map, filter, Option, Some, None, refl, sym, ◌∙◌, ap, subst, arith, inl, inr, eqb-true, ne_eqb}
+use Rattle.std.proofs.Common.{◌≡◌, ℕ, suc, ◌/◌, ◌<◌, ◌≤◌, ◌==◌, true, false, cond, not, List, [], ◌∷◌, length, map, filter, Option, Some, None, refl, sym, ◌∙◌, ap, subst, arith, inl, inr, eqb-true, ne_eqb}
 use Rattle.std.specs.Option.{option_and_then}
 use Rattle.std.specs.FinMap.{get, entries}
 use Rattle.std.proofs.lemmas.Bool.{cases_Bool, cases_eq, both_ways, or_cases}
@@ -27,7 +27,7 @@ use Rattle.silent_evict.proofs.GroupLemmas.{chosen_none, chosen_some}
 use Rattle.merge_engine.specs.Agreement.{IsListOn}
 use Rattle.merge_engine.specs.Merges.{HasBlockOrRoom, OthersStay, FlashStandsForEither, list_without}
 use Rattle.merge_engine.specs.Room.{GaveRoom, GaveWay, GivesRoom, HasNoCandidate, LacksRoom, FlashStandsForGiven}
-use Rattle.merge_engine.specs.Steps.{IsMerged, OthersStayOrGo, PageMappedStay}
+use Rattle.merge_engine.specs.Steps.{IsMerged, PageMappedStay}
 use Rattle.merge_engine.proofs.MovedLemmas.{dropped_here, dropped_other, dropped}
 
 -- ---- groups with a data block
@@ -38,31 +38,31 @@ mapped_numbers g m = numbers (λ (x : ℕ × Entry). x.0 / g.p) (λ (e : Entry).
 abbrev pub dirty_numbers : Geometry → Entries → List ℕ
 dirty_numbers g m = numbers (λ (x : ℕ × Entry). x.0 / g.p) (λ (e : Entry). e.dirty) (entries m)
 
-is_there : (g : Geometry) (m : Entries) (group : ℕ) → HasDataBlock g m group → member group (mapped_numbers g m) ≡ true
+pub is_there : (g : Geometry) (m : Entries) (group : ℕ) → HasDataBlock g m group → member group (mapped_numbers g m) ≡ true
 is_there g m group x = ap (λ k. member k (mapped_numbers g m)) (sym x.3) ∙ member_from (λ (x : ℕ × Entry). x.0 / g.p) (λ (e : Entry). e.block_mapped) m x.0 x.1 x.2 x.4
 
-has_block : (g : Geometry) (m : Entries) (group : ℕ) → member group (mapped_numbers g m) ≡ true → HasDataBlock g m group
+pub has_block : (g : Geometry) (m : Entries) (group : ℕ) → member group (mapped_numbers g m) ≡ true → HasDataBlock g m group
 has_block g m group t = let x = member_to (λ (x : ℕ × Entry). x.0 / g.p) (λ (e : Entry). e.block_mapped) m group t in (x.0.0, x.0.1, x.1, x.3, x.2)
 
-is_absent : (g : Geometry) (m : Entries) (group : ℕ) → (HasDataBlock g m group → ⊥) → member group (mapped_numbers g m) ≡ false
+pub is_absent : (g : Geometry) (m : Entries) (group : ℕ) → (HasDataBlock g m group → ⊥) → member group (mapped_numbers g m) ≡ false
 is_absent g m group none = elim (cases_Bool (member group (mapped_numbers g m))) [
   | inl t ↦ absurd (none (has_block g m group t))
   | inr f ↦ f
 ]
 
 -- one number more, which is new
-one_longer : (n : ℕ) (ns : List ℕ) → member n ns ≡ false → length (each_once (n ∷ ns)) ≡ suc (length (each_once ns))
+pub one_longer : (n : ℕ) (ns : List ℕ) → member n ns ≡ false → length (each_once (n ∷ ns)) ≡ suc (length (each_once ns))
 one_longer n ns f = ap (λ b. length (cond b (each_once ns) (n ∷ each_once ns))) f
 
 -- a number of the longer list is the new one, or one of the others
-of_longer : {A : Type 0} (n k : ℕ) (ns : List ℕ) → member k (n ∷ ns) ≡ true → (n ≡ k → A) → (member k ns ≡ true → A) → A
+pub of_longer : {A : Type 0} (n k : ℕ) (ns : List ℕ) → member k (n ∷ ns) ≡ true → (n ≡ k → A) → (member k ns ≡ true → A) → A
 of_longer n k ns t here there = elim (or_cases (n == k) (member k ns) t) [
   | inl same ↦ here (eqb-true n k same)
   | inr later ↦ there later
 ]
 
 -- a number among the others is another one, and one of the list
-of_others : (x n : ℕ) (ns : List ℕ) → member n (others x ns) ≡ true → (n ≡ x → ⊥) × (member n ns ≡ true)
+pub of_others : (x n : ℕ) (ns : List ℕ) → member n (others x ns) ≡ true → (n ≡ x → ⊥) × (member n ns ≡ true)
 of_others x n ns t = elim (cases_eq n x) [
   | inl same ↦ absurd (both_ways (member n (others x ns)) (ap (λ k. member k (others x ns)) same ∙ member_self x ns) t)
   | inr other ↦ (other, sym (member_others x n ns (ne_eqb n x other)) ∙ t)
@@ -201,7 +201,7 @@ module _ (g : Geometry) (m : Entries) (group : ℕ) where
       ]
 
   -- a victim is another group than one without a data block
-  victim_other : (gone : ℕ) → LacksRoom g m group → IsVictim g m gone → group ≡ gone → ⊥
+  pub victim_other : (gone : ℕ) → LacksRoom g m group → IsVictim g m gone → group ≡ gone → ⊥
   victim_other gone lacks victim same = lacks.none (subst (λ k. HasDataBlock g m k) (sym same) victim.candidate.some)
 
   pub held_still : (gone : ℕ) → LacksRoom g m group → IsVictim g m gone → IsGroupHeld g m group → IsGroupHeld g (dropped g m gone) group
@@ -245,17 +245,8 @@ module _ (g : Geometry) (m : Entries) (group : ℕ) where
     | inr mapped ↦ inr mapped
   ]
 
-  pub others_then : (gone : ℕ) (n : Entries) → OthersStay g group (dropped g m gone) n → OthersStayOrGo g group m n
-  others_then gone n stay a other = elim (cases_eq (a / g.p) gone) [
-    | inl here ↦ inr (stay a other ∙ dropped_here g m gone a here)
-    | inr away ↦ inl (stay a other ∙ dropped_other g m gone a away)
-  ]
-
   pub dropped_merged : IsMerged g (dropped g m group) group
   dropped_merged a e is same = absurd (let no : None ≡ Some e = sym (dropped_here g m group a same) ∙ is in cc)
-
-  pub dropped_others : OthersStayOrGo g group m (dropped g m group)
-  dropped_others a other = inl (dropped_other g m group a other)
 
 -- ---- what the flash stands for
 

@@ -118,7 +118,7 @@ fewer_passed old mid i block map_is at held (inr same) = inr (
 )
 
 -- a block of a list has a place in it
-in_place : (xs : List ℕ) (b : ℕ) → is_in b xs ≡ true → (k : ℕ) × (k < length xs) × (slice_get xs k ≡ Some b)
+pub in_place : (xs : List ℕ) (b : ℕ) → is_in b xs ≡ true → (k : ℕ) × (k < length xs) × (slice_get xs k ≡ Some b)
 in_place [] b t = absurd (cc)
 in_place (x ∷ xs) b t = elim (or_cases (b == x) (is_in b xs) t) [
   | inl here ↦ (0, omega arith, ap Some (sym (eqb-true b x here)))

@@ -17,12 +17,16 @@ pub mod PutLemmas
 pub mod MoveLemmas
 pub mod GaveLemmas
 pub mod MergeLemmas
+pub mod FreedLemmas
+pub mod BeginLemmas
 pub mod RoomLemmas
 pub mod WayLemmas
 pub mod OwnerLemmas
 pub mod GiveBackLemmas
+pub mod HeldLogsLemmas
 pub mod GoesLemmas
 pub mod LoadedLemmas
 pub mod LogRoomLemmas
 pub mod SwitchLemmas
+pub mod CostLemmas
 pub mod SwitchedLemmas

@@ -17,10 +17,10 @@ use Rattle.merge_engine.specs.declared.parts.Parts.{Parts}
 use Rattle.merge_engine.specs.Agreement.{PartsAgree, Lists}
 use Rattle.merge_engine.specs.Merges.{HasBlockOrRoom, OthersStay, FlashStandsForEither, list_without}
 use Rattle.merge_engine.specs.Room.{GaveWay, GivesRoom, HasNoCandidate, LacksRoom, FlashStandsForGiven}
-use Rattle.merge_engine.specs.Steps.{IsMerged, OthersStayOrGo, PageMappedStay}
+use Rattle.merge_engine.specs.Steps.{IsMerged, PageMappedStay}
 use Rattle.merge_engine.proofs.TakeLemmas.{agree_map}
 use Rattle.merge_engine.proofs.MoveLemmas.{either_same}
-use Rattle.merge_engine.proofs.GaveLemmas.{other_gave, other_way, itself_gave, itself_way, itself_clean, held_still, room_made, page_mapped_stay, dropped_stay, mapped_then, others_then, dropped_merged, dropped_others, given_either, none_way}
+use Rattle.merge_engine.proofs.GaveLemmas.{other_gave, other_way, itself_gave, itself_way, itself_clean, held_still, room_made, page_mapped_stay, dropped_stay, mapped_then, dropped_merged, given_either, none_way}
 use Rattle.merge_engine.proofs.MovedLemmas.{dropped}
 
 -- the list is the same, whatever chooses the victims
@@ -85,11 +85,8 @@ module _ (g h : Geometry) (m n : Entries) (group gone : ℕ) (same : h ≡ g) (i
   pub merged_then : (last : Entries) → IsMerged h last group → IsMerged g last group
   merged_then last merged = subst (λ (k : Geometry). IsMerged k last group) same merged
 
-  stay_then : (last : Entries) → OthersStay h group n last → OthersStay g group (dropped g m gone) last
+  pub stay_then : (last : Entries) → OthersStay h group n last → OthersStay g group (dropped g m gone) last
   stay_then last stay = subst (λ (x : Entries). OthersStay g group x last) is (subst (λ (k : Geometry). OthersStay k group n last) same stay)
-
-  pub others_after : (last : Entries) → OthersStay h group n last → OthersStayOrGo g group m last
-  others_after last stay = others_then g m group gone last (stay_then last stay)
 
   pub mapped_after : (last : Entries) → IsMerged h last group → OthersStay h group n last → PageMappedStay m last
   mapped_after last merged stay = mapped_then g m group gone last (page_mapped_stay g (dropped g m gone) group last (merged_then last merged) (stay_then last stay))
@@ -99,9 +96,6 @@ module _ (g h : Geometry) (m n : Entries) (group gone : ℕ) (same : h ≡ g) (i
 module _ (g : Geometry) (m n : Entries) (group : ℕ) (is : n ≡ dropped g m group) where
   pub merged_gone : IsMerged g n group
   merged_gone = subst (λ (x : Entries). IsMerged g x group) (sym is) (dropped_merged g m group)
-
-  pub others_gone : OthersStayOrGo g group m n
-  others_gone = subst (λ (x : Entries). OthersStayOrGo g group m x) (sym is) (dropped_others g m group)
 
   pub mapped_gone : PageMappedStay m n
   mapped_gone = subst (λ (x : Entries). PageMappedStay m x) (sym is) (dropped_stay g m group group)

@@ -1,5 +1,5 @@
 -- What the steps ask of a cache, and what each of them keeps.
-use Rattle.std.specs.Prelude.{◌≡◌, ◌≤◌, ◌<◌, ◌+◌, ℕ, [], length, Result, OnOk}
+use Rattle.std.specs.Prelude.{◌≡◌, ◌≢◌, ◌≤◌, ◌<◌, ◌+◌, ℕ, [], length, Result, OnOk}
 use Rattle.ft_base.specs.declared.geometry.Geometry.{Geometry}
 use Rattle.ft_base.specs.declared.block.Place.{Place}
 use Rattle.ft_base.specs.declared.block.Page.{Page}
@@ -12,10 +12,13 @@ use Rattle.ft_media.specs.Media.{program_counted}
 use Rattle.cache_model.specs.CacheList.{CacheList}
 use Rattle.cache_model.specs.Records.{Entries, after}
 use Rattle.mapping.specs.MapValue.{MapValue, pages_taken, groups_taken}
+use Rattle.silent_evict.specs.Candidates.{IsCandidate}
+use Rattle.block_pool.specs.Pool.{IsNextTaken}
+use Rattle.log_blocks.specs.Logs.{released}
 use Rattle.merge_engine.specs.declared.parts.Parts.{Parts}
 use Rattle.merge_engine.specs.Agreement.{PartsAgree, Lists}
-use Rattle.merge_engine.specs.Merges.{FlashStandsForEither, ReachesTo, move_counted}
-use Rattle.merge_engine.specs.Room.{FlashStandsForGiven, GaveWay}
+use Rattle.merge_engine.specs.Merges.{FlashStandsForEither, HasBlockOrRoom, ReachesTo, move_counted, moved}
+use Rattle.merge_engine.specs.Room.{FlashStandsForGiven, GaveWay, HasNoCandidate, LacksRoom}
 use Rattle.merge_engine.specs.Steps.{GoesOn, HasFillers, IsMerged, KeepsList}
 use Rattle.merge_engine.specs.Switch.{CanSwitch, CannotSwitch, IsSwitched}
 
@@ -110,11 +113,39 @@ pub record IsGathered (g : Geometry) (m : Entries) (group : ℕ) (page : Place �
   pub merged : IsMerged g m group
   pub filled : HasFillers g m group page
 
--- a log block that can become the data block does, with one program and no erase where the log has a page left; where none can,
--- nothing was buffered and the log has a page left: one erase, a program for each page up to the last held one, and one for the
--- log page
+-- a copy, if the log has a page left for each commit: one erase, a program for each page up to the last held one, and one for the
+-- log page; with something buffered one program more, for a log page of its own
+pub record CostsOfCopy (old : Parts) (group : ℕ) (before now : Counts) : Type 0 where
+  pub counts : old.log.buffered ≡ [] → old.log.next < log_pages old.geometry
+      → (pages : ℕ) → ReachesTo old.geometry old.map.entries group pages → now ≡ move_counted pages before
+  pub one_more : old.log.buffered ≢ [] → old.log.next + 1 < log_pages old.geometry
+      → (pages : ℕ) → ReachesTo old.geometry old.map.entries group pages → now ≡ move_counted pages (program_counted before)
+
+-- the block that the pool takes next is the group's data block: all that is held of the group stands there, marked as it was
+abbrev pub TakesDataBlock : Parts → Parts → ℕ → Type 0
+TakesDataBlock old new group = (block : ℕ) × IsNextTaken old.pool block × (new.map.entries ≡ moved old.geometry old.map.entries group block)
+
+-- a log block that can become the data block does, with one program and no erase if the log has a page left; if none can, the group is
+-- copied into a block that is taken
 pub record CostsOfMove (old new : Parts) (group : ℕ) (before now : Counts) : Type 0 where
   pub switched : (block : ℕ) → CanSwitch old group block → IsSwitched old new group block
   pub one_program : (block : ℕ) → CanSwitch old group block → old.log.next < log_pages old.geometry → now ≡ program_counted before
-  pub counts : CannotSwitch old group → old.log.buffered ≡ [] → old.log.next < log_pages old.geometry
-      → (pages : ℕ) → ReachesTo old.geometry old.map.entries group pages → now ≡ move_counted pages before
+  pub taken : CannotSwitch old group → TakesDataBlock old new group
+  pub copied : CannotSwitch old group → CostsOfCopy old group before now
+
+-- another group gives way, and the log has a page left for both commits: one program for its record, and those of the move
+pub record CostsOfWay (old new : Parts) (group : ℕ) (before now : Counts) : Type 0 where
+  pub switched : (block : ℕ) → CanSwitch old group block → new.log_blocks ≡ released block old.log_blocks
+  pub two_programs : (block : ℕ) → CanSwitch old group block → old.log.next + 1 < log_pages old.geometry
+      → now ≡ program_counted (program_counted before)
+  pub copied : CannotSwitch old group → old.log.next + 1 < log_pages old.geometry
+      → (pages : ℕ) → ReachesTo old.geometry old.map.entries group pages → now ≡ move_counted pages (program_counted before)
+
+-- a merge costs the move of the group if no group gives way; its record too if another one does; and its record alone if the group
+-- itself does
+pub record CostsOfMerge (old new : Parts) (group : ℕ) (before now : Counts) : Type 0 where
+  pub moved : HasBlockOrRoom old.geometry old.map.entries group → CostsOfMove old new group before now
+  pub way : LacksRoom old.geometry old.map.entries group → (gone : ℕ) → IsCandidate old.geometry old.map.entries gone
+      → CostsOfWay old new group before now
+  pub dropped : LacksRoom old.geometry old.map.entries group → HasNoCandidate old.geometry old.map.entries
+      → old.log.next < log_pages old.geometry → now ≡ program_counted before

@@ -4,6 +4,7 @@ use Rattle.std.specs.FinMap.{get}
 use Rattle.ft_base.specs.declared.geometry.Geometry.{Geometry}
 use Rattle.ft_base.specs.declared.block.Place.{Place}
 use Rattle.ft_base.specs.declared.block.Page.{Page}
+use Rattle.cache_model.specs.declared.entry.Entry.{Entry}
 use Rattle.cache_model.specs.Records.{Entries}
 use Rattle.cache_model.specs.Cache.{IsWhollyClean, groups}
 use Rattle.cache_model.specs.CacheList.{CacheList}
@@ -50,3 +51,24 @@ pub record GaveWay (g : Geometry) (m : Entries) (group : ℕ) (s v : CacheList) 
 -- the flash stands for the list without what was buffered, or for the list, which may have given room
 abbrev pub FlashStandsForGiven : Geometry → (Place → Page) → CacheList → CacheList → Type 0
 FlashStandsForGiven g page durable list = FlashStandsFor g page durable ⊎ ((v : CacheList) × GivesRoom g list v × FlashStandsFor g page v)
+
+-- ---- which entries stay
+
+-- a group was merged: beside it each entry stays, but for those of the group that gave way; and no fewer data blocks are in use
+pub record MergesBeside (g : Geometry) (group : ℕ) (old new : Entries) : Type 0 where
+  pub gone : Option ℕ
+  pub given_up : MakesWay g old group gone
+  pub others : (a : ℕ) → (a / g.p ≡ group → ⊥) → get new a ≡ (if is_group gone (a / g.p) then None else get old a)
+  pub no_fewer : data_block_count g old ≤ data_block_count g new
+
+-- an address of the group stands in the erase block as in a log block
+abbrev pub HasPageIn : Geometry → Entries → ℕ → ℕ → Type 0
+HasPageIn g m block group = (a : ℕ) × (e : Entry) × (get m a ≡ Some e) × (a / g.p ≡ group) × (e.block_mapped ≡ false) × (e.place.block ≡ block)
+
+-- a log block was freed: each entry of a group with no page in it stays, unless the group gave way; no fewer data blocks are in use, and
+-- all C if a group gave way
+pub record FreesGroups (g : Geometry) (block : ℕ) (old new : Entries) : Type 0 where
+  pub gone : ℕ → Bool
+  pub others : (a : ℕ) → (HasPageIn g old block (a / g.p) → ⊥) → get new a ≡ (if gone (a / g.p) then None else get old a)
+  pub no_fewer : data_block_count g old ≤ data_block_count g new
+  pub full : (group : ℕ) → gone group ≡ true → data_block_count g new ≡ g.c

@@ -78,10 +78,6 @@ HasFillers g m group page = (a b : ℕ) (e : Entry) → a / g.p ≡ group → ge
 abbrev pub IsMerged : Geometry → Entries → ℕ → Type 0
 IsMerged g m group = (a : ℕ) (e : Entry) → get m a ≡ Some e → a / g.p ≡ group → e.block_mapped ≡ true
 
--- beside a group, entries stay or go
-abbrev pub OthersStayOrGo : Geometry → ℕ → Entries → Entries → Type 0
-OthersStayOrGo g group old new = (a : ℕ) → (a / g.p ≡ group → ⊥) → (get new a ≡ get old a) ⊎ (get new a ≡ None)
-
 -- each page-mapped entry was there before
 abbrev pub PageMappedStay : Entries → Entries → Type 0
 PageMappedStay old new = (a : ℕ) (e : Entry) → get new a ≡ Some e → (get old a ≡ Some e) ⊎ (e.block_mapped ≡ true)

@@ -1,13 +1,15 @@
 ghost use Rattle.std.specs.Prelude.{◌≡◌, ◌≤◌, ◌<◌, ◌-◌, [], length, ℕ, OnOk, OnErr, IfOk, IsOk};
 ghost use Rattle.ft_base.specs.Contents.{Contents};
-ghost use Rattle.ft_media.specs.Media.{program_counted};
+ghost use Rattle.ft_media.specs.Media.{program_counted, erase_counted};
 ghost use Rattle.ft_media.specs.Drives.{OnlyDrives};
 ghost use Rattle.cache_model.specs.CacheList.{CacheList};
 ghost use Rattle.ft_media.specs.Passes.{ProgramsPages};
-ghost use Rattle.block_pool.specs.Pool.{IsFree, IsInPool};
+ghost use Rattle.checkpoint.specs.Current.{log_committed};
+ghost use Rattle.block_pool.specs.Pool.{IsFree, IsInPool, erases_of};
 ghost use Rattle.log_blocks.specs.Logs.{IsInUse, AreSoundLogs, block_begun};
 ghost use Rattle.merge_engine.specs.Agreement.{PartsAgree, AreOfOne, Lists, RolesAgree};
 ghost use Rattle.merge_engine.specs.Steps.{CanBeginLog, HasLogBlock, HasUnheldLog, IsNewPage};
+ghost use Rattle.merge_engine.specs.LogSteps.{AreHeldLogs, BeginsLog, CostsOfBeginning, CostsOfTaking, FreesOldest, MakesRoom, NeedsMerge, TakesLogBlock, UsedAsLog};
 ghost use Rattle.merge_engine.specs.Kept.{CanGoOn, OnlyPoolLogBlocksChange, KeepsRoom, CommitsList, KeepsOrGives, NothingGivesWay};
 
 use crate::Parts;
@@ -38,6 +40,11 @@ pub fn append<M: Media>(
     ensures one_program { OnOk result (1 ≤ cache.old.log_blocks.room
         → (cache.new ≡ record cache.old { log_blocks = record cache.old.log_blocks { room = cache.old.log_blocks.room - 1 } })
         × ((M.state media.new).counts ≡ program_counted (M.state media.old).counts)) }
+    // If no page was left, a log block is begun, and one page of it is used.
+    ensures begins { OnOk result (cache.old.log_blocks.room ≡ 0 → BeginsLog cache.old cache.new (cache.old.geometry.p - 1)) }
+    ensures freed { OnOk result (NeedsMerge cache.old → FreesOldest cache.old cache.new) }
+    ensures costs { OnOk result (cache.old.log_blocks.room ≡ 0 → CanBeginLog cache.old
+        → CostsOfBeginning cache.old (M.state media.old).counts (M.state media.new).counts) }
     ensures programs { OnOk result (ProgramsPages 1 (M.state media.old) (M.state media.new)) }
     ensures drives { OnlyDrives (M.state media.old) (M.state media.new) result }
 {
@@ -81,6 +88,10 @@ fn open_if_closed<M: Media>(cache: &mut Parts, media: &mut M) -> Result<(), Medi
     // Where a log block can be had without a merge.
     ensures no_merge { HasLogBlock cache.old
         → NothingGivesWay cache.old cache.new (M.state media.old).contents (M.state media.new).contents result }
+    ensures begins { OnOk result (cache.old.log_blocks.room ≡ 0 → BeginsLog cache.old cache.new cache.old.geometry.p) }
+    ensures freed { OnOk result (NeedsMerge cache.old → FreesOldest cache.old cache.new) }
+    ensures costs { OnOk result (cache.old.log_blocks.room ≡ 0 → CanBeginLog cache.old
+        → CostsOfTaking cache.old (M.state media.old).counts (M.state media.new).counts) }
     ensures drives { OnlyDrives (M.state media.old) (M.state media.new) result }
 {
     if cache.log_blocks.room() > 0 {
@@ -97,6 +108,9 @@ fn commit_and_take<M: Media>(cache: &mut Parts, media: &mut M) -> Result<(), Med
     ensures geometry { cache.new.geometry ≡ cache.old.geometry }
     ensures map { cache.new.map ≡ cache.old.map }
     ensures opened { OnOk result (1 ≤ cache.new.log_blocks.room) }
+    ensures takes { OnOk result ((block : ℕ) × TakesLogBlock cache.old cache.new block) }
+    ensures log { OnOk result (cache.new.log ≡ log_committed cache.old.log) }
+    ensures costs { OnOk result (CostsOfTaking cache.old (M.state media.old).counts (M.state media.new).counts) }
     ensures kept { CommitsList cache.old cache.new (M.state media.old).contents (M.state media.new).contents result }
     ensures drives { OnlyDrives (M.state media.old) (M.state media.new) result }
 {
@@ -117,7 +131,8 @@ fn take_log_block<M: Media>(cache: &mut Parts, media: &mut M) -> Result<(), Medi
     // Whatever is answered, no page that an entry names changed.
     ensures lists { (list durable : CacheList) → Lists cache.old (M.state media.old).contents.flash.page list durable
         → Lists cache.old (M.state media.new).contents.flash.page list durable }
-    ensures programs { (M.state media.new).counts.programs ≡ (M.state media.old).counts.programs }
+    ensures takes { OnOk result ((block : ℕ) × TakesLogBlock cache.old cache.new block) }
+    ensures counts { OnOk result ((M.state media.new).counts ≡ erase_counted (M.state media.old).counts) }
     ensures drives { OnlyDrives (M.state media.old) (M.state media.new) result }
 {
     let block = cache.pool.take(media)?;
@@ -132,6 +147,7 @@ fn begin_log_block(cache: &mut Parts, block: u32)
     requires free { IsFree cache.old.pool block }
     requires few { length cache.old.log_blocks.used < cache.old.geometry.l }
     ensures cache { cache.new ≡ record cache.old { pool = cache.new.pool; log_blocks = block_begun block cache.old.log_blocks } }
+    ensures pool { UsedAsLog cache.old.pool cache.new.pool block }
     ensures of_one { AreOfOne cache.new }
     ensures roles { RolesAgree cache.new }
     ensures sound { AreSoundLogs cache.new.log_blocks }
@@ -151,6 +167,8 @@ fn make_room<M: Media>(cache: &mut Parts, media: &mut M) -> Result<(), MediaErro
     ensures no_merge { CanBeginLog cache.old → IsOk result
         × OnlyPoolLogBlocksChange cache.old cache.new
         × (M.state media.new ≡ M.state media.old) }
+    ensures makes { OnOk result (MakesRoom cache.old cache.new.log_blocks.used cache.new.pool) }
+    ensures freed { OnOk result (NeedsMerge cache.old → FreesOldest cache.old cache.new) }
     ensures drives { OnlyDrives (M.state media.old) (M.state media.new) result }
 {
     free_unheld(cache);
@@ -167,6 +185,8 @@ fn free_unheld(cache: &mut Parts)
     ensures cache { OnlyPoolLogBlocksChange cache.old cache.new }
     ensures no_more { length cache.new.log_blocks.used ≤ length cache.old.log_blocks.used }
     ensures fewer { HasUnheldLog cache.old → length cache.new.log_blocks.used < length cache.old.log_blocks.used }
+    ensures held { AreHeldLogs cache.old.map.entries cache.old.log_blocks.used cache.new.log_blocks.used }
+    ensures erases { (b : ℕ) → erases_of cache.new.pool b ≡ erases_of cache.old.pool b }
     ensures agree { (contents : Contents) → PartsAgree cache.old contents → PartsAgree cache.new contents }
 {
     let mut i = 0;

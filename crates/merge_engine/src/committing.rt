@@ -1,8 +1,9 @@
-ghost use Rattle.std.specs.Prelude.{◌≡◌, ◌≢◌, ◌<◌, [], OnOk, OnErr, IsOk};
+ghost use Rattle.std.specs.Prelude.{◌≡◌, ◌≢◌, ◌<◌, ◌≤◌, [], OnOk, OnErr, IsOk};
 ghost use Rattle.ft_base.specs.Layout.{log_pages};
 ghost use Rattle.ft_media.specs.Media.{program_counted};
 ghost use Rattle.ft_media.specs.Drives.{OnlyDrives};
 ghost use Rattle.ft_media.specs.Passes.{ProgramsPages};
+ghost use Rattle.checkpoint.specs.Commits.{AddsCheckpoint};
 ghost use Rattle.checkpoint.specs.Current.{PoolStays, PoolReadyStays, LoadsOneOf, log_committed, log_checkpointed};
 ghost use Rattle.merge_engine.specs.Agreement.{PartsAgree, ArePartsSound};
 ghost use Rattle.merge_engine.specs.Kept.{CommitsList};
@@ -24,6 +25,8 @@ pub fn commit<M: Media>(cache: &mut Parts, media: &mut M) -> Result<(), MediaErr
         (M.state media.new).contents.flash) }
     ensures one_page { OnOk result (cache.old.log.buffered ≢ [] → cache.old.log.next < log_pages cache.old.geometry
         → (M.state media.new).counts ≡ program_counted (M.state media.old).counts) }
+    ensures whole_checkpoint { OnOk result (cache.old.log.buffered ≢ [] → log_pages cache.old.geometry ≤ cache.old.log.next
+        → AddsCheckpoint cache.old.log cache.old.map.records (M.state media.old) (M.state media.new)) }
     ensures programs { OnOk result (cache.old.log.buffered ≢ [] → ProgramsPages 1 (M.state media.old) (M.state media.new)) }
     ensures drives { OnlyDrives (M.state media.old) (M.state media.new) result }
 {
@@ -41,6 +44,7 @@ pub fn make_checkpoint<M: Media>(cache: &mut Parts, media: &mut M) -> Result<(),
     ensures loads { LoadsOneOf cache.old.geometry (M.state media.old).contents.flash.page
         (M.state media.new).contents.flash.page cache.old.map.entries }
     ensures pool { PoolStays cache.old.geometry (M.state media.old).contents.flash.page (M.state media.new).contents.flash.page }
+    ensures whole_checkpoint { OnOk result (AddsCheckpoint cache.old.log cache.old.map.records (M.state media.old) (M.state media.new)) }
     ensures programs { OnOk result (ProgramsPages 1 (M.state media.old) (M.state media.new)) }
     ensures drives { OnlyDrives (M.state media.old) (M.state media.new) result }
 {

@@ -2,9 +2,11 @@ ghost use Rattle.std.specs.Prelude.{◌≡◌, ◌≤◌, length, ℕ, Some, sli
 ghost use Rattle.ft_base.specs.Contents.{Contents};
 ghost use Rattle.ft_media.specs.Drives.{OnlyDrives};
 ghost use Rattle.mapping.specs.Numbers.{StandsNoneIn};
-ghost use Rattle.block_pool.specs.Pool.{IsInPool};
+ghost use Rattle.block_pool.specs.Pool.{IsInPool, erases_of};
 ghost use Rattle.log_blocks.specs.Logs.{IsInUse, released};
 ghost use Rattle.merge_engine.specs.Agreement.{PartsAgree, AreOfOne, RolesAgree};
+ghost use Rattle.merge_engine.specs.Room.{FreesGroups};
+ghost use Rattle.merge_engine.specs.LogSteps.{FreesOldest};
 ghost use Rattle.merge_engine.specs.Steps.{IsUnowned, PageMappedStay};
 ghost use Rattle.merge_engine.specs.Switch.{LogsStayOrLose};
 ghost use Rattle.merge_engine.specs.Kept.{CanGoOn, OnlyPoolLogBlocksChange, KeepsRoom, KeepsOrGives};
@@ -30,6 +32,7 @@ pub fn free_log_block<M: Media>(cache: &mut Parts, media: &mut M) -> Result<(), 
         → IsOk result × OnlyPoolLogBlocksChange cache.old cache.new
         × (M.state media.new ≡ M.state media.old) }
     ensures room { KeepsRoom cache.old.map cache.new.map cache.old.geometry.p }
+    ensures groups { OnOk result (FreesOldest cache.old cache.new) }
     ensures goes { KeepsOrGives cache.old cache.new (M.state media.old).contents (M.state media.new).contents result }
     ensures drives { OnlyDrives (M.state media.old) (M.state media.new) result }
 {
@@ -50,6 +53,7 @@ fn merge_owners<M: Media>(cache: &mut Parts, media: &mut M, block: u32) -> Resul
         × (M.state media.new ≡ M.state media.old) }
     ensures log_blocks { LogsStayOrLose block cache.old.log_blocks cache.new.log_blocks }
     ensures room { KeepsRoom cache.old.map cache.new.map cache.old.geometry.p }
+    ensures groups { OnOk result (FreesGroups cache.old.geometry block cache.old.map.entries cache.new.map.entries) }
     ensures goes { KeepsOrGives cache.old cache.new (M.state media.old).contents (M.state media.new).contents result }
     ensures unheld { OnOk result (IsInUse cache.new.log_blocks block → StandsNoneIn cache.new.map.entries block) }
     ensures drives { OnlyDrives (M.state media.old) (M.state media.new) result }
@@ -69,6 +73,7 @@ fn merge_owner<M: Media>(cache: &mut Parts, media: &mut M, at: Place) -> Result<
     ensures nothing { IsUnowned cache.old.map.entries at → IsOk result × (cache.new ≡ cache.old) × (M.state media.new ≡ M.state media.old) }
     ensures log_blocks { LogsStayOrLose at.block cache.old.log_blocks cache.new.log_blocks }
     ensures room { KeepsRoom cache.old.map cache.new.map 1 }
+    ensures groups { OnOk result (FreesGroups cache.old.geometry at.block cache.old.map.entries cache.new.map.entries) }
     ensures goes { KeepsOrGives cache.old cache.new (M.state media.old).contents (M.state media.new).contents result }
     ensures unowned { OnOk result (IsInUse cache.new.log_blocks at.block → IsUnowned cache.new.map.entries at) }
     ensures page_mapped { OnOk result (PageMappedStay cache.old.map.entries cache.new.map.entries) }
@@ -106,6 +111,7 @@ pub(crate) fn give_back(cache: &mut Parts, block: u32)
     requires in_pool { IsInPool cache.old.geometry block }
     requires in_use { IsInUse cache.old.log_blocks block }
     ensures cache { cache.new ≡ record cache.old { pool = cache.new.pool; log_blocks = released block cache.old.log_blocks } }
+    ensures erases { (b : ℕ) → erases_of cache.new.pool b ≡ erases_of cache.old.pool b }
     ensures of_one { AreOfOne cache.new }
     ensures agree { (contents : Contents) → PartsAgree cache.old contents → StandsNoneIn cache.old.map.entries block
         → PartsAgree cache.new contents }

@@ -1,19 +1,20 @@
-ghost use Rattle.std.specs.Prelude.{◌≡◌, ◌≢◌, ◌≤◌, ◌<◌, ℕ, [], OnOk, IfOk};
+ghost use Rattle.std.specs.Prelude.{◌≡◌, ◌≢◌, ◌≤◌, ◌<◌, ◌+◌, ℕ, [], OnOk, IfOk};
 ghost use Rattle.ft_base.specs.Contents.{Contents};
 ghost use Rattle.ft_base.specs.Layout.{log_pages};
 ghost use Rattle.ft_base.specs.declared.record.Record.TheVariants.{RemoveGroup};
-ghost use Rattle.ft_media.specs.Media.{erase_counted};
+ghost use Rattle.ft_media.specs.Media.{erase_counted, program_counted};
 ghost use Rattle.ft_media.specs.Drives.{OnlyDrives};
 ghost use Rattle.cache_model.specs.CacheList.{CacheList};
 ghost use Rattle.cache_model.specs.Entries.{IsMap};
 ghost use Rattle.checkpoint.specs.Counts.{programs_counted};
-ghost use Rattle.block_pool.specs.Pool.{IsFree};
-ghost use Rattle.silent_evict.specs.Candidates.{IsGroupHeld};
+ghost use Rattle.block_pool.specs.Pool.{IsFree, IsNextTaken};
+ghost use Rattle.silent_evict.specs.Candidates.{HasDataBlock, IsGroupHeld};
 ghost use Rattle.merge_engine.specs.Agreement.{PartsAgree, AreOfOne, Lists, RolesAgree};
-ghost use Rattle.merge_engine.specs.Merges.{HasBlockOrRoom, OthersStay, ReachesTo, FlashStandsForEither, list_without, move_counted, move_record};
-ghost use Rattle.merge_engine.specs.Steps.{IsCopied, IsFilledUp, OthersStayOrGo, PageMappedStay};
+ghost use Rattle.merge_engine.specs.Merges.{HasBlockOrRoom, OthersStay, ReachesTo, FlashStandsForEither, list_without, move_record};
+ghost use Rattle.merge_engine.specs.Room.{MergesBeside};
+ghost use Rattle.merge_engine.specs.Steps.{IsCopied, IsFilledUp, PageMappedStay};
 ghost use Rattle.merge_engine.specs.Switch.{LogsStayOrSwitch};
-ghost use Rattle.merge_engine.specs.Kept.{CanNote, CanGoOn, OnlyMapLogPoolChange, IsNoted, KeepsRoom, StaysOn, CommitsList, MergesList, IsGathered, CostsOfMove};
+ghost use Rattle.merge_engine.specs.Kept.{CanNote, CanGoOn, OnlyMapLogPoolChange, IsNoted, KeepsRoom, StaysOn, CommitsList, MergesList, IsGathered, CostsOfCopy, CostsOfMove, CostsOfMerge, TakesDataBlock};
 
 use crate::Parts;
 use crate::committing::commit;
@@ -38,11 +39,9 @@ pub fn merge_group<M: Media>(cache: &mut Parts, media: &mut M, group: u64) -> Re
     ensures room { KeepsRoom cache.old.map cache.new.map 1 }
     ensures merges { MergesList cache.old cache.new group (M.state media.old).contents (M.state media.new).contents result }
     ensures gathered { OnOk result (IsGathered cache.old.geometry cache.new.map.entries group (M.state media.new).contents.flash.page) }
-    ensures others { OnOk result (OthersStayOrGo cache.old.geometry group cache.old.map.entries cache.new.map.entries) }
+    ensures beside { OnOk result (MergesBeside cache.old.geometry group cache.old.map.entries cache.new.map.entries) }
     ensures page_mapped { OnOk result (PageMappedStay cache.old.map.entries cache.new.map.entries) }
-    // Where no group gives way.
-    ensures costs { OnOk result (HasBlockOrRoom cache.old.geometry cache.old.map.entries group
-        → CostsOfMove cache.old cache.new group (M.state media.old).counts (M.state media.new).counts) }
+    ensures costs { OnOk result (CostsOfMerge cache.old cache.new group (M.state media.old).counts (M.state media.new).counts) }
     ensures drives { OnlyDrives (M.state media.old) (M.state media.new) result }
 {
     let own = cache.map.block_of(group).is_some();
@@ -66,6 +65,9 @@ fn drop_group<M: Media>(cache: &mut Parts, media: &mut M, group: u64) -> Result<
     ensures map { IsNoted cache.old.geometry (RemoveGroup group) cache.old.map cache.new.map }
     ensures agree { OnOk result (PartsAgree cache.new (M.state media.new).contents) }
     ensures nothing_waits { OnOk result (cache.new.log.buffered ≡ []) }
+    ensures next { OnOk result (cache.old.log.next < log_pages cache.old.geometry → cache.new.log.next ≡ cache.old.log.next + 1) }
+    ensures one_program { OnOk result (cache.old.log.next < log_pages cache.old.geometry
+        → (M.state media.new).counts ≡ program_counted (M.state media.old).counts) }
     ensures lists { OnOk result ((list durable : CacheList) → Lists cache.old (M.state media.old).contents.flash.page list durable
         → Lists cache.new (M.state media.new).contents.flash.page (list_without cache.old.geometry group list)
         (list_without cache.old.geometry group list)) }
@@ -96,6 +98,7 @@ fn move_group<M: Media>(cache: &mut Parts, media: &mut M, group: u64) -> Result<
     ensures kept { CommitsList cache.old cache.new (M.state media.old).contents (M.state media.new).contents result }
     ensures gathered { OnOk result (IsGathered cache.old.geometry cache.new.map.entries group (M.state media.new).contents.flash.page) }
     ensures others { OnOk result (OthersStay cache.old.geometry group cache.old.map.entries cache.new.map.entries) }
+    ensures own { OnOk result (HasDataBlock cache.old.geometry cache.new.map.entries group) }
     ensures costs { OnOk result (CostsOfMove cache.old cache.new group (M.state media.old).counts (M.state media.new).counts) }
     ensures drives { OnlyDrives (M.state media.old) (M.state media.new) result }
 {
@@ -116,9 +119,8 @@ fn gather_group<M: Media>(cache: &mut Parts, media: &mut M, group: u64) -> Resul
     ensures kept { CommitsList cache.old cache.new (M.state media.old).contents (M.state media.new).contents result }
     ensures gathered { OnOk result (IsGathered cache.old.geometry cache.new.map.entries group (M.state media.new).contents.flash.page) }
     ensures others { OnOk result (OthersStay cache.old.geometry group cache.old.map.entries cache.new.map.entries) }
-    ensures counts { OnOk result (cache.old.log.buffered ≡ [] → cache.old.log.next < log_pages cache.old.geometry
-        → (pages : ℕ) → ReachesTo cache.old.geometry cache.old.map.entries group pages
-        → (M.state media.new).counts ≡ move_counted pages (M.state media.old).counts) }
+    ensures taken { OnOk result (TakesDataBlock cache.old cache.new group) }
+    ensures costs { OnOk result (CostsOfCopy cache.old group (M.state media.old).counts (M.state media.new).counts) }
     ensures drives { OnlyDrives (M.state media.old) (M.state media.new) result }
 {
     // What is buffered is committed before a block is erased: a change that is only buffered may have
@@ -139,6 +141,7 @@ fn copy_out<M: Media>(cache: &mut Parts, media: &mut M, group: u64) -> Result<u3
     ensures lists { (list durable : CacheList) → Lists cache.old (M.state media.old).contents.flash.page list durable
         → Lists cache.new (M.state media.new).contents.flash.page list durable }
     ensures free { IfOk result (IsFree cache.new.pool) }
+    ensures taken { IfOk result (IsNextTaken cache.old.pool) }
     ensures copied { IfOk result (λ block. IsCopied cache.old.geometry cache.old.map.entries group block
         (M.state media.new).contents.flash.page) }
     ensures filled { IfOk result (λ block. IsFilledUp cache.old.geometry cache.old.map.entries group block

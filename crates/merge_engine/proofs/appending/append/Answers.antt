@@ -7,6 +7,7 @@ use Rattle.merge_engine.proofs.ResultLemmas.{on_ok_from, ok_at}
 use Rattle.merge_engine.proofs.BesideLemmas.{lists_as}
 use Rattle.merge_engine.proofs.GoesLemmas.{given_then, goes_then}
 use Rattle.merge_engine.proofs.LogRoomLemmas.{keeps_stands, keeps_then}
+use Rattle.merge_engine.proofs.BeginLemmas.{begins_then, freed_then}
 use Rattle.merge_engine.proofs.appending.append.Goals as goal
 
 pub returns-clause-goes : goal.returns-clause-goes
@@ -49,3 +50,15 @@ returns-clause-no_merge g c = λ room. record {
       keeps_then c.args.cache.now.log mid (g.M.Media.state c.open_if_closed.new.media).contents.flash.page (g.M.Media.state c.program_next.new.media).contents.flash.page list durable c.program_next.ensures.lists
       c.program_next.new.cache (ap (λ (p : Parts). p.log) made) (ap (λ (p : Parts). p.map) made) (ap (λ (p : Parts). p.geometry) made) ((c.in_ok-open_if_closed.ensures.no_merge room).list_stays list durable lists));
 }
+
+pub returns-clause-begins : goal.returns-clause-begins
+returns-clause-begins g c = on_ok_from c.program_next.result (λ v is. λ closed.
+    begins_then c.args.cache.now c.open_if_closed.new.cache c.program_next.new.cache c.args.cache.now.geometry.p (c.in_ok-open_if_closed.ensures.begins closed) (ok_at c.program_next.result v is c.program_next.ensures.cache))
+
+pub returns-clause-freed : goal.returns-clause-freed
+returns-clause-freed g c = on_ok_from c.program_next.result (λ v is. λ needs.
+    freed_then c.args.cache.now c.open_if_closed.new.cache c.program_next.new.cache c.program_next.ensures.map (c.in_ok-open_if_closed.ensures.freed needs))
+
+pub returns-clause-costs : goal.returns-clause-costs
+returns-clause-costs g c = on_ok_from c.program_next.result (λ v is. λ closed can.
+    ((g.M.Media.state c.open_if_closed.new.media).counts, c.in_ok-open_if_closed.ensures.costs closed can, ok_at c.program_next.result v is c.program_next.ensures.counts))

@@ -1,10 +1,13 @@
 use Rattle.std.proofs.Common.{◌≡◌, inr, ◌∙◌, ap, subst}
 use Rattle.ft_base.specs.declared.geometry.Geometry.{Geometry}
+use Rattle.ft_media.specs.State.{State}
+use Rattle.ft_media.specs.Media.{erase_counted}
 use Rattle.ft_media.proofs.DrivesLemmas.{only_then}
 use Rattle.cache_model.specs.Stands.{FlashStandsFor}
 use Rattle.merge_engine.specs.declared.parts.Parts.{Parts}
-use Rattle.merge_engine.proofs.ResultLemmas.{on_ok_from}
+use Rattle.merge_engine.proofs.ResultLemmas.{on_ok_from, ok_at}
 use Rattle.merge_engine.proofs.BesideLemmas.{lists_as}
+use Rattle.merge_engine.proofs.BeginLemmas.{takes_after}
 use Rattle.merge_engine.proofs.appending.commit_and_take.Goals as goal
 
 pub returns-clause-kept : goal.returns-clause-kept
@@ -22,3 +25,20 @@ returns-clause-kept g c = record {
 
 pub returns-clause-drives : goal.returns-clause-drives
 returns-clause-drives g c = only_then _ _ _ _ c.in_ok-commit.ensures.drives.flash c.take_log_block.ensures.drives
+
+pub returns-clause-takes : goal.returns-clause-takes
+returns-clause-takes g c = on_ok_from c.take_log_block.result (λ v is.
+    let takes = ok_at c.take_log_block.result v is c.take_log_block.ensures.takes in
+    (takes.0, takes_after c.args.cache.now c.commit.new.cache c.take_log_block.new.cache takes.0 c.commit.ensures.cache takes.1))
+
+pub returns-clause-log : goal.returns-clause-log
+returns-clause-log g c = on_ok_from c.take_log_block.result (λ v is. ap (λ (p : Parts). p.log) c.take_log_block.ensures.cache ∙ c.in_ok-commit.ensures.log)
+
+pub returns-clause-costs : goal.returns-clause-costs
+returns-clause-costs g c = on_ok_from c.take_log_block.result (λ v is.
+    let erased = ok_at c.take_log_block.result v is c.take_log_block.ensures.counts in
+    record {
+      counts = λ none. erased ∙ ap (λ (s : State). erase_counted s.counts) (c.commit.ensures.nothing none).2;
+      one_more = λ some low. erased ∙ ap erase_counted (c.in_ok-commit.ensures.one_page some low);
+      checkpoint = λ some full. erased ∙ ap erase_counted (c.in_ok-commit.ensures.whole_checkpoint some full).counts;
+    })

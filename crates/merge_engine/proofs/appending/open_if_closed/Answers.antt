@@ -1,11 +1,14 @@
 use Rattle.std.proofs.Common.{◌≡◌, false, true, inl, inr, refl, ◌∙◌, ap, arith}
+use Rattle.ft_media.specs.State.{State}
 use Rattle.ft_media.proofs.DrivesLemmas.{only_then}
+use Rattle.checkpoint.specs.Current.{log_committed}
 use Rattle.merge_engine.specs.declared.parts.Parts.{Parts}
 use Rattle.merge_engine.proofs.LogRoomLemmas.{can_begin, lists_made}
 use Rattle.merge_engine.proofs.MoveLemmas.{stands_still}
 use Rattle.merge_engine.proofs.ResultLemmas.{on_ok_from, ok_at}
 use Rattle.merge_engine.proofs.MergeLemmas.{given_itself}
 use Rattle.merge_engine.proofs.GoesLemmas.{given_then, goes_then, room_for_one}
+use Rattle.merge_engine.proofs.BeginLemmas.{begins_log, costs_as, freed_then}
 use Rattle.merge_engine.proofs.appending.open_if_closed.Goals as goal
 
 pub returns-clause-goes : goal.returns-clause-goes
@@ -51,3 +54,28 @@ returns-clause-no_merge g c = λ room. record {
         (ok_at c.commit_and_take.result v is c.commit_and_take.ensures.kept.lists) list durable (lists_made old mid (g.M.Media.state c.args.media.now) (g.M.Media.state c.make_room.new.media) list durable made.1 made.2 lists),
       ));
 }
+
+pub returns-then-room-gt0-clause-freed : goal.returns-then-room-gt0-clause-freed
+returns-then-room-gt0-clause-freed g c = λ needs. absurd (needs (inl (omega (arith, c.room.ensures.room, c.if-room-gt0.true))))
+
+pub returns-clause-begins : goal.returns-clause-begins
+returns-clause-begins g c = on_ok_from c.commit_and_take.result (λ v is. λ closed.
+    let old = c.args.cache.now in
+    let mid = c.make_room.new.cache in
+    let e = c.commit_and_take.ensures in
+    let takes = ok_at c.commit_and_take.result v is e.takes in
+    begins_log old mid c.commit_and_take.new.cache takes.0 c.in_ok-make_room.ensures.makes takes.1 c.requires.can.agree.sound.of_one c.in_ok-make_room.ensures.goes.agree.sound.of_one c.make_room.ensures.geometry
+    (ok_at c.commit_and_take.result v is e.kept.nothing_waits)
+    (λ can. ok_at c.commit_and_take.result v is e.log ∙ ap (λ (p : Parts). log_committed p.log) (c.make_room.ensures.no_merge can).1))
+
+pub returns-clause-freed : goal.returns-clause-freed
+returns-clause-freed g c = on_ok_from c.commit_and_take.result (λ v is. λ needs.
+    freed_then c.args.cache.now c.make_room.new.cache c.commit_and_take.new.cache c.commit_and_take.ensures.map (c.in_ok-make_room.ensures.freed needs))
+
+pub returns-clause-costs : goal.returns-clause-costs
+returns-clause-costs g c = on_ok_from c.commit_and_take.result (λ v is. λ closed can.
+    let old = c.args.cache.now in
+    let mid = c.make_room.new.cache in
+    let made = c.make_room.ensures.no_merge can in
+    costs_as old mid (g.M.Media.state c.args.media.now).counts (g.M.Media.state c.make_room.new.media).counts (g.M.Media.state c.commit_and_take.new.media).counts
+    (ap (λ (p : Parts). p.log) made.1) (ap (λ (p : Parts). p.map) made.1) c.make_room.ensures.geometry (ap (λ (s : State). s.counts) made.2) (ok_at c.commit_and_take.result v is c.commit_and_take.ensures.costs))

@@ -1,8 +1,10 @@
 use Rattle.std.proofs.Common.{◌≡◌, ◌<◌, length, Some, false, true, refl, sym, ◌∙◌, ap, subst}
 use Rattle.ft_base.specs.Layout.{page_records}
 use Rattle.mapping.specs.Numbers.{StandsNoneIn}
+use Rattle.mapping.specs.MapValue.{MapValue}
 use Rattle.log_blocks.specs.Logs.{LogBlocksValue, IsInUse, released}
 use Rattle.merge_engine.specs.declared.parts.Parts.{Parts}
+use Rattle.merge_engine.specs.Room.{FreesGroups}
 use Rattle.merge_engine.proofs.GoesLemmas.{goes_as}
 use Rattle.merge_engine.proofs.LogRoomLemmas.{given_same}
 use Rattle.merge_engine.proofs.GiveBackLemmas.{was_in_use}
@@ -49,3 +51,11 @@ returns-clause-goes g c = record {
       (ap (λ (p : Parts). p.map) is) (ap (λ (p : Parts). p.geometry) is) (ap (λ (p : Parts). p.log) is) (c.in_ok-merge_owners.ensures.goes.lists list durable lists);
   stands = c.merge_owners.ensures.goes.stands;
 }
+
+pub returns-clause-groups : goal.returns-clause-groups
+returns-clause-groups g c = λ oldest is.
+    let old = c.args.cache.now in
+    let same : Some c.in-Some.block ≡ Some oldest = c.in-Some.ensures.oldest ∙ is in
+    let one : c.in-Some.block ≡ oldest = cc in
+    subst (λ b. FreesGroups old.geometry b old.map.entries c.give_back_used.new.cache.map.entries) one
+    (subst (λ (m : MapValue). FreesGroups old.geometry c.in-Some.block old.map.entries m.entries) (sym (ap (λ (p : Parts). p.map) c.give_back_used.ensures.cache)) c.in_ok-merge_owners.ensures.groups)

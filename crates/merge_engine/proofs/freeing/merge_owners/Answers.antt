@@ -1,11 +1,13 @@
-use Rattle.std.proofs.Common.{◌≡◌, false, true, rules, ◌∙◌, ap, arith}
+use Rattle.std.proofs.Common.{◌≡◌, false, true, rules, inl, refl, ◌∙◌, ap, subst, arith}
 use Rattle.ft_base.specs.declared.geometry.Geometry.{Geometry}
+use Rattle.merge_engine.specs.Room.{FreesGroups}
 use Rattle.ft_media.proofs.DrivesLemmas.{drives_then}
 use Rattle.merge_engine.proofs.GoesLemmas.{given_then, given_from, goes_then}
 use Rattle.checkpoint.proofs.OnlyLemmas.{only_failed}
 use Rattle.merge_engine.proofs.OwnerLemmas.{unowned_in, none_before-more, none_before-all, unowned_still}
 use Rattle.merge_engine.proofs.SwitchLemmas.{lose_then, used_before}
 use Rattle.merge_engine.proofs.TakeLemmas.{agree_map}
+use Rattle.merge_engine.proofs.FreedLemmas.{frees_none, frees_then, mapped_stay_then, blocks_most}
 use Rattle.merge_engine.proofs.freeing.merge_owners.Goals as goal
 
 pub returns-in_err-merge_owner-clause-goes : goal.returns-in_err-merge_owner-clause-goes
@@ -45,8 +47,31 @@ loop-page-preserved g c =
           (e.unowned used);
       lists = λ list durable lists. goes_then c.args.cache.now.log l.cache (g.M.Media.state l.media).contents.flash.page c.args.cache.now.geometry k.geometry list durable c.merge_owner.new.cache (g.M.Media.state c.merge_owner.new.media).contents.flash.page
           (c.merge_owner.ensures.geometry ∙ k.geometry) (k.lists list durable lists) e.goes.lists;
+      freed = frees_then c.args.cache.now.geometry c.args.block c.args.cache.now.map.entries l.cache.map.entries c.merge_owner.new.cache.map.entries k.freed k.page_mapped
+          (subst (λ (h : Geometry). FreesGroups h c.args.block l.cache.map.entries c.merge_owner.new.cache.map.entries) k.geometry e.groups)
+          (blocks_most c.args.cache.now.geometry c.merge_owner.new.cache (g.M.Media.state c.merge_owner.new.media).contents e.goes.agree (c.merge_owner.ensures.geometry ∙ k.geometry));
+      page_mapped = mapped_stay_then c.args.cache.now.map.entries l.cache.map.entries c.merge_owner.new.cache.map.entries k.page_mapped e.page_mapped;
       drives = drives_then _ _ _ _ _ k.drives e.drives.flash;
     }
+
+pub loop-page-init : goal.loop-page-init
+loop-page-init g c = record {
+  geometry = refl;
+  log_blocks = inl refl;
+  pages = refl;
+  groups = search rules;
+  no_more = search rules;
+  buckets = refl;
+  group_buckets = refl;
+  agree = c.requires.can.agree;
+  room = c.requires.can.room;
+  nothing = λ unheld. (refl, refl);
+  unowned = λ used page low. absurd (omega (arith, low));
+  lists = λ list durable lists. inl (refl, lists);
+  freed = frees_none c.args.cache.now.geometry c.args.block c.args.cache.now.map.entries c.args.cache.now.map.entries refl;
+  page_mapped = λ a e is. inl is;
+  drives = search rules;
+}
 
 pub returns-clause-unheld : goal.returns-clause-unheld
 returns-clause-unheld g c = λ used.

@@ -3,7 +3,8 @@ use Rattle.ft_media.specs.Drives.{DrivesFlash}
 use Rattle.cache_model.specs.CacheList.{CacheList}
 use Rattle.mapping.specs.Numbers.{StandsNoneIn}
 use Rattle.merge_engine.specs.Agreement.{PartsAgree, Lists}
-use Rattle.merge_engine.specs.Steps.{GoesOn}
+use Rattle.merge_engine.specs.Steps.{GoesOn, PageMappedStay}
+use Rattle.merge_engine.specs.Room.{FreesGroups}
 use Rattle.log_blocks.specs.Logs.{IsInUse}
 use Rattle.merge_engine.specs.Switch.{LogsStayOrLose}
 use Rattle.merge_engine.proofs.OwnerLemmas.{NoneBefore}
@@ -26,5 +27,7 @@ invariant-loop-page g l =
       nothing : StandsNoneIn l.fn.cache.map.entries l.block → (l.cache ≡ l.fn.cache) × (now ≡ old);
       unowned : IsInUse l.cache.log_blocks l.block → NoneBefore l.cache.map.entries l.block l.page;
       lists : (list durable : CacheList) → Lists l.fn.cache old.contents.flash.page list durable → GoesOn l.fn.cache.log l.cache now.contents.flash.page list durable;
+      freed : FreesGroups l.fn.cache.geometry l.block l.fn.cache.map.entries l.cache.map.entries;
+      page_mapped : PageMappedStay l.fn.cache.map.entries l.cache.map.entries;
       drives : DrivesFlash old now false false;
     }

@@ -45,3 +45,6 @@ returns-clause-drives g c = record { memory = λ is. cc; flash = drives_then _ _
 
 pub returns-clause-counts : goal.returns-clause-counts
 returns-clause-counts g c = λ pages reach. c.in_ok-copy_group.ensures.counts pages reach ∙ ap (programs_counted pages) c.in_ok-block.ensures.counts
+
+pub returns-clause-taken : goal.returns-clause-taken
+returns-clause-taken g c = c.in_ok-block.ensures.taken.0

@@ -1,14 +1,17 @@
-use Rattle.std.proofs.Common.{rules, ◌≤◌, ◌<◌, sym, ◌∙◌, ap, subst, inr}
+use Rattle.std.proofs.Common.{rules, ◌≤◌, ◌∙◌, ap, subst, inr}
 use Rattle.ft_base.specs.declared.geometry.Geometry.{Geometry}
-use Rattle.ft_base.specs.Layout.{first_pool, log_pages}
+use Rattle.ft_base.specs.Layout.{first_pool}
 use Rattle.ft_media.proofs.DrivesLemmas.{drives_then, only_then}
 use Rattle.checkpoint.specs.Current.{PoolStays}
+use Rattle.block_pool.specs.Pool.{IsNextTaken}
 use Rattle.merge_engine.specs.declared.parts.Parts.{Parts}
 use Rattle.merge_engine.proofs.RoleLemmas.{free_in_pool}
 use Rattle.merge_engine.proofs.ResultLemmas.{on_ok_from, ok_at}
 use Rattle.checkpoint.proofs.OnlyLemmas.{only_failed}
 use Rattle.merge_engine.proofs.TakeLemmas.{agree_map}
 use Rattle.merge_engine.proofs.MoveLemmas.{room_still, held_still, stands_listed, copied_still, moved_still, stands_still, either_same, merged_moved, others_moved, filled_still, fillers_moved, moved_counts, reach_still}
+use Rattle.merge_engine.proofs.BeginLemmas.{page_left}
+use Rattle.merge_engine.proofs.CostLemmas.{committed_next, copy_counts, less_than, page_after, reach_committed}
 use Rattle.merge_engine.proofs.merging.gather_group.Goals as goal
 
 pub returns-in_err-block-clause-drives : goal.returns-in_err-block-clause-drives
@@ -116,15 +119,33 @@ pub returns-clause-drives : goal.returns-clause-drives
 returns-clause-drives g c = only_then _ _ _ _
     (drives_then _ _ _ _ _ c.in_ok-commit.ensures.drives.flash c.in_ok-block.ensures.drives.flash) c.commit-2.ensures.drives
 
-pub returns-clause-counts : goal.returns-clause-counts
-returns-clause-counts g c = on_ok_from c.commit-2.result (λ v is. λ none room pages reach.
+pub returns-clause-taken : goal.returns-clause-taken
+returns-clause-taken g c = on_ok_from c.commit-2.result (λ v is.
+    let old = c.args.cache.now in
+    let now = c.copy_out.new.cache in
+    let same = ap (λ (p : Parts). p.geometry) c.copy_out.ensures.cache ∙ ap (λ (p : Parts). p.geometry) c.commit.ensures.cache in
+    let entries = ap (λ (p : Parts). p.map.entries) c.copy_out.ensures.cache ∙ ap (λ (p : Parts). p.map.entries) c.commit.ensures.cache in (
+      c.in_ok-block.block,
+      subst (λ (p : Parts). IsNextTaken p.pool c.in_ok-block.block) c.commit.ensures.cache c.in_ok-block.ensures.taken,
+      ap (λ (p : Parts). p.map.entries) c.commit-2.ensures.cache ∙ c.put_group.ensures.map.entries ∙ moved_still old.geometry now.geometry old.map.entries now.map.entries c.args.group same entries c.in_ok-block.block,
+    ))
+
+pub returns-clause-costs : goal.returns-clause-costs
+returns-clause-costs g c = on_ok_from c.commit-2.result (λ v is.
     let old = c.args.cache.now in
     let mid = c.commit.new.cache in
-    let first = c.commit.ensures.nothing none in
-    let same = ap (λ (p : Parts). p.geometry) c.copy_out.ensures.cache ∙ ap (λ (p : Parts). p.geometry) first.1 in
-    let put = ap (λ (p : Parts). p.geometry) c.put_group.ensures.cache ∙ same in
-    let next = c.put_group.ensures.next ∙ ap (λ (p : Parts). p.log.next) c.copy_out.ensures.cache ∙ ap (λ (p : Parts). p.log.next) first.1 in
-    let left = subst (λ n. n < log_pages c.put_group.new.cache.geometry) (sym next) (subst (λ (h : Geometry). old.log.next < log_pages h) (sym put) room) in
-    moved_counts pages (g.M.Media.state c.args.media.now) (g.M.Media.state c.commit.new.media) (g.M.Media.state c.copy_out.new.media) (g.M.Media.state c.commit-2.new.media) first.2
-    (c.in_ok-block.ensures.counts pages (reach_still old mid c.args.group pages first.1 reach))
-    (ok_at c.commit-2.result v is c.commit-2.ensures.one_page c.put_group.ensures.waits left))
+    let same = ap (λ (p : Parts). p.geometry) c.put_group.ensures.cache ∙ ap (λ (p : Parts). p.geometry) c.copy_out.ensures.cache ∙ ap (λ (p : Parts). p.geometry) c.commit.ensures.cache in
+    let next = c.put_group.ensures.next ∙ ap (λ (p : Parts). p.log.next) c.copy_out.ensures.cache in
+    record {
+      counts = λ none low pages reach.
+          let first = c.commit.ensures.nothing none in
+          moved_counts pages (g.M.Media.state c.args.media.now) (g.M.Media.state c.commit.new.media) (g.M.Media.state c.copy_out.new.media) (g.M.Media.state c.commit-2.new.media) first.2
+          (c.in_ok-block.ensures.counts pages (reach_still old mid c.args.group pages first.1 reach))
+          (ok_at c.commit-2.result v is c.commit-2.ensures.one_page c.put_group.ensures.waits
+          (page_left old.log c.put_group.new.cache.log old.geometry c.put_group.new.cache.geometry (next ∙ ap (λ (p : Parts). p.log.next) first.1) same low));
+      one_more = λ some low pages reach.
+          copy_counts pages _ _ _ _ (c.in_ok-commit.ensures.one_page some (less_than low))
+          (c.in_ok-block.ensures.counts pages (reach_committed old mid c.args.group pages c.commit.ensures.cache reach))
+          (ok_at c.commit-2.result v is c.commit-2.ensures.one_page c.put_group.ensures.waits
+          (page_after old c.put_group.new.cache (next ∙ committed_next old mid c.requires.agree.sound.of_one c.in_ok-commit.ensures.log some (less_than low)) same low));
+    })

@@ -1,12 +1,16 @@
-use Rattle.std.proofs.Common.{rules, ap, inl}
+use Rattle.std.proofs.Common.{rules, ap, subst, inl}
 use Rattle.ft_media.proofs.DrivesLemmas.{only_then}
+use Rattle.ft_base.specs.declared.geometry.Geometry.{Geometry}
+use Rattle.silent_evict.specs.Candidates.{HasDataBlock}
 use Rattle.merge_engine.specs.declared.parts.Parts.{Parts}
 use Rattle.merge_engine.specs.Merges.{HasBlockOrRoom, list_without}
 use Rattle.merge_engine.proofs.ResultLemmas.{on_ok_from, ok_at}
 use Rattle.merge_engine.proofs.MoveLemmas.{fillers_gone, fillers_still, room_not_lacked}
-use Rattle.merge_engine.proofs.GaveLemmas.{page_mapped_stay, given_either}
+use Rattle.merge_engine.proofs.GaveLemmas.{page_mapped_stay, given_either, victim_other}
 use Rattle.merge_engine.proofs.MergeLemmas.{lists_victims, has_own, has_room, lacks_room, victim_is, no_candidate, victim_gave, victim_way, group_gave, group_way}
-use Rattle.merge_engine.proofs.MergeLemmas.{stays_way, held_then, room_then, merged_then, others_after, mapped_after, merged_gone, others_gone, mapped_gone, given_itself, given_after}
+use Rattle.merge_engine.proofs.MergeLemmas.{stays_way, held_then, room_then, merged_then, stay_then, mapped_after, merged_gone, mapped_gone, given_itself, given_after}
+use Rattle.merge_engine.proofs.FreedLemmas.{beside_moved, beside_victim, beside_dropped}
+use Rattle.merge_engine.proofs.CostLemmas.{costs_of_way}
 use Rattle.merge_engine.proofs.SwitchLemmas.{logs_after}
 use Rattle.merge_engine.proofs.merging.merge_group.Goals.{then-own-via-then-own, then-own-via-else-own+then-data_blocks-cache}
 use Rattle.merge_engine.proofs.merging.merge_group.Goals as goal
@@ -101,12 +105,6 @@ returns-in_ok-drop_group-in-Some-clause-gathered g c = let same = ap (λ (p : Pa
           (g.M.Media.state c.move_group-in-Some.new.media).contents.flash.page same (ok_at c.move_group-in-Some.result v is c.move_group-in-Some.ensures.gathered).filled;
     })
 
-pub returns-in_ok-drop_group-in-Some-clause-others : goal.returns-in_ok-drop_group-in-Some-clause-others
-returns-in_ok-drop_group-in-Some-clause-others g c =
-    let same = ap (λ (p : Parts). p.geometry) c.drop_group.ensures.cache in
-    on_ok_from c.move_group-in-Some.result (λ v is. others_after c.args.cache.now.geometry c.drop_group.new.cache.geometry c.args.cache.now.map.entries c.drop_group.new.cache.map.entries c.args.group
-    c.in-Some.victim same c.drop_group.ensures.map.entries c.move_group-in-Some.new.cache.map.entries (ok_at c.move_group-in-Some.result v is c.move_group-in-Some.ensures.others))
-
 pub returns-in_ok-drop_group-in-Some-clause-page_mapped : goal.returns-in_ok-drop_group-in-Some-clause-page_mapped
 returns-in_ok-drop_group-in-Some-clause-page_mapped g c =
     let same = ap (λ (p : Parts). p.geometry) c.drop_group.ensures.cache in
@@ -144,26 +142,9 @@ returns-in-None-clause-gathered g c = on_ok_from c.drop_group-in-None.result (λ
   filled = fillers_gone c.args.cache.now.geometry c.args.cache.now.map.entries c.drop_group-in-None.new.cache.map.entries c.args.group (g.M.Media.state c.drop_group-in-None.new.media).contents.flash.page c.drop_group-in-None.ensures.map.entries;
 })
 
-pub returns-in-None-clause-others : goal.returns-in-None-clause-others
-returns-in-None-clause-others g c =
-    on_ok_from c.drop_group-in-None.result (λ v is. others_gone c.args.cache.now.geometry c.args.cache.now.map.entries c.drop_group-in-None.new.cache.map.entries c.args.group c.drop_group-in-None.ensures.map.entries)
-
 pub returns-in-None-clause-page_mapped : goal.returns-in-None-clause-page_mapped
 returns-in-None-clause-page_mapped g c =
     on_ok_from c.drop_group-in-None.result (λ v is. mapped_gone c.args.cache.now.geometry c.args.cache.now.map.entries c.drop_group-in-None.new.cache.map.entries c.args.group c.drop_group-in-None.ensures.map.entries)
-
-pub returns-then-own-clause-costs : goal.returns-then-own-clause-costs
-returns-then-own-clause-costs g c = on_ok_from c.move_group.result (λ v is. λ room. ok_at c.move_group.result v is c.move_group.ensures.costs)
-
-pub returns-in_ok-drop_group-in-Some-clause-costs : goal.returns-in_ok-drop_group-in-Some-clause-costs
-returns-in_ok-drop_group-in-Some-clause-costs g c = let lacks = lacks_room c.args.cache.now.geometry c.args.cache.now.map.geometry c.args.cache.now.map.entries c.args.group c.requires.can.agree.sound.of_one.map c.block_of.result c.is_some-own.result
-    c.data_blocks.result c.is_some-own.ensures c.if-own.false c.block_of.ensures.none c.data_blocks.ensures.count c.data_blocks.ensures.most c.if-data_blocks-cache.false in
-    on_ok_from c.move_group-in-Some.result (λ v is. λ room. absurd (room_not_lacked c.args.cache.now.geometry c.args.cache.now.map.entries c.args.group lacks room))
-
-pub returns-in-None-clause-costs : goal.returns-in-None-clause-costs
-returns-in-None-clause-costs g c = let lacks = lacks_room c.args.cache.now.geometry c.args.cache.now.map.geometry c.args.cache.now.map.entries c.args.group c.requires.can.agree.sound.of_one.map c.block_of.result c.is_some-own.result
-    c.data_blocks.result c.is_some-own.ensures c.if-own.false c.block_of.ensures.none c.data_blocks.ensures.count c.data_blocks.ensures.most c.if-data_blocks-cache.false in
-    on_ok_from c.drop_group-in-None.result (λ v is. λ room. absurd (room_not_lacked c.args.cache.now.geometry c.args.cache.now.map.entries c.args.group lacks room))
 
 pub returns-in_ok-drop_group-in-Some-clause-log_blocks : goal.returns-in_ok-drop_group-in-Some-clause-log_blocks
 returns-in_ok-drop_group-in-Some-clause-log_blocks g c =
@@ -175,3 +156,66 @@ returns-in_err-drop_group-in-Some-clause-log_blocks g c = inl (ap (λ (p : Parts
 
 pub returns-in-None-clause-log_blocks : goal.returns-in-None-clause-log_blocks
 returns-in-None-clause-log_blocks g c = inl (ap (λ (p : Parts). p.log_blocks) c.drop_group-in-None.ensures.cache)
+
+pub returns-then-own-clause-beside : goal.returns-then-own-clause-beside
+returns-then-own-clause-beside g c = let room : HasBlockOrRoom c.args.cache.now.geometry c.args.cache.now.map.entries c.args.group = elim c.then-own.branch [
+  | then-own-via-then-own w ↦ has_own c.args.cache.now.geometry c.args.cache.now.map.geometry c.args.cache.now.map.entries c.args.group c.requires.can.agree.sound.of_one.map c.block_of.result c.is_some-own.result c.is_some-own.ensures w.if-own.true c.block_of.ensures.some
+  | then-own-via-else-own+then-data_blocks-cache w ↦ has_room c.args.cache.now.geometry c.args.cache.now.map.geometry c.args.cache.now.map.entries c.args.group c.requires.can.agree.sound.of_one.map w.data_blocks.result w.data_blocks.ensures.count w.if-data_blocks-cache.true
+] in
+    on_ok_from c.move_group.result (λ v is. beside_moved c.args.cache.now.geometry c.args.cache.now.map.entries c.move_group.new.cache.map.entries c.args.group room
+    (ok_at c.move_group.result v is c.move_group.ensures.others) (ok_at c.move_group.result v is c.move_group.ensures.own))
+
+pub returns-in_ok-drop_group-in-Some-clause-beside : goal.returns-in_ok-drop_group-in-Some-clause-beside
+returns-in_ok-drop_group-in-Some-clause-beside g c =
+    let lacks = lacks_room c.args.cache.now.geometry c.args.cache.now.map.geometry c.args.cache.now.map.entries c.args.group c.requires.can.agree.sound.of_one.map c.block_of.result c.is_some-own.result
+    c.data_blocks.result c.is_some-own.ensures c.if-own.false c.block_of.ensures.none c.data_blocks.ensures.count c.data_blocks.ensures.most c.if-data_blocks-cache.false in
+    let victim = victim_is c.args.cache.now.geometry c.args.cache.now.map.geometry c.args.cache.now.map.entries c.args.group c.requires.can.agree.sound.of_one.map c.in-Some.victim c.in-Some.ensures.some in
+    let same = ap (λ (p : Parts). p.geometry) c.drop_group.ensures.cache in
+    on_ok_from c.move_group-in-Some.result (λ v is. beside_victim c.args.cache.now.geometry c.args.cache.now.map.entries c.move_group-in-Some.new.cache.map.entries c.args.group c.in-Some.victim lacks victim
+    (stay_then c.args.cache.now.geometry c.drop_group.new.cache.geometry c.args.cache.now.map.entries c.drop_group.new.cache.map.entries c.args.group c.in-Some.victim same c.drop_group.ensures.map.entries c.move_group-in-Some.new.cache.map.entries
+    (ok_at c.move_group-in-Some.result v is c.move_group-in-Some.ensures.others))
+    (subst (λ (h : Geometry). HasDataBlock h c.move_group-in-Some.new.cache.map.entries c.args.group) same (ok_at c.move_group-in-Some.result v is c.move_group-in-Some.ensures.own)))
+
+pub returns-in-None-clause-beside : goal.returns-in-None-clause-beside
+returns-in-None-clause-beside g c =
+    let lacks = lacks_room c.args.cache.now.geometry c.args.cache.now.map.geometry c.args.cache.now.map.entries c.args.group c.requires.can.agree.sound.of_one.map c.block_of.result c.is_some-own.result
+    c.data_blocks.result c.is_some-own.ensures c.if-own.false c.block_of.ensures.none c.data_blocks.ensures.count c.data_blocks.ensures.most c.if-data_blocks-cache.false in
+    let none = no_candidate c.args.cache.now.geometry c.args.cache.now.map.geometry c.args.cache.now.map.entries c.args.group c.requires.can.agree.sound.of_one.map c.in-None.ensures.none in
+    on_ok_from c.drop_group-in-None.result (λ v is. beside_dropped c.args.cache.now.geometry c.args.cache.now.map.entries c.drop_group-in-None.new.cache.map.entries c.args.group lacks none c.drop_group-in-None.ensures.map.entries)
+
+pub returns-then-own-clause-costs : goal.returns-then-own-clause-costs
+returns-then-own-clause-costs g c = let room : HasBlockOrRoom c.args.cache.now.geometry c.args.cache.now.map.entries c.args.group = elim c.then-own.branch [
+  | then-own-via-then-own w ↦ has_own c.args.cache.now.geometry c.args.cache.now.map.geometry c.args.cache.now.map.entries c.args.group c.requires.can.agree.sound.of_one.map c.block_of.result c.is_some-own.result c.is_some-own.ensures w.if-own.true c.block_of.ensures.some
+  | then-own-via-else-own+then-data_blocks-cache w ↦ has_room c.args.cache.now.geometry c.args.cache.now.map.geometry c.args.cache.now.map.entries c.args.group c.requires.can.agree.sound.of_one.map w.data_blocks.result w.data_blocks.ensures.count w.if-data_blocks-cache.true
+] in
+    on_ok_from c.move_group.result (λ v is. record {
+      moved = λ _. ok_at c.move_group.result v is c.move_group.ensures.costs;
+      way = λ lacks gone is. absurd (room_not_lacked c.args.cache.now.geometry c.args.cache.now.map.entries c.args.group lacks room);
+      dropped = λ lacks none low. absurd (room_not_lacked c.args.cache.now.geometry c.args.cache.now.map.entries c.args.group lacks room);
+    })
+
+pub returns-in_ok-drop_group-in-Some-clause-costs : goal.returns-in_ok-drop_group-in-Some-clause-costs
+returns-in_ok-drop_group-in-Some-clause-costs g c =
+    let lacks = lacks_room c.args.cache.now.geometry c.args.cache.now.map.geometry c.args.cache.now.map.entries c.args.group c.requires.can.agree.sound.of_one.map c.block_of.result c.is_some-own.result
+    c.data_blocks.result c.is_some-own.ensures c.if-own.false c.block_of.ensures.none c.data_blocks.ensures.count c.data_blocks.ensures.most c.if-data_blocks-cache.false in
+    let victim = victim_is c.args.cache.now.geometry c.args.cache.now.map.geometry c.args.cache.now.map.entries c.args.group c.requires.can.agree.sound.of_one.map c.in-Some.victim c.in-Some.ensures.some in
+    let is_of = c.drop_group.ensures.cache in
+    on_ok_from c.move_group-in-Some.result (λ v is. record {
+      moved = λ room. absurd (room_not_lacked c.args.cache.now.geometry c.args.cache.now.map.entries c.args.group lacks room);
+      way = λ _ gone _. costs_of_way c.args.cache.now c.drop_group.new.cache c.args.group c.in-Some.victim (ap (λ (p : Parts). p.geometry) is_of) (ap (λ (p : Parts). p.log_blocks) is_of) c.drop_group.ensures.map.entries
+          (victim_other c.args.cache.now.geometry c.args.cache.now.map.entries c.args.group c.in-Some.victim lacks victim) c.move_group-in-Some.new.cache
+          (g.M.Media.state c.args.media.now).counts (g.M.Media.state c.drop_group.new.media).counts (g.M.Media.state c.move_group-in-Some.new.media).counts
+          c.in_ok-drop_group-in-Some.ensures.nothing_waits c.in_ok-drop_group-in-Some.ensures.next c.in_ok-drop_group-in-Some.ensures.one_program (ok_at c.move_group-in-Some.result v is c.move_group-in-Some.ensures.costs);
+      dropped = λ _ none low. absurd (none c.in-Some.victim victim.candidate);
+    })
+
+pub returns-in-None-clause-costs : goal.returns-in-None-clause-costs
+returns-in-None-clause-costs g c =
+    let lacks = lacks_room c.args.cache.now.geometry c.args.cache.now.map.geometry c.args.cache.now.map.entries c.args.group c.requires.can.agree.sound.of_one.map c.block_of.result c.is_some-own.result
+    c.data_blocks.result c.is_some-own.ensures c.if-own.false c.block_of.ensures.none c.data_blocks.ensures.count c.data_blocks.ensures.most c.if-data_blocks-cache.false in
+    let none = no_candidate c.args.cache.now.geometry c.args.cache.now.map.geometry c.args.cache.now.map.entries c.args.group c.requires.can.agree.sound.of_one.map c.in-None.ensures.none in
+    on_ok_from c.drop_group-in-None.result (λ v is. record {
+      moved = λ room. absurd (room_not_lacked c.args.cache.now.geometry c.args.cache.now.map.entries c.args.group lacks room);
+      way = λ _ gone is. absurd (none gone is);
+      dropped = λ _ _ low. ok_at c.drop_group-in-None.result v is c.drop_group-in-None.ensures.one_program low;
+    })
