@@ -1,9 +1,11 @@
 -- A cache is opened: what was loaded is its map, and a checkpoint of it is made.
-use Rattle.std.proofs.Common.{◌≡◌, ◌≢◌, ℕ, ◌+◌, ◌-◌, ◌%◌, ◌≤◌, ◌==◌, Bool, true, false, [], Option, Some, None, Ok, nat_cmp, refl, sym, ◌∙◌, ap, subst, arith, inl, inr}
+use Rattle.std.proofs.Common.{◌≡◌, ◌≢◌, ℕ, ◌+◌, ◌-◌, ◌%◌, ◌≤◌, ◌==◌, Bool, true, false, List, [], Option, Some, None, Result, Ok, Err, nat_cmp, refl, sym, ◌∙◌, ap, subst, arith, inl, inr}
 use Rattle.std.specs.Option.{option_and_then}
+use Rattle.std.specs.Result.{IsErrAnd}
 use Rattle.std.specs.FinMap.{empty, get-empty}
 use Rattle.std.proofs.lemmas.Bool.{cases_cond}
 use Rattle.ft_base.specs.declared.geometry.Geometry.{Geometry}
+use Rattle.ft_base.specs.declared.record.Record.{Record}
 use Rattle.ft_base.specs.declared.block.Place.{Place}
 use Rattle.ft_base.specs.declared.block.Page.{Page}
 use Rattle.ft_base.specs.Contents.{Contents, Image, Now, HasValue}
@@ -21,14 +23,21 @@ use Rattle.cache_model.proofs.RegionLemmas.{checkpoint_era}
 use Rattle.cache_model.proofs.LoadLemmas.{newest_is}
 use Rattle.cache_model.proofs.StandLemmas.{entry_whole}
 use Rattle.mapping.specs.MapValue.{MapValue}
+use Rattle.op_log.specs.declared.error.OpenError.{OpenError}
 use Rattle.op_log.specs.Log.{LogValue, FitsOn}
-use Rattle.checkpoint.specs.Current.{IsCurrent, LoadsOneOf}
+use Rattle.op_log.specs.Refusals.{open_failed, open_lost}
+use Rattle.checkpoint.specs.Commits.{AddsCheckpoint}
+use Rattle.checkpoint.specs.Counts.{checkpoint_counted}
+use Rattle.checkpoint.specs.Current.{IsCurrent, LoadsOneOf, PoolStays, log_checkpointed}
+use Rattle.checkpoint.specs.Regions.{map_pages}
 use Rattle.recovery.specs.declared.loading.Loaded.{Loaded}
 use Rattle.recovery.specs.Loaded.{IsLoaded}
 use Rattle.merge_engine.specs.declared.parts.Parts.{Parts}
 use Rattle.merge_engine.specs.Agreement.{IsListOn, ArePartsSound, Lists}
 use Rattle.merge_engine.proofs.BesideLemmas.{loaded_durable}
-use Rattle.ssc.specs.Steps.{IsLoadedAs, FlashStandsForEither}
+use Rattle.ssc.specs.declared.cache.Ssc.{Ssc}
+use Rattle.ssc.specs.Opened.{CostsOpening, MadeCheckpoint}
+use Rattle.ssc.specs.Steps.{IsLoadedAs, FlashStandsForEither, log_found}
 
 -- ---- calls that read, as calls that drive
 
@@ -88,8 +97,8 @@ module _ (g : Geometry) (old mid : Contents) (loaded : Loaded) (parts : Parts) (
     current = loaded_current g old.flash.page loaded parts.log parts.map.entries is entries_is as_is.log;
     whole = record { whole = λ a e at. entry_whole g old.flash.page parts.map.entries (is.loads ∙ ap Ok (sym entries_is)) a e at };
     roles = as_is.roles;
-    log_blocks = as_is.log_blocks;
-    open_block = λ some. absurd (omega (arith, some, as_is.closed));
+    log_blocks = as_is.log_blocks.sound;
+    open_block = λ some. absurd (omega (arith, some, as_is.log_blocks.closed));
   })
 
   pub lists_loaded : (s : CacheList) → FlashStandsFor g old.flash.page s → Lists parts mid.flash.page s s
@@ -113,6 +122,45 @@ module _ (g : Geometry) (old mid : Contents) (loaded : Loaded) (parts : Parts) (
       by : LoadsOneOf g old.flash.page new.flash.page parts.map.entries → load g new.flash.page ≡ load g old.flash.page
       by (inl done) = done ∙ ap Ok entries_is ∙ sym is.loads
       by (inr same) = same
+
+-- ---- what an opening costs
+
+-- a read that neither failed nor was cut
+reads_as : (a b : State) (f l : Bool) → ReadsFlash a b f l → f ≡ false → l ≡ false → ReadsFlash a b false false
+reads_as a b f l reads no_fault no_cut = subst (λ (x : Bool). ReadsFlash a b x false) no_fault (subst (λ (x : Bool). ReadsFlash a b f x) no_cut reads)
+
+-- an opening that was refused by a read
+pub refused_reads : (g : Geometry) (a b : State) (T : Type 0) (r : Result Ssc OpenError) (e : OpenError) → IsErrAnd r (λ own. own ≡ e) → ReadsFlash a b (open_failed {T = T} (Err e)) (open_lost {T = T} (Err e)) → CostsOpening g a b r
+refused_reads g a b T (Ok v) e is reads = absurd is
+refused_reads g a b T (Err own) e is reads = record {
+  made = tt;
+  programs = tt;
+  refused = λ no_fault no_cut. reads_as a b (open_failed {T = T} (Err e)) (open_lost {T = T} (Err e)) reads (ap (λ (x : OpenError). open_failed {T = T} (Err x)) (sym is) ∙ no_fault) (ap (λ (x : OpenError). open_lost {T = T} (Err x)) (sym is) ∙ no_cut);
+}
+
+-- reads are not counted
+adds_from : (log : LogValue) (records : List Record) (a m b : State) → m.counts ≡ a.counts → AddsCheckpoint log records m b → AddsCheckpoint log records a b
+adds_from log records a m b same adds = record {
+  spares = adds.spares;
+  counts = adds.counts ∙ ap (λ (k : Counts). checkpoint_counted log.geometry (map_pages log.geometry records) k) same;
+}
+
+pub made_checkpoint : (g : Geometry) (a m b : State) (loaded : Loaded) (parts new : Parts) (c : Ssc) → IsLoaded g a.contents.flash.page loaded → ReadsFlash a m false false → IsLoadedAs g loaded parts
+    → new ≡ record parts { log = new.log } → new.log ≡ log_checkpointed parts.log → AddsCheckpoint parts.log parts.map.records m b
+    → PoolStays parts.geometry m.contents.flash.page b.contents.flash.page → c.parts ≡ new → MadeCheckpoint g c a b
+made_checkpoint g a m b loaded parts new c is reads as_is same log adds pool own =
+    let found : parts.log ≡ log_found g loaded.region is.newest.era = as_is.log ∙ ap (λ n. log_found g loaded.region n) (sym is.era) in
+    let records : parts.map.records ≡ c.parts.map.records = sym (ap (λ (p : Parts). p.map.records) (own ∙ same)) in
+    record {
+      region = loaded.region;
+      newest = is.newest;
+      found = is.chosen;
+      log = ap (λ (p : Parts). p.log) own ∙ log ∙ ap log_checkpointed found;
+      adds = subst (λ (r : List Record). AddsCheckpoint (log_found g loaded.region is.newest.era) r a b) records
+          (subst (λ (l : LogValue). AddsCheckpoint l parts.map.records a b) found (adds_from parts.log parts.map.records a m b reads.counts adds));
+      pool = subst (λ (k : Contents). PoolStays g k.flash.page b.contents.flash.page) reads.contents
+          (subst (λ (h : Geometry). PoolStays h m.contents.flash.page b.contents.flash.page) as_is.geometry pool);
+    }
 
 -- nothing of the log is used
 pub full_room : (parts : Parts) (g : Geometry) → parts.geometry ≡ g → parts.log.next ≡ 0 → log_pages parts.geometry - parts.log.next ≡ log_pages g

@@ -17,7 +17,7 @@ use Rattle.cache_model.proofs.UndoLemmas.{back_at, get_undo, undone_at}
 use Rattle.ssc.specs.declared.cache.Ssc.{Ssc}
 use Rattle.ssc.specs.CacheState.{Holds, geometry_of, pending}
 use Rattle.ssc.specs.Commands.{FlashStandsForOne, AsUndone, AsBefore, AsAfter, FlashStandsForWrite, AsLeft, AsWritten, HoldsWritten, ImagesOf, ImagesOfWrite}
-use Rattle.ssc.specs.Own.{KeepsOwn, LoadsOwn}
+use Rattle.ssc.specs.Own.{HoldsOwn, KeepsOwn, LoadsOwn}
 
 -- ---- at one address
 
@@ -53,7 +53,7 @@ own_undone (b ∷ q) a o own = own_undone q a (back_at b a o) (own_back b a o ow
 
 -- ---- in a list
 
-undo_own : (q : List Buffered) (s : CacheList) → AreOwn s → AreOwn (undo q s)
+pub undo_own : (q : List Buffered) (s : CacheList) → AreOwn s → AreOwn (undo q s)
 undo_own q s own a = own_as a (get (undo q s) a) (undone_at q a (get s a)) (get_undo q s a) (own_undone q a (get s a) (own a))
 
 vanish_own : (g : Geometry) (s : CacheList) (lba : ℕ) (v : CacheList) → Vanish g s lba v → AreOwn s → AreOwn v
@@ -98,7 +98,7 @@ pub kept_step : (old new : Ssc) (contents contents' : Contents) (step : CacheLis
     → (new.stopped ≡ false → (s : CacheList) → Holds old contents s → Holds new contents' (step s)) → ((s : CacheList) → Holds old contents s → ImagesOf old contents' s (step s)) → KeepsOwn old contents new contents'
 kept_step old new contents contents' step keeps done images was = (
   λ x now. one_loads old x.page was.list (step was.list) was.own (keeps was.list was.own) (images was.list was.holds x now),
-  λ up. record { list = step was.list; holds = done up was.list was.holds; own = keeps was.list was.own },
+  λ up. record { list = step was.list; holds = done up was.list was.holds; own = keeps was.list was.own; durable = undo_own (pending new) (step was.list) (keeps was.list was.own) },
 )
 
 -- a write, for which clean groups may have given way
@@ -108,18 +108,21 @@ module _ (old new : Ssc) (contents contents' : Contents) (lba : ℕ) (block : Bl
   write_loads page s own (AsLeft v gave stands) = record { list = v; stands = stands; own = vanish_own (geometry_of old) s lba v gave own }
   write_loads page s own (AsWritten v gave stands) = record { list = insert v lba (written_block lba block dirty); stands = stands; own = written_own lba block dirty v (vanish_own (geometry_of old) s lba v gave own) }
 
+  own_written : (v : CacheList) → Holds new contents' (insert v lba (written_block lba block dirty)) → AreOwn v → HoldsOwn new contents'
+  own_written v holds own = let after = written_own lba block dirty v own in record { list = insert v lba (written_block lba block dirty); holds = holds; own = after; durable = undo_own (pending new) (insert v lba (written_block lba block dirty)) after }
+
   pub kept_write : (new.stopped ≡ false → (s : CacheList) → Holds old contents s → HoldsWritten new contents' s lba (λ t. insert t lba (written_block lba block dirty)))
       → ((s : CacheList) → Holds old contents s → ImagesOfWrite old contents' s lba (λ t. insert t lba (written_block lba block dirty))) → KeepsOwn old contents new contents'
   kept_write done images was = (
     λ x now. write_loads x.page was.list was.own (images was.list was.holds x now),
-    λ up. let written = done up was.list was.holds in record { list = insert written.left lba (written_block lba block dirty); holds = written.holds; own = written_own lba block dirty written.left (vanish_own (geometry_of new) was.list lba written.left written.vanish was.own) },
+    λ up. let written = done up was.list was.holds in own_written written.left written.holds (vanish_own (geometry_of new) was.list lba written.left written.vanish was.own),
   )
 
 -- where nothing was done on the flash
 pub kept_held : (old new : Ssc) (contents : Contents) → ((s : CacheList) → Holds old contents s → Holds new contents s) → KeepsOwn old contents new contents
 kept_held old new contents holds was = (
   λ x now. undone_loads old x.page was.list was.own (subst (λ (page : Place → Page). FlashStandsFor (geometry_of old) page (undo (pending old) was.list)) (sym now.pages) was.holds.lists.stands),
-  λ up. record { list = was.list; holds = holds was.list was.holds; own = was.own },
+  λ up. record { list = was.list; holds = holds was.list was.holds; own = was.own; durable = undo_own (pending new) was.list was.own },
 )
 
 -- a cache that was given up holds nothing

@@ -3,6 +3,8 @@ use Rattle.std.proofs.Common.{◌≡◌, ℕ, ◌+◌, false, Result, Ok, Err, r
 use Rattle.ft_media.specs.declared.media.MediaError.{MediaError}
 use Rattle.ft_media.specs.State.{State, lost}
 use Rattle.ft_media.specs.Passes.{Passes, Spends}
+use Rattle.merge_engine.specs.declared.parts.Parts.{Parts}
+use Rattle.ssc.specs.Steps.{PutsPages}
 
 pub spends_both : (a b c : State) (m n : ℕ) → Passes a b false → Spends m a b → Spends n b c → Spends (m + n) a c
 spends_both a b c m n passes first then = λ on armed.
@@ -19,6 +21,13 @@ spends_on a b c n passes first later = λ on armed.
     let t = later.stayed s.on refl in
     let two = t.falls (λ none. armed (sym s.stops ∙ none)) in
     omega arith
+
+-- two pages are one at least
+pub puts_one : (old new : Parts) (a b : State) → PutsPages 2 old new a b → PutsPages 1 old new a b
+puts_one old new a b puts = record {
+  programs = record { count = puts.programs.count; spends = λ on armed. let two = puts.programs.spends on armed in omega arith };
+  log_page = puts.log_page;
+}
 
 pub passes_ok : {T : Type 0} (a b : State) (r : Result T MediaError) (v : T) → r ≡ Ok v → Passes a b (lost r) → Passes a b false
 passes_ok a b (Ok w) v is p = p

@@ -1,5 +1,5 @@
 -- What a write answers and leaves, between two states of the cache that holds a list.
-use Rattle.std.proofs.Common.{◌≡◌, ℕ, ◌+◌, ◌/◌, ◌<◌, ◌≤◌, false, List, [], ◌∷◌, ◌++◌, length, Option, Some, None, Err, refl, sym, ◌∙◌, ap, subst, arith, inl, inr}
+use Rattle.std.proofs.Common.{◌≡◌, ℕ, ◌+◌, ◌-◌, ◌/◌, ◌<◌, ◌≤◌, false, List, [], ◌∷◌, ◌++◌, length, Option, Some, None, Err, refl, sym, ◌∙◌, ap, subst, arith, inl, inr}
 use Rattle.std.specs.FinMap.{get, insert}
 use Rattle.std.proofs.lemmas.Bool.{false≢true}
 use Rattle.ft_base.specs.declared.block.Block.{Block}
@@ -20,6 +20,7 @@ use Rattle.cache_model.specs.Cache.{Inserted, written_block, IsFull, Vanish, dir
 use Rattle.cache_model.specs.CacheList.{CacheList, Held}
 use Rattle.mapping.specs.Numbers.{StandsNoneIn}
 use Rattle.op_log.specs.Log.{LogValue}
+use Rattle.log_blocks.specs.Logs.{LogBlocksValue}
 use Rattle.merge_engine.specs.declared.parts.Parts.{Parts}
 use Rattle.merge_engine.specs.Agreement.{PartsAgree, Lists}
 use Rattle.merge_engine.specs.Steps.{HasLogBlock, HasRoomFor, dirty_groups_with}
@@ -31,7 +32,7 @@ use Rattle.ssc.specs.Errors.{of_media}
 use Rattle.ssc.specs.CacheState.{Holds, entries_of, geometry_of, log_room, open_room, pending, waiting}
 use Rattle.ssc.specs.Commands.{FullExactly, HoldsWritten, ImagesOf, ImagesOfWrite, IsHeldIn, PendsWith, FlashStandsForOne, FlashStandsForWrite, AsUndone, AsLeft, AsWritten}
 use Rattle.ssc.specs.Kept.{TakesNoMemory}
-use Rattle.ssc.specs.Steps.{IsPushed, LeftOf, ListsAfter, PutsBlock, FlashStandsForStep}
+use Rattle.ssc.specs.Steps.{IsPushed, LeftOf, ListsAfter, PutsBlock, FlashStandsForStep, TakesLogPage}
 use Rattle.ssc.proofs.DirtyLemmas.{with_same}
 use Rattle.ssc.proofs.HoldsLemmas.{IsSettled, few_stepped, holds_committed, inserted_behind, inserted_alone, held_none, held_some, length_waiting, pends_after, waiting_push}
 use Rattle.ssc.proofs.WrittenLemmas.{push_some, stays_absent}
@@ -181,6 +182,15 @@ log_left old r is left =
 
 pub room_left : (old r : Ssc) → r.parts ≡ record old.parts { map = r.parts.map } → 1 ≤ open_room old → 1 ≤ r.parts.log_blocks.room
 room_left old r is room = let same : r.parts.log_blocks.room ≡ old.parts.log_blocks.room = ap (λ (p : Parts). p.log_blocks.room) is in omega arith
+
+pub page_from : (old mid new : Parts) → mid ≡ record old { map = mid.map } → TakesLogPage mid new → TakesLogPage old new
+page_from old mid new is takes =
+    let same : mid.log_blocks ≡ old.log_blocks = ap (λ (p : Parts). p.log_blocks) is in
+    let own : mid.geometry ≡ old.geometry = ap (λ (p : Parts). p.geometry) is in
+    record {
+      inside = subst (λ (l : LogBlocksValue). 1 ≤ l.room → new.log_blocks ≡ record l { room = l.room - 1 }) same takes.inside;
+      opened = λ none. takes.opened (ap (λ (l : LogBlocksValue). l.room) same ∙ none) ∙ ap (λ (g : Geometry). g.p) own;
+    }
 
 -- a log block can be had without a merge as before
 pub log_room_left : (old r : Ssc) → r.parts ≡ record old.parts { map = r.parts.map } → entries_of r ≡ entries_of old → HasLogBlock old.parts → HasLogBlock r.parts

@@ -22,13 +22,15 @@ use Rattle.cache_model.specs.Stands.{FlashStandsFor, held_at}
 use Rattle.cache_model.proofs.CountLemmas.{member, each_once-le, member_once, taken}
 use Rattle.checkpoint.specs.Current.{AreWhole}
 use Rattle.op_log.specs.Log.{LogValue, pushed}
+use Rattle.log_blocks.specs.Logs.{LogBlocksValue}
+use Rattle.merge_engine.specs.LogSteps.{BeginsLog}
 use Rattle.merge_engine.specs.declared.parts.Parts.{Parts}
 use Rattle.merge_engine.specs.Agreement.{PartsAgree, IsListOn, Lists}
 use Rattle.merge_engine.specs.Room.{GivesRoom, FlashStandsForGiven}
 use Rattle.merge_engine.specs.Steps.{GoesOn, HasLogBlock, HasRoomFor}
 use Rattle.mapping.specs.MapValue.{MapValue}
 use Rattle.ssc.specs.Commands.{FlashStandsForOne, AsUndone, AsBefore, AsAfter}
-use Rattle.ssc.specs.Steps.{IsPushed, LeftOf, ListsAfter, ListsWritten, PutsBlock, FlashStandsForEither, FlashStandsForStep}
+use Rattle.ssc.specs.Steps.{TakesLogPage, IsPushed, LeftOf, ListsAfter, ListsWritten, PutsBlock, FlashStandsForEither, FlashStandsForStep}
 use Rattle.ssc.proofs.DirtyLemmas.{member_from, member_to}
 use Rattle.merge_engine.proofs.GaveLemmas.{dirty_numbers}
 use Rattle.cache_model.proofs.StandLemmas.{held_of, whole_held}
@@ -142,6 +144,17 @@ inside_entries old mid stays room = ap (λ (m : MapValue). m.entries) (stays roo
 
 pub inside_pushed : (old mid new : Parts) (lba : ℕ) (at : Place) (dirty : Bool) → mid ≡ record old { log_blocks = record old.log_blocks { room = old.log_blocks.room - 1 } } → new.log ≡ pushed (SetPage lba at dirty) mid.log → IsPushed old lba dirty new
 inside_pushed old mid new lba at dirty is log = (at, log ∙ ap (λ (p : Parts). pushed (SetPage lba at dirty) p.log) is)
+
+-- the log blocks stay behind a step that used a page of them, and before it
+pub page_then : (old mid new : Parts) → new.log_blocks ≡ mid.log_blocks → TakesLogPage old mid → TakesLogPage old new
+page_then old mid new same takes = record { inside = λ room. same ∙ takes.inside room; opened = λ none. ap (λ (l : LogBlocksValue). l.room + 1) same ∙ takes.opened none }
+
+-- a page of a log block that was begun
+pub page_begun : (old mid new : Parts) → new.log_blocks ≡ mid.log_blocks → BeginsLog old mid (old.geometry.p - 1) → new.log_blocks.room + 1 ≡ old.geometry.p
+page_begun old mid new same begun =
+    let left : new.log_blocks.room ≡ old.geometry.p - 1 = ap (λ (l : LogBlocksValue). l.room) (same ∙ begun.logs) in
+    let some = old.geometry.in_range.p_low in
+    omega arith
 
 pub push_some : {A : Type 0} (xs : List A) (x : A) → xs ++ x ∷ [] ≡ [] → ⊥
 push_some [] x is = cc

@@ -1,5 +1,5 @@
 -- What the commands have in common, and what the writes and the opening leave.
-use Rattle.std.specs.Prelude.{◌≡◌, ◌⊎◌, ◌≤◌, ◌+◌, ◌++◌, ◌∷◌, [], ℕ, length, max, false, None, Result, OnOk, IsErrOf}
+use Rattle.std.specs.Prelude.{◌≡◌, ◌≢◌, ◌⊎◌, ◌≤◌, ◌+◌, ◌++◌, ◌∷◌, [], ℕ, length, max, false, None, Result, OnOk, IsErrOf}
 use Rattle.std.specs.FinMap.{get}
 use Rattle.ft_base.specs.declared.geometry.Geometry.{Geometry}
 use Rattle.ft_base.specs.Contents.{Contents}
@@ -10,8 +10,11 @@ use Rattle.ft_media.specs.Passes.{ProgramsPages}
 use Rattle.ft_media.specs.Media.{program_counted}
 use Rattle.cache_model.specs.Cache.{Inserted}
 use Rattle.cache_model.specs.CacheList.{CacheList}
+use Rattle.checkpoint.specs.Commits.{AddsCheckpoint}
+use Rattle.checkpoint.specs.Current.{log_checkpointed, log_committed}
 use Rattle.mapping.specs.Room.{GrewForPages, GrewForGroups, HasNoMoreRoom, KeepsBuckets}
 use Rattle.merge_engine.specs.declared.parts.Parts.{Parts}
+use Rattle.merge_engine.specs.Loaded.{AreFoundLogs}
 use Rattle.merge_engine.specs.Steps.{HasLogBlock}
 use Rattle.ssc.specs.declared.cache.Ssc.{Ssc}
 use Rattle.ssc.specs.declared.error.SscError.{SscError}
@@ -19,6 +22,7 @@ use Rattle.ssc.specs.declared.error.SscError.TheVariants.{Full, OutOfMemory}
 use Rattle.ssc.specs.Errors.{ssc_failed, ssc_lost, stops}
 use Rattle.ssc.specs.CacheState.{Holds, IsAsBefore, geometry_of, log_room, open_room, pending}
 use Rattle.ssc.specs.Commands.{ImagesOf}
+use Rattle.ssc.specs.Steps.{TakesLogPage}
 
 -- ---- every command that drives the flash
 
@@ -34,15 +38,16 @@ pub record GrewForWrite (old new : Parts) : Type 0 where
   pub groups : (new.map.group_buckets ≡ old.map.group_buckets) ⊎ GrewForGroups old.map new.map (max old.map.spare_groups old.geometry.p)
 
 -- a write: the geometry stays, the map grows as its room asks, the cache is given up exactly where the flash failed or power was lost,
--- and the flash alone is driven
+-- and the flash alone is driven; Ok, one page of the open log block is used
 pub record RunsCommand {T : Type 0} (old new : Ssc) (before after : State) (result : Result T SscError) : Type 0 where
   pub geometry : geometry_of new ≡ geometry_of old
   pub buckets : GrewForWrite old.parts new.parts
   pub stopped : new.stopped ≡ stops result
   pub drives : DrivesFlash before after (ssc_failed result) (ssc_lost result)
+  pub log_page : OnOk result (TakesLogPage old.parts new.parts)
 
--- the same of a command that takes no memory: it never answers that it's full or that memory is wanted, the buckets of the map stay, and
--- what a write has ready stays so
+-- the same of a command that takes no memory: it never answers that it's full or that memory is wanted, the buckets of the map and the
+-- log blocks stay, and what a write has ready stays so
 pub record RunsInPlace {T : Type 0} (old new : Ssc) (before after : State) (result : Result T SscError) : Type 0 where
   pub geometry : geometry_of new ≡ geometry_of old
   pub full : (n l : ℕ) → IsErrOf result (Full n l) → ⊥
@@ -50,6 +55,7 @@ pub record RunsInPlace {T : Type 0} (old new : Ssc) (before after : State) (resu
   pub buckets : KeepsBuckets old.parts.map new.parts.map
   pub stopped : new.stopped ≡ stops result
   pub ready : new.ready ≡ old.ready
+  pub log_blocks : new.parts.log_blocks ≡ old.parts.log_blocks
   pub drives : DrivesFlash before after (ssc_failed result) (ssc_lost result)
 
 -- ---- the writes
@@ -80,12 +86,29 @@ pub record CostsClean {T : Type 0} (old new : Ssc) (lba : ℕ) (before after : S
       → (after.counts ≡ program_counted before.counts) × (pending new ≡ pending old ++ Inserted lba ∷ []))
   pub programs : OnOk result (ProgramsPages 1 before after)
 
+-- ---- commits and checkpoints
+
+-- after Ok a checkpoint was made in the other region and of the next era: it erased that region and its log, and programmed its pages
+pub record CostsCheckpoint {T : Type 0} (old new : Ssc) (before after : State) (result : Result T SscError) : Type 0 where
+  pub log : OnOk result (new.parts.log ≡ log_checkpointed old.parts.log)
+  pub adds : OnOk result (AddsCheckpoint old.parts.log old.parts.map.records before after)
+  pub programs : OnOk result (ProgramsPages 1 before after)
+
+-- after Ok something that was buffered is on one log page, where the log had a page left, else in such a checkpoint
+pub record CostsCommit {T : Type 0} (old new : Ssc) (before after : State) (result : Result T SscError) : Type 0 where
+  pub log : OnOk result (new.parts.log ≡ log_committed old.parts.log)
+  pub one_program : OnOk result (pending old ≢ [] → 1 ≤ log_room old → after.counts ≡ program_counted before.counts)
+  pub checkpoint : OnOk result (pending old ≢ [] → log_room old ≡ 0 → AddsCheckpoint old.parts.log old.parts.map.records before after)
+  pub programs : OnOk result (pending old ≢ [] → ProgramsPages 1 before after)
+
 -- ---- the opening
 
--- a cache that was just opened: nothing waits, its log is empty, no log block is open, and it was not given up
+-- a cache that was just opened: nothing waits, its log is empty, its log blocks are in the order of their numbers, with none open, and
+-- it was not given up
 pub record IsJustOpened (g : Geometry) (c : Ssc) : Type 0 where
   pub nothing_waits : pending c ≡ []
   pub log : c.parts.log.next ≡ 0
   pub empty_log : log_room c ≡ log_pages g
   pub closed : open_room c ≡ 0
+  pub log_blocks : AreFoundLogs c.parts.log_blocks
   pub up : c.stopped ≡ false

@@ -3,6 +3,7 @@ pub mod CacheState
 pub mod Commands
 pub mod Kept
 pub mod Steps
+pub mod Opened
 pub mod Listed
 pub mod Scrubbed
 pub mod Own

@@ -4,17 +4,18 @@ use Rattle.ft_base.specs.declared.block.Place.{Place}
 use Rattle.ft_base.specs.declared.block.Page.{Page}
 use Rattle.ft_base.specs.declared.geometry.Geometry.{Geometry}
 use Rattle.ft_base.specs.Contents.{Contents, Image, Now}
-use Rattle.cache_model.specs.Cache.{AreOwn}
+use Rattle.cache_model.specs.Cache.{AreOwn, undo}
 use Rattle.cache_model.specs.CacheList.{CacheList}
 use Rattle.cache_model.specs.Stands.{FlashStandsFor}
 use Rattle.ssc.specs.declared.cache.Ssc.{Ssc}
-use Rattle.ssc.specs.CacheState.{Holds, geometry_of}
+use Rattle.ssc.specs.CacheState.{Holds, geometry_of, pending}
 
--- the cache holds such blocks alone
+-- the cache holds such blocks alone, and a crash would leave such alone
 pub record HoldsOwn (c : Ssc) (contents : Contents) : Type 0 where
   pub list : CacheList
   pub holds : Holds c contents list
   pub own : AreOwn list
+  pub durable : AreOwn (undo (pending c) list)
 
 -- loading answers such blocks alone
 pub record LoadsOwn (g : Geometry) (page : Place → Page) : Type 0 where

@@ -1,5 +1,5 @@
 -- What the steps of the commands leave.
-use Rattle.std.specs.Prelude.{◌≡◌, ◌⊎◌, ◌<◌, ℕ, Bool, List, [], ◌∷◌, ◌++◌, length}
+use Rattle.std.specs.Prelude.{◌≡◌, ◌⊎◌, ◌<◌, ◌≤◌, ◌+◌, ◌-◌, ℕ, Bool, List, [], ◌∷◌, ◌++◌, length}
 use Rattle.std.specs.FinMap.{insert}
 use Rattle.ft_base.specs.Contents.{Contents}
 use Rattle.ft_base.specs.Layout.{page_records}
@@ -8,13 +8,15 @@ use Rattle.ft_base.specs.declared.block.Page.{Page}
 use Rattle.ft_base.specs.declared.geometry.Geometry.{Geometry}
 use Rattle.ft_base.specs.declared.record.Record.{Record}
 use Rattle.ft_base.specs.declared.record.Record.TheVariants.{SetPage}
+use Rattle.ft_media.specs.State.{State}
+use Rattle.ft_media.specs.Passes.{ProgramsPages}
 use Rattle.cache_model.specs.CacheList.{CacheList, Held}
 use Rattle.cache_model.specs.Stands.{FlashStandsFor}
-use Rattle.op_log.specs.Log.{pushed}
-use Rattle.log_blocks.specs.Logs as list
+use Rattle.op_log.specs.Log.{LogValue, pushed}
 use Rattle.recovery.specs.declared.loading.Loaded.{Loaded}
 use Rattle.merge_engine.specs.declared.parts.Parts.{Parts}
 use Rattle.merge_engine.specs.Agreement.{PartsAgree, AreOfOne, Lists, RolesAgree}
+use Rattle.merge_engine.specs.Loaded.{AreFoundLogs}
 use Rattle.merge_engine.specs.Room.{GivesRoom}
 use Rattle.merge_engine.specs.Steps.{HasLogBlock}
 pub use Rattle.merge_engine.specs.Merges.{FlashStandsForEither}
@@ -48,6 +50,16 @@ PutsBlock old lba block new page durable list = (at : Place)
 abbrev pub IsPushed : Parts → ℕ → Bool → Parts → Type 0
 IsPushed old lba dirty new = (at : Place) × (new.log ≡ pushed (SetPage lba at dirty) old.log)
 
+-- one page of the open log block is used; where none had a page left another log block was opened before
+pub record TakesLogPage (old new : Parts) : Type 0 where
+  pub inside : 1 ≤ old.log_blocks.room → new.log_blocks ≡ record old.log_blocks { room = old.log_blocks.room - 1 }
+  pub opened : old.log_blocks.room ≡ 0 → new.log_blocks.room + 1 ≡ old.geometry.p
+
+-- so many pages at least were programmed, one of them in the open log block
+pub record PutsPages (n : ℕ) (old new : Parts) (before after : State) : Type 0 where
+  pub programs : ProgramsPages n before after
+  pub log_page : TakesLogPage old new
+
 -- what a crash may leave of a step: the list without what was buffered; or what is left of the list, before the step or after it
 abbrev pub FlashStandsForStep : Geometry → (Place → Page) → CacheList → CacheList → (CacheList → CacheList) → Type 0
 FlashStandsForStep g page durable list step = FlashStandsFor g page durable
@@ -67,13 +79,16 @@ pub record LeavesPut (old : Parts) (before after : Place → Page) (lba : ℕ) (
   pub kept : HasLogBlock old → (list durable : CacheList) → Lists old before list durable
       → FlashStandsForOne old.geometry after durable list (insert list lba block)
 
--- the parts over what was loaded: their log is that of the checkpoint that counts, with nothing of it read or buffered, and no log
--- block is open
+-- the log of a checkpoint that was found: nothing of it is read, and nothing is buffered
+abbrev pub log_found : Geometry → ℕ → ℕ → LogValue
+log_found g region era = record { geometry = g; region = region; era = era; next = 0; buffered = [] }
+
+-- the parts over what was loaded: their log is that of the checkpoint that counts, with nothing of it read or buffered, and the log
+-- blocks are in the order of their numbers, with none open
 pub record IsLoadedAs (g : Geometry) (loaded : Loaded) (parts : Parts) : Type 0 where
   pub of_one : AreOfOne parts
   pub geometry : parts.geometry ≡ g
   pub map : parts.map ≡ loaded.map
-  pub log : parts.log ≡ record { geometry = g; region = loaded.region; era = loaded.era; next = 0; buffered = [] }
+  pub log : parts.log ≡ log_found g loaded.region loaded.era
   pub roles : RolesAgree parts
-  pub log_blocks : list.AreSoundLogs parts.log_blocks
-  pub closed : parts.log_blocks.room ≡ 0
+  pub log_blocks : AreFoundLogs parts.log_blocks

@@ -8,13 +8,12 @@ ghost use Rattle.ft_media.specs.Media.{program_counted};
 ghost use Rattle.cache_model.specs.Cache.{Inserted, Cleaned, written_dirty, written_clean, evicted, made_clean, dirty_between, written_block};
 ghost use Rattle.cache_model.specs.CacheList.{CacheList};
 ghost use Rattle.cache_model.specs.declared.entry.Entry.{Entry};
-ghost use Rattle.ft_media.specs.Passes.{ProgramsPages};
 ghost use Rattle.merge_engine.specs.Agreement.{PartsAgree, Lists};
 ghost use Rattle.ssc.specs.Errors.{ssc_failed, ssc_lost};
 ghost use Rattle.ssc.specs.CacheState.{HasMemory, Holds, IsUp, entries_of, geometry_of, log_room, open_room, pending};
-ghost use Rattle.ssc.specs.Kept.{CostsClean, CostsDirty, KeepsInRoom, TakesNoMemory, RefusesWrite, RunsCommand, RunsInPlace};
+ghost use Rattle.ssc.specs.Kept.{CostsCheckpoint, CostsClean, CostsCommit, CostsDirty, KeepsInRoom, TakesNoMemory, RefusesWrite, RunsCommand, RunsInPlace};
 ghost use Rattle.ssc.specs.Own.{KeepsOwn};
-ghost use Rattle.ssc.specs.Steps.{IsPushed, LeavesPut, MayStep, PutsBlock};
+ghost use Rattle.ssc.specs.Steps.{IsPushed, LeavesPut, MayStep, PutsBlock, PutsPages};
 ghost use Rattle.ssc.specs.Commands.{ImagesOf, ImagesOfWrite, FullExactly, HoldsWritten, PendsWith, IsDirtyIn, IsHeldIn, ReadOf, UnlessFound};
 
 use crate::error::of_media;
@@ -127,7 +126,7 @@ impl Ssc {
             → length self.old.parts.log.buffered + 2 ≤ page_records self.old.parts.log.geometry
             → IsPushed self.old.parts lba false self.new.parts
             × ((M.state media.new).counts ≡ program_counted (M.state media.old).counts)) }
-        ensures programs { OnOk result (ProgramsPages 1 (M.state media.old) (M.state media.new)) }
+        ensures pages { OnOk result (PutsPages 1 self.old.parts self.new.parts (M.state media.old) (M.state media.new)) }
         ensures drives { OnlyDrives (M.state media.old) (M.state media.new) result }
     {
         if self.is_held(lba) {
@@ -252,8 +251,7 @@ impl Ssc {
             → ImagesOf self.old (M.state media.new).contents s s }
         // Blocks that were each written for their own address stay so.
         ensures own { KeepsOwn self.old (M.state media.old).contents self.new (M.state media.new).contents }
-        ensures one_program { OnOk result (pending self.old ≢ [] → 1 ≤ log_room self.old
-            → (M.state media.new).counts ≡ program_counted (M.state media.old).counts) }
+        ensures costs { CostsCommit self.old self.new (M.state media.old) (M.state media.new) result }
     {
         match merge_engine::commit(&mut self.parts, media) {
             Ok(()) => Ok(()),
@@ -269,6 +267,7 @@ impl Ssc {
             → Holds self.new (M.state media.new).contents s) }
         ensures nothing_waits { OnOk result (pending self.new ≡ []) }
         ensures log { OnOk result (self.new.parts.log.next ≡ 0) }
+        ensures costs { CostsCheckpoint self.old self.new (M.state media.old) (M.state media.new) result }
         ensures images { (s : CacheList) → Holds self.old (M.state media.old).contents s
             → ImagesOf self.old (M.state media.new).contents s s }
         // Blocks that were each written for their own address stay so.

@@ -1,7 +1,6 @@
-ghost use Rattle.std.specs.Prelude.{◌≡◌, ◌<◌, ◌≤◌, false, Ok, IfOk, IfErr, OnOk};
+ghost use Rattle.std.specs.Prelude.{◌≡◌, ◌<◌, ◌≤◌, false, Ok, IfOk, IfErr};
 ghost use Rattle.ft_base.specs.Contents.{Image, Now};
 ghost use Rattle.ft_media.specs.Drives.{DrivesFlash};
-ghost use Rattle.ft_media.specs.Passes.{ProgramsPages};
 ghost use Rattle.cache_model.specs.CacheList.{CacheList};
 ghost use Rattle.cache_model.specs.Entries.{IsMap};
 ghost use Rattle.cache_model.specs.Loading.{load};
@@ -10,6 +9,7 @@ ghost use Rattle.op_log.specs.Log.{FitsOn};
 ghost use Rattle.op_log.specs.Refusals.{open_failed, open_lost, IsRefusal};
 ghost use Rattle.ssc.specs.CacheState.{Holds, IsUp, entries_of, geometry_of};
 ghost use Rattle.ssc.specs.Kept.{IsJustOpened};
+ghost use Rattle.ssc.specs.Opened.{CostsOpening};
 ghost use Rattle.ssc.specs.Own.{HoldsOwn, LoadsOwn};
 ghost use Rattle.ssc.specs.Steps.{IsLoadedAs};
 
@@ -22,8 +22,9 @@ use recovery::{Loaded, load};
 use std::alloc::{AllocError, Global};
 
 impl Ssc {
-    /// Loads what the flash stands for, and makes a checkpoint of it. Refused or cut, the flash stands
-    /// for what it stood for.
+    /// Loads what the flash stands for, and makes a checkpoint of it, in the region that hasn't the one that it found.
+    /// Refused or cut, the flash stands for what it stood for. Unless the flash failed or power was lost, a refusal
+    /// writes nothing.
     pub fn open<M: Media>(
         alloc: Global,
         media: &mut M,
@@ -46,7 +47,8 @@ impl Ssc {
             → HoldsOwn c (M.state media.new).contents) }
         ensures same { load geometry.now (M.state media.new).contents.flash.page ≡ load geometry.now
             (M.state media.old).contents.flash.page }
-        ensures programs { OnOk result (ProgramsPages 1 (M.state media.old) (M.state media.new)) }
+        // One checkpoint; and a refusal that is not of the flash or of power writes nothing.
+        ensures costs { CostsOpening geometry.now (M.state media.old) (M.state media.new) result }
         ensures drives { DrivesFlash (M.state media.old) (M.state media.new) (open_failed result) (open_lost result) }
     {
         let loaded = load(alloc, media, geometry)?;

@@ -7,14 +7,13 @@ ghost use Rattle.ft_media.specs.Media.{program_counted};
 ghost use Rattle.cache_model.specs.CacheList.{CacheList};
 ghost use Rattle.cache_model.specs.Cache.{evicted, written_block, made_clean};
 ghost use Rattle.cache_model.specs.declared.entry.Entry.{Entry};
-ghost use Rattle.ft_media.specs.Passes.{ProgramsPages};
 ghost use Rattle.merge_engine.specs.Agreement.{PartsAgree, Lists};
 ghost use Rattle.merge_engine.specs.Room.{FlashStandsForGiven};
 ghost use Rattle.merge_engine.specs.Steps.{HasLogBlock, HasRoomFor, dirty_groups_with};
 ghost use Rattle.ssc.specs.Errors as errors;
 ghost use Rattle.ssc.specs.CacheState.{HasMemory, entries_of, geometry_of};
 ghost use Rattle.ssc.specs.Kept.{TakesNoMemory};
-ghost use Rattle.ssc.specs.Steps.{IsPushed, LeavesPut, LeftOf, ListsAfter, MayStep, PutsBlock, FlashStandsForEither};
+ghost use Rattle.ssc.specs.Steps.{IsPushed, LeavesPut, LeftOf, ListsAfter, MayStep, PutsBlock, PutsPages, FlashStandsForEither};
 
 use crate::error::of_media;
 use crate::{Ssc, SscError};
@@ -85,7 +84,7 @@ pub(crate) fn write_committed<M: Media>(
         (written_block lba block.now dirty) }
     ensures two_programs { OnOk result (1 ≤ parts.old.log_blocks.room → parts.old.log.next < log_pages parts.old.geometry
         → (M.state media.new).counts ≡ program_counted (program_counted (M.state media.old).counts)) }
-    ensures programs { OnOk result (ProgramsPages 2 (M.state media.old) (M.state media.new)) }
+    ensures pages { OnOk result (PutsPages 2 parts.old parts.new (M.state media.old) (M.state media.new)) }
     ensures drives { OnlyDrives (M.state media.old) (M.state media.new) result }
 {
     write_page(parts, media, lba, block, dirty)?;
@@ -111,7 +110,7 @@ pub(crate) fn write_buffered<M: Media>(
     ensures one_program { OnOk result (1 ≤ parts.old.log_blocks.room
         → length parts.old.log.buffered + 2 ≤ page_records parts.old.log.geometry
         → IsPushed parts.old lba false parts.new × ((M.state media.new).counts ≡ program_counted (M.state media.old).counts)) }
-    ensures programs { OnOk result (ProgramsPages 1 (M.state media.old) (M.state media.new)) }
+    ensures pages { OnOk result (PutsPages 1 parts.old parts.new (M.state media.old) (M.state media.new)) }
     ensures drives { OnlyDrives (M.state media.old) (M.state media.new) result }
 {
     write_page(parts, media, lba, block, false)?;
@@ -142,7 +141,7 @@ fn write_page<M: Media>(
     // Where the open log block has a page left: one program, and all that was buffered is.
     ensures one_program { OnOk result (1 ≤ parts.old.log_blocks.room → IsPushed parts.old lba dirty parts.new
         × ((M.state media.new).counts ≡ program_counted (M.state media.old).counts)) }
-    ensures programs { OnOk result (ProgramsPages 1 (M.state media.old) (M.state media.new)) }
+    ensures pages { OnOk result (PutsPages 1 parts.old parts.new (M.state media.old) (M.state media.new)) }
     ensures drives { OnlyDrives (M.state media.old) (M.state media.new) result }
 {
     // The page first: a log page may name whole pages alone.
@@ -159,6 +158,7 @@ pub(crate) fn take_out<M: Media>(
 ) -> Result<(), MediaError>
     requires may { MayStep parts.old (M.state media.old).contents lba }
     ensures kept { TakesNoMemory parts.old parts.new }
+    ensures log_blocks { parts.new.log_blocks ≡ parts.old.log_blocks }
     ensures reserved { HasMemory parts.old → HasMemory parts.new }
     ensures agree { OnOk result (PartsAgree parts.new (M.state media.new).contents) }
     ensures nothing_waits { OnOk result (parts.new.log.buffered ≡ []) }
@@ -183,6 +183,7 @@ pub(crate) fn mark_clean<M: Media>(
 ) -> Result<(), MediaError>
     requires may { MayStep parts.old (M.state media.old).contents lba }
     ensures kept { TakesNoMemory parts.old parts.new }
+    ensures log_blocks { parts.new.log_blocks ≡ parts.old.log_blocks }
     ensures reserved { HasMemory parts.old → HasMemory parts.new }
     ensures agree { OnOk result (PartsAgree parts.new (M.state media.new).contents) }
     ensures room { OnOk result (length parts.new.log.buffered < page_records parts.new.log.geometry) }

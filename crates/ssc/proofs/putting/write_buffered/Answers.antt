@@ -1,9 +1,10 @@
-use Rattle.std.proofs.Common.{false, rules}
+use Rattle.std.proofs.Common.{false, ap, rules}
 use Rattle.cache_model.specs.Cache.{written_block}
 use Rattle.ft_media.proofs.DrivesLemmas.{drives_then}
+use Rattle.merge_engine.specs.declared.parts.Parts.{Parts}
 use Rattle.merge_engine.proofs.ResultLemmas.{on_ok_from, ok_at}
 use Rattle.ssc.proofs.SpendLemmas.{spends_on, passes_ok}
-use Rattle.ssc.proofs.WrittenLemmas.{given_step, step_then, kept_before, kept_then, put_waits, still_pushed}
+use Rattle.ssc.proofs.WrittenLemmas.{given_step, step_then, kept_before, kept_then, page_then, put_waits, still_pushed}
 use Rattle.ssc.proofs.putting.write_buffered.Goals as goal
 
 pub returns-in_err-write_page-clause-leaves : goal.returns-in_err-write_page-clause-leaves
@@ -34,11 +35,14 @@ returns-clause-one_program g c = on_ok_from c.commit_if_full.result (λ v is. λ
     still_pushed c.args.parts.now c.write_page.new.parts c.commit_if_full.new.parts c.args.lba false (g.M.Media.state c.args.media.now) (g.M.Media.state c.write_page.new.media)
     (g.M.Media.state c.commit_if_full.new.media) few (c.in_ok-write_page.ensures.one_program room) c.commit_if_full.ensures.no_write)
 
-pub returns-clause-programs : goal.returns-clause-programs
-returns-clause-programs g c = on_ok_from c.commit_if_full.result (λ v is. record {
-  count = search rules;
-  spends = spends_on (g.M.Media.state c.args.media.now) (g.M.Media.state c.write_page.new.media) (g.M.Media.state c.commit_if_full.new.media) 1 c.in_ok-write_page.ensures.drives.flash.passes c.in_ok-write_page.ensures.programs.spends
-      (passes_ok _ _ c.commit_if_full.result v is c.commit_if_full.ensures.drives.flash.passes);
+pub returns-clause-pages : goal.returns-clause-pages
+returns-clause-pages g c = on_ok_from c.commit_if_full.result (λ v is. record {
+  programs = record {
+    count = search rules;
+    spends = spends_on (g.M.Media.state c.args.media.now) (g.M.Media.state c.write_page.new.media) (g.M.Media.state c.commit_if_full.new.media) 1 c.in_ok-write_page.ensures.drives.flash.passes c.in_ok-write_page.ensures.pages.programs.spends
+        (passes_ok _ _ c.commit_if_full.result v is c.commit_if_full.ensures.drives.flash.passes);
+  };
+  log_page = page_then c.args.parts.now c.write_page.new.parts c.commit_if_full.new.parts (ap (λ (p : Parts). p.log_blocks) c.commit_if_full.ensures.cache) c.in_ok-write_page.ensures.pages.log_page;
 })
 
 pub returns-clause-drives : goal.returns-clause-drives

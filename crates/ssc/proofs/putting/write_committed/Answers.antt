@@ -1,9 +1,10 @@
-use Rattle.std.proofs.Common.{rules}
+use Rattle.std.proofs.Common.{ap, rules}
 use Rattle.cache_model.specs.Cache.{written_block}
 use Rattle.ft_media.proofs.DrivesLemmas.{drives_then}
+use Rattle.merge_engine.specs.declared.parts.Parts.{Parts}
 use Rattle.merge_engine.proofs.ResultLemmas.{on_ok_from, ok_at}
 use Rattle.ssc.proofs.SpendLemmas.{spends_both}
-use Rattle.ssc.proofs.WrittenLemmas.{given_step, step_then, kept_before, kept_then, put_committed, counted_twice}
+use Rattle.ssc.proofs.WrittenLemmas.{given_step, step_then, kept_before, kept_then, page_then, put_committed, counted_twice}
 use Rattle.ssc.proofs.putting.write_committed.Goals as goal
 
 pub returns-in_err-write_page-clause-leaves : goal.returns-in_err-write_page-clause-leaves
@@ -33,11 +34,14 @@ pub returns-clause-two_programs : goal.returns-clause-two_programs
 returns-clause-two_programs g c = on_ok_from c.commit.result (λ v is. λ room left.
     counted_twice c.args.parts.now c.write_page.new.parts c.args.lba c.args.dirty c.write_page.ensures.kept.geometry _ _ _ (c.in_ok-write_page.ensures.one_program room) c.in_ok-write_page.ensures.waits left (ok_at c.commit.result v is c.commit.ensures.one_page))
 
-pub returns-clause-programs : goal.returns-clause-programs
-returns-clause-programs g c = on_ok_from c.commit.result (λ v is. record {
-  count = search rules;
-  spends = spends_both (g.M.Media.state c.args.media.now) (g.M.Media.state c.write_page.new.media) (g.M.Media.state c.commit.new.media) 1 1 c.in_ok-write_page.ensures.drives.flash.passes c.in_ok-write_page.ensures.programs.spends
-      (ok_at c.commit.result v is c.commit.ensures.programs c.in_ok-write_page.ensures.waits).spends;
+pub returns-clause-pages : goal.returns-clause-pages
+returns-clause-pages g c = on_ok_from c.commit.result (λ v is. record {
+  programs = record {
+    count = search rules;
+    spends = spends_both (g.M.Media.state c.args.media.now) (g.M.Media.state c.write_page.new.media) (g.M.Media.state c.commit.new.media) 1 1 c.in_ok-write_page.ensures.drives.flash.passes c.in_ok-write_page.ensures.pages.programs.spends
+        (ok_at c.commit.result v is c.commit.ensures.programs c.in_ok-write_page.ensures.waits).spends;
+  };
+  log_page = page_then c.args.parts.now c.write_page.new.parts c.commit.new.cache (ap (λ (p : Parts). p.log_blocks) c.commit.ensures.cache) c.in_ok-write_page.ensures.pages.log_page;
 })
 
 pub returns-clause-drives : goal.returns-clause-drives

@@ -1,9 +1,10 @@
-use Rattle.std.proofs.Common.{◌<◌, sym, subst, arith}
+use Rattle.std.proofs.Common.{◌<◌, ◌∙◌, ap, sym, subst, arith}
 use Rattle.ft_base.specs.declared.geometry.Geometry.{Geometry}
 use Rattle.cache_model.specs.Cache.{written_block}
+use Rattle.merge_engine.specs.declared.parts.Parts.{Parts}
 use Rattle.merge_engine.proofs.TakeLemmas.{agree_map}
 use Rattle.ssc.proofs.PlaceLemmas.{new_page_fits}
-use Rattle.ssc.proofs.WrittenLemmas.{room_after, puts_block, inside_entries, inside_pushed, pushed_some}
+use Rattle.ssc.proofs.WrittenLemmas.{room_after, puts_block, inside_entries, inside_pushed, page_begun, pushed_some}
 use Rattle.ssc.proofs.putting.write_page.Goals as goal
 
 pub append-requires : goal.append-requires
@@ -41,6 +42,15 @@ returns-clause-lists g c =
     (inside_entries c.args.parts.now c.append.new.cache (λ room. (c.append.ensures.no_merge room).map_stays)) c.put_page.ensures.log
     (λ list durable. c.put_page.ensures.lists new c.args.block.now list durable c.in_ok-place.ensures.place)
     c.in_ok-place.ensures.goes.lists
+
+pub returns-clause-pages : goal.returns-clause-pages
+returns-clause-pages g c = record {
+  programs = c.in_ok-place.ensures.programs;
+  log_page = record {
+    inside = λ room. let one = c.in_ok-place.ensures.one_program room in ap (λ (p : Parts). p.log_blocks) c.put_page.ensures.cache ∙ ap (λ (p : Parts). p.log_blocks) one.0;
+    opened = λ none. page_begun c.args.parts.now c.append.new.cache c.put_page.new.cache (ap (λ (p : Parts). p.log_blocks) c.put_page.ensures.cache) (c.in_ok-place.ensures.begins none);
+  };
+}
 
 pub returns-clause-one_program : goal.returns-clause-one_program
 returns-clause-one_program g c = λ room. let one = c.in_ok-place.ensures.one_program room in (inside_pushed c.args.parts.now c.append.new.cache c.put_page.new.cache c.args.lba c.in_ok-place.place c.args.dirty one.0 c.put_page.ensures.log, one.1)

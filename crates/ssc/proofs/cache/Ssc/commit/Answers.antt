@@ -30,8 +30,13 @@ returns-in-Err-clause-images g c = λ s holds. images_before (geometry_of c.args
 pub returns-in-Err-clause-nothing : goal.returns-in-Err-clause-nothing
 returns-in-Err-clause-nothing g c = λ none. absurd (false≢true (c.in-Err.ensures.nothing (waiting-none c.args.self.now.parts.log.buffered none)).0)
 
-pub returns-in-Ok-clause-one_program : goal.returns-in-Ok-clause-one_program
-returns-in-Ok-clause-one_program g c = λ some room. c.in-Ok.ensures.one_page (λ none. some (ap waiting none)) (omega arith)
+pub returns-in-Ok-clause-costs : goal.returns-in-Ok-clause-costs
+returns-in-Ok-clause-costs g c = record {
+  log = c.in-Ok.ensures.log;
+  one_program = λ some room. c.in-Ok.ensures.one_page (λ none. some (ap waiting none)) (omega arith);
+  checkpoint = λ some none_left. c.in-Ok.ensures.whole_checkpoint (λ none. some (ap waiting none)) (omega arith);
+  programs = λ some. c.in-Ok.ensures.programs (λ none. some (ap waiting none));
+}
 
 pub returns-in-Ok-clause-own : goal.returns-in-Ok-clause-own
 returns-in-Ok-clause-own g c = kept_step c.args.self.now _ (g.M.Media.state c.args.media.now).contents (g.M.Media.state c.commit.new.media).contents (λ s. s) (λ s own. own) (λ up. returns-in-Ok-clause-done g c) (returns-in-Ok-clause-images g c)

@@ -9,7 +9,7 @@ use Rattle.ssc.specs.Commands.{PendsWith}
 use Rattle.ssc.proofs.CommandLemmas.{not_refused, was_refused, drives_given_up}
 use Rattle.ssc.proofs.GrowthLemmas.{grew_refused, grew_written}
 use Rattle.ssc.proofs.HoldsLemmas.{few_buffered, held_none}
-use Rattle.ssc.proofs.WriteLemmas.{images_kept, images_written, log_room_left, written_from, inside_from, settled_unready, left_clean, room_left, none_of_absent, few_left, one_pends, over_held, pends_written}
+use Rattle.ssc.proofs.WriteLemmas.{images_kept, images_written, log_room_left, page_from, written_from, inside_from, settled_unready, left_clean, room_left, none_of_absent, few_left, one_pends, over_held, pends_written}
 use Rattle.ssc.proofs.OwnLemmas.{given_up_not, kept_held, kept_write}
 use Rattle.ssc.proofs.cache.Ssc.write_clean.Goals as goal
 
@@ -67,6 +67,7 @@ returns-then-is_err-clause-runs g c = record {
   buckets = grew_refused c.args.self.now c.reserve.new.self (was_refused c.reserve.result c.is_err.result c.is_err.ensures.value c.if-is_err.true c.reserve.ensures.refused).1;
   stopped = search rules;
   drives = search rules;
+  log_page = search rules;
 }
 
 pub returns-in-Ok-clause-runs : goal.returns-in-Ok-clause-runs
@@ -76,6 +77,7 @@ returns-in-Ok-clause-runs g c = record {
       (not_refused c.reserve.result c.is_err.result c.is_err.ensures.value c.if-is_err.false c.reserve.ensures.room) c.put_clean.ensures.kept.buckets;
   stopped = search rules;
   drives = search rules;
+  log_page = page_from c.args.self.now.parts c.reserve.new.self.parts c.put_clean.new.self.parts c.reserve.ensures.parts c.in-Ok.ensures.pages.log_page;
 }
 
 pub returns-in-Err-clause-runs : goal.returns-in-Err-clause-runs
@@ -86,6 +88,7 @@ returns-in-Err-clause-runs g c = record {
       (not_refused c.reserve.result c.is_err.result c.is_err.ensures.value c.if-is_err.false c.reserve.ensures.room) c.put_clean.ensures.kept.buckets);
   stopped = search rules;
   drives = drives_given_up (Unit {0}) (g.M.Media.state c.args.media.now) (g.M.Media.state c.put_clean.new.media) c.give_up.result c.in-Err.error c.give_up.ensures.error c.in-Err.ensures.drives.flash;
+  log_page = search rules;
 }
 
 pub returns-in-Ok-clause-in_room : goal.returns-in-Ok-clause-in_room
@@ -125,5 +128,5 @@ returns-in-Ok-clause-costs g c = record {
       (c.in-Ok.ensures.one_program (none_of_absent c.reserve.new.self (g.M.Media.state c.args.media.now).contents s c.args.lba
       (c.reserve.ensures.holds (g.M.Media.state c.args.media.now).contents s holds) absent) (room_left c.args.self.now c.reserve.new.self c.reserve.ensures.parts room)
       (few_left c.args.self.now c.reserve.new.self c.reserve.ensures.parts few));
-  programs = search rules;
+  programs = c.in-Ok.ensures.pages.programs;
 }

@@ -5,7 +5,7 @@ use Rattle.ssc.specs.CacheState.{pending}
 use Rattle.ssc.proofs.CommandLemmas.{not_refused, was_refused, drives_given_up}
 use Rattle.ssc.proofs.GrowthLemmas.{grew_still, grew_refused, grew_written}
 use Rattle.ssc.proofs.HoldsLemmas.{few_buffered}
-use Rattle.ssc.proofs.WriteLemmas.{full_is, not_full, not_full_from, images_kept, images_written, log_room_left, written_from, inside_from, settled_unready, left_committed, log_left, room_left, room_for}
+use Rattle.ssc.proofs.WriteLemmas.{full_is, not_full, not_full_from, images_kept, images_written, log_room_left, page_from, written_from, inside_from, settled_unready, left_committed, log_left, room_left, room_for}
 use Rattle.ssc.proofs.OwnLemmas.{given_up_not, kept_held, kept_write}
 use Rattle.ssc.specs.Kept.{GrewForWrite}
 use Rattle.ssc.specs.declared.cache.Ssc.{Ssc}
@@ -76,6 +76,7 @@ returns-then-is_full-clause-runs g c = record {
   buckets = grew_still c.args.self.now.parts;
   stopped = search rules;
   drives = search rules;
+  log_page = search rules;
 }
 
 pub returns-then-is_err-clause-runs : goal.returns-then-is_err-clause-runs
@@ -84,6 +85,7 @@ returns-then-is_err-clause-runs g c = record {
   buckets = grew_refused c.args.self.now c.reserve.new.self (was_refused c.reserve.result c.is_err.result c.is_err.ensures.value c.if-is_err.true c.reserve.ensures.refused).1;
   stopped = search rules;
   drives = search rules;
+  log_page = search rules;
 }
 
 pub returns-in-Ok-clause-runs : goal.returns-in-Ok-clause-runs
@@ -93,6 +95,7 @@ returns-in-Ok-clause-runs g c = record {
       (not_refused c.reserve.result c.is_err.result c.is_err.ensures.value c.if-is_err.false c.reserve.ensures.room) c.write_committed.ensures.kept.buckets;
   stopped = search rules;
   drives = search rules;
+  log_page = page_from c.args.self.now.parts c.reserve.new.self.parts c.write_committed.new.parts c.reserve.ensures.parts c.in-Ok.ensures.pages.log_page;
 }
 
 pub returns-in-Err-clause-runs : goal.returns-in-Err-clause-runs
@@ -103,6 +106,7 @@ returns-in-Err-clause-runs g c = record {
       (not_refused c.reserve.result c.is_err.result c.is_err.ensures.value c.if-is_err.false c.reserve.ensures.room) c.write_committed.ensures.kept.buckets);
   stopped = search rules;
   drives = drives_given_up (Unit {0}) (g.M.Media.state c.args.media.now) (g.M.Media.state c.write_committed.new.media) c.give_up.result c.in-Err.error c.give_up.ensures.error c.in-Err.ensures.drives.flash;
+  log_page = search rules;
 }
 
 pub returns-in-Ok-clause-in_room : goal.returns-in-Ok-clause-in_room
@@ -134,5 +138,5 @@ returns-in-Err-clause-in_room g c = record {
 pub returns-in-Ok-clause-costs : goal.returns-in-Ok-clause-costs
 returns-in-Ok-clause-costs g c = record {
   two_programs = λ room left. c.in-Ok.ensures.two_programs (room_left c.args.self.now c.reserve.new.self c.reserve.ensures.parts room) (log_left c.args.self.now c.reserve.new.self c.reserve.ensures.parts left);
-  programs = search rules;
+  programs = c.in-Ok.ensures.pages.programs;
 }
