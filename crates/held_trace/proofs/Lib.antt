@@ -1,0 +1,3 @@
+pub mod SweepLemmas
+pub mod FrontLemmas
+pub mod HeldLemmas

@@ -1,0 +1,3 @@
+pub mod Sweep
+pub mod Held
+pub mod Front
