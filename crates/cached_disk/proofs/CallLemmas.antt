@@ -1,6 +1,6 @@
 -- What a call on a volume that is up did, and how it goes on.
-use Rattle.std.proofs.Common.{◌≡◌, ◌≢◌, ℕ, ◌+◌, ◌≤◌, Bool, true, false, cond, [], length, None, Result, Ok, Err, OnOk, inl, inr, refl, sym, ◌∙◌, ap, subst, arith}
-use Rattle.std.proofs.lemmas.Bool.{false≢true}
+use Rattle.std.proofs.Common.{◌≡◌, ◌≢◌, ℕ, ◌+◌, ◌≤◌, Bool, true, false, cond, [], length, None, Result, Ok, Err, IfOk, OnOk, inl, inr, refl, sym, ◌∙◌, ap, subst, arith}
+use Rattle.std.proofs.lemmas.Bool.{both_ways, false≢true}
 use Rattle.ft_base.specs.declared.block.Block.{Block}
 use Rattle.ft_base.specs.Contents.{Contents, set}
 use Rattle.ft_base.specs.Count.{RoseBy, bumped}
@@ -10,15 +10,17 @@ use Rattle.ft_base.specs.Told.{Told}
 use Rattle.ft_media.specs.declared.rig.Counts.{Counts}
 use Rattle.ft_media.specs.State.{State}
 use Rattle.ft_media.specs.Drives.{DrivesFlash}
-use Rattle.ft_media.specs.Media.{read_counted}
+use Rattle.ft_media.specs.Media.{program_counted, read_counted}
+use Rattle.ft_media.specs.Reads.{ReadsFlash}
 use Rattle.ft_media.specs.Passes.{Passes}
 use Rattle.ft_media.proofs.PassesLemmas.{passes_then}
 use Rattle.ft_volume.specs.Opening.{ImageIs}
-use Rattle.ft_volume.specs.Volume.{Call, Costs, Finds, Goes, HasCause, HoldsAfter, IsOwn, Reads, VolumeState, WasDone, WasOne, Writes, backs_of, misses, table_after, volume_lost, writes_of}
+use Rattle.ft_volume.specs.Volume.{AsksDevices, Call, Costs, Finds, FindsHeld, FindsRoom, Goes, HasCause, HoldsAfter, IsOwn, Reads, StaysUp, VolumeState, WasDone, WasOne, Writes, backs_of, flash_failed, flushes_of, misses, table_after, volume_lost, writes_of}
 use Rattle.ft_volume.specs.Standing.{StandFor}
 use Rattle.ft_volume.specs.declared.volume.VolumeError.{VolumeError}
 use Rattle.ft_volume.specs.declared.volume.VolumeError.TheVariants as volume
 use Rattle.ft_volume.proofs.DoneLemmas.{answered_one, done_of_one, refused_one}
+use Rattle.ft_volume.proofs.UpLemmas.{stays_same}
 use Rattle.ssc.specs.declared.error.SscError.{SscError}
 use Rattle.ssc.specs.declared.error.SscError.TheVariants.{Full, FlashFault, PowerLost, OutOfMemory}
 use Rattle.ssc.specs.Errors.{ssc_failed, ssc_lost, stops}
@@ -188,6 +190,7 @@ module _ {T : Type 0} (before mid after : State) (contents : mid.contents ≡ be
     disk_writes = subst (λ (x : Counts). OnOk result (RoseBy (backs_of call old.told old.table) x.disk_writes after.counts.disk_writes)) same costs.disk_writes;
     most_writes = subst (λ (x : Counts). after.counts.disk_writes ≤ x.disk_writes + backs_of call old.told old.table) same costs.most_writes;
     most_reads = subst (λ (x : Counts). after.counts.disk_reads ≤ x.disk_reads + misses call old.held) same costs.most_reads;
+    refused = costs.refused;
   }
 
 -- ---- what is held
@@ -217,6 +220,7 @@ same_costs value call old new before after none backs table held reads writes = 
   disk_writes = λ below. omega (arith, writes, backs);
   most_writes = omega (arith, writes);
   most_reads = omega (arith, reads);
+  refused = tt;
 }
 
 -- one block was read from the disk
@@ -232,6 +236,7 @@ missed_costs lba block old new before mid after absent table held counted reads 
       disk_writes = λ below. omega (arith, writes, same);
       most_writes = omega (arith, writes, same);
       most_reads = omega (arith, one, reads, read);
+      refused = tt;
     }
 
 -- an idle step writes no group back
@@ -239,3 +244,63 @@ pub idle_same : (told : Told) (t : Table) (groups : ℕ) → length t ≡ groups
 idle_same told t groups is none =
     let no : goes_back told.mode told.dirty (length t) ≡ false = ap (λ (n : ℕ). goes_back told.mode told.dirty n) is ∙ none in
     (ap (λ (b : Bool). cond b (without_last t) t) no, ap (λ (b : Bool). cond b (last_size t) 0) no)
+
+-- ---- refused
+
+module _ (call : Call) (old new : VolumeState) where
+  -- it is down
+  pub none_up : new.down ≡ true → new.down ≡ false → StaysUp call old new
+  none_up down up = absurd (both_ways new.down up down)
+
+  -- all is as it was
+  pub same_up : new ≡ old → new.down ≡ false → StaysUp call old new
+  same_up same up = subst (StaysUp call old) (sym same) (stays_same call old)
+
+  pub refused_costs : (T : Type 0) (before after : State) (e : VolumeError) → (new.down ≡ false → StaysUp call old new) → after.counts.disk_reads ≤ before.counts.disk_reads + misses call old.held → after.counts.disk_writes ≡ before.counts.disk_writes
+      → Costs {T = T} call old new before after (Err e)
+  refused_costs T before after e up reads writes = record { table = tt; held = tt; disk_writes = tt; most_writes = omega (arith, writes); most_reads = reads; refused = up }
+
+-- ---- what a call asks of the devices
+
+module _ {T : Type 0} (call : Call) (old new : VolumeState) (before after : State) (result : Result T VolumeError) where
+  no_room : (r : Result T VolumeError) → (FindsRoom call old → ⊥) → OnOk r (FindsRoom call old → after.counts ≡ program_counted (program_counted before.counts))
+  no_room (Ok value) none = λ room. absurd (none room)
+  no_room (Err e) none = tt
+
+  -- neither a read of a held address nor a write that found room
+  pub asks_none : (FindsHeld call old → ⊥) → (FindsRoom call old → ⊥) → after.counts.disk_flushes ≤ before.counts.disk_flushes + flushes_of call old.told old.table → AsksDevices call old old new before after result
+  asks_none held room flushes = record { flushes = omega (arith, flushes); found = λ is. absurd (held is); two_programs = no_room result room }
+
+-- a read of an address that isn't held
+pub asks_missing : {T : Type 0} (lba : ℕ) (block : Block) (old new : VolumeState) (before after : State) (result : Result T VolumeError) → old.held lba ≡ false → after.counts.disk_flushes ≡ before.counts.disk_flushes → AsksDevices (Reads lba block) old old new before after result
+asks_missing lba block old new before after result absent same = asks_none (Reads lba block) old new before after result (λ is. both_ways (old.held lba) absent is.1) (λ room. room) (omega (arith, same))
+
+-- nothing follows where nothing finds room
+pub from_none : {T : Type 0} (P : Type 0) (r : Result T VolumeError) → OnOk r (⊥ → P)
+from_none P (Ok value) = λ none. absurd none
+from_none P (Err e) = tt
+
+-- a read of one that is held
+pub asks_held : {T : Type 0} (lba : ℕ) (block : Block) (old new : VolumeState) (before after : State) (result : Result T VolumeError) → new ≡ old → ReadsFlash before after (flash_failed result) (volume_lost result) → AsksDevices (Reads lba block) old old new before after result
+asks_held {T = T} lba block old new before after result same reads = record {
+  flushes = let is = ap (λ (x : Counts). x.disk_flushes) reads.counts in omega (arith, is);
+  found = λ is. (same, reads);
+  two_programs = from_none _ result;
+}
+
+-- the flash was read, and the volume says why that was refused
+module _ (S T : Type 0) (before after : State) where
+  abbrev Reads_on : VolumeError → Type 0
+  Reads_on r = ReadsFlash before after (flash_failed {T = T} (Err r)) (volume_lost {T = T} (Err r))
+
+  pub reads_as : (e : SscError) (r : VolumeError) → IsOfCache e r → ReadsFlash before after (ssc_failed {T = S} (Err e)) (ssc_lost {T = S} (Err e)) → Reads_on r
+  reads_as (Full n limit) r is reads = absurd is
+  reads_as FlashFault r is reads = subst Reads_on (sym is) reads
+  reads_as PowerLost r is reads = subst Reads_on (sym is) reads
+  reads_as OutOfMemory r is reads = subst Reads_on (sym is) reads
+
+-- ---- of an answer
+
+pub if_ok_also : {T E : Type 0} {P Q : T → Type 0} (r : Result T E) → ((value : T) → P value → Q value) → IfOk r P → IfOk r Q
+if_ok_also (Ok value) step is = step value is
+if_ok_also (Err e) step is = tt

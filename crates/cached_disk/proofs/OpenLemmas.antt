@@ -1,6 +1,7 @@
 -- What an opening of the cache leaves of the media.
 use Rattle.std.proofs.Common.{◌≡◌, ℕ, ◌-◌, true, false, Result, Ok, Err, IfOk, IfErr, inl, inr, refl, sym, ◌∙◌, ap, subst, arith}
 use Rattle.std.specs.Prelude.{IsErrOf, OnOk}
+use Rattle.ft_base.specs.Count.{bumped}
 use Rattle.std.proofs.lemmas.Bool.{false≢true}
 use Rattle.ft_base.specs.declared.block.Block.{Block}
 use Rattle.ft_base.specs.declared.block.Place.{Place}
@@ -38,7 +39,7 @@ flushed_had old new is b has = by_value (subst (λ (v : Values). HasValue v b) i
     by_value (inl same) = inl same
     by_value (inr none) = absurd none
 
-less_none : (a n : ℕ) → n ≡ 0 → a - n ≡ a
+pub less_none : (a n : ℕ) → n ≡ 0 → a - n ≡ a
 less_none a n none = omega (arith, none)
 
 -- the disk was flushed, and then only the flash was driven
@@ -58,6 +59,7 @@ module _ (g : Geometry) (a b c : Contents) (page : b.flash.page ≡ a.flash.page
     up = up;
     goes = opened.up;
     log = ap (λ (k : Geometry). log_pages k - v.parts.log.next) geometry ∙ less_none (log_pages g) v.parts.log.next opened.log;
+    closed = opened.closed;
   }
   open_cache_of (Err e) geometry holds loads opened up = tt
 
@@ -112,6 +114,7 @@ module _ (a b c : State) (device : DeviceWrite {T = Unit {0}} a b (Ok tt)) (coun
     ready = keeps_ready r drives.ready;
     disk_reads = drives.disk_reads ∙ ap (λ (n : Counts). n.disk_reads) counts;
     disk_writes = drives.disk_writes ∙ ap (λ (n : Counts). n.disk_writes) counts;
+    disk_flushes = let x = drives.disk_flushes in let y : b.counts.disk_flushes ≡ bumped a.counts.disk_flushes = ap (λ (n : Counts). n.disk_flushes) counts in omega (arith, x, y);
     cause = record {
       flash = let x = drives.cause.flash in let y = cause.flash in omega (arith, x, y);
       disk = let x = drives.cause.disk in let y = cause.disk in omega (arith, x, y);

@@ -1,5 +1,5 @@
 -- A volume over a cache that was just opened.
-use Rattle.std.proofs.Common.{◌≡◌, ℕ, ◌<◌, Bool, true, false, List, [], Option, Some, None, Result, Ok, Err, inl, inr, refl, sym, ◌∙◌, ap, ap₂, subst, nat_cmp}
+use Rattle.std.proofs.Common.{◌≡◌, ℕ, ◌<◌, ◌-◌, ◌||◌, length, Bool, true, false, List, [], Option, Some, None, Result, Ok, Err, inl, inr, refl, sym, ◌∙◌, ap, ap₂, subst, nat_cmp}
 use Rattle.std.specs.Prelude.{OnOk}
 use Rattle.std.specs.FinMap.{get, get-empty}
 use Rattle.std.specs.Option.{is_some}
@@ -34,10 +34,12 @@ use Rattle.op_log.specs.Log.{FitsOn}
 use Rattle.op_log.specs.declared.error.OpenError.{OpenError}
 use Rattle.op_log.specs.declared.error.OpenError.TheVariants.{NotFormatted, OtherGeometry, Damaged, FlashFault, DiskFault, PowerLost, OutOfMemory}
 use Rattle.op_log.specs.Refusals.{open_lost}
-use Rattle.ssc.specs.CacheState.{Holds, entries_of, log_room, pending}
+use Rattle.ssc.specs.CacheState.{Holds, entries_of, log_room, open_room, pending, waiting}
+use Rattle.merge_engine.specs.declared.parts.Parts.{Parts}
+use Rattle.ssc.specs.declared.cache.Ssc.{Ssc}
 use Rattle.cached_disk.specs.declared.disk.CachedDisk.{CachedDisk}
 use Rattle.cached_disk.specs.Errors.{IsOfOpening, disk_failed}
-use Rattle.cached_disk.specs.Kept.{IsBeneath, IsDirtyIn, IsFresh, IsHeld, IsLeft, IsOpenCache, IsOrderOf, IsVolume, Loads, Reopens, dirty_of, is_down, state_in, told_of}
+use Rattle.cached_disk.specs.Kept.{IsBeneath, IsDirtyIn, IsFresh, IsHeld, IsLeft, IsOpenCache, IsOrderOf, IsVolume, Loads, Reopens, dirty_of, is_down, state_in, told_of, waiting_in}
 use Rattle.cached_disk.proofs.DiskLemmas.{agrees_fewer, any_left, one_left, one_value, over_stands}
 use Rattle.cached_disk.proofs.HeldLemmas.{down_left}
 use Rattle.cached_disk.proofs.ReadLemmas.{may_none}
@@ -80,17 +82,19 @@ module _ (v : CachedDisk) (old new : Contents) (s : CacheList) (cache : IsOpenCa
     held = holds_held v.cache new s holds_now;
     dirty = holds_lbas v.cache new s holds_now ∙ sym (lbas_between s v.options.geometry.size within_now);
     log = cache.log;
+    closed = cache.closed;
+    nothing_waits = cache.nothing_waits;
   }
     where
       up_now : is_down v ≡ false
       up_now = let a = cache.goes in cc
 
--- the entries are those that the flash had, and the log is empty
-pub opened_entries : (v : CachedDisk) (g : Geometry) (old new : Contents) → IsOpenCache g old new v.cache → (m : Entries) → load g old.flash.page ≡ Ok m → (entries_of v.cache ≡ m) × (log_room v.cache ≡ log_pages g)
+-- the entries are those that the flash had, the log is empty, no log block is open, and nothing is buffered
+pub opened_entries : (v : CachedDisk) (g : Geometry) (old new : Contents) → IsOpenCache g old new v.cache → (m : Entries) → load g old.flash.page ≡ Ok m → (entries_of v.cache ≡ m) × (log_room v.cache ≡ log_pages g) × (open_room v.cache ≡ 0) × (pending v.cache ≡ [])
 opened_entries v g old new cache m loads =
     let same_load : Ok (entries_of v.cache) ≡ Ok m = sym cache.loads ∙ loads in
     let same : entries_of v.cache ≡ m = cc in
-    (same, cache.log)
+    (same, cache.log, cache.closed, cache.nothing_waits)
 
 -- ---- over a flash that was formatted
 
@@ -156,25 +160,35 @@ module _ (v : CachedDisk) (old off on : State) (outcome : Outcome) (left : IsLef
 
 -- ---- what a volume tells once it is open
 
-abbrev told_as : Told → Bool → (ℕ → Bool) → Table → ℕ → VolumeState
-told_as told down held table room = record { told = told; down = down; owed = []; held = held; table = table; log_room = room }
+abbrev told_as : Told → Bool → (ℕ → Bool) → Table → ℕ → ℕ → ℕ → VolumeState
+told_as told down held table room left buffered = record { told = told; down = down; owed = []; held = held; table = table; log_room = room; open_room = left; buffered = buffered }
 
-same_told : (t u : Told) (d e : Bool) (h k : ℕ → Bool) (w x : Table) (m n : ℕ) → t ≡ u → d ≡ e → h ≡ k → w ≡ x → m ≡ n → told_as t d h w m ≡ told_as u e k x n
-same_told t u d e h k w x m n told down held table room =
-    ap (λ (y : Told). told_as y d h w m) told
-    ∙ ap (λ (y : Bool). told_as u y h w m) down
-    ∙ ap (λ (y : ℕ → Bool). told_as u e y w m) held
-    ∙ ap (λ (y : Table). told_as u e k y m) table
-    ∙ ap (λ (y : ℕ). told_as u e k x y) room
+same_told : (t u : Told) (d e : Bool) (h k : ℕ → Bool) (w x : Table) (m n o p b c : ℕ) → t ≡ u → d ≡ e → h ≡ k → w ≡ x → m ≡ n → o ≡ p → b ≡ c → told_as t d h w m o b ≡ told_as u e k x n p c
+same_told t u d e h k w x m n o p b c told down held table room left buffered =
+    ap (λ (y : Told). told_as y d h w m o b) told
+    ∙ ap (λ (y : Bool). told_as u y h w m o b) down
+    ∙ ap (λ (y : ℕ → Bool). told_as u e y w m o b) held
+    ∙ ap (λ (y : Table). told_as u e k y m o b) table
+    ∙ ap (λ (y : ℕ). told_as u e k x y o b) room
+    ∙ ap (λ (y : ℕ). told_as u e k x n y b) left
+    ∙ ap (λ (y : ℕ). told_as u e k x n p y) buffered
+
+-- the memory of a write changes nothing of that
+pub reserved_tells : (order : List ℕ) (v : CachedDisk) (k : Ssc) → k.parts ≡ record v.cache.parts { map = k.parts.map } → entries_of k ≡ entries_of v.cache → k.stopped ≡ v.cache.stopped → state_in order (record v { cache = k }) ≡ state_in order v
+reserved_tells order v k parts entries stopped =
+    same_told (told_of v) (told_of v) (v.down || k.stopped) (is_down v) (λ a. is_some (get (entries_of k) a)) (λ a. is_some (get (entries_of v.cache) a))
+    (waiting_in v.options.geometry.p order (dirty_lbas (entries_of k))) (waiting_in v.options.geometry.p order (dirty_of v)) (log_room k) (log_room v.cache) (open_room k) (open_room v.cache) (length (pending k)) (length (pending v.cache))
+    refl (ap (λ (b : Bool). v.down || b) stopped) (ap (λ (m : Entries). λ (a : ℕ). is_some (get m a)) entries) (ap (λ (m : Entries). waiting_in v.options.geometry.p order (dirty_lbas m)) entries)
+    (ap (λ (p : Parts). log_pages p.geometry - p.log.next) parts) (ap (λ (p : Parts). p.log_blocks.room) parts) (ap (λ (p : Parts). length (waiting p.log.buffered)) parts)
 
 -- where it was down, it tells what the flash has
 module _ (old new : CachedDisk) (was is : List ℕ) (m : Entries) where
-  pub tells_opened : is_down old ≡ true → new.options ≡ old.options → new.mode ≡ old.mode → is_down new ≡ false → entries_of new.cache ≡ m → log_room new.cache ≡ log_pages old.options.geometry → IsOrderOf is new → state_in is new ≡ opened_of (state_in was old) m
-  tells_opened down options mode up has room order =
+  pub tells_opened : is_down old ≡ true → new.options ≡ old.options → new.mode ≡ old.mode → is_down new ≡ false → entries_of new.cache ≡ m → log_room new.cache ≡ log_pages old.options.geometry → open_room new.cache ≡ 0 → pending new.cache ≡ [] → IsOrderOf is new → state_in is new ≡ opened_of (state_in was old) m
+  tells_opened down options mode up has room closed none order =
       let told : told_of new ≡ told_of old = ap₂ told_for mode options in
       let held : (λ (a : ℕ). is_some (get (entries_of new.cache) a)) ≡ (λ (a : ℕ). is_some (get m a)) = ap (λ (n : Entries). λ (a : ℕ). is_some (get n a)) has in
       let table : (state_in is new).table ≡ table_of old.options.geometry.p [] (dirty_lbas m) = order ∙ ap₂ (λ (o : Options) (n : Entries). table_of o.geometry.p [] (dirty_lbas n)) options has in
-      same_told (told_of new) (told_of old) (is_down new) false (state_in is new).held (λ a. is_some (get m a)) (state_in is new).table (table_of old.options.geometry.p [] (dirty_lbas m)) (log_room new.cache) (log_pages old.options.geometry) told up held table room
+      same_told (told_of new) (told_of old) (is_down new) false (state_in is new).held (λ a. is_some (get m a)) (state_in is new).table (table_of old.options.geometry.p [] (dirty_lbas m)) (log_room new.cache) (log_pages old.options.geometry) (open_room new.cache) 0 (length (pending new.cache)) 0 told up held table room closed (ap length none)
       ∙ sym (opened_down (state_in was old) m down)
 
 -- it comes up as a volume does, where its dirty groups are told in an order that suits
@@ -182,7 +196,7 @@ module _ {T : Type 0} (old new : CachedDisk) (was is : List ℕ) (before after :
   opens_as : (r : Result T VolumeError) → Reopens old new before after r → (is_down old ≡ false → is ≡ was) → (is_down old ≡ true → OnOk r (IsOrderOf is new)) → OnOk r ((m : Entries) → Loads (told_of old) before.contents.flash.page m → state_in is new ≡ opened_of (state_in was old) m)
   opens_as (Err e) reopens same order = tt
   opens_as (Ok value) reopens same order = λ m loads. elim (cases_Bool (is_down old)) [
-    | inl down ↦ let has = reopens.opens down m loads in tells_opened old new was is m down reopens.made.0 reopens.made.1 reopens.up has.0 has.1 (order down)
+    | inl down ↦ let has = reopens.opens down m loads in tells_opened old new was is m down reopens.made.0 reopens.made.1 reopens.up has.0 has.1 has.2 has.3 (order down)
     | inr up ↦ ap₂ state_in (same up) (reopens.same up).0 ∙ sym (opened_up (state_in was old) m up)
   ]
 
@@ -198,6 +212,7 @@ module _ {T : Type 0} (old new : CachedDisk) (was is : List ℕ) (before after :
         refused = reopens.refused;
         disk_reads = reopens.disk_reads;
         disk_writes = reopens.disk_writes;
+        disk_flushes = reopens.disk_flushes;
         fixed = λ bases any. subst (λ (t : Told). IsFixed (ImageIs t) after.contents (fixes result) bases) (sym told) (reopens.fixed bases any);
         ready = reopens.ready;
         within = reopens.within;
@@ -219,6 +234,7 @@ module _ {S T : Type 0} (old new : CachedDisk) (was is : List ℕ) (before after
         refused = (down, refl);
         disk_reads = reopens.disk_reads;
         disk_writes = reopens.disk_writes;
+        disk_flushes = reopens.disk_flushes;
         fixed = λ bases any x now. subst (λ (t : Told). IsAny (ImageIs t x) bases) (sym told) (any_map (StandFor (ImageIs (told_of old)) after.contents) (ImageIs (told_of old) x) (λ d stand. stand x now) bases (reopens.fixed bases any));
         ready = tt;
         within = λ is. absurd (cc);
@@ -243,6 +259,8 @@ fresh_opened mode options s is v fresh order = record {
   held = fresh.held;
   table = order ∙ ap₂ (λ (o : Options) (lbas : List ℕ). table_of o.geometry.p [] lbas) fresh.made fresh.dirty;
   log_room = fresh.log;
+  open_room = fresh.closed;
+  buffered = ap length fresh.nothing_waits;
 }
 
 -- ---- where it writes through

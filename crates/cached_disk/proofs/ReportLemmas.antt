@@ -1,5 +1,7 @@
 -- A report: a flush, and then each page that is held is read.
-use Rattle.std.proofs.Common.{◌≡◌, ◌≢◌, ◌+◌, ◌*◌, ◌≤◌, Bool, true, false, List, [], ◌∷◌, None, Result, Ok, Err, length, inl, inr, refl, sym, ◌∙◌, ap, subst, arith}
+use Rattle.std.proofs.Common.{◌≡◌, ◌≢◌, ℕ, ◌+◌, ◌*◌, ◌≤◌, Bool, true, false, List, [], ◌∷◌, None, Result, Ok, Err, length, inl, inr, refl, sym, ◌∙◌, ap, subst, arith}
+use Rattle.std.specs.FinMap.{get}
+use Rattle.std.specs.Option.{is_some}
 use Rattle.std.specs.Prelude.{IfOk, IsErrOf, OnOk}
 use Rattle.std.proofs.lemmas.Bool.{false≢true}
 use Rattle.ft_base.specs.Contents.{Contents}
@@ -16,7 +18,7 @@ use Rattle.ft_media.specs.Reads.{ReadsFlash}
 use Rattle.ft_media.specs.State.{State}
 use Rattle.ft_media.proofs.PassesLemmas.{passes_then}
 use Rattle.ft_volume.specs.Opening.{ImageIs}
-use Rattle.ft_volume.specs.Volume.{Costs, Flushes, Goes, HasCause, IsAny, Reports, VolumeState, WasDone, stages, volume_lost}
+use Rattle.ft_volume.specs.Volume.{AsksDevices, Costs, Flushes, Goes, HasCause, IsAny, IsHeldBy, Reports, StaysUp, VolumeState, WasDone, stages, volume_lost}
 use Rattle.ft_volume.specs.Reported.{IsReport}
 use Rattle.ft_volume.specs.Standing.{StandFor}
 use Rattle.ft_volume.specs.declared.options.Options.{Options}
@@ -41,6 +43,7 @@ use Rattle.ssc.specs.CacheState.{Holds, entries_of, geometry_of, pending}
 use Rattle.ssc.specs.Errors.{ssc_failed, ssc_lost}
 use Rattle.ssc.proofs.HoldsLemmas.{waiting-none}
 use Rattle.cached_disk.specs.Errors.{IsOfCache}
+use Rattle.cached_disk.proofs.CallLemmas.{from_none}
 use Rattle.cached_disk.specs.declared.disk.CachedDisk.{CachedDisk}
 use Rattle.cached_disk.specs.Kept.{IsLeft, Loads, is_down, told_of}
 
@@ -71,7 +74,10 @@ module _ {S T : Type 0} (old new : VolumeState) (before after : State) (e : Volu
   }
 
   pub costs_at : Costs {T = S} Flushes old new before after (Err e) → Costs {T = T} Reports old new before after (Err e)
-  costs_at costs = record { table = tt; held = tt; disk_writes = tt; most_writes = costs.most_writes; most_reads = costs.most_reads }
+  costs_at costs = record { table = tt; held = tt; disk_writes = tt; most_writes = costs.most_writes; most_reads = costs.most_reads; refused = λ up. as_report (costs.refused up) }
+    where
+      as_report : StaysUp Flushes old new → StaysUp Reports old new
+      as_report is = record { same = λ no. absurd (false≢true (sym no)); table = is.table; held = λ a. elim (is.held a) [ inl same ↦ inl same | inr own ↦ absurd own.0 ] }
 
 -- ---- each page was read, and nothing changed
 
@@ -165,6 +171,9 @@ module _ {S : Type 0} (old mid new : VolumeState) (is : new ≡ mid) (before bet
   writes_most : after.counts.disk_writes ≤ before.counts.disk_writes + 0
   writes_most = subst (λ (x : Counts). x.disk_writes ≤ before.counts.disk_writes + 0) (sym same) first.most_writes
 
+  flushes_same : after.counts.disk_flushes ≡ between.counts.disk_flushes
+  flushes_same = ap (λ (x : Counts). x.disk_flushes) same
+
   reads_most : after.counts.disk_reads ≤ before.counts.disk_reads + 0
   reads_most = subst (λ (x : Counts). x.disk_reads ≤ before.counts.disk_reads + 0) (sym same) first.most_reads
 
@@ -179,12 +188,28 @@ module _ {S : Type 0} (old mid new : VolumeState) (is : new ≡ mid) (before bet
     disk_writes = subst (λ (x : Counts). RoseBy 0 before.counts.disk_writes x.disk_writes) (sym same) first.disk_writes;
     most_writes = writes_most;
     most_reads = reads_most;
+    refused = tt;
   })
 
-  pub costs_unread : (T : Type 0) (e : VolumeError) → Costs {T = T} Reports old new before after (Err e)
-  costs_unread T e = record { table = tt; held = tt; disk_writes = tt; most_writes = writes_most; most_reads = reads_most }
+  pub costs_unread : (T : Type 0) (e : VolumeError) → ((a : ℕ) → mid.held a ≡ old.held a) → Costs {T = T} Reports old new before after (Err e)
+  costs_unread T e kept = record {
+    table = tt;
+    held = tt;
+    disk_writes = tt;
+    most_writes = writes_most;
+    most_reads = reads_most;
+    refused = λ up. subst (StaysUp Reports old) (sym is) (record { same = λ no. absurd (false≢true (sym no)); table = inl first.table; held = λ a. inl (kept a) });
+  }
+
+  -- nor a flush
+  pub asks_read : {T : Type 0} (result : Result T VolumeError) → AsksDevices {T = S} Flushes old old mid before between (Ok value) → AsksDevices Reports old old new before after result
+  asks_read result asks = record { flushes = let most = asks.flushes in omega (arith, most, flushes_same); found = λ none. absurd none; two_programs = from_none _ result }
 
 -- ---- where nothing is buffered, the flash has what the cache has
+
+no_length : {A : Type 0} (xs : List A) → length xs ≡ 0 → xs ≡ []
+no_length [] none = refl
+no_length (x ∷ xs) none = absurd (omega (arith, none))
 
 module _ (c : Ssc) (contents : Contents) (s : CacheList) (holds : Holds c contents s) (none : pending c ≡ []) where
   pub loads_entries : load (geometry_of c) contents.flash.page ≡ Ok (entries_of c)
@@ -227,6 +252,13 @@ module _ (v w : CachedDisk) (contents : Contents) (options : w.options ≡ v.opt
     few_buckets = subst (λ (g : Geometry). AreFewFor (g.l * g.p + most_page_records) report.buckets) own (few_buckets contents left.held held_now);
     scrubbed = scrubbed;
   }
+
+-- a volume that is up, with nothing buffered: what it holds is what the flash has
+pub held_by : (v : CachedDisk) (contents : Contents) → IsLeft v contents → is_down v ≡ false → length (pending v.cache) ≡ 0 → (m : Entries) → Loads (told_of v) contents.flash.page m → IsHeldBy m (λ a. is_some (get (entries_of v.cache) a))
+held_by v contents left up none m loads a =
+    let both : Ok (entries_of v.cache) ≡ Ok m = sym (loads_left v v contents refl left up (no_length (pending v.cache) none)) ∙ loads in
+    let same : entries_of v.cache ≡ m = cc in
+    ap (λ (n : Entries). is_some (get n a)) same
 
 -- ---- what is told of the entries that the flash has
 

@@ -1,5 +1,5 @@
 -- What a cache over a disk is, and what it leaves on its media.
-use Rattle.std.specs.Prelude.{◌≡◌, ◌⊎◌, ◌<◌, ◌≤◌, ◌+◌, ◌/◌, ◌==◌, ◌||◌, ℕ, Bool, true, false, List, [], map, filter, Ok, Result, OnOk, OnErr, IfErr, IsErrOf, ⊤}
+use Rattle.std.specs.Prelude.{◌≡◌, ◌⊎◌, ◌<◌, ◌≤◌, ◌+◌, ◌/◌, ◌==◌, ◌||◌, ℕ, Bool, true, false, List, [], length, map, filter, Ok, Result, OnOk, OnErr, IfErr, IsErrOf, ⊤}
 use Rattle.std.specs.List.{AllByRecursion}
 use Rattle.std.specs.FinMap.{get}
 use Rattle.std.specs.Option.{is_some}
@@ -18,7 +18,7 @@ use Rattle.ft_media.specs.Fitted.{KeepsReady}
 use Rattle.ft_media.specs.Passes.{Passes}
 use Rattle.ft_media.specs.State.{State}
 use Rattle.ft_volume.specs.Opening.{ImageIs, Opens, Suits}
-use Rattle.ft_volume.specs.Volume.{Call, Goes, HasCause, IsFixed, StandForAny, VolumeState, WasDone, dirty_lbas, fixes, told_for, volume_lost}
+use Rattle.ft_volume.specs.Volume.{Call, Goes, HasCause, IsFixed, StandForAny, VolumeState, WasDone, dirty_lbas, fixes, opening_flushes, told_for, volume_lost}
 use Rattle.ft_volume.specs.Standing.{StandFor}
 use Rattle.ft_volume.specs.declared.options.Options.{Options}
 use Rattle.ft_volume.specs.declared.volume.VolumeError.{VolumeError}
@@ -33,7 +33,7 @@ use Rattle.op_log.specs.Log.{FitsOn}
 use Rattle.op_log.specs.Refusals.{open_failed, open_lost}
 use Rattle.op_log.specs.declared.error.OpenError.{OpenError}
 use Rattle.ssc.specs.declared.cache.Ssc.{Ssc}
-use Rattle.ssc.specs.CacheState.{Holds, IsUp, entries_of, geometry_of, log_room, pending}
+use Rattle.ssc.specs.CacheState.{Holds, IsUp, entries_of, geometry_of, log_room, open_room, pending}
 use Rattle.cached_disk.specs.declared.disk.CachedDisk.{CachedDisk}
 use Rattle.cached_disk.specs.Errors.{CausedBy, IsOpenRefusal, disk_failed}
 
@@ -65,6 +65,8 @@ state_in order v = record {
   held = λ a. is_some (get (entries_of v.cache) a);
   table = waiting_in v.options.geometry.p order (dirty_of v);
   log_room = log_room v.cache;
+  open_room = open_room v.cache;
+  buffered = length (pending v.cache);
 }
 
 -- the flash has these entries
@@ -131,13 +133,20 @@ pub record WritesDisk (n : ℕ) (before after : State) (result : Result (Unit {0
   pub most : after.counts.disk_writes ≤ before.counts.disk_writes + n
   pub reads : after.counts.disk_reads ≡ before.counts.disk_reads
 
+-- no call of the disk was made that it counts
+pub record AsksNoDisk (before after : State) : Type 0 where
+  pub disk_reads : after.counts.disk_reads ≡ before.counts.disk_reads
+  pub disk_writes : after.counts.disk_writes ≡ before.counts.disk_writes
+  pub disk_flushes : after.counts.disk_flushes ≡ before.counts.disk_flushes
+
 -- ---- what an opening leaves
 
--- an opening neither reads nor writes a block of the disk, and power and the faults go on as it answers
+-- an opening neither reads nor writes a block of the disk, which it flushes once at most; and power and the faults go on as it answers
 pub record OnlyOpens {T : Type 0} (before after : State) (result : Result T OpenError) : Type 0 where
   pub ready : OnOk result (KeepsReady before after)
   pub disk_reads : after.counts.disk_reads ≡ before.counts.disk_reads
   pub disk_writes : after.counts.disk_writes ≡ before.counts.disk_writes
+  pub disk_flushes : after.counts.disk_flushes ≤ before.counts.disk_flushes + 1
   pub cause : CausedBy before.faults after.faults (open_failed result) (disk_failed result) (open_lost result)
   pub passes : Passes before after (open_lost result)
 
@@ -161,6 +170,7 @@ pub record IsOpenCache (g : Geometry) (old new : Contents) (c : Ssc) : Type 0 wh
   pub up : IsUp c new
   pub goes : c.stopped ≡ false
   pub log : log_room c ≡ log_pages g
+  pub closed : open_room c ≡ 0
 
 -- it was made of these, and opened over flash that stood for this list
 pub record IsFresh (mode : Mode) (options : Options) (s : CacheList) (v : CachedDisk) : Type 0 where
@@ -170,6 +180,8 @@ pub record IsFresh (mode : Mode) (options : Options) (s : CacheList) (v : Cached
   pub held : (a : ℕ) → is_some (get (entries_of v.cache) a) ≡ is_some (get s a)
   pub dirty : dirty_of v ≡ dirty_between 0 options.geometry.size s
   pub log : log_room v.cache ≡ log_pages options.geometry
+  pub closed : open_room v.cache ≡ 0
+  pub nothing_waits : pending v.cache ≡ []
 
 -- in this order the dirty groups are told as if each dirty block had been written, ascending
 abbrev pub IsOrderOf : List ℕ → CachedDisk → Type 0
@@ -181,10 +193,12 @@ pub record Reopens {T : Type 0} (old new : CachedDisk) (before after : State) (r
   pub same : is_down old ≡ false → (new ≡ old) × (after ≡ before)
   pub up : OnOk result (is_down new ≡ false)
   pub opens : OnOk result (is_down old ≡ true → (m : Entries) → Loads (told_of old) before.contents.flash.page m
-      → (entries_of new.cache ≡ m) × (log_room new.cache ≡ log_pages old.options.geometry))
+      → (entries_of new.cache ≡ m) × (log_room new.cache ≡ log_pages old.options.geometry) × (open_room new.cache ≡ 0)
+      × (pending new.cache ≡ []))
   pub refused : OnErr result ((is_down old ≡ true) × (is_down new ≡ true))
   pub disk_reads : after.counts.disk_reads ≡ before.counts.disk_reads
   pub disk_writes : after.counts.disk_writes ≡ before.counts.disk_writes
+  pub disk_flushes : after.counts.disk_flushes ≤ before.counts.disk_flushes + opening_flushes (is_down old)
   pub fixed : (bases : List PlainDisk) → StandForAny (ImageIs (told_of old)) before.contents bases
       → IsFixed (ImageIs (told_of old)) after.contents (fixes result) bases
   pub ready : OnOk result (KeepsReady before after)

@@ -1,6 +1,6 @@
 ghost use Rattle.std.specs.Prelude.{◌≡◌, ◌<◌, ℕ, List, None, OnErr};
 ghost use Rattle.std.specs.FinMap.{get};
-ghost use Rattle.ft_volume.specs.Volume.{Costs, Reads};
+ghost use Rattle.ft_volume.specs.Volume.{AsksDevices, Costs, Reads};
 ghost use Rattle.ssc.specs.CacheState.{entries_of};
 ghost use Rattle.cached_disk.specs.Kept.{MayServe, Serves, state_in};
 
@@ -24,6 +24,8 @@ impl CachedDisk {
         ensures serves { Serves (Reads lba block.new) self.old self.new (M.state media.old) (M.state media.new) result }
         ensures costs { (order : List ℕ) → Costs (Reads lba block.new) (state_in order self.old) (state_in order self.new)
             (M.state media.old) (M.state media.new) result }
+        ensures asks { (order : List ℕ) → AsksDevices (Reads lba block.new) (state_in order self.old) (state_in order self.old)
+            (state_in order self.new) (M.state media.old) (M.state media.new) result }
         ensures buffer { OnErr result (block.new ≡ block.old) }
     {
         match self.cache.read(media, lba, block) {
@@ -47,6 +49,7 @@ impl CachedDisk {
         ensures serves { Serves (Reads lba block.new) self.old self.new (M.state media.old) (M.state media.new) result }
         ensures costs { (order : List ℕ) → Costs (Reads lba block.new) (state_in order self.old) (state_in order self.new)
             (M.state media.old) (M.state media.new) result }
+        ensures disk_flushes { (M.state media.new).counts.disk_flushes ≡ (M.state media.old).counts.disk_flushes }
         ensures buffer { OnErr result (block.new ≡ block.old) }
     {
         let mut found = Block([0; 4096]);

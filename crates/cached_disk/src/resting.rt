@@ -1,7 +1,9 @@
 ghost use Rattle.std.specs.Prelude.{◌≡◌, ◌*◌, ℕ, List, [], true, false, nat_le, length, if◌then◌else◌, IfOk, OnErr, OnOk, IsErrOf};
+ghost use Rattle.std.specs.FinMap.{get};
+ghost use Rattle.std.specs.Option.{is_some};
 ghost use Rattle.ft_base.specs.Layout.{log_pages};
 ghost use Rattle.ft_base.specs.Table.{goes_back};
-ghost use Rattle.ft_volume.specs.Volume.{Costs, Flushes, Idles, Reports};
+ghost use Rattle.ft_volume.specs.Volume.{AsksDevices, Costs, Flushes, Idles, IsCheckpointed, Reports};
 ghost use Rattle.ft_volume.specs.Reported.{IsReport};
 ghost use Rattle.ssc.specs.CacheState.{entries_of, log_room, pending};
 ghost use Rattle.cached_disk.specs.Kept.{Loads, MayServe, Serves, state_in, told_of};
@@ -19,6 +21,9 @@ impl CachedDisk {
         ensures serves { Serves Flushes self.old self.new (M.state media.old) (M.state media.new) result }
         ensures costs { (order : List ℕ) → Costs Flushes (state_in order self.old) (state_in order self.new) (M.state media.old)
             (M.state media.new) result }
+        ensures asks { (order : List ℕ) → AsksDevices Flushes (state_in order self.old) (state_in order self.old) (state_in order self.new)
+            (M.state media.old) (M.state media.new) result }
+        ensures held { OnOk result ((a : ℕ) → is_some (get (entries_of self.new.cache) a) ≡ is_some (get (entries_of self.old.cache) a)) }
         ensures nothing_waits { OnOk result (pending self.new.cache ≡ []) }
         ensures refused { OnErr result (kept.is_down self.new ≡ true) }
         ensures memory { IsErrOf result VolumeError.OutOfMemory → ⊥ }
@@ -36,6 +41,8 @@ impl CachedDisk {
         ensures serves { Serves Reports self.old self.new (M.state media.old) (M.state media.new) result }
         ensures costs { (order : List ℕ) → Costs Reports (state_in order self.old) (state_in order self.new) (M.state media.old)
             (M.state media.new) result }
+        ensures asks { (order : List ℕ) → AsksDevices Reports (state_in order self.old) (state_in order self.old) (state_in order self.new)
+            (M.state media.old) (M.state media.new) result }
         ensures report { IfOk result (IsReport self.old.options.geometry (entries_of self.new.cache)) }
         // The flash has just these entries.
         ensures loads { OnOk result (Loads (told_of self.old) (M.state media.new).contents.flash.page (entries_of self.new.cache)) }
@@ -64,11 +71,14 @@ impl CachedDisk {
         ensures serves { Serves Idles self.old self.new (M.state media.old) (M.state media.new) result }
         ensures costs { (order : List ℕ) → goes_back self.old.mode self.old.options.dirty (length order) ≡ false
             → Costs Idles (state_in order self.old) (state_in order self.new) (M.state media.old) (M.state media.new) result }
+        ensures asks { (order : List ℕ) → AsksDevices Idles (state_in order self.old) (state_in order self.old) (state_in order self.new)
+            (M.state media.old) (M.state media.new) result }
         ensures idled { IfOk result (λ idled. idled ≡ (if nat_le (2 * log_room self.old.cache)
             (log_pages self.old.options.geometry) then Idled.Checkpointed else Idled.Nothing)) }
-        // A checkpoint leaves nothing buffered, and the log empty.
-        ensures checkpoint { IfOk result (λ idled. idled ≡ Idled.Checkpointed → (pending self.new.cache ≡ [])
-            × (self.new.cache.parts.log.next ≡ 0)) }
+        ensures checkpoint { (order : List ℕ) → IfOk result (λ idled. idled ≡ Idled.Checkpointed
+            → IsCheckpointed (state_in order self.new)) }
+        ensures nothing { IfOk result (λ idled. idled ≡ Idled.Nothing
+            → (self.new ≡ self.old) × (M.state media.new ≡ M.state media.old)) }
         ensures refused { OnErr result (kept.is_down self.new ≡ true) }
         ensures memory { IsErrOf result VolumeError.OutOfMemory → ⊥ }
     {

@@ -7,16 +7,19 @@ use Rattle.ft_base.specs.Contents.{Contents, Image, Now}
 use Rattle.ft_base.specs.Count.{Rose, RoseBy}
 use Rattle.ft_base.specs.Layout.{log_pages}
 use Rattle.ft_base.specs.PlainDisk.{PlainDisk, BlockWrite, after_writes}
-use Rattle.ft_base.specs.Table.{Table, table_of, table_written, backs_written, table_idled, backs_idled, goes_back}
+use Rattle.ft_base.specs.Table.{Table, table_of, table_written, backs_written, table_idled, backs_idled, goes_back, is_full, without_last}
 use Rattle.ft_base.specs.Told.{Told}
 use Rattle.ft_base.specs.declared.block.Block.{Block}
 use Rattle.ft_base.specs.declared.block.Page.{Page}
 use Rattle.ft_base.specs.declared.block.Place.{Place}
 use Rattle.ft_base.specs.declared.told.Mode.{Mode}
+use Rattle.ft_base.specs.declared.told.Mode.TheVariants.{Back, Through}
 use Rattle.ft_base.specs.declared.told.Ack.TheVariants.{Write as AtWrite}
 use Rattle.cache_model.specs.Records.{Entries}
 use Rattle.ft_media.specs.Fitted.{KeepsReady}
+use Rattle.ft_media.specs.Media.{program_counted}
 use Rattle.ft_media.specs.Passes.{Passes}
+use Rattle.ft_media.specs.Reads.{ReadsFlash}
 use Rattle.ft_media.specs.State.{State, Faults}
 use Rattle.ft_volume.specs.declared.options.Options.{Options}
 use Rattle.ft_volume.specs.declared.volume.Idled.{Idled}
@@ -42,6 +45,10 @@ pub record VolumeState : Type 0 where
   pub table : Table
   -- pages left of the log
   pub log_room : ℕ
+  -- pages left of the open log block
+  pub open_room : ℕ
+  -- changes of the cache that are only buffered: a crash may undo them, and the plain disk stays the same
+  pub buffered : ℕ
 
 -- a call, with the block that it read or writes
 pub data Call : Type 0 where
@@ -196,18 +203,29 @@ pub record FaultDowns {T : Type 0} (result : Result T VolumeError) (down : Bool)
 abbrev pub dirty_lbas : Entries → List ℕ
 dirty_lbas m = map (λ x. x.0) (filter (λ x. x.1.dirty) (entries m))
 
--- it is opened over flash that has these entries; its log is empty then
+-- it is opened over flash that has these entries; its log is empty then, no log block is open, and nothing is buffered
 abbrev pub opened : VolumeState → Entries → VolumeState
 opened old m = record old {
   down = false;
   held = λ a. is_some (get m a);
   table = table_of old.told.geometry.p [] (dirty_lbas m);
   log_room = log_pages old.told.geometry;
+  open_room = 0;
+  buffered = 0;
 }
 
 -- where it is down it is opened first
 abbrev pub opened_of : VolumeState → Entries → VolumeState
 opened_of old m = if old.down then opened old m else old
+
+-- just these entries' addresses are held
+abbrev pub IsHeldBy : Entries → (ℕ → Bool) → Type 0
+IsHeldBy m held = (a : ℕ) → held a ≡ is_some (get m a)
+
+-- a checkpoint was just made: the log is empty, and nothing is buffered
+pub record IsCheckpointed (v : VolumeState) : Type 0 where
+  pub log : v.log_room ≡ log_pages v.told.geometry
+  pub nothing : v.buffered ≡ 0
 
 -- ---- what a call costs of a volume that is up, or that was opened within it
 
@@ -253,12 +271,84 @@ pub record HoldsAfter (told : Told) (call : Call) (old new : ℕ → Bool) : Typ
   pub only : (a : ℕ) → new a ≡ true → (old a ≡ true) ⊎ IsOwn call a
   pub stays : (groups : List ℕ) → LieIn told call old groups → (a : ℕ) → old a ≡ true → new a ≡ true
 
+-- whether a call may have used the log before it is refused
+abbrev pub may_log : Call → Bool
+may_log (Reads lba block) = false
+may_log (Writes lba block) = true
+may_log Flushes = true
+may_log Idles = false
+may_log Reports = true
+
+-- refused, and still up: a read and an idle step leave all as it was; else the table is as it was or lacks its last group, and what is
+-- held was held, all of it but an address of the call's own
+pub record StaysUp (call : Call) (old new : VolumeState) : Type 0 where
+  pub same : may_log call ≡ false → new ≡ old
+  pub table : (new.table ≡ old.table) ⊎ (new.table ≡ without_last old.table)
+  pub held : (a : ℕ) → (new.held a ≡ old.held a) ⊎ (IsOwn call a × (new.held a ≡ false))
+
 pub record Costs {T : Type 0} (call : Call) (old new : VolumeState) (before after : State) (result : Result T VolumeError) : Type 0 where
   pub table : OnOk result (new.table ≡ table_after call old.told old.table)
   pub held : OnOk result (HoldsAfter old.told call old.held new.held)
   pub disk_writes : OnOk result (RoseBy (backs_of call old.told old.table) before.counts.disk_writes after.counts.disk_writes)
   pub most_writes : after.counts.disk_writes ≤ before.counts.disk_writes + backs_of call old.told old.table
   pub most_reads : after.counts.disk_reads ≤ before.counts.disk_reads + misses call old.held
+  pub refused : OnErr result (new.down ≡ false → StaysUp call old new)
+
+-- ---- what a call asks of the devices
+
+-- the flushes of the disk in it: one for a group that is written back, and one for a block that is written through
+abbrev pub flushes_written : Mode → Told → ℕ → Table → ℕ
+flushes_written Back told a t = if is_full told.geometry.c (a / told.geometry.p) t then 1 else 0
+flushes_written Through told a t = 1
+
+abbrev pub flushes_of : Call → Told → Table → ℕ
+flushes_of (Reads lba block) told t = 0
+flushes_of (Writes lba block) told t = flushes_written told.mode told lba t
+flushes_of Flushes told t = 0
+flushes_of Idles told t = if goes_back told.mode told.dirty (length t) then 1 else 0
+flushes_of Reports told t = 0
+
+-- an opening flushes the disk once
+abbrev pub opening_flushes : Bool → ℕ
+opening_flushes down = if down then 1 else 0
+
+-- it reads an address that is held, of a volume that is up
+abbrev pub FindsHeld : Call → VolumeState → Type 0
+FindsHeld (Reads lba block) v = (v.down ≡ false) × (v.held lba ≡ true)
+FindsHeld (Writes lba block) v = ⊥
+FindsHeld Flushes v = ⊥
+FindsHeld Idles v = ⊥
+FindsHeld Reports v = ⊥
+
+-- it writes to a volume that is up and writes back, where the table, the open log block and the log have room
+pub record HasRoom (told : Told) (lba : ℕ) (v : VolumeState) : Type 0 where
+  pub up : v.down ≡ false
+  pub back : told.mode ≡ Back
+  pub table : is_full told.geometry.c (lba / told.geometry.p) v.table ≡ false
+  pub block : 1 ≤ v.open_room
+  pub log : 1 ≤ v.log_room
+
+abbrev pub FindsRoom : Call → VolumeState → Type 0
+FindsRoom (Reads lba block) v = ⊥
+FindsRoom (Writes lba block) v = HasRoom v.told lba v
+FindsRoom Flushes v = ⊥
+FindsRoom Idles v = ⊥
+FindsRoom Reports v = ⊥
+
+-- the flash failed
+abbrev pub flash_failed : {T : Type 0} → Result T VolumeError → Bool
+flash_failed (Err FlashFault) = true
+flash_failed (Err e) = false
+flash_failed (Ok value) = false
+
+-- of a volume that was so, and was so once it was up: how often the disk is flushed at most, whatever is answered; a read that finds its
+-- address held reads the flash alone, and changes nothing; a write that finds room programs a page for its block and one for its record,
+-- and no other device write is made
+pub record AsksDevices {T : Type 0} (call : Call) (old up new : VolumeState) (before after : State) (result : Result T VolumeError)
+    : Type 0 where
+  pub flushes : after.counts.disk_flushes ≤ before.counts.disk_flushes + (opening_flushes old.down + flushes_of call up.told up.table)
+  pub found : FindsHeld call old → (new ≡ old) × ReadsFlash before after (flash_failed result) (volume_lost result)
+  pub two_programs : OnOk result (FindsRoom call old → after.counts ≡ program_counted (program_counted before.counts))
 
 -- ---- what an idle step answers, of so many dirty groups and so many pages left of the log
 
@@ -285,6 +375,7 @@ pub record ComesUp {T : Type 0} (stands : Told → Image → PlainDisk → Type 
   -- whatever it answers, it neither reads nor writes a block of the disk
   pub disk_reads : after.counts.disk_reads ≡ before.counts.disk_reads
   pub disk_writes : after.counts.disk_writes ≡ before.counts.disk_writes
+  pub disk_flushes : after.counts.disk_flushes ≤ before.counts.disk_flushes + opening_flushes old.down
   pub fixed : (bases : List PlainDisk) → StandForAny (stands old.told) before.contents bases
       → IsFixed (stands new.told) after.contents (fixes result) bases
   pub ready : OnOk result (KeepsReady before after)

@@ -8,7 +8,7 @@ ghost use Rattle.ft_base.specs.declared.block.Place.{Place};
 ghost use Rattle.cache_model.specs.Records.{Entries};
 ghost use Rattle.ft_media.specs.Passes.{ProgramsPages};
 ghost use Rattle.ft_media.specs.Rig.{CutThrough};
-ghost use Rattle.ft_volume.specs.Volume.{Costs, Done, FaultDowns, Fixes, Flushes, Goes, Idles, Reads, Reports, VolumeState, Writes, idled_of, opened_of};
+ghost use Rattle.ft_volume.specs.Volume.{AsksDevices, Costs, Done, FaultDowns, Fixes, Flushes, Goes, Idles, IsCheckpointed, IsHeldBy, Reads, Reports, VolumeState, Writes, idled_of, opened_of};
 ghost use Rattle.ft_volume.specs.Reported.{IsReport};
 
 use ft_base::{Block, Outcome};
@@ -95,6 +95,9 @@ pub trait Volume<R: Rig> {
         ensures goes { Goes (state self.old) (state self.new) (R.state rig.old) (R.state rig.new) result }
         ensures costs { (m : Entries) → loads (state self.old).told (R.state rig.old).contents.flash.page m
             → Costs (Reads lba block.new) (opened_of (state self.old) m) (state self.new) (R.state rig.old) (R.state rig.new) result }
+        ensures asks { (m : Entries) → loads (state self.old).told (R.state rig.old).contents.flash.page m
+            → AsksDevices (Reads lba block.new) (state self.old) (opened_of (state self.old) m) (state self.new)
+            (R.state rig.old) (R.state rig.new) result }
         ensures outside { IsErrOf result VolumeError.OutOfVolume ↔ ((state self.old).told.geometry.size ≤ lba) }
         ensures buffer { OnErr result (block.new ≡ block.old) }
         ensures unchanged { IsErrOf result VolumeError.OutOfVolume → (self.new ≡ self.old) × (R.state rig.new ≡ R.state rig.old) };
@@ -109,6 +112,9 @@ pub trait Volume<R: Rig> {
         ensures faulted { FaultDowns result (state self.new).down }
         ensures costs { (m : Entries) → loads (state self.old).told (R.state rig.old).contents.flash.page m
             → Costs (Writes lba block.now) (opened_of (state self.old) m) (state self.new) (R.state rig.old) (R.state rig.new) result }
+        ensures asks { (m : Entries) → loads (state self.old).told (R.state rig.old).contents.flash.page m
+            → AsksDevices (Writes lba block.now) (state self.old) (opened_of (state self.old) m) (state self.new)
+            (R.state rig.old) (R.state rig.new) result }
         ensures programs { OnOk result (ProgramsPages 1 (R.state rig.old) (R.state rig.new)) }
         ensures outside { IsErrOf result VolumeError.OutOfVolume ↔ ((state self.old).told.geometry.size ≤ lba) }
         ensures unchanged { IsErrOf result VolumeError.OutOfVolume → (self.new ≡ self.old) × (R.state rig.new ≡ R.state rig.old) };
@@ -120,10 +126,14 @@ pub trait Volume<R: Rig> {
         ensures disk { Done stands Flushes (state self.old) (state self.new)
             (R.state rig.old).contents (R.state rig.new).contents result }
         ensures nothing_owed { OnOk result ((state self.new).owed ≡ []) }
+        ensures nothing_buffered { OnOk result ((state self.new).buffered ≡ 0) }
         ensures goes { Goes (state self.old) (state self.new) (R.state rig.old) (R.state rig.new) result }
         ensures refused { OnErr result ((state self.new).down ≡ true) }
         ensures costs { (m : Entries) → loads (state self.old).told (R.state rig.old).contents.flash.page m
             → Costs Flushes (opened_of (state self.old) m) (state self.new) (R.state rig.old) (R.state rig.new) result }
+        ensures asks { (m : Entries) → loads (state self.old).told (R.state rig.old).contents.flash.page m
+            → AsksDevices Flushes (state self.old) (opened_of (state self.old) m) (state self.new)
+            (R.state rig.old) (R.state rig.new) result }
         ensures memory { (state self.old).down ≡ false → IsErrOf result VolumeError.OutOfMemory → ⊥ }
         ensures within { IsErrOf result VolumeError.OutOfVolume → ⊥ };
 
@@ -137,9 +147,15 @@ pub trait Volume<R: Rig> {
         ensures faulted { FaultDowns result (state self.new).down }
         ensures costs { (m : Entries) → loads (state self.old).told (R.state rig.old).contents.flash.page m
             → Costs Idles (opened_of (state self.old) m) (state self.new) (R.state rig.old) (R.state rig.new) result }
+        ensures asks { (m : Entries) → loads (state self.old).told (R.state rig.old).contents.flash.page m
+            → AsksDevices Idles (state self.old) (opened_of (state self.old) m) (state self.new)
+            (R.state rig.old) (R.state rig.new) result }
         ensures idled { IfOk result (λ idled. (m : Entries) → loads (state self.old).told (R.state rig.old).contents.flash.page m
             → idled ≡ idled_of (state self.old).told (length (opened_of (state self.old) m).table)
             (opened_of (state self.old) m).log_room) }
+        ensures checkpoint { IfOk result (λ idled. idled ≡ Idled.Checkpointed → IsCheckpointed (state self.new)) }
+        ensures nothing { IfOk result (λ idled. idled ≡ Idled.Nothing → (state self.old).down ≡ false
+            → (self.new ≡ self.old) × (R.state rig.new ≡ R.state rig.old)) }
         ensures within { IsErrOf result VolumeError.OutOfVolume → ⊥ };
 
     /// Puts all that is owed on the media, reads every page that is held, and says what there is. It changes
@@ -150,10 +166,14 @@ pub trait Volume<R: Rig> {
         ensures disk { Done stands Reports (state self.old) (state self.new)
             (R.state rig.old).contents (R.state rig.new).contents result }
         ensures nothing_owed { OnOk result ((state self.new).owed ≡ []) }
+        ensures nothing_buffered { OnOk result ((state self.new).buffered ≡ 0) }
         ensures goes { Goes (state self.old) (state self.new) (R.state rig.old) (R.state rig.new) result }
         ensures faulted { IsErrOf result VolumeError.DiskFault → (state self.new).down ≡ true }
         ensures costs { (m : Entries) → loads (state self.old).told (R.state rig.old).contents.flash.page m
             → Costs Reports (opened_of (state self.old) m) (state self.new) (R.state rig.old) (R.state rig.new) result }
+        ensures asks { (m : Entries) → loads (state self.old).told (R.state rig.old).contents.flash.page m
+            → AsksDevices Reports (state self.old) (opened_of (state self.old) m) (state self.new)
+            (R.state rig.old) (R.state rig.new) result }
         ensures report { IfOk result (λ report. (m : Entries) → loads (state self.old).told (R.state rig.new).contents.flash.page m
             → IsReport (state self.old).told.geometry m report) }
         ensures memory { (state self.old).down ≡ false → IsErrOf result VolumeError.OutOfMemory → ⊥ }
@@ -177,4 +197,8 @@ pub trait Volume<R: Rig> {
     /// What it left can be opened.
     ghost can_be_loaded: { (v : Self) (contents : Contents) → owns v contents
         → (m : Entries) × loads (state v).told contents.flash.page m };
+
+    /// While it is up and nothing is buffered, the flash has exactly what is held.
+    ghost flash_has_all: { (v : Self) (contents : Contents) → owns v contents → (state v).down ≡ false → (state v).buffered ≡ 0
+        → (m : Entries) → loads (state v).told contents.flash.page m → IsHeldBy m (state v).held };
 }

@@ -323,9 +323,18 @@ group_among p n xs lbas items are own a among = (and_parts (a / p == n) (is_amon
 
 -- ---- the whole
 
-pub back_refused : (v w : CachedDisk) (r : Answer) → OnErr r (is_down w ≡ true) → OnErr r (is_down w ≡ false → dirty_of w ≡ dirty_of v)
+pub back_refused : (v w : CachedDisk) (r : Answer) → OnErr r (is_down w ≡ true) → OnErr r (is_down w ≡ false → w ≡ v)
 back_refused v w (Ok done) down = tt
 back_refused v w (Err e) down = λ up. absurd (both_ways (is_down w) up down)
+
+-- where it stays up, nothing was changed but on the disk
+pub still_same : (v w : CachedDisk) (r : Answer) → is_down v ≡ false → w ≡ record v { down = w.down } → OnErr r (is_down w ≡ false → w ≡ v)
+still_same v w (Ok done) up same = tt
+still_same v w (Err e) up same = λ now. same ∙ ap (λ (d : Bool). record v { down = d }) (first_false w.down w.cache.stopped now ∙ sym (first_false v.down v.cache.stopped up))
+  where
+    first_false : (a b : Bool) → (a || b) ≡ false → a ≡ false
+    first_false true b is = is
+    first_false false b is = refl
 
 pub copy_failed : (v a : CachedDisk) (s t : State) (lbas items listed : List ℕ) → lbas ≡ items → items ≡ listed → (e : VolumeError) (r : Answer) → r ≡ Err e → Proceeds (length lbas) v a s t (Err e) → Proceeds (length listed) v a s t r
 copy_failed v a s t lbas items listed are own e r is refused = proceeds_as (length listed) v a s t e r is (subst (λ (l : List ℕ). Proceeds (length l) v a s t (Err e)) (are ∙ own) refused)

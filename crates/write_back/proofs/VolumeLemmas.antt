@@ -1,5 +1,5 @@
 -- A volume that comes up, with a table that is made of its cache.
-use Rattle.std.proofs.Common.{rules, arith, Ok, ◌≡◌, ◌⊎◌, ℕ, ◌+◌, ◌/◌, ◌≤◌, ◌<◌, nat_lt, lt-ltb, Some, Bool, true, false, if◌then◌else◌, List, [], ◌++◌, length, get_or, map, inl, refl, sym, ◌∙◌, ap, subst}
+use Rattle.std.proofs.Common.{rules, arith, Result, Ok, Err, ◌≡◌, ◌⊎◌, ℕ, ◌+◌, ◌/◌, ◌≤◌, ◌<◌, nat_lt, lt-ltb, Some, Bool, true, false, if◌then◌else◌, List, [], ◌++◌, length, get_or, map, inl, refl, sym, ◌∙◌, ap, subst}
 use Rattle.std.specs.Prelude.{IsTrue}
 use Rattle.std.specs.FinMap.{get}
 use Rattle.ft_base.specs.declared.geometry.Geometry.{Geometry}
@@ -10,8 +10,10 @@ use Rattle.ft_base.specs.declared.told.Mode.{Mode}
 use Rattle.ft_base.specs.declared.told.Mode.TheVariants.{Back}
 use Rattle.ft_media.specs.State.{State}
 use Rattle.ft_volume.specs.Opening.{ImageIs}
-use Rattle.ft_volume.specs.Volume.{ComesUp, Costs, Idles, VolumeState, backs_of}
+use Rattle.ft_volume.specs.Volume.{AsksDevices, ComesUp, Costs, Idles, VolumeState, backs_of, flushes_of}
+use Rattle.ft_volume.specs.declared.volume.Idled.{Idled}
 use Rattle.ft_volume.specs.declared.volume.Idled.TheVariants.{Cleaned}
+use Rattle.ft_volume.specs.declared.volume.VolumeError.{VolumeError}
 use Rattle.ft_volume.proofs.OpenedLemmas.{opened_up}
 use Rattle.cache_model.specs.Cache.{dirty_between}
 use Rattle.cache_model.specs.CacheList.{CacheList, Held}
@@ -24,6 +26,7 @@ use Rattle.cached_disk.specs.Kept.{IsOrderOf, Loads, MayServe, dirty_of, waiting
 use Rattle.cached_disk.specs.Kept as kept
 use Rattle.merge_engine.specs.Loaded.{AreAscending}
 use Rattle.cached_disk.proofs.AddressLemmas.{holds_lbas, holds_within, lbas_ascending, lbas_between}
+use Rattle.cached_disk.proofs.CallLemmas.{asks_none, same_up}
 use Rattle.cached_disk.proofs.HeldLemmas.{one_held}
 use Rattle.cached_disk.proofs.OpenedLemmas.{given_up_left}
 use Rattle.write_back.specs.declared.volume.WriteBack.{WriteBack}
@@ -105,6 +108,7 @@ stays_up v state left up = record {
   refused = tt;
   disk_reads = refl;
   disk_writes = refl;
+  disk_flushes = omega arith;
   fixed = one_held v.disk state.contents left.disk.held left.disk.own (left.disk.up up);
   ready = λ b there. there;
   within = search rules;
@@ -138,7 +142,29 @@ cleaned_costs old new before after goes table same writes = record {
   disk_writes = subst (λ (n : ℕ). RoseBy n before.counts.disk_writes after.counts.disk_writes) (sym back) writes.exact;
   most_writes = let most = writes.most in omega (arith, most, back);
   most_reads = let reads = writes.reads in omega (arith, reads);
+  refused = tt;
 }
   where
     back : backs_of Idles old.told old.table ≡ last_size old.table
     back = ap (λ (b : Bool). if b then last_size old.table else 0) goes
+
+-- that was refused
+pub uncleaned_costs : (old new : VolumeState) (before after : State) (e : VolumeError) → goes_back old.told.mode old.told.dirty (length old.table) ≡ true → WritesDisk (last_size old.table) before after (Err e) → (new.down ≡ false → new ≡ old)
+    → Costs {T = Idled} Idles old new before after (Err e)
+uncleaned_costs old new before after e goes writes same = record {
+  table = tt;
+  held = tt;
+  disk_writes = tt;
+  most_writes = let most = writes.most in omega (arith, most, back);
+  most_reads = let reads = writes.reads in omega (arith, reads);
+  refused = λ up. same_up Idles old new (same up) up;
+}
+  where
+    back : backs_of Idles old.told old.table ≡ last_size old.table
+    back = ap (λ (b : Bool). if b then last_size old.table else 0) goes
+
+-- it flushes the disk once at most
+pub cleaned_asks : (old new : VolumeState) (before after : State) (result : Result Idled VolumeError) → goes_back old.told.mode old.told.dirty (length old.table) ≡ true → after.counts.disk_flushes ≤ before.counts.disk_flushes + 1 → AsksDevices Idles old old new before after result
+cleaned_asks old new before after result goes most =
+    let one : flushes_of Idles old.told old.table ≡ 1 = ap (λ (b : Bool). if b then 1 else 0) goes in
+    asks_none Idles old new before after result (λ none. none) (λ none. none) (omega (arith, most, one))

@@ -2,11 +2,11 @@
 use Rattle.std.proofs.Common.{◌≡◌, ◌⊎◌, ℕ, zero, suc, ◌+◌, ◌-◌, ◌*◌, ◌/◌, ◌≤◌, ◌<◌, ◌==◌, ◌||◌, nat_le, Bool, true, false, cond, List, [], ◌∷◌, length, map, filter, Some, Ok, Err, Result, inl, inr, refl, sym, ◌∙◌, ap, subst, arith}
 use Rattle.std.proofs.Math.Nat.{div-mul-le_self}
 use Rattle.std.proofs.Math.Path.{fun_ext}
-use Rattle.std.specs.Prelude.{OnOk, is_err}
+use Rattle.std.specs.Prelude.{OnOk, OnErr, is_err}
 use Rattle.std.specs.FinMap.{entries, get}
 use Rattle.std.specs.List.{slice_get}
 use Rattle.std.specs.Option.{is_some}
-use Rattle.std.proofs.lemmas.Bool.{both_ways, or_left, or_right}
+use Rattle.std.proofs.lemmas.Bool.{both_ways, false≢true, or_left, or_right}
 use Rattle.std.proofs.lemmas.Result.{on_ok_weaker}
 use Rattle.ft_base.specs.declared.block.Block.{Block}
 use Rattle.ft_base.specs.declared.block.Place.{Place}
@@ -21,11 +21,12 @@ use Rattle.ft_base.specs.Table.{Table, Waiting, backs_written, is_full, last_siz
 use Rattle.ft_base.specs.Told.{Told}
 use Rattle.ft_base.proofs.Images.{newest_image, with_newest}
 use Rattle.ft_media.specs.Drives.{DrivesFlash}
+use Rattle.ft_media.specs.Passes.{ProgramsPages}
 use Rattle.ft_media.specs.State.{State}
 use Rattle.ft_volume.specs.declared.volume.VolumeError.{VolumeError}
 use Rattle.ft_volume.specs.declared.volume.VolumeError.TheVariants as error
 use Rattle.ft_volume.specs.Opening.{ImageIs, Suits}
-use Rattle.ft_volume.specs.Volume.{Costs, VolumeState, WasDone, Writes, dirty_lbas}
+use Rattle.ft_volume.specs.Volume.{Costs, StaysUp, VolumeState, WasDone, Writes, dirty_lbas, flushes_of, flushes_written}
 use Rattle.ft_volume.specs.Standing.{StandFor}
 use Rattle.ft_volume.specs.Volume as volume
 use Rattle.cache_model.specs.Records.{Entries}
@@ -44,7 +45,7 @@ use Rattle.ssc.specs.declared.error.SscError.TheVariants.{Full, OutOfMemory}
 use Rattle.ssc.specs.Commands.{FullExactly, HoldsWritten, ImagesOfWrite, FlashStandsForWrite, AsUndone, AsLeft, AsWritten}
 use Rattle.ssc.specs.Errors.{stops}
 use Rattle.cached_disk.specs.declared.disk.CachedDisk.{CachedDisk}
-use Rattle.cached_disk.specs.Kept.{IsBeneath, IsDirtyIn, IsHeld, MayUndo, dirty_of, is_down, told_of, waiting_in, WritesDisk}
+use Rattle.cached_disk.specs.Kept.{IsBeneath, IsDirtyIn, IsHeld, MayUndo, dirty_of, is_down, told_of, waiting_in, AsksNoDisk, WritesDisk}
 use Rattle.cached_disk.specs.Kept as kept
 use Rattle.cached_disk.proofs.AddressLemmas.{holds_held, holds_lbas, holds_within, lbas_ascending, lbas_dirty, lbas_in, lbas_with, written_held}
 use Rattle.cached_disk.proofs.CallLemmas.{answered_write, gives_up, refused_same, refused_write}
@@ -53,7 +54,7 @@ use Rattle.cached_disk.proofs.HeldLemmas.{Stays, down_left, drove, held_beneath,
 use Rattle.cached_disk.proofs.StepLemmas.{over_same, vanish_agrees, vanish_dirty, vanish_same, vanish_was, written_agrees, written_dirty-keeps, written_here, written_over, written_was}
 use Rattle.write_back.specs.declared.volume.WriteBack.{WriteBack}
 use Rattle.write_back.specs.Left.{IsExact, IsLeft, IsDirtyTable, out_of_group, state_of}
-use Rattle.write_back.specs.Writing.{HasTableRoom, backs_made, room_made}
+use Rattle.write_back.specs.Writing.{HasTableRoom, backs_made, flushes_made, room_made}
 use Rattle.write_back.proofs.TableLemmas.{map_twice, exact_touched, exact_without, few_exact, few_lbas, full_waiting, length_waiting, not_full_exact, put_waiting, touched_apart, without_apart}
 use Rattle.cached_disk.proofs.ReadLemmas.{on_ok_of}
 
@@ -389,6 +390,10 @@ module _ (v : WriteBack) (k : Ssc) (entries : entries_of k ≡ entries_of v.disk
     exact = λ up. subst (λ (m : Entries). IsExact v.disk.options.geometry.p v.dirty.order (dirty_lbas m)) (sym entries) (left.exact (sym reserved_up ∙ up));
   }
 
+-- two pages were programmed, so one was
+pub programs_one : {T : Type 0} (before after : State) (result : Result T VolumeError) → OnOk result (ProgramsPages 2 before after) → OnOk result (ProgramsPages 1 before after)
+programs_one before after result = on_ok_weaker result (λ two. record { count = two.count; spends = λ on some. let spent = two.spends on some in omega (arith, spent) })
+
 -- room was made for the group of an address, and then its block was written
 module _ (lba : ℕ) (block : Block) (old mid new : VolumeState) (before between after : State) (back : old.told.mode ≡ Back) (told : mid.told ≡ old.told) where
   own_group : lba / mid.told.geometry.p ≡ lba / old.told.geometry.p
@@ -401,16 +406,39 @@ module _ (lba : ℕ) (block : Block) (old mid new : VolumeState) (before between
   backs_back = ap (λ (m : Mode). backs_written m old.told lba old.table) (sym back)
 
   pub costs_then : (result : Result (Unit {0}) VolumeError) → mid.table ≡ room_made old.told.geometry.c (lba / old.told.geometry.p) old.table → ((a : ℕ) → mid.held a ≡ old.held a) → WritesDisk (backs_made old.told.geometry.c (lba / old.told.geometry.p) old.table) before between (Ok tt)
-      → OnOk result (new.table ≡ put_first (lba / mid.told.geometry.p) lba mid.table) → OnOk result (volume.HoldsAfter mid.told (Writes lba block) mid.held new.held) → after.counts.disk_reads ≡ between.counts.disk_reads → after.counts.disk_writes ≡ between.counts.disk_writes
-      → Costs (Writes lba block) old new before after result
-  costs_then result room held backs put holds reads writes = record {
+      → OnOk result (new.table ≡ put_first (lba / mid.told.geometry.p) lba mid.table) → OnOk result (volume.HoldsAfter mid.told (Writes lba block) mid.held new.held) → AsksNoDisk between after
+      → OnErr result (new.down ≡ false → StaysUp (Writes lba block) old new) → Costs (Writes lba block) old new before after result
+  costs_then result room held backs put holds none up = let reads = none.disk_reads in let writes = none.disk_writes in record {
     table = on_ok_weaker result (λ is. is ∙ ap (λ n. put_first n lba mid.table) own_group ∙ ap (λ (t : Table). put_first (lba / old.told.geometry.p) lba t) room ∙ table_back) put;
     held = on_ok_weaker result (λ is. subst (λ (t : Told). volume.HoldsAfter t (Writes lba block) old.held new.held) told (subst (λ (f : ℕ → Bool). volume.HoldsAfter mid.told (Writes lba block) f new.held) (fun_ext held) is)) holds;
     disk_writes = every_ok result (subst (λ (n : ℕ). RoseBy n before.counts.disk_writes after.counts.disk_writes) backs_back (subst (λ (n : ℕ). RoseBy (backs_made old.told.geometry.c (lba / old.told.geometry.p) old.table) before.counts.disk_writes n) (sym writes) backs.exact));
     most_writes = subst (λ (n : ℕ). after.counts.disk_writes ≤ before.counts.disk_writes + n) backs_back (subst (λ (n : ℕ). n ≤ before.counts.disk_writes + backs_made old.told.geometry.c (lba / old.told.geometry.p) old.table) (sym writes) backs.most);
     most_reads = let x = backs.reads in omega (arith, reads, x);
+    refused = up;
   }
     where
       every_ok : {P : Type 0} (r : Result (Unit {0}) VolumeError) → P → OnOk r P
       every_ok (Ok t) p = p
       every_ok (Err e) p = tt
+
+  -- room was made, and no more was changed
+  pub room_up : mid.table ≡ room_made old.told.geometry.c (lba / old.told.geometry.p) old.table → ((a : ℕ) → mid.held a ≡ old.held a) → StaysUp (Writes lba block) old mid
+  room_up room held = record { same = λ no. absurd (false≢true (sym no)); table = by_full (is_full old.told.geometry.c (lba / old.told.geometry.p) old.table) room; held = λ a. inl (held a) }
+    where
+      by_full : (full : Bool) → mid.table ≡ cond full (without_last old.table) old.table → (mid.table ≡ old.table) ⊎ (mid.table ≡ without_last old.table)
+      by_full true is = inr is
+      by_full false is = inl is
+
+  -- no room was made
+  pub costs_refused : (e : VolumeError) → WritesDisk (backs_made old.told.geometry.c (lba / old.told.geometry.p) old.table) before after (Err e) → (new.down ≡ false → StaysUp (Writes lba block) old new) → Costs {T = Unit {0}} (Writes lba block) old new before after (Err e)
+  costs_refused e backs up = record {
+    table = tt;
+    held = tt;
+    disk_writes = tt;
+    most_writes = subst (λ (n : ℕ). after.counts.disk_writes ≤ before.counts.disk_writes + n) backs_back backs.most;
+    most_reads = let x = backs.reads in omega (arith, x);
+    refused = up;
+  }
+
+  pub flushes_back : flushes_made old.told.geometry.c (lba / old.told.geometry.p) old.table ≡ flushes_of (Writes lba block) old.told old.table
+  flushes_back = ap (λ (m : Mode). flushes_written m old.told lba old.table) (sym back)

@@ -1,7 +1,13 @@
 -- How room is made in the table for a group that is written.
-use Rattle.std.specs.Prelude.{◌≡◌, ◌⊎◌, ◌<◌, ℕ, true, length, if◌then◌else◌}
+use Rattle.std.specs.Prelude.{◌≡◌, ◌⊎◌, ◌<◌, ◌≤◌, ℕ, true, length, if◌then◌else◌, Result, OnOk}
 use Rattle.ft_base.specs.Table.{Table, is_full, last_size, without_last}
+use Rattle.ft_media.specs.Media.{program_counted}
+use Rattle.ft_media.specs.Passes.{ProgramsPages}
+use Rattle.ft_media.specs.State.{State}
+use Rattle.ft_volume.specs.declared.volume.VolumeError.{VolumeError}
 use Rattle.dirty_table.specs.Groups.{Groups, has}
+use Rattle.ssc.specs.declared.cache.Ssc.{Ssc}
+use Rattle.ssc.specs.CacheState.{log_room, open_room}
 
 -- the group is in the table, or there is room for it
 abbrev pub HasTableRoom : Groups → ℕ → Type 0
@@ -14,3 +20,12 @@ room_made c group t = if is_full c group t then without_last t else t
 -- the blocks that go to the disk for that
 abbrev pub backs_made : ℕ → ℕ → Table → ℕ
 backs_made c group t = if is_full c group t then last_size t else 0
+
+-- and the flushes of the disk
+abbrev pub flushes_made : ℕ → ℕ → Table → ℕ
+flushes_made c group t = if is_full c group t then 1 else 0
+
+-- once a block was put there: two pages at least were programmed, and just two where the open log block and the log had room
+pub record CostsBlock (old : Ssc) (before after : State) (result : Result (Unit {0}) VolumeError) : Type 0 where
+  pub two_programs : OnOk result (1 ≤ open_room old → 1 ≤ log_room old → after.counts ≡ program_counted (program_counted before.counts))
+  pub programs : OnOk result (ProgramsPages 2 before after)

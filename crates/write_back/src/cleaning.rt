@@ -1,4 +1,4 @@
-ghost use Rattle.std.specs.Prelude.{◌≡◌, ◌<◌, ◌==◌, ◌*◌, ℕ, true, false, not, ◌&&◌, length, OnOk, OnErr, IfOk};
+ghost use Rattle.std.specs.Prelude.{◌≡◌, ◌<◌, ◌≤◌, ◌==◌, ◌+◌, ◌*◌, ℕ, true, false, not, ◌&&◌, length, OnOk, OnErr, IfOk};
 ghost use Rattle.ft_base.specs.Contents.{Contents};
 ghost use Rattle.ft_base.specs.declared.told.Mode.TheVariants.{Back};
 ghost use Rattle.cached_disk.specs.Kept.{MayServe, dirty_of};
@@ -26,7 +26,8 @@ pub(crate) fn write_group_back<M: Media>(
     ensures proceeds { Proceeds (length (in_group disk.old.options.geometry.p group (dirty_of disk.old))) disk.old disk.new
         (M.state media.old) (M.state media.new) result }
     ensures cleaned { OnOk result (dirty_of disk.new ≡ out_of_group disk.old.options.geometry.p group (dirty_of disk.old)) }
-    ensures dirty { OnErr result (kept.is_down disk.new ≡ false → dirty_of disk.new ≡ dirty_of disk.old) }
+    ensures same { OnErr result (kept.is_down disk.new ≡ false → disk.new ≡ disk.old) }
+    ensures flushes { (M.state media.new).counts.disk_flushes ≤ (M.state media.old).counts.disk_flushes + 1 }
 {
     let Ok(lbas) = dirty_in_group(disk, group) else {
         return Err(VolumeError::OutOfMemory);
@@ -66,6 +67,7 @@ fn copy_blocks<M: Media>(
     ensures proceeds { Proceeds (length lbas.now) disk.old disk.new (M.state media.old) (M.state media.new) result }
     ensures same { disk.new ≡ record disk.old { down = disk.new.down } }
     ensures copied { OnOk result ((a : ℕ) → is_among lbas.now a ≡ true → IsOnDisk disk.new (M.state media.new).contents a) }
+    ensures flushes { (M.state media.new).counts.disk_flushes ≡ (M.state media.old).counts.disk_flushes }
 {
     let mut block = zero_block();
     for &lba in lbas {
@@ -91,6 +93,7 @@ fn copy_block<M: Media>(
     ensures copied { OnOk result (IsOnDisk disk.new (M.state media.new).contents lba) }
     ensures others { OnOk result ((a : ℕ) → IsOnDisk disk.old (M.state media.old).contents a
         → IsOnDisk disk.new (M.state media.new).contents a) }
+    ensures flushes { (M.state media.new).counts.disk_flushes ≡ (M.state media.old).counts.disk_flushes }
 {
     if let Err(error) = disk.cache.read(media, lba, block) {
         disk.down = true;
@@ -118,6 +121,7 @@ fn flush_copies<M: Media>(disk: &mut CachedDisk, media: &mut M) -> Result<(), Vo
     ensures copied { OnOk result ((a : ℕ) → IsOnDisk disk.old (M.state media.old).contents a
         → IsOnDisk disk.new (M.state media.new).contents a) }
     ensures refused { OnErr result (kept.is_down disk.new ≡ true) }
+    ensures flushes { (M.state media.new).counts.disk_flushes ≤ (M.state media.old).counts.disk_flushes + 1 }
 {
     match media.flush_disk() {
         Ok(()) => Ok(()),
@@ -143,6 +147,7 @@ fn clean_blocks<M: Media>(
     ensures cleaned { OnOk result ((a : ℕ) → is_among (dirty_of disk.new)
         a ≡ (is_among (dirty_of disk.old) a && not (is_among lbas.now a))) }
     ensures refused { OnErr result (kept.is_down disk.new ≡ true) }
+    ensures flushes { (M.state media.new).counts.disk_flushes ≡ (M.state media.old).counts.disk_flushes }
 {
     for &lba in lbas {
         clean_block(disk, media, lba)?;
@@ -163,6 +168,7 @@ fn clean_block<M: Media>(disk: &mut CachedDisk, media: &mut M, lba: u64) -> Resu
     ensures copied { OnOk result ((a : ℕ) → IsOnDisk disk.old (M.state media.old).contents a
         → IsOnDisk disk.new (M.state media.new).contents a) }
     ensures refused { OnErr result (kept.is_down disk.new ≡ true) }
+    ensures disk_flushes { (M.state media.new).counts.disk_flushes ≡ (M.state media.old).counts.disk_flushes }
 {
     match disk.cache.clean(media, lba) {
         Ok(()) => Ok(()),

@@ -2,7 +2,7 @@ ghost use Rattle.std.specs.Prelude.{◌≡◌, length, false, OnOk, IfOk};
 ghost use Rattle.ft_base.specs.declared.told.Mode.TheVariants.{Back};
 ghost use Rattle.ft_base.specs.PlainDisk.{PlainDisk};
 ghost use Rattle.ft_volume.specs.Opening.{Creates, ImageIs, IsOpened, MayOpen, OpensVolume, nothing_held};
-ghost use Rattle.ft_volume.specs.Volume.{ComesUp, Costs, Idles, WasDone, idled_of, told_for};
+ghost use Rattle.ft_volume.specs.Volume.{AsksDevices, ComesUp, Costs, Idles, IsCheckpointed, WasDone, idled_of, told_for};
 ghost use Rattle.ft_volume.specs.Standing.{StandFor};
 ghost use Rattle.op_log.specs.Log.{FitsOn};
 ghost use Rattle.ssc.specs.CacheState.{entries_of};
@@ -79,6 +79,7 @@ impl WriteBack {
         ensures made { IsMadeAs self.old.disk self.new.disk }
         ensures comes { ComesUp ImageIs Loads (state_of self.old) (state_of self.new) (M.state media.old) (M.state media.new) result }
         ensures up { OnOk result (kept.is_down self.new.disk ≡ false) }
+        ensures same { kept.is_down self.old.disk ≡ false → (self.new ≡ self.old) × (M.state media.new ≡ M.state media.old) }
     {
         if !self.disk.is_down() {
             return Ok(());
@@ -107,8 +108,13 @@ impl WriteBack {
         ensures was { (base : PlainDisk) → StandFor (ImageIs (state_of self.old).told) (M.state media.old).contents base
             → WasDone ImageIs Idles (state_of self.old) (state_of self.new) (M.state media.new).contents result base }
         ensures costs { Costs Idles (state_of self.old) (state_of self.new) (M.state media.old) (M.state media.new) result }
+        ensures asks { AsksDevices Idles (state_of self.old) (state_of self.old) (state_of self.new) (M.state media.old)
+            (M.state media.new) result }
         ensures idled { IfOk result (λ idled. idled ≡ idled_of (state_of self.old).told (length (state_of self.old).table)
             (state_of self.old).log_room) }
+        ensures checkpoint { IfOk result (λ idled. idled ≡ Idled.Checkpointed → IsCheckpointed (state_of self.new)) }
+        ensures nothing { IfOk result (λ idled. idled ≡ Idled.Nothing
+            → (self.new ≡ self.old) × (M.state media.new ≡ M.state media.old)) }
     {
         if self.dirty.len() <= self.disk.options.dirty {
             return self.disk.checkpoint_if_due(media);
@@ -122,6 +128,7 @@ impl WriteBack {
 
 impl<R: Rig> Volume<R> for WriteBack {
     ghost use Rattle.std.specs.Prelude.{refl};
+    ghost use Rattle.cached_disk.proofs.ReportLemmas.{held_by};
 
     ghost state = { λ v. left.state_of v };
 
@@ -136,6 +143,8 @@ impl<R: Rig> Volume<R> for WriteBack {
     ghost write_owes_nothing = { λ v contents owned at_write. refl };
 
     ghost can_be_loaded = { λ v contents owned. (owned.disk.beneath.flash.loaded, owned.disk.beneath.flash.loads) };
+
+    ghost flash_has_all = { λ v contents owned up none m has. held_by v.disk contents owned.disk up none m has };
 
     fn size(&self) -> u64 {
         self.disk.options.geometry.size()

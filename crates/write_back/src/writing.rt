@@ -1,14 +1,14 @@
-ghost use Rattle.std.specs.Prelude.{◌≡◌, ◌<◌, ◌/◌, ℕ, length, true, false, OnOk};
+ghost use Rattle.std.specs.Prelude.{◌≡◌, ◌<◌, ◌≤◌, ◌+◌, ◌/◌, ℕ, length, true, false, OnOk, OnErr};
 ghost use Rattle.ft_base.specs.PlainDisk.{PlainDisk};
-ghost use Rattle.ft_base.specs.Table.{last_size, put_first, without_last};
+ghost use Rattle.ft_base.specs.Table.{is_full, last_size, put_first, without_last};
 ghost use Rattle.ft_media.specs.Passes.{ProgramsPages};
 ghost use Rattle.ft_volume.specs.Opening.{ImageIs, KeepsPlainDisk};
-ghost use Rattle.ft_volume.specs.Volume.{Costs, HoldsAfter, WasDone, Writes};
+ghost use Rattle.ft_volume.specs.Volume.{AsksDevices, Costs, HoldsAfter, WasDone, Writes};
 ghost use Rattle.ft_volume.specs.Standing.{StandFor};
 ghost use Rattle.cached_disk.specs.Kept as kept;
-ghost use Rattle.cached_disk.specs.Kept.{WritesDisk};
+ghost use Rattle.cached_disk.specs.Kept.{AsksNoDisk, WritesDisk};
 ghost use Rattle.write_back.specs.Left.{IsLeft, MayWrite, Steps, state_of};
-ghost use Rattle.write_back.specs.Writing.{HasTableRoom, backs_made, room_made};
+ghost use Rattle.write_back.specs.Writing.{CostsBlock, HasTableRoom, backs_made, flushes_made, room_made};
 
 use crate::WriteBack;
 use crate::cleaning::write_group_back;
@@ -32,6 +32,8 @@ impl WriteBack {
             → WasDone ImageIs (Writes lba block.now) (state_of self.old) (state_of self.new) (M.state media.new).contents result base }
         ensures costs { Costs (Writes lba block.now) (state_of self.old) (state_of self.new) (M.state media.old) (M.state media.new)
             result }
+        ensures asks { AsksDevices (Writes lba block.now) (state_of self.old) (state_of self.old) (state_of self.new) (M.state media.old)
+            (M.state media.new) result }
         ensures programs { OnOk result (ProgramsPages 1 (M.state media.old) (M.state media.new)) }
     {
         let group = lba / self.disk.options.geometry.p() as u64;
@@ -57,6 +59,11 @@ impl WriteBack {
         ensures ready { self.new.disk.cache.ready ≡ self.old.disk.cache.ready }
         ensures writes { WritesDisk (backs_made self.old.disk.options.geometry.c group (state_of self.old).table) (M.state media.old)
             (M.state media.new) result }
+        ensures flushes { (M.state media.new).counts.disk_flushes ≤ (M.state media.old).counts.disk_flushes
+            + flushes_made self.old.disk.options.geometry.c group (state_of self.old).table }
+        ensures same { OnErr result (kept.is_down self.new.disk ≡ false → self.new ≡ self.old) }
+        ensures there { is_full self.old.disk.options.geometry.c group (state_of self.old).table ≡ false
+            → (self.new ≡ self.old) × (M.state media.new ≡ M.state media.old) }
     {
         if self.dirty.has(group) {
             return Ok(());
@@ -78,6 +85,8 @@ impl WriteBack {
         ensures held { kept.is_down self.new.disk ≡ false → (a : ℕ) → (state_of self.new).held a ≡ (state_of self.old).held a }
         ensures ready { self.new.disk.cache.ready ≡ self.old.disk.cache.ready }
         ensures writes { WritesDisk (last_size (state_of self.old).table) (M.state media.old) (M.state media.new) result }
+        ensures flushes { (M.state media.new).counts.disk_flushes ≤ (M.state media.old).counts.disk_flushes + 1 }
+        ensures same { OnErr result (kept.is_down self.new.disk ≡ false → self.new ≡ self.old) }
     {
         let Some(group) = self.dirty.oldest() else {
             unreachable!()
@@ -109,9 +118,9 @@ impl WriteBack {
             (state_of self.old).table) }
         ensures held { OnOk result (HoldsAfter (state_of self.old).told (Writes lba block.now) (state_of self.old).held
             (state_of self.new).held) }
-        ensures disk_reads { (M.state media.new).counts.disk_reads ≡ (M.state media.old).counts.disk_reads }
-        ensures disk_writes { (M.state media.new).counts.disk_writes ≡ (M.state media.old).counts.disk_writes }
-        ensures programs { OnOk result (ProgramsPages 1 (M.state media.old) (M.state media.new)) }
+        ensures no_disk { AsksNoDisk (M.state media.old) (M.state media.new) }
+        ensures costs { CostsBlock self.old.disk.cache (M.state media.old) (M.state media.new) result }
+        ensures same { OnErr result (kept.is_down self.new.disk ≡ false → self.new ≡ self.old) }
     {
         let group = lba / self.disk.options.geometry.p() as u64;
         if self.dirty.touch(group).is_err() {

@@ -66,6 +66,7 @@ impl WriteThrough {
         ensures made { IsMadeAs self.old.disk self.new.disk }
         ensures comes { ComesUp ImageIs Loads (state_of self.old) (state_of self.new) (M.state media.old) (M.state media.new) result }
         ensures up { OnOk result (kept.is_down self.new.disk ≡ false) }
+        ensures same { kept.is_down self.old.disk ≡ false → (self.new ≡ self.old) × (M.state media.new ≡ M.state media.old) }
     {
         self.disk.bring_up(media)
     }
@@ -73,6 +74,7 @@ impl WriteThrough {
 
 impl<R: Rig> Volume<R> for WriteThrough {
     ghost use Rattle.std.specs.Prelude.{refl};
+    ghost use Rattle.cached_disk.proofs.ReportLemmas.{held_by};
 
     ghost state = { λ v. left.state_of v };
 
@@ -87,6 +89,8 @@ impl<R: Rig> Volume<R> for WriteThrough {
     ghost write_owes_nothing = { λ v contents owned at_write. refl };
 
     ghost can_be_loaded = { λ v contents owned. (owned.disk.beneath.flash.loaded, owned.disk.beneath.flash.loads) };
+
+    ghost flash_has_all = { λ v contents owned up none m has. held_by v.disk contents owned.disk up none m has };
 
     fn size(&self) -> u64 {
         self.disk.options.geometry.size()

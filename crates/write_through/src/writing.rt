@@ -7,9 +7,9 @@ ghost use Rattle.ft_media.specs.Media.{Crashed, DiskCause, FlashStays, after_wri
 ghost use Rattle.ft_media.specs.Passes.{Passes, ProgramsPages};
 ghost use Rattle.ft_media.specs.State.{failed, lost};
 ghost use Rattle.ft_volume.specs.Opening.{ImageIs, KeepsPlainDisk};
-ghost use Rattle.ft_volume.specs.Volume.{Costs, FaultDowns, HoldsAfter, WasDone, Writes};
+ghost use Rattle.ft_volume.specs.Volume.{AsksDevices, Costs, FaultDowns, HoldsAfter, WasDone, Writes};
 ghost use Rattle.ft_volume.specs.Standing.{StandFor};
-ghost use Rattle.cached_disk.specs.Kept.{IsMadeAs, WritesDisk};
+ghost use Rattle.cached_disk.specs.Kept.{AsksNoDisk, IsMadeAs, WritesDisk};
 ghost use Rattle.cached_disk.specs.Kept as kept;
 ghost use Rattle.write_through.specs.Left.{IsLeft, MayWrite, Steps, state_of};
 
@@ -37,6 +37,8 @@ impl WriteThrough {
         ensures faulted { FaultDowns result (kept.is_down self.new.disk) }
         ensures costs { Costs (Writes lba block.now) (state_of self.old) (state_of self.new) (M.state media.old) (M.state media.new)
             result }
+        ensures asks { AsksDevices (Writes lba block.now) (state_of self.old) (state_of self.old) (state_of self.new) (M.state media.old)
+            (M.state media.new) result }
         ensures programs { OnOk result (ProgramsPages 1 (M.state media.old) (M.state media.new)) }
     {
         self.reserve()?;
@@ -69,8 +71,7 @@ impl WriteThrough {
         ensures made { IsMadeAs self.old.disk self.new.disk }
         ensures ready { self.new.disk.cache.ready ≡ self.old.disk.cache.ready }
         ensures refused { OnErr result (kept.is_down self.new.disk ≡ true) }
-        ensures disk_reads { (M.state media.new).counts.disk_reads ≡ (M.state media.old).counts.disk_reads }
-        ensures disk_writes { (M.state media.new).counts.disk_writes ≡ (M.state media.old).counts.disk_writes }
+        ensures no_disk { AsksNoDisk (M.state media.old) (M.state media.new) }
     {
         match self.disk.cache.evict(media, lba) {
             Ok(()) => Ok(()),
@@ -98,6 +99,8 @@ impl WriteThrough {
         ensures made { IsMadeAs self.old.disk self.new.disk }
         ensures faulted { FaultDowns result (kept.is_down self.new.disk) }
         ensures writes { WritesDisk 1 (M.state media.old) (M.state media.new) result }
+        ensures flushes { (M.state media.new).counts.disk_flushes ≤ (M.state media.old).counts.disk_flushes + 1 }
+        ensures same { OnErr result (kept.is_down self.new.disk ≡ false → self.new ≡ self.old) }
     {
         match put_block(media, lba, block) {
             Ok(()) => Ok(()),
@@ -129,8 +132,7 @@ impl WriteThrough {
         ensures held { OnOk result (HoldsAfter (state_of self.old).told (Writes lba block.now) (state_of self.old).held
             (state_of self.new).held) }
         ensures refused { OnErr result (kept.is_down self.new.disk ≡ true) }
-        ensures disk_reads { (M.state media.new).counts.disk_reads ≡ (M.state media.old).counts.disk_reads }
-        ensures disk_writes { (M.state media.new).counts.disk_writes ≡ (M.state media.old).counts.disk_writes }
+        ensures no_disk { AsksNoDisk (M.state media.old) (M.state media.new) }
         ensures programs { OnOk result (ProgramsPages 1 (M.state media.old) (M.state media.new)) }
         ensures memory { IsErrOf result VolumeError.OutOfMemory → ⊥ }
     {
@@ -155,6 +157,7 @@ fn put_block<M: Media>(media: &mut M, lba: u64, block: &Block) -> Result<(), Med
     ensures reads { (M.state media.new).counts.disk_reads ≡ (M.state media.old).counts.disk_reads }
     ensures writes { OnOk result (RoseBy 1 (M.state media.old).counts.disk_writes (M.state media.new).counts.disk_writes) }
     ensures most { (M.state media.new).counts.disk_writes ≤ (M.state media.old).counts.disk_writes + 1 }
+    ensures flushes { (M.state media.new).counts.disk_flushes ≤ (M.state media.old).counts.disk_flushes + 1 }
     ensures cause { DiskCause (M.state media.old).faults (M.state media.new).faults (failed result) (lost result) }
     ensures passes { Passes (M.state media.old) (M.state media.new) (lost result) }
 {

@@ -12,6 +12,7 @@ loop-lba-init g c = record {
   flushed = c.requires.flushed;
   copied = c.requires.copied;
   cleaned = λ a. none_cleaned (is_among (dirty_of c.args.disk.now) a);
+  flushes = refl;
 }
 
 pub clean_block-requires : goal.clean_block-requires
@@ -35,6 +36,7 @@ returns-in_err-clean_block g c =
           0 c.in_err-clean_block.field-0.0 _ (omega arith) (search rules) c.in_err-clean_block.ensures.proceeds;
       cleaned = search rules;
       refused = search rules;
+      flushes = c.clean_block.ensures.disk_flushes ∙ is.flushes;
     }
 
 pub loop-lba-preserved : goal.loop-lba-preserved
@@ -52,6 +54,7 @@ loop-lba-preserved g c =
           ∙ ap (λ (b : Bool). b && not (lba == a)) (is.cleaned a)
           ∙ without_more (is_among (dirty_of c.args.disk.now) a) (is_among (take i c.args.lbas.now) a) (lba == a)
           ∙ ap (λ (b : Bool). is_among (dirty_of c.args.disk.now) a && not b) (sym (among_next c.args.lbas.now i a c.loop-lba-test.true));
+      flushes = c.clean_block.ensures.disk_flushes ∙ is.flushes;
     }
 
 pub returns : goal.returns
@@ -62,4 +65,5 @@ returns g c =
       proceeds = is.proceeds;
       cleaned = λ a. is.cleaned a ∙ ap (λ (b : Bool). is_among (dirty_of c.args.disk.now) a && not b) (among_whole c.args.lbas.now c.loop-lba.lba-index a end);
       refused = tt;
+      flushes = is.flushes;
     }

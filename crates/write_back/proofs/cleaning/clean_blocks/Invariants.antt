@@ -11,4 +11,5 @@ invariant-loop-lba g l =
       flushed : IsFlushed now.contents;
       copied : (a : ℕ) → is_among l.lbas a ≡ true → IsOnDisk l.disk now.contents a;
       cleaned : (a : ℕ) → is_among (dirty_of l.disk) a ≡ (is_among (dirty_of l.fn.disk) a && not (is_among (take l.lba-index l.lbas) a));
+      flushes : now.counts.disk_flushes ≡ (g.M.Media.state l.fn.media).counts.disk_flushes;
     }

@@ -1,6 +1,8 @@
 use Rattle.std.proofs.Common.{◌<◌, ◌∙◌, true, Err, sym, subst, arith, ap}
 use Rattle.ft_base.specs.declared.geometry.Geometry.{Geometry}
 use Rattle.ft_base.specs.Contents.{Contents}
+use Rattle.ft_media.specs.State.{State}
+use Rattle.ft_media.specs.declared.rig.Counts.{Counts}
 use Rattle.ft_volume.specs.declared.volume.VolumeError.{VolumeError}
 use Rattle.ssc.specs.declared.cache.Ssc.{Ssc}
 use Rattle.cached_disk.proofs.HeldLemmas.{is_up}
@@ -35,6 +37,15 @@ returns-in-Ok-clause-proceeds g c =
     (g.M.Media.state c.write_block.new.self) c.args.lba c.requires.dirty c.in_default.field-0 c.read.new.block c.in_default.ensures.found e.values e.ok
     (record { flash = e.flash; cause = e.cause; device = e.device; passes = e.passes }) e.counts
 
+pub returns-in-Err-clause-flushes : goal.returns-in-Err-clause-flushes
+returns-in-Err-clause-flushes g c = ap (λ (x : Counts). x.disk_flushes) c.read.ensures.reads.counts
+
+pub returns-in-Ok-clause-flushes : goal.returns-in-Ok-clause-flushes
+returns-in-Ok-clause-flushes g c = ap (λ (x : Counts). x.disk_flushes) c.in-Ok.ensures.counts ∙ ap (λ (x : Counts). x.disk_flushes) c.read.ensures.reads.counts
+
+pub returns-in-OutOfMemory-clause-flushes : goal.returns-in-OutOfMemory-clause-flushes
+returns-in-OutOfMemory-clause-flushes g c = ap (λ (s : State). s.counts.disk_flushes) (c.write_block.ensures.memory (c.in-Err-write_block.is ∙ ap Err c.in-OutOfMemory.is)) ∙ ap (λ (x : Counts). x.disk_flushes) c.read.ensures.reads.counts
+
 pub returns-in-Ok-clause-copied : goal.returns-in-Ok-clause-copied
 returns-in-Ok-clause-copied g c =
     let e = c.in-Ok.ensures in
@@ -65,4 +76,5 @@ returns-in_default-error g c =
       same = ap (λ (k : Ssc). record c.args.disk.now { cache = k; down = true }) c.read.ensures.same;
       copied = tt;
       others = tt;
+      flushes = ap (λ (x : Counts). x.disk_flushes) e.counts ∙ ap (λ (x : Counts). x.disk_flushes) c.read.ensures.reads.counts;
     }

@@ -1,4 +1,4 @@
-use Rattle.std.proofs.Common.{◌≡◌, [], ℕ, ◌+◌, true, Ok, get_or, length, refl, rules, sym, subst, arith}
+use Rattle.std.proofs.Common.{◌≡◌, [], ℕ, ◌+◌, true, Ok, get_or, length, refl, rules, sym, ◌∙◌, subst, arith}
 use Rattle.cached_disk.specs.declared.disk.CachedDisk.{CachedDisk}
 use Rattle.cached_disk.specs.Kept.{dirty_of}
 use Rattle.write_back.specs.Cleaning.{IsOnDisk, Proceeds, is_among}
@@ -11,6 +11,7 @@ loop-lba-init g c = record {
   proceeds = proceeds_none c.args.disk.now (g.M.Media.state c.args.media.now) c.requires.may.up c.requires.may.left;
   same = refl;
   copied = λ a among. absurd (cc);
+  flushes = refl;
 }
 
 pub copy_block-requires : goal.copy_block-requires
@@ -31,6 +32,7 @@ returns-in_err-copy_block g c =
           (length c.args.lbas.now) c.in_err-copy_block.field-0.0 _ (omega (arith, below)) (search rules) c.in_err-copy_block.ensures.proceeds;
       same = same_then c.args.disk.now c.loop-lba.disk c.copy_block.new.disk is.same c.copy_block.ensures.same;
       copied = search rules;
+      flushes = c.copy_block.ensures.flushes ∙ is.flushes;
     }
 
 pub loop-lba-preserved : goal.loop-lba-preserved
@@ -42,6 +44,7 @@ loop-lba-preserved g c =
       proceeds = proceeds_then c.args.disk.now c.loop-lba.disk c.copy_block.new.disk (g.M.Media.state c.args.media.now) (g.M.Media.state c.loop-lba.media) (g.M.Media.state c.copy_block.new.media) i 1 is.proceeds (i + 1) (Ok tt) refl e.proceeds;
       same = same_then c.args.disk.now c.loop-lba.disk c.copy_block.new.disk is.same c.copy_block.ensures.same;
       copied = among_more c.args.lbas.now i c.loop-lba-test.true (λ a. IsOnDisk c.copy_block.new.disk (g.M.Media.state c.copy_block.new.media).contents a) (λ a among. e.others a (is.copied a among)) e.copied;
+      flushes = c.copy_block.ensures.flushes ∙ is.flushes;
     }
 
 pub returns : goal.returns
@@ -52,4 +55,5 @@ returns g c =
       proceeds = subst (λ (n : ℕ). Proceeds n c.args.disk.now c.loop-lba.disk (g.M.Media.state c.args.media.now) (g.M.Media.state c.loop-lba.media) (Ok tt)) end is.proceeds;
       same = is.same;
       copied = λ a among. is.copied a (among_all c.args.lbas.now c.loop-lba.lba-index a end among);
+      flushes = is.flushes;
     }

@@ -9,4 +9,5 @@ invariant-loop-lba g l =
       proceeds : Proceeds l.lba-index l.fn.disk l.disk (g.M.Media.state l.fn.media) now (Ok tt);
       same : l.disk ≡ record l.fn.disk { down = l.disk.down };
       copied : (a : ℕ) → is_among (take l.lba-index l.lbas) a ≡ true → IsOnDisk l.disk now.contents a;
+      flushes : now.counts.disk_flushes ≡ (g.M.Media.state l.fn.media).counts.disk_flushes;
     }

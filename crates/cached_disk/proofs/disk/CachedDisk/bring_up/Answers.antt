@@ -1,6 +1,7 @@
-use Rattle.std.proofs.Common.{◌≡◌, refl, rules, sym, subst, false, true}
+use Rattle.std.proofs.Common.{◌≡◌, refl, rules, sym, subst, false, true, ap, arith}
 use Rattle.std.proofs.lemmas.Bool.{both_ways}
 use Rattle.ft_base.specs.Contents.{Shape}
+use Rattle.ft_volume.specs.Volume.{opening_flushes}
 use Rattle.op_log.specs.Log.{FitsOn}
 use Rattle.cached_disk.specs.declared.disk.CachedDisk.{CachedDisk}
 use Rattle.cached_disk.specs.Kept.{is_down, told_of}
@@ -21,6 +22,7 @@ returns-then-not-is_down-clause-reopens g c =
       refused = tt;
       disk_reads = refl;
       disk_writes = refl;
+      disk_flushes = omega arith;
       fixed = one_held v (g.M.Media.state c.args.media.now).contents c.requires.held c.requires.own (c.requires.up up);
       ready = λ b there. there;
       within = search rules;
@@ -50,6 +52,7 @@ returns-in-Ok-clause-reopens g c =
       refused = tt;
       disk_reads = search rules;
       disk_writes = search rules;
+      disk_flushes = let most = c.in-Ok.ensures.opening.goes.disk_flushes in let one : opening_flushes (is_down v) ≡ 1 = ap opening_flushes down in omega (arith, most, one);
       fixed = one_left (told_of v) old new c.in-Ok.ensures.opening.opens.lists c.in-Ok.ensures.opening.opens.values (alone_now w old new c.requires.list c.in-Ok.ensures.opened c.in-Ok.ensures.opening.opens c.requires.beneath.flash);
       ready = c.in-Ok.ensures.opening.goes.ready;
       within = search rules;
@@ -72,6 +75,7 @@ returns-in-Err-clause-reopens g c =
       refused = (down, down);
       disk_reads = search rules;
       disk_writes = search rules;
+      disk_flushes = let most = c.in-Err.ensures.opening.goes.disk_flushes in let one : opening_flushes (is_down v) ≡ 1 = ap opening_flushes down in omega (arith, most, one);
       fixed = refused_fixed (told_of v) (g.M.Media.state c.args.media.now).contents (g.M.Media.state c.open_cache.new.media).contents c.in-Err.error c.open_error.result c.open_error.ensures c.in-Err.ensures.opening.opens;
       ready = tt;
       within = search rules;

@@ -1,17 +1,20 @@
-use Rattle.std.proofs.Common.{◌≡◌, Err, ◌*◌, ◌<◌, ◌≤◌, ◌^◌, length, refl, rules, sym, ◌∙◌, ap}
+use Rattle.std.proofs.Common.{◌≡◌, Ok, Err, ◌-◌, ◌*◌, ◌<◌, ◌≤◌, ◌^◌, length, refl, rules, sym, ◌∙◌, ap, arith}
 use Rattle.std.proofs.lemmas.List.{length-map}
 use Rattle.ft_base.proofs.Images.{newest_image, with_newest}
+use Rattle.ft_base.specs.Layout.{log_pages}
+use Rattle.ft_base.specs.declared.geometry.Geometry.{Geometry}
 use Rattle.ft_volume.specs.Volume.{Idles}
 use Rattle.ft_volume.specs.declared.volume.Idled.{Idled}
-use Rattle.ft_volume.specs.declared.volume.Idled.TheVariants.{Checkpointed}
+use Rattle.ft_volume.specs.declared.volume.Idled.TheVariants.{Checkpointed, Nothing}
 use Rattle.ssc.specs.declared.error.SscError.TheVariants.{OutOfMemory}
 use Rattle.ssc.specs.CacheState.{geometry_of, log_room, pending}
 use Rattle.ssc.specs.Errors.{ssc_failed, ssc_lost}
 use Rattle.cached_disk.specs.declared.disk.CachedDisk.{CachedDisk}
 use Rattle.cached_disk.specs.Kept.{dirty_of, state_in, told_of, waiting_in}
 use Rattle.cached_disk.proofs.AddressLemmas.{holds_held}
-use Rattle.cached_disk.proofs.CallLemmas.{answered_same, gives_up, goes_down, goes_driven, idle_same, refused_same, same_costs}
+use Rattle.cached_disk.proofs.CallLemmas.{answered_same, asks_none, gives_up, goes_down, goes_driven, idle_same, none_up, refused_costs, refused_same, same_costs}
 use Rattle.cached_disk.proofs.HeldLemmas.{is_up, stopped_down}
+use Rattle.cached_disk.proofs.OpenLemmas.{less_none}
 use Rattle.cached_disk.proofs.ReportLemmas.{goes_at}
 use Rattle.cached_disk.proofs.ReadLemmas.{commit_shows, done_dirty, done_left, done_stands, drove_held, due, may_none, not_due, refused_left, refused_stands, room_fits, shows_itself, still_up}
 use Rattle.cached_disk.proofs.disk.CachedDisk.checkpoint_if_due.Goals as goal
@@ -71,6 +74,47 @@ returns-in-Ok-clause-costs g c = λ order none.
     same_costs Checkpointed Idles (state_in order v) (state_in order w) (g.M.Media.state c.args.media.now) (g.M.Media.state c.checkpoint.new.media) (λ a own. own) idle.1
     (ap (waiting_in v.options.geometry.p order) (done_dirty v c.checkpoint.new.self old new s by s (shows_itself v old s is) holds (λ a dirty. dirty) (λ a dirty. dirty)) ∙ sym idle.0)
     (λ a. holds_held c.checkpoint.new.self new s holds a ∙ sym (holds_held v.cache old s is.holds a)) c.checkpoint.ensures.runs.drives.disk_reads c.checkpoint.ensures.runs.drives.disk_writes
+
+pub returns-then-log_room-j-clause-asks : goal.returns-then-log_room-j-clause-asks
+returns-then-log_room-j-clause-asks g c = λ order.
+    let v = c.args.self.now in
+    asks_none Idles (state_in order v) (state_in order v) (g.M.Media.state c.args.media.now) (g.M.Media.state c.args.media.now) (Ok Nothing) (λ none. none) (λ none. none) (omega arith)
+
+pub returns-then-log_room-j-clause-checkpoint : goal.returns-then-log_room-j-clause-checkpoint
+returns-then-log_room-j-clause-checkpoint g c = λ order is. absurd (cc)
+
+pub returns-in-Ok-clause-asks : goal.returns-in-Ok-clause-asks
+returns-in-Ok-clause-asks g c = λ order.
+    let v = c.args.self.now in
+    let w : CachedDisk = record v { cache = c.checkpoint.new.self } in
+    let same = c.checkpoint.ensures.runs.drives.disk_flushes in
+    asks_none Idles (state_in order v) (state_in order w) (g.M.Media.state c.args.media.now) (g.M.Media.state c.checkpoint.new.media) (Ok Checkpointed) (λ none. none) (λ none. none) (omega (arith, same))
+
+pub returns-in-Ok-clause-checkpoint : goal.returns-in-Ok-clause-checkpoint
+returns-in-Ok-clause-checkpoint g c = λ order is.
+    let v = c.args.self.now in
+    let own : geometry_of c.checkpoint.new.self ≡ v.options.geometry = c.checkpoint.ensures.runs.geometry ∙ c.requires.may.left.own in
+    record {
+      log = ap (λ (k : Geometry). log_pages k - c.checkpoint.new.self.parts.log.next) own ∙ less_none (log_pages v.options.geometry) c.checkpoint.new.self.parts.log.next c.in-Ok.ensures.log;
+      nothing = ap length c.in-Ok.ensures.nothing_waits;
+    }
+
+pub returns-in-Err-clause-costs : goal.returns-in-Err-clause-costs
+returns-in-Err-clause-costs g c = λ order none.
+    let v = c.args.self.now in
+    let w : CachedDisk = record v { cache = c.checkpoint.new.self } in
+    let memory : c.in-Err.error ≡ OutOfMemory → ⊥ = λ none. c.in-Err.ensures.runs.memory (ap Err none) in
+    let down = stopped_down v c.checkpoint.new.self (c.in-Err.ensures.runs.stopped ∙ gives_up c.in-Err.error (λ n limit full. c.in-Err.ensures.runs.full n limit (ap Err full)) memory) in
+    let reads = c.checkpoint.ensures.runs.drives.disk_reads in
+    refused_costs Idles (state_in order v) (state_in order w) Idled (g.M.Media.state c.args.media.now) (g.M.Media.state c.checkpoint.new.media) c.cache_error.result
+    (none_up Idles (state_in order v) (state_in order w) down) (omega (arith, reads)) c.checkpoint.ensures.runs.drives.disk_writes
+
+pub returns-in-Err-clause-asks : goal.returns-in-Err-clause-asks
+returns-in-Err-clause-asks g c = λ order.
+    let v = c.args.self.now in
+    let w : CachedDisk = record v { cache = c.checkpoint.new.self } in
+    let same = c.checkpoint.ensures.runs.drives.disk_flushes in
+    asks_none Idles (state_in order v) (state_in order w) (g.M.Media.state c.args.media.now) (g.M.Media.state c.checkpoint.new.media) (Err c.cache_error.result) (λ none. none) (λ none. none) (omega (arith, same))
 
 pub returns-in-Err-clause-serves : goal.returns-in-Err-clause-serves
 returns-in-Err-clause-serves g c =

@@ -1,4 +1,4 @@
-use Rattle.std.proofs.Common.{refl, rules, sym, subst, ◌∙◌, false, ap, ℕ}
+use Rattle.std.proofs.Common.{refl, rules, sym, subst, ◌∙◌, false, ap, arith, ℕ}
 use Rattle.ft_base.specs.Contents.{Shape, Values}
 use Rattle.ft_volume.specs.Opening.{nothing_held}
 use Rattle.ft_media.proofs.PassesLemmas.{passes_then}
@@ -32,6 +32,7 @@ returns-in-Ok-clause-creates g c =
       within = search rules;
       disk_reads = search rules;
       disk_writes = search rules;
+      disk_flushes = let first = c.format.ensures.drives.disk_flushes in let most = c.in-Ok.ensures.opening.goes.disk_flushes in omega (arith, first, most);
       cause = search rules;
       passes =
           passes_then (g.M.Media.state c.args.media.now) (g.M.Media.state c.format.new.media) (g.M.Media.state c.open_cache.new.media) false
@@ -46,6 +47,7 @@ returns-in-Err-clause-creates g c = record {
   within = search rules;
   disk_reads = search rules;
   disk_writes = search rules;
+  disk_flushes = let same = c.format.ensures.drives.disk_flushes in omega (arith, same);
   cause = search rules;
   passes = search rules;
 }
@@ -58,6 +60,7 @@ returns-in-Err-open_cache-clause-creates g c = record {
   within = search rules;
   disk_reads = search rules;
   disk_writes = search rules;
+  disk_flushes = let first = c.format.ensures.drives.disk_flushes in let most = c.open_cache.ensures.opening.goes.disk_flushes in omega (arith, first, most);
   cause = search rules;
   passes = search rules;
 }

@@ -1,4 +1,4 @@
-use Rattle.std.proofs.Common.{◌≡◌, Err, refl, rules, sym, ◌∙◌, ap}
+use Rattle.std.proofs.Common.{◌≡◌, Ok, Err, refl, rules, sym, ◌∙◌, ap, arith}
 use Rattle.ft_base.proofs.Images.{newest_image, with_newest}
 use Rattle.ft_volume.specs.Volume.{Flushes}
 use Rattle.ssc.specs.declared.error.SscError.TheVariants.{OutOfMemory}
@@ -7,7 +7,7 @@ use Rattle.ssc.specs.Errors.{ssc_failed, ssc_lost}
 use Rattle.cached_disk.specs.declared.disk.CachedDisk.{CachedDisk}
 use Rattle.cached_disk.specs.Kept.{state_in, waiting_in}
 use Rattle.cached_disk.proofs.AddressLemmas.{holds_held}
-use Rattle.cached_disk.proofs.CallLemmas.{answered_same, gives_up, goes_down, goes_driven, refused_same, same_costs}
+use Rattle.cached_disk.proofs.CallLemmas.{answered_same, asks_none, gives_up, goes_down, goes_driven, none_up, refused_costs, refused_same, same_costs}
 use Rattle.cached_disk.proofs.HeldLemmas.{is_up, stopped_down}
 use Rattle.cached_disk.proofs.ReadLemmas.{commit_shows, done_dirty, done_left, done_stands, drove_held, may_none, refused_left, refused_stands, shows_itself, still_up}
 use Rattle.cached_disk.proofs.disk.CachedDisk.flush.Goals as goal
@@ -48,6 +48,37 @@ returns-in-Ok-clause-costs g c = λ order.
     same_costs tt Flushes (state_in order v) (state_in order w) (g.M.Media.state c.args.media.now) (g.M.Media.state c.commit.new.media) (λ a own. own) refl
     (ap (waiting_in v.options.geometry.p order) (done_dirty v c.commit.new.self old new s by s (shows_itself v old s is) holds (λ a dirty. dirty) (λ a dirty. dirty)))
     (λ a. holds_held c.commit.new.self new s holds a ∙ sym (holds_held v.cache old s is.holds a)) c.commit.ensures.runs.drives.disk_reads c.commit.ensures.runs.drives.disk_writes
+
+pub returns-in-Ok-clause-held : goal.returns-in-Ok-clause-held
+returns-in-Ok-clause-held g c = λ a.
+    let v = c.args.self.now in
+    let s = c.requires.may.left.held in
+    let is = c.requires.may.left.up c.requires.may.up in
+    holds_held c.commit.new.self (g.M.Media.state c.commit.new.media).contents s (c.in-Ok.ensures.done s is.holds) a ∙ sym (holds_held v.cache (g.M.Media.state c.args.media.now).contents s is.holds a)
+
+pub returns-in-Ok-clause-asks : goal.returns-in-Ok-clause-asks
+returns-in-Ok-clause-asks g c = λ order.
+    let v = c.args.self.now in
+    let w : CachedDisk = record v { cache = c.commit.new.self } in
+    let same = c.commit.ensures.runs.drives.disk_flushes in
+    asks_none Flushes (state_in order v) (state_in order w) (g.M.Media.state c.args.media.now) (g.M.Media.state c.commit.new.media) (Ok tt) (λ none. none) (λ none. none) (omega (arith, same))
+
+pub returns-in-Err-clause-costs : goal.returns-in-Err-clause-costs
+returns-in-Err-clause-costs g c = λ order.
+    let v = c.args.self.now in
+    let w : CachedDisk = record v { cache = c.commit.new.self } in
+    let memory : c.in-Err.error ≡ OutOfMemory → ⊥ = λ none. c.in-Err.ensures.runs.memory (ap Err none) in
+    let down = stopped_down v c.commit.new.self (c.in-Err.ensures.runs.stopped ∙ gives_up c.in-Err.error (λ n limit full. c.in-Err.ensures.runs.full n limit (ap Err full)) memory) in
+    let reads = c.commit.ensures.runs.drives.disk_reads in
+    refused_costs Flushes (state_in order v) (state_in order w) (Unit {0}) (g.M.Media.state c.args.media.now) (g.M.Media.state c.commit.new.media) c.cache_error.result
+    (none_up Flushes (state_in order v) (state_in order w) down) (omega (arith, reads)) c.commit.ensures.runs.drives.disk_writes
+
+pub returns-in-Err-clause-asks : goal.returns-in-Err-clause-asks
+returns-in-Err-clause-asks g c = λ order.
+    let v = c.args.self.now in
+    let w : CachedDisk = record v { cache = c.commit.new.self } in
+    let same = c.commit.ensures.runs.drives.disk_flushes in
+    asks_none Flushes (state_in order v) (state_in order w) (g.M.Media.state c.args.media.now) (g.M.Media.state c.commit.new.media) (Err c.cache_error.result) (λ none. none) (λ none. none) (omega (arith, same))
 
 pub returns-in-Err-clause-serves : goal.returns-in-Err-clause-serves
 returns-in-Err-clause-serves g c =

@@ -1,6 +1,8 @@
-use Rattle.std.proofs.Common.{◌≡◌, Bool, true, false, refl, rules, sym, ◌∙◌, ap, subst, arith}
+use Rattle.std.proofs.Common.{◌≡◌, Bool, true, false, Ok, Err, refl, rules, sym, ◌∙◌, ap, subst, arith}
 use Rattle.std.specs.FinMap.{get}
+use Rattle.std.specs.Option.{is_some}
 use Rattle.ft_base.specs.Contents.{Contents}
+use Rattle.ft_media.specs.declared.rig.Counts.{Counts}
 use Rattle.ft_volume.specs.Opening.{ImageIs}
 use Rattle.ft_volume.specs.Volume.{Costs, Goes, Reads, WasDone}
 use Rattle.ft_volume.specs.Standing.{StandFor}
@@ -9,7 +11,7 @@ use Rattle.ssc.specs.CacheState.{entries_of}
 use Rattle.ssc.specs.Commands.{ReadOf}
 use Rattle.cached_disk.specs.declared.disk.CachedDisk.{CachedDisk}
 use Rattle.cached_disk.specs.Kept.{state_in, told_of}
-use Rattle.cached_disk.proofs.CallLemmas.{answered_same, costs_after, goes_after, refused_same}
+use Rattle.cached_disk.proofs.CallLemmas.{answered_same, asks_held, asks_missing, costs_after, goes_after, reads_as, refused_costs, refused_same, same_up}
 use Rattle.cached_disk.proofs.HeldLemmas.{found_held, is_up, left_same, read_absent}
 use Rattle.cached_disk.proofs.ReadLemmas.{absent_entry}
 use Rattle.cached_disk.proofs.disk.CachedDisk.read.Goals as goal
@@ -69,7 +71,25 @@ returns-in-Ok-false-clause-costs g c = λ order.
     c.in-Ok-false.ensures.reads.cause.cuts c.in-Ok-false.ensures.reads.passes (state_in order u) (state_in order c.read_missing.new.self)
     c.read_missing.result call c.in-Ok-false.ensures.reads.counts (c.read_missing.ensures.costs order))
 
+pub returns-in-Ok-false-clause-asks : goal.returns-in-Ok-false-clause-asks
+returns-in-Ok-false-clause-asks g c = λ order.
+    let v = c.args.self.now in
+    let old = (g.M.Media.state c.args.media.now).contents in
+    let s = c.requires.may.left.held in
+    let holds = (c.requires.may.left.up c.requires.may.up).holds in
+    let is : c.in-Ok-false.field-0 ≡ false = search rules in
+    let read : ReadOf (get s c.args.lba) false c.read.new.block = subst (λ (x : Bool). ReadOf (get s c.args.lba) x c.read.new.block) is (c.in-Ok-false.ensures.found s holds) in
+    let absent = absent_entry v.cache old s holds c.args.lba (read_absent (get s c.args.lba) c.read.new.block read) in
+    asks_missing c.args.lba c.read_missing.new.block (state_in order v) (state_in order c.read_missing.new.self) (g.M.Media.state c.args.media.now) (g.M.Media.state c.read_missing.new.media) c.read_missing.result (ap is_some absent)
+    (c.read_missing.ensures.disk_flushes ∙ ap (λ (x : Counts). x.disk_flushes) c.read.ensures.reads.counts)
+
 -- the cache holds it
+
+pub returns-in-Ok-true-clause-asks : goal.returns-in-Ok-true-clause-asks
+returns-in-Ok-true-clause-asks g c = λ order.
+    let v = c.args.self.now in
+    let w : CachedDisk = record v { cache = c.read.new.self } in
+    asks_held c.args.lba c.read.new.block (state_in order v) (state_in order w) (g.M.Media.state c.args.media.now) (g.M.Media.state c.read.new.media) (Ok tt) (ap (λ (k : Ssc). state_in order (record v { cache = k })) c.read.ensures.same) c.in-Ok-true.ensures.reads
 
 pub returns-in-Ok-true-clause-serves : goal.returns-in-Ok-true-clause-serves
 returns-in-Ok-true-clause-serves g c =
@@ -109,3 +129,21 @@ returns-in-Err-clause-serves g c =
       made = search rules;
       within = search rules;
     }
+
+pub returns-in-Err-clause-costs : goal.returns-in-Err-clause-costs
+returns-in-Err-clause-costs g c = λ order.
+    let v = c.args.self.now in
+    let w : CachedDisk = record v { cache = c.read.new.self } in
+    let reads = ap (λ (x : Counts). x.disk_reads) c.read.ensures.reads.counts in
+    refused_costs (Reads c.args.lba c.read.new.block) (state_in order v) (state_in order w) (Unit {0}) (g.M.Media.state c.args.media.now) (g.M.Media.state c.read.new.media) c.cache_error.result
+    (same_up (Reads c.args.lba c.read.new.block) (state_in order v) (state_in order w) (ap (λ (k : Ssc). state_in order (record v { cache = k })) c.read.ensures.same))
+    (omega (arith, reads)) (ap (λ (x : Counts). x.disk_writes) c.read.ensures.reads.counts)
+
+pub returns-in-Err-clause-asks : goal.returns-in-Err-clause-asks
+returns-in-Err-clause-asks g c = λ order.
+    let v = c.args.self.now in
+    let w : CachedDisk = record v { cache = c.read.new.self } in
+    let before = g.M.Media.state c.args.media.now in
+    let after = g.M.Media.state c.read.new.media in
+    asks_held c.args.lba c.read.new.block (state_in order v) (state_in order w) before after (Err c.cache_error.result) (ap (λ (k : Ssc). state_in order (record v { cache = k })) c.read.ensures.same)
+    (reads_as Bool (Unit {0}) before after c.in-Err.error c.cache_error.result c.cache_error.ensures c.in-Err.ensures.reads)

@@ -1,21 +1,25 @@
-use Rattle.std.proofs.Common.{◌≡◌, Ok, Err, refl, rules, sym, ◌∙◌, ap, subst, arith}
+use Rattle.std.proofs.Common.{◌≡◌, Bool, cond, Ok, Err, refl, rules, sym, ◌∙◌, ap, subst, arith}
 use Rattle.std.specs.FinMap.{get}
 use Rattle.std.specs.Option.{is_some}
 use Rattle.std.proofs.lemmas.Bool.{false≢true}
 use Rattle.ft_base.specs.Contents.{Contents}
+use Rattle.ft_base.specs.Count.{bumped}
+use Rattle.ft_media.specs.declared.rig.Counts.{Counts}
 use Rattle.ft_base.proofs.Images.{newest_image, with_newest}
 use Rattle.ft_volume.specs.Opening.{ImageIs}
-use Rattle.ft_volume.specs.Volume.{Reads, dirty_lbas}
+use Rattle.ft_volume.specs.Volume.{Reads, dirty_lbas, misses}
 use Rattle.ft_volume.specs.Standing.{StandFor}
 use Rattle.ft_volume.specs.Volume as calls
+use Rattle.ft_volume.specs.declared.volume.VolumeError.TheVariants as volume
 use Rattle.cache_model.specs.Records.{Entries}
 use Rattle.ssc.specs.CacheState.{entries_of}
 use Rattle.ssc.specs.Errors.{ssc_failed, ssc_lost}
 use Rattle.ssc.specs.declared.error.SscError.TheVariants.{OutOfMemory}
 use Rattle.cached_disk.specs.declared.disk.CachedDisk.{CachedDisk}
 use Rattle.cached_disk.specs.Kept.{state_in, told_of, waiting_in}
-use Rattle.cached_disk.proofs.CallLemmas.{answered_same, gives_up, goes_after, goes_down, goes_driven, missed_costs, refused_same}
+use Rattle.cached_disk.proofs.CallLemmas.{answered_same, gives_up, goes_after, goes_down, goes_driven, missed_costs, none_up, refused_costs, refused_same, same_up}
 use Rattle.cached_disk.proofs.HeldLemmas.{found_absent, is_up, stopped_down}
+use Rattle.cached_disk.proofs.OpenedLemmas.{reserved_tells}
 use Rattle.cached_disk.proofs.ReadLemmas.{IsReserved, absent_held, cut_left, cut_stands, drove_held, on_ok_of, put_dirty, put_held, put_left, put_stands, reserved_left, reserved_up, still_up}
 use Rattle.cached_disk.proofs.disk.CachedDisk.read_missing.Goals as goal
 
@@ -36,7 +40,26 @@ returns-then-is_err-clause-serves g c =
       within = search rules;
     }
 
+pub returns-then-is_err-clause-costs : goal.returns-then-is_err-clause-costs
+returns-then-is_err-clause-costs g c = λ order.
+    let v = c.args.self.now in
+    let k = c.reserve.new.self in
+    let u : CachedDisk = record v { cache = k } in
+    let before = g.M.Media.state c.args.media.now in
+    refused_costs (Reads c.args.lba c.args.block.now) (state_in order v) (state_in order u) (Unit {0}) before before volume.OutOfMemory
+    (same_up (Reads c.args.lba c.args.block.now) (state_in order v) (state_in order u) (reserved_tells order v k c.reserve.ensures.parts c.reserve.ensures.entries c.reserve.ensures.stopped)) (omega arith) refl
+
 -- the disk was refused
+
+pub returns-in-Err-clause-costs : goal.returns-in-Err-clause-costs
+returns-in-Err-clause-costs g c = λ order.
+    let v = c.args.self.now in
+    let k = c.reserve.new.self in
+    let u : CachedDisk = record v { cache = k } in
+    let reads = ap (λ (x : Counts). x.disk_reads) c.in-Err.ensures.counts in
+    refused_costs (Reads c.args.lba c.args.block.now) (state_in order v) (state_in order u) (Unit {0}) (g.M.Media.state c.args.media.now) (g.M.Media.state c.read_block.new.self) c.disk_error.result
+    (same_up (Reads c.args.lba c.args.block.now) (state_in order v) (state_in order u) (reserved_tells order v k c.reserve.ensures.parts c.reserve.ensures.entries c.reserve.ensures.stopped)) (omega (arith, reads))
+    (ap (λ (x : Counts). x.disk_writes) c.in-Err.ensures.counts)
 
 pub returns-in-Err-clause-serves : goal.returns-in-Err-clause-serves
 returns-in-Err-clause-serves g c =
@@ -155,3 +178,21 @@ returns-in-Err-write_clean-clause-serves g c =
       made = search rules;
       within = search rules;
     }
+
+pub returns-in-Err-write_clean-clause-costs : goal.returns-in-Err-write_clean-clause-costs
+returns-in-Err-write_clean-clause-costs g c = λ order.
+    let v = c.args.self.now in
+    let k = c.reserve.new.self in
+    let put = c.write_clean.new.self in
+    let w : CachedDisk = record v { cache = put } in
+    let before = g.M.Media.state c.args.media.now in
+    let mid = g.M.Media.state c.read_block.new.self in
+    let after = g.M.Media.state c.write_clean.new.media in
+    let memory : c.in-Err-write_clean.error ≡ OutOfMemory → ⊥ = λ is. false≢true (sym (c.in-Err-write_clean.ensures.refused.memory (ap Err is)).0 ∙ on_ok_of c.reserve.result (sym c.if-is_err.ensures.value) c.reserve.ensures.ready) in
+    let down = stopped_down v put (c.in-Err-write_clean.ensures.runs.stopped ∙ gives_up c.in-Err-write_clean.error (search rules) memory) in
+    let one : misses (Reads c.args.lba c.args.block.now) (state_in order v).held ≡ 1 = ap (λ (t : Bool). cond t 0 1) (ap is_some c.requires.absent) in
+    let read : mid.counts.disk_reads ≡ bumped before.counts.disk_reads = ap (λ (x : Counts). x.disk_reads) c.in_default.ensures.counts in
+    let same : mid.counts.disk_writes ≡ before.counts.disk_writes = ap (λ (x : Counts). x.disk_writes) c.in_default.ensures.counts in
+    let still = c.write_clean.ensures.runs.drives.disk_reads in
+    refused_costs (Reads c.args.lba c.args.block.now) (state_in order v) (state_in order w) (Unit {0}) before after c.cache_error.result
+    (none_up (Reads c.args.lba c.args.block.now) (state_in order v) (state_in order w) down) (omega (arith, one, read, still)) (c.write_clean.ensures.runs.drives.disk_writes ∙ same)

@@ -12,7 +12,7 @@ use Rattle.cached_disk.specs.declared.disk.CachedDisk.{CachedDisk}
 use Rattle.cached_disk.specs.Kept.{is_down, state_in, told_of}
 use Rattle.cached_disk.proofs.CallLemmas.{answered_same, refused_same}
 use Rattle.cached_disk.proofs.HeldLemmas.{is_up, left_same}
-use Rattle.cached_disk.proofs.ReportLemmas.{costs_at, costs_read, costs_unread, flushed_stands, goes_at, goes_both, goes_read, goes_unread, loads_left, not_disk, report_is}
+use Rattle.cached_disk.proofs.ReportLemmas.{asks_read, costs_at, costs_read, costs_unread, flushed_stands, goes_at, goes_both, goes_read, goes_unread, loads_left, not_disk, report_is}
 use Rattle.cached_disk.proofs.disk.CachedDisk.report.Goals as goal
 
 -- the flush was refused
@@ -33,6 +33,9 @@ returns-in-Err-clause-serves g c =
 
 pub returns-in-Err-clause-costs : goal.returns-in-Err-clause-costs
 returns-in-Err-clause-costs g c = λ order. costs_at {S = Unit {0}} {T = Report} (state_in order c.args.self.now) (state_in order c.flush.new.self) (g.M.Media.state c.args.media.now) (g.M.Media.state c.flush.new.media) c.in-Err.error (c.in-Err.ensures.costs order)
+
+pub returns-in-Err-clause-asks : goal.returns-in-Err-clause-asks
+returns-in-Err-clause-asks g c = λ order. record { flushes = (c.flush.ensures.asks order).flushes; found = λ none. absurd none; two_programs = tt }
 
 pub returns-in-Err-clause-nothing_waits : goal.returns-in-Err-clause-nothing_waits
 returns-in-Err-clause-nothing_waits g c = λ up. absurd (both_ways (is_down c.flush.new.self) up c.in-Err.ensures.refused)
@@ -79,6 +82,13 @@ returns-in-Ok-clause-costs g c = λ order.
     let w : CachedDisk = record u { cache = c.scrub.new.self } in
     let same = ap (λ (k : Ssc). state_in order (record u { cache = k })) c.scrub.ensures.same in
     costs_read (state_in order c.args.self.now) (state_in order u) (state_in order w) same (g.M.Media.state c.args.media.now) (g.M.Media.state c.flush.new.media) (g.M.Media.state c.scrub.new.media) tt c.scrub.ensures.reads.counts (c.in_default.ensures.costs order) _
+
+pub returns-in-Ok-clause-asks : goal.returns-in-Ok-clause-asks
+returns-in-Ok-clause-asks g c = λ order.
+    let u = c.flush.new.self in
+    let w : CachedDisk = record u { cache = c.scrub.new.self } in
+    let same = ap (λ (k : Ssc). state_in order (record u { cache = k })) c.scrub.ensures.same in
+    asks_read (state_in order c.args.self.now) (state_in order u) (state_in order w) same (g.M.Media.state c.args.media.now) (g.M.Media.state c.flush.new.media) (g.M.Media.state c.scrub.new.media) tt c.scrub.ensures.reads.counts (c.in_default.ensures.costs order) (Ok _) (c.in_default.ensures.asks order)
 
 pub returns-in-Ok-clause-report : goal.returns-in-Ok-clause-report
 returns-in-Ok-clause-report g c =
@@ -139,6 +149,15 @@ returns-in-Err-scrub-clause-costs g c = λ order.
     let w : CachedDisk = record u { cache = c.scrub.new.self } in
     let same = ap (λ (k : Ssc). state_in order (record u { cache = k })) c.scrub.ensures.same in
     costs_unread (state_in order c.args.self.now) (state_in order u) (state_in order w) same (g.M.Media.state c.args.media.now) (g.M.Media.state c.flush.new.media) (g.M.Media.state c.scrub.new.media) tt c.scrub.ensures.reads.counts (c.in_default.ensures.costs order) Report c.cache_error.result
+    c.in_default.ensures.held
+
+pub returns-in-Err-scrub-clause-asks : goal.returns-in-Err-scrub-clause-asks
+returns-in-Err-scrub-clause-asks g c = λ order.
+    let u = c.flush.new.self in
+    let w : CachedDisk = record u { cache = c.scrub.new.self } in
+    let same = ap (λ (k : Ssc). state_in order (record u { cache = k })) c.scrub.ensures.same in
+    asks_read (state_in order c.args.self.now) (state_in order u) (state_in order w) same (g.M.Media.state c.args.media.now) (g.M.Media.state c.flush.new.media) (g.M.Media.state c.scrub.new.media) tt c.scrub.ensures.reads.counts (c.in_default.ensures.costs order)
+    (Err c.cache_error.result) (c.in_default.ensures.asks order)
 
 pub returns-in-Err-scrub-clause-nothing_waits : goal.returns-in-Err-scrub-clause-nothing_waits
 returns-in-Err-scrub-clause-nothing_waits g c = λ up. ap pending c.scrub.ensures.same ∙ c.in_default.ensures.nothing_waits

@@ -1,12 +1,13 @@
-use Rattle.std.proofs.Common.{rules, refl, sym, subst}
+use Rattle.std.proofs.Common.{rules, Ok, Err, refl, sym, ap, subst}
 use Rattle.ft_base.specs.Told.{Told}
 use Rattle.ft_volume.specs.Opening.{ImageIs}
 use Rattle.ft_volume.specs.Volume.{Idles}
 use Rattle.ft_volume.specs.Standing.{StandFor}
 use Rattle.ft_volume.specs.declared.volume.Idled.TheVariants.{Cleaned}
-use Rattle.cached_disk.proofs.CallLemmas.{answered_same, refused_same}
+use Rattle.cached_disk.specs.declared.disk.CachedDisk.{CachedDisk}
+use Rattle.cached_disk.proofs.CallLemmas.{answered_same, if_ok_also, refused_same}
 use Rattle.write_back.specs.Left.{state_of}
-use Rattle.write_back.proofs.VolumeLemmas.{cleaned_costs, goes_over}
+use Rattle.write_back.proofs.VolumeLemmas.{cleaned_asks, cleaned_costs, goes_over, uncleaned_costs}
 use Rattle.write_back.proofs.volume.WriteBack.idle_up.Goals as goal
 
 pub returns-then-len-self-clause-was : goal.returns-then-len-self-clause-was
@@ -20,6 +21,27 @@ returns-then-len-self-clause-steps g c =
       faulted = search rules;
       within = search rules;
     }
+
+pub returns-then-len-self-clause-asks : goal.returns-then-len-self-clause-asks
+returns-then-len-self-clause-asks g c = c.checkpoint_if_due.ensures.asks c.args.self.now.dirty.order
+
+pub returns-then-len-self-clause-checkpoint : goal.returns-then-len-self-clause-checkpoint
+returns-then-len-self-clause-checkpoint g c = c.checkpoint_if_due.ensures.checkpoint c.args.self.now.dirty.order
+
+pub returns-then-len-self-clause-nothing : goal.returns-then-len-self-clause-nothing
+returns-then-len-self-clause-nothing g c = if_ok_also c.checkpoint_if_due.result (λ idled nothing is. let same = nothing is in (ap (λ (disk : CachedDisk). record c.args.self.now { disk = disk }) same.0, same.1)) c.checkpoint_if_due.ensures.nothing
+
+pub returns-in-Ok-clause-asks : goal.returns-in-Ok-clause-asks
+returns-in-Ok-clause-asks g c = cleaned_asks (state_of c.args.self.now) (state_of c.write_oldest_back.new.self) (g.M.Media.state c.args.media.now) (g.M.Media.state c.write_oldest_back.new.media) (Ok Cleaned)
+    (goes_over c.args.self.now c.requires.left.mode (search rules)) c.write_oldest_back.ensures.flushes
+
+pub returns-in-Err-clause-costs : goal.returns-in-Err-clause-costs
+returns-in-Err-clause-costs g c = uncleaned_costs (state_of c.args.self.now) (state_of c.write_oldest_back.new.self) (g.M.Media.state c.args.media.now) (g.M.Media.state c.write_oldest_back.new.media) c.in-Err.error
+    (goes_over c.args.self.now c.requires.left.mode (search rules)) c.in-Err.ensures.writes (λ up. ap state_of (c.in-Err.ensures.same up))
+
+pub returns-in-Err-clause-asks : goal.returns-in-Err-clause-asks
+returns-in-Err-clause-asks g c = cleaned_asks (state_of c.args.self.now) (state_of c.write_oldest_back.new.self) (g.M.Media.state c.args.media.now) (g.M.Media.state c.write_oldest_back.new.media) (Err c.in-Err.error)
+    (goes_over c.args.self.now c.requires.left.mode (search rules)) c.write_oldest_back.ensures.flushes
 
 pub returns-in-Ok-clause-was : goal.returns-in-Ok-clause-was
 returns-in-Ok-clause-was g c = λ base stand.

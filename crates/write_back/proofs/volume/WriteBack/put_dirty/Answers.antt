@@ -1,6 +1,6 @@
 use Rattle.std.proofs.Common.{Err, refl, ap, rules}
 use Rattle.std.proofs.lemmas.Bool.{both_ways}
-use Rattle.cached_disk.specs.Kept.{state_in}
+use Rattle.cached_disk.specs.Kept.{is_down, state_in}
 use Rattle.cached_disk.proofs.CallLemmas.{goes_down, goes_driven, not_memory}
 use Rattle.cached_disk.proofs.HeldLemmas.{is_up}
 use Rattle.cached_disk.proofs.ReadLemmas.{still_up}
@@ -94,3 +94,21 @@ returns-in-Err-clause-was g c =
     refused_was v c.args.lba c.write_dirty.new.self c.touch.new.self noted old (g.M.Media.state c.write_dirty.new.media) left c.requires.may.up c.args.block.now c.write_dirty.ensures.runs.geometry c.write_dirty.ensures.runs.drives
     (c.write_dirty.ensures.images left.disk.held holds) down c.cache_error.result
     (not_memory c.in-Err.error c.cache_error.result c.cache_error.ensures (λ same. both_ways v.disk.cache.ready (c.in-Err.ensures.refused.memory (ap Err same)).0 c.requires.ready))
+
+pub returns-in-Err-clause-same : goal.returns-in-Err-clause-same
+returns-in-Err-clause-same g c = λ up.
+    let v = c.args.self.now in
+    let old = g.M.Media.state c.args.media.now in
+    let left = c.requires.may.left in
+    let holds = (is_held v old.contents left c.requires.may.up).holds in
+    let down = refused_down v old.contents left c.requires.may.up c.args.lba c.requires.room c.requires.ready c.write_dirty.new.self c.in-Err.error (c.in-Err.ensures.full left.disk.held holds) (λ same. (c.in-Err.ensures.refused.memory (ap Err same)).0) c.in-Err.ensures.runs.stopped in
+    absurd (both_ways (is_down (record v.disk { cache = c.write_dirty.new.self })) up down)
+
+pub returns-in-Ok-clause-no_disk : goal.returns-in-Ok-clause-no_disk
+returns-in-Ok-clause-no_disk g c = let drives = c.write_dirty.ensures.runs.drives in record { disk_reads = drives.disk_reads; disk_writes = drives.disk_writes; disk_flushes = drives.disk_flushes }
+
+pub returns-in-Err-clause-no_disk : goal.returns-in-Err-clause-no_disk
+returns-in-Err-clause-no_disk g c = let drives = c.write_dirty.ensures.runs.drives in record { disk_reads = drives.disk_reads; disk_writes = drives.disk_writes; disk_flushes = drives.disk_flushes }
+
+pub returns-in-Ok-clause-costs : goal.returns-in-Ok-clause-costs
+returns-in-Ok-clause-costs g c = record { two_programs = c.in-Ok.ensures.costs.two_programs; programs = c.in-Ok.ensures.costs.programs }

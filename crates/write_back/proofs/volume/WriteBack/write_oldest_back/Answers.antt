@@ -1,5 +1,6 @@
 use Rattle.std.proofs.Common.{ℕ, Ok, Err, sym, subst, ap, ◌∙◌, List, rules}
 use Rattle.dirty_table.specs.Groups.{Groups, without_first}
+use Rattle.cached_disk.specs.declared.disk.CachedDisk.{CachedDisk}
 use Rattle.cached_disk.specs.Kept.{dirty_of, waiting_in, WritesDisk}
 use Rattle.write_back.proofs.TableLemmas.{last_length, last_waiting}
 use Rattle.write_back.proofs.WriteLemmas.{cleaned_left, group_within, oldest_has}
@@ -50,3 +51,6 @@ pub returns-in-Err-clause-writes : goal.returns-in-Err-clause-writes
 returns-in-Err-clause-writes g c =
     let v = c.args.self.now in
     subst (λ (n : ℕ). WritesDisk n (g.M.Media.state c.args.media.now) (g.M.Media.state c.write_group_back.new.media) (Err c.in-Err.error)) (sym (last_length v.disk.options.geometry.p v.dirty.order (dirty_of v.disk) c.in-Some.group (sym c.in-Some.ensures))) c.in-Err.ensures.proceeds.writes
+
+pub returns-in-Err-clause-same : goal.returns-in-Err-clause-same
+returns-in-Err-clause-same g c = λ up. ap (λ (disk : CachedDisk). record c.args.self.now { disk = disk }) (c.in-Err.ensures.same up)

@@ -107,3 +107,9 @@ returns-in-Err-clause-stands g c =
     let by = drove_held v k before after (ssc_failed c.write_clean.result) (ssc_lost c.write_clean.result) left c.requires.may.up c.write_clean.ensures.runs.geometry c.write_clean.ensures.runs.drives in
     let absent = absent_of v.cache before.contents s holds c.args.lba c.requires.absent in
     cut_stands v k before.contents after.contents s by c.args.lba c.args.block.now absent c.requires.newest (c.write_clean.ensures.images s holds (with_newest after.contents) (newest_image after.contents))
+
+pub returns-in-Ok-clause-no_disk : goal.returns-in-Ok-clause-no_disk
+returns-in-Ok-clause-no_disk g c = let drives = c.write_clean.ensures.runs.drives in record { disk_reads = drives.disk_reads; disk_writes = drives.disk_writes; disk_flushes = drives.disk_flushes }
+
+pub returns-in-Err-clause-no_disk : goal.returns-in-Err-clause-no_disk
+returns-in-Err-clause-no_disk g c = let drives = c.write_clean.ensures.runs.drives in record { disk_reads = drives.disk_reads; disk_writes = drives.disk_writes; disk_flushes = drives.disk_flushes }

@@ -98,3 +98,9 @@ returns-in-Err-clause-stands g c =
     let by = drove_held v k before after (ssc_failed c.evict.result) (ssc_lost c.evict.result) left c.requires.may.up c.evict.ensures.runs.geometry c.evict.ensures.runs.drives in
     let shown = evict_shows v before.contents s left.own is c.requires.may.left.mode c.args.lba after.contents.flash.page (c.evict.ensures.images s is.holds (with_newest after.contents) (newest_image after.contents)) in
     refused_stands v k before.contents after.contents s by shown.list shown.shows shown.stands
+
+pub returns-in-Ok-clause-no_disk : goal.returns-in-Ok-clause-no_disk
+returns-in-Ok-clause-no_disk g c = let drives = c.evict.ensures.runs.drives in record { disk_reads = drives.disk_reads; disk_writes = drives.disk_writes; disk_flushes = drives.disk_flushes }
+
+pub returns-in-Err-clause-no_disk : goal.returns-in-Err-clause-no_disk
+returns-in-Err-clause-no_disk g c = let drives = c.evict.ensures.runs.drives in record { disk_reads = drives.disk_reads; disk_writes = drives.disk_writes; disk_flushes = drives.disk_flushes }

@@ -1,10 +1,11 @@
-use Rattle.std.proofs.Common.{[], subst}
+use Rattle.std.proofs.lemmas.Result.{on_ok_weaker}
+use Rattle.std.proofs.Common.{[], subst, ap, length}
 use Rattle.std.specs.Prelude.{IfOk}
 use Rattle.ft_base.specs.Told.{Told}
 use Rattle.ft_volume.specs.Opening.{ImageIs}
-use Rattle.ft_volume.specs.Volume.{Reports}
+use Rattle.ft_volume.specs.Volume.{Reports, opened_of}
 use Rattle.ft_volume.specs.Reported.{IsReport}
-use Rattle.ft_volume.proofs.UpLemmas.{costs_through, done_refused, done_through, goes_through}
+use Rattle.ft_volume.proofs.UpLemmas.{asks_refused, asks_through, costs_through, costs_unopened, done_refused, done_through, goes_through}
 use Rattle.cache_model.specs.Records.{Entries}
 use Rattle.ssc.specs.CacheState.{entries_of}
 use Rattle.cached_disk.specs.Kept.{Loads, state_in, told_of}
@@ -33,3 +34,18 @@ returns-in-Ok-clause-report g c =
 
 pub returns-in-Err-clause-disk : goal.returns-in-Err-clause-disk
 returns-in-Err-clause-disk g c = done_refused ImageIs Loads Reports (state_of c.args.self.now) (state_of c.bring_up.new.self) (g.R.Media.state c.args.rig.now) (g.R.Media.state c.bring_up.new.media) c.in-Err.error c.in-Err.ensures.comes
+
+pub returns-in-Ok-clause-asks : goal.returns-in-Ok-clause-asks
+returns-in-Ok-clause-asks g c = λ m has. asks_through ImageIs Loads (state_of c.args.self.now) (state_of c.bring_up.new.self) (state_in [] c.report.new.self) (g.R.Media.state c.args.rig.now)
+    (g.R.Media.state c.bring_up.new.media) (g.R.Media.state c.report.new.media) tt c.in-Ok.ensures.comes c.report.result (Reports) m has (c.report.ensures.asks [])
+
+pub returns-in-Err-clause-asks : goal.returns-in-Err-clause-asks
+returns-in-Err-clause-asks g c = λ m has. asks_refused ImageIs Loads (Reports) (state_of c.args.self.now) (state_of c.bring_up.new.self) (opened_of (state_of c.args.self.now) m) (g.R.Media.state c.args.rig.now) (g.R.Media.state c.bring_up.new.media)
+    c.in-Err.error c.in-Err.ensures.comes
+
+pub returns-in-Err-clause-costs : goal.returns-in-Err-clause-costs
+returns-in-Err-clause-costs g c = λ m has. costs_unopened ImageIs Loads (Reports) (state_of c.args.self.now) (state_of c.bring_up.new.self) (opened_of (state_of c.args.self.now) m) (g.R.Media.state c.args.rig.now) (g.R.Media.state c.bring_up.new.media)
+    c.in-Err.error c.in-Err.ensures.comes
+
+pub returns-in-Ok-clause-nothing_buffered : goal.returns-in-Ok-clause-nothing_buffered
+returns-in-Ok-clause-nothing_buffered g c = on_ok_weaker c.report.result (λ up. ap length (c.report.ensures.nothing_waits up)) (c.report.ensures.serves.goes []).up
