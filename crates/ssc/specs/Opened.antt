@@ -6,7 +6,6 @@ use Rattle.ft_media.specs.Passes.{ProgramsPages}
 use Rattle.ft_media.specs.Reads.{ReadsFlash}
 use Rattle.cache_model.specs.Loading.{Complete, checkpoint_of}
 use Rattle.op_log.specs.declared.error.OpenError.{OpenError}
-use Rattle.op_log.specs.Log.{LogValue}
 use Rattle.op_log.specs.Refusals.{open_failed, open_lost}
 use Rattle.checkpoint.specs.Commits.{AddsCheckpoint}
 use Rattle.checkpoint.specs.Current.{PoolStays, log_checkpointed}

@@ -1,4 +1,4 @@
-ghost use Rattle.std.specs.Prelude.{◌≡◌, ◌≢◌, ◌≤◌, ◌<◌, ◌+◌, ◌-◌, ◌++◌, [], ℕ, length, true, false, Some, None, OnOk, OnErr, IfOk, IsOk, IsErrOf};
+ghost use Rattle.std.specs.Prelude.{◌≡◌, ◌≤◌, ◌<◌, ◌+◌, ◌-◌, ◌++◌, [], ℕ, length, true, false, Some, None, OnOk, OnErr, IfOk, IsOk, IsErrOf};
 ghost use Rattle.std.specs.FinMap.{get};
 ghost use Rattle.ft_base.specs.Contents.{Contents};
 ghost use Rattle.ft_base.specs.Layout.{page_records};
