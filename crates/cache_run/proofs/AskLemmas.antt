@@ -13,10 +13,11 @@ use Rattle.trace_replay.specs.Said.{ended_of}
 use Rattle.trace_replay.specs.declared.ended.Ended.{Ended}
 use Rattle.trace_replay.specs.declared.ended.Ended.TheVariants as ended
 use Rattle.cache_run.specs.Inspected.{Asks}
+use Rattle.trace_replay.proofs.CutsLemmas.{counts_none, counts_then}
 
 -- nothing was asked yet
 pub asks_none : (a : State) → a.power.on ≡ true → Asks 0 a a
-asks_none a on = record { on = on; shape = refl; lent = refl; disk_reads = refl; disk_writes = refl; flash = omega arith; disk = omega arith; later = omega arith; few = omega arith; stops = refl; risen = λ below. omega arith }
+asks_none a on = record { on = on; shape = refl; lent = refl; counts = counts_none a.counts; disk_reads = refl; disk_writes = refl; flash = omega arith; disk = omega arith; later = omega arith; few = omega arith; stops = refl; risen = λ below. omega arith }
 
 pub asks_then : (m n : ℕ) (a b c : State) → Asks m a b → Asks n b c → Asks (m + n) a c
 asks_then m n a b c first next =
@@ -30,6 +31,7 @@ asks_then m n a b c first next =
       on = next.on;
       shape = next.shape ∙ first.shape;
       lent = next.lent ∙ first.lent;
+      counts = counts_then a.counts b.counts c.counts first.counts next.counts;
       disk_reads = next.disk_reads ∙ first.disk_reads;
       disk_writes = next.disk_writes ∙ first.disk_writes;
       flash = omega arith;
@@ -66,6 +68,7 @@ module _ (u v w : VolumeState) (a b : State) (on : a.power.on ≡ true) where
         on = stayed.on;
         shape = goes.passes.shape;
         lent = goes.passes.lent;
+        counts = counts;
         disk_reads = omega arith;
         disk_writes = omega arith;
         flash = goes.cause.flash;
@@ -91,6 +94,7 @@ module _ (u v w : VolumeState) (a b : State) (on : a.power.on ≡ true) where
         on = refl;
         shape = goes.passes.shape;
         lent = goes.passes.lent;
+        counts = counts;
         disk_reads = omega arith;
         disk_writes = omega arith;
         flash = goes.cause.flash;

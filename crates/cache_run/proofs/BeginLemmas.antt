@@ -22,19 +22,21 @@ use Rattle.ft_volume.specs.Opening.{ImageIs, IsNewestOnDisk, IsOpened, nothing_h
 use Rattle.ft_volume.specs.Volume.{VolumeState, told_for}
 use Rattle.ft_volume.specs.Standing.{StandFor}
 use Rattle.ft_volume.specs.declared.options.Options.{Options}
+use Rattle.trace_model.specs.declared.answer.Answer.{Answer}
 use Rattle.trace_model.specs.declared.line.Line.{Line}
+use Rattle.trace_model.specs.declared.ran.Ran.{Ran}
 use Rattle.trace_model.specs.Readings.{Reads}
-use Rattle.trace_replay.proofs.FromLemmas.{part_from, refused_from, unread_from, whole_from}
+use Rattle.trace_replay.proofs.FromLemmas.{ends_from}
 use Rattle.trace_replay.specs.Before.{IsBefore}
 use Rattle.trace_replay.specs.Causes.{EndHasCause, EndHasCauseUntraced, KeepsLentUntraced}
 use Rattle.trace_replay.specs.Lent.{KeepsLent}
-use Rattle.trace_replay.specs.Commands.{Gives, TellsEnd, TellsEndPart}
+use Rattle.trace_replay.specs.Commands.{Gives}
 use Rattle.trace_replay.specs.AsMade.{IsAsMade}
 use Rattle.trace_replay.specs.Said.{Tells, TellsPart}
-use Rattle.trace_replay.specs.Theorem.{EndsPart, EndsRefused, EndsUnread, RunsWhole}
+use Rattle.trace_replay.specs.Theorem.{EndsAs}
 use Rattle.trace_replay.specs.declared.ended.Ended.{Ended}
 use Rattle.trace_replay.specs.declared.ended.Ended.TheVariants.{Trace, Source, Sink, Flash, Disk, Memory}
-use Rattle.cache_run.specs.Begun.{Begins, IsNewVolume}
+use Rattle.cache_run.specs.Begun.{Begins, IsNewVolume, IsUnbegun}
 use Rattle.cache_run.specs.Fitted.{fitted_for}
 use Rattle.trace_replay.proofs.ExitLemmas.{rose_later}
 
@@ -58,7 +60,7 @@ module _ (g : Geometry) (old made now : State) (fit : made ≡ fitted_for g old)
   stays_unarmed passes = (passes.stayed (ap (λ (x : State). x.power.on) fit) refl).stops ∙ ap (λ (x : State). x.power.stops) fit
 
   before_new : now.counts.disk_reads ≡ made.counts.disk_reads → now.counts.disk_writes ≡ made.counts.disk_writes → made.faults.cuts ≤ now.faults.cuts → Passes made now false → KeepsReady made now → IsBefore (fitted_for g old) now
-  before_new reads writes cuts passes ready = subst (λ (x : State). IsBefore x now) fit (record { shape = passes.shape; disk_reads = reads; disk_writes = writes; cuts = cuts; ready = ready })
+  before_new reads writes cuts passes ready = subst (λ (x : State). IsBefore x now) fit (record { shape = passes.shape; disk_reads = reads; disk_writes = writes; counts = passes.counts; cuts = cuts; ready = ready })
 
 -- a volume that was opened over what it was made on
 pub new_from : (mode : Mode) (options : Options) (owns : Contents → Type 0) (v : VolumeState) (old made now : State) → made ≡ fitted_for options.geometry old
@@ -121,6 +123,14 @@ untraced_begun Trace x old now begins = absurd (not_begun Trace begins.only (λ 
 untraced_begun Source x old now begins = absurd (not_begun Source begins.only (λ is. cc) (λ is. cc) (λ is. cc))
 untraced_begun Sink x old now begins = absurd (not_begun Sink begins.only (λ is. cc) (λ is. cc) (λ is. cc))
 
+pub unbegun : {V I O : Type 0} (e : Ended) (a : I) (x : O) (old now : State) → Begins {V = V} (Err e) old now → IsUnbegun {T = Unit {0}} (Err e) a a x x old now
+unbegun Flash a x old now begins = record { only = inl refl; source = refl; sink = refl; counts = begins.counts; disk_reads = begins.disk_reads; disk_writes = begins.disk_writes; unarmed = λ _. begins.unarmed (λ is. cc) }
+unbegun Disk a x old now begins = record { only = inr (inl refl); source = refl; sink = refl; counts = begins.counts; disk_reads = begins.disk_reads; disk_writes = begins.disk_writes; unarmed = λ _. begins.unarmed (λ is. cc) }
+unbegun Memory a x old now begins = record { only = inr (inr refl); source = refl; sink = refl; counts = begins.counts; disk_reads = begins.disk_reads; disk_writes = begins.disk_writes; unarmed = λ device. absurd (elim device [ inl flash ↦ cc | inr disk ↦ cc ]) }
+unbegun Trace a x old now begins = absurd (not_begun Trace begins.only (λ is. cc) (λ is. cc) (λ is. cc))
+unbegun Source a x old now begins = absurd (not_begun Source begins.only (λ is. cc) (λ is. cc) (λ is. cc))
+unbegun Sink a x old now begins = absurd (not_begun Sink begins.only (λ is. cc) (λ is. cc) (λ is. cc))
+
 -- a volume was made, and a run over it ended
 pub cause_later : {T V : Type 0} {r : Result T Ended} {made : Result V Ended} {a b : SourceState} {x y : SinkState} {old begun now : State} → Begins made old begun → EndHasCause r a b x y begun now → EndHasCause r a b x y old now
 cause_later begins causes = record {
@@ -152,53 +162,26 @@ module _ (mode kind : Mode) (options : Options) (is : mode ≡ kind) {owns : Con
   same : v.told ≡ told_for mode options
   same = new.told ∙ ap (λ (m : Mode). told_for m options) (sym is)
 
-  pub whole_new : RunsWhole v.told (Reads v.told.geometry.size a z) (Tells x y) (ImageIs u) begun now
-      → RunsWhole (told_for mode options) (Reads options.geometry.size a z) (Tells x y) (ImageStandsFor options.geometry) (fitted_for options.geometry old) now
-  whole_new whole =
-      whole_from (told_for mode options) (Reads options.geometry.size a z) (Reads options.geometry.size a z) (Tells x y) (Tells x y) (ImageIs (told_for mode options)) (ImageStandsFor options.geometry) (fitted_for options.geometry old) begun now
-      (λ all w reads. reads) (λ run answers says. says) (image_stands (told_for mode options)) new.before
-      (subst (λ (k : Told). RunsWhole k (Reads k.geometry.size a z) (Tells x y) (ImageIs k) begun now) same (subst (λ (k : Told). RunsWhole v.told (Reads v.told.geometry.size a z) (Tells x y) (ImageIs k) begun now) stays whole))
-
-  pub refused_new : EndsRefused v.told (Reads v.told.geometry.size a z) (Tells x y) (ImageIs u) begun now
-      → EndsRefused (told_for mode options) (Reads options.geometry.size a z) (Tells x y) (ImageStandsFor options.geometry) (fitted_for options.geometry old) now
-  refused_new ends =
-      refused_from (told_for mode options) (Reads options.geometry.size a z) (Reads options.geometry.size a z) (Tells x y) (Tells x y) (ImageIs (told_for mode options)) (ImageStandsFor options.geometry) (fitted_for options.geometry old) begun now
-      (λ all w reads. reads) (λ run answers says. says) (image_stands (told_for mode options)) new.before
-      (subst (λ (k : Told). EndsRefused k (Reads k.geometry.size a z) (Tells x y) (ImageIs k) begun now) same (subst (λ (k : Told). EndsRefused v.told (Reads v.told.geometry.size a z) (Tells x y) (ImageIs k) begun now) stays ends))
-
-  pub unread_new : EndsUnread v.told (Reads v.told.geometry.size a z) (Tells x y) (ImageIs u) begun now
-      → EndsUnread (told_for mode options) (Reads options.geometry.size a z) (Tells x y) (ImageStandsFor options.geometry) (fitted_for options.geometry old) now
-  unread_new ends =
-      unread_from (told_for mode options) (Reads options.geometry.size a z) (Reads options.geometry.size a z) (Tells x y) (Tells x y) (ImageIs (told_for mode options)) (ImageStandsFor options.geometry) (fitted_for options.geometry old) begun now
-      (λ all w reads. reads) (λ run answers says. says) (image_stands (told_for mode options)) new.before
-      (subst (λ (k : Told). EndsUnread k (Reads k.geometry.size a z) (Tells x y) (ImageIs k) begun now) same (subst (λ (k : Told). EndsUnread v.told (Reads v.told.geometry.size a z) (Tells x y) (ImageIs k) begun now) stays ends))
-
-  pub part_new : (e : Ended) → EndsPart v.told (Reads v.told.geometry.size a z) (Tells x y) (TellsPart x y) (ImageIs u) begun now e
-      → EndsPart (told_for mode options) (Reads options.geometry.size a z) (Tells x y) (TellsPart x y) (ImageStandsFor options.geometry) (fitted_for options.geometry old) now e
-  part_new e ends =
-      part_from (told_for mode options) (Reads options.geometry.size a z) (Reads options.geometry.size a z) (Tells x y) (Tells x y) (ImageIs (told_for mode options)) (ImageStandsFor options.geometry) (fitted_for options.geometry old) begun now
-      (λ all w reads. reads) (λ run answers says. says) (image_stands (told_for mode options)) new.before
-      (TellsPart x y) (TellsPart x y) (λ run answers next shown. shown) e
-      (subst (λ (k : Told). EndsPart k (Reads k.geometry.size a z) (Tells x y) (TellsPart x y) (ImageIs k) begun now e) same (subst (λ (k : Told). EndsPart v.told (Reads v.told.geometry.size a z) (Tells x y) (TellsPart x y) (ImageIs k) begun now e) stays ends))
+  pub ends_new : (r : Result (Unit {0}) Ended) → EndsAs v.told (Reads v.told.geometry.size a z) (Tells x y) (TellsPart x y) (ImageIs u) begun now r
+      → EndsAs (told_for mode options) (Reads options.geometry.size a z) (Tells x y) (TellsPart x y) (ImageStandsFor options.geometry) (fitted_for options.geometry old) now r
+  ends_new r ends =
+      ends_from (told_for mode options) (Reads options.geometry.size a z) (Reads options.geometry.size a z) (Tells x y) (Tells x y) (ImageIs (told_for mode options)) (ImageStandsFor options.geometry) (fitted_for options.geometry old) begun now
+      (λ lines all w reads. reads) (λ run answers says. says) (image_stands (told_for mode options)) new.before
+      (TellsPart x y) (TellsPart x y) (λ run answers next shown. shown) r
+      (subst (λ (k : Told). EndsAs k (Reads k.geometry.size a z) (Tells x y) (TellsPart x y) (ImageIs k) begun now r) same (subst (λ (k : Told). EndsAs v.told (Reads v.told.geometry.size a z) (Tells x y) (TellsPart x y) (ImageIs k) begun now r) stays ends))
 
 -- ---- the records of a run of given lines over it
 
 module _ (mode kind : Mode) (options : Options) (is : mode ≡ kind) {owns : Contents → Type 0} {v : VolumeState} {old begun : State} (new : IsNewVolume (told_for kind options) owns v old begun)
-    (u : Told) (stays : u ≡ v.told) (left lines : List Line) (given : left ≡ lines) (x y : SinkState) (now : State) where
+    (u : Told) (stays : u ≡ v.told) (left lines : List Line) (given : left ≡ lines)
+    (says : List Ran → List Answer → Type 0) (part : List Ran → List Answer → Option Answer → Type 0) (now : State) where
   told_made : v.told ≡ told_for mode options
   told_made = new.told ∙ ap (λ (m : Mode). told_for m options) (sym is)
 
-  pub whole_made : RunsWhole v.told (Gives left) (TellsEnd x y) (ImageIs u) begun now
-      → RunsWhole (told_for mode options) (Gives lines) (TellsEnd x y) (ImageStandsFor options.geometry) (fitted_for options.geometry old) now
-  whole_made whole =
-      whole_from (told_for mode options) (Gives left) (Gives lines) (TellsEnd x y) (TellsEnd x y) (ImageIs (told_for mode options)) (ImageStandsFor options.geometry) (fitted_for options.geometry old) begun now
-      (λ all w gives. subst (λ (ls : List Line). Gives ls all w) given gives) (λ run answers says. says) (image_stands (told_for mode options)) new.before
-      (subst (λ (k : Told). RunsWhole k (Gives left) (TellsEnd x y) (ImageIs k) begun now) told_made (subst (λ (k : Told). RunsWhole v.told (Gives left) (TellsEnd x y) (ImageIs k) begun now) stays whole))
-
-  pub part_made : (e : Ended) → EndsPart v.told (Gives left) (TellsEnd x y) (TellsEndPart x y) (ImageIs u) begun now e
-      → EndsPart (told_for mode options) (Gives lines) (TellsEnd x y) (TellsEndPart x y) (ImageStandsFor options.geometry) (fitted_for options.geometry old) now e
-  part_made e ends =
-      part_from (told_for mode options) (Gives left) (Gives lines) (TellsEnd x y) (TellsEnd x y) (ImageIs (told_for mode options)) (ImageStandsFor options.geometry) (fitted_for options.geometry old) begun now
-      (λ all w gives. subst (λ (ls : List Line). Gives ls all w) given gives) (λ run answers says. says) (image_stands (told_for mode options)) new.before
-      (TellsEndPart x y) (TellsEndPart x y) (λ run answers next shown. shown) e
-      (subst (λ (k : Told). EndsPart k (Gives left) (TellsEnd x y) (TellsEndPart x y) (ImageIs k) begun now e) told_made (subst (λ (k : Told). EndsPart v.told (Gives left) (TellsEnd x y) (TellsEndPart x y) (ImageIs k) begun now e) stays ends))
+  pub ends_made : (r : Result (Unit {0}) Ended) → EndsAs v.told (Gives left) says part (ImageIs u) begun now r
+      → EndsAs (told_for mode options) (Gives lines) says part (ImageStandsFor options.geometry) (fitted_for options.geometry old) now r
+  ends_made r ends =
+      ends_from (told_for mode options) (Gives left) (Gives lines) says says (ImageIs (told_for mode options)) (ImageStandsFor options.geometry) (fitted_for options.geometry old) begun now
+      (λ n all w gives. subst (λ (ls : List Line). Gives ls n all w) given gives) (λ run answers said. said) (image_stands (told_for mode options)) new.before
+      part part (λ run answers next shown. shown) r
+      (subst (λ (k : Told). EndsAs k (Gives left) says part (ImageIs k) begun now r) told_made (subst (λ (k : Told). EndsAs v.told (Gives left) says part (ImageIs k) begun now r) stays ends))

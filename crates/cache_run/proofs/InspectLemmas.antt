@@ -1,5 +1,5 @@
 -- A run that prints nothing, with a report after it, and the same over a new volume.
-use Rattle.std.proofs.Common.{◌≡◌, ◌≢◌, ◌≤◌, inl, inr, ℕ, ◌+◌, ◌-◌, min, Bool, true, List, [], ◌∷◌, length, drop, Option, Some, None, IsErrOf, refl, sym, ap, ◌∙◌, subst, arith}
+use Rattle.std.proofs.Common.{◌≡◌, ◌≢◌, ◌≤◌, inl, inr, ℕ, ◌+◌, ◌-◌, min, Bool, true, List, [], ◌∷◌, length, drop, Option, Some, None, Result, Ok, Err, OnOk, IfErr, IsErrOf, refl, sym, ap, ◌∙◌, subst, arith}
 use Rattle.std.specs.Io.KnownBytes.{Appends, Keeps}
 use Rattle.std.proofs.lemmas.List.{drop-drop, length-drop}
 use Rattle.ft_base.specs.Contents.{Contents, Image}
@@ -10,6 +10,7 @@ use Rattle.ft_base.specs.Told.{Told}
 use Rattle.ft_base.specs.declared.block.Page.{Page}
 use Rattle.ft_base.specs.declared.block.Place.{Place}
 use Rattle.ft_base.specs.declared.geometry.Geometry.{Geometry}
+use Rattle.ft_base.specs.declared.told.Ack.TheVariants as ack
 use Rattle.ft_base.specs.declared.told.Mode.{Mode}
 use Rattle.cache_model.specs.Records.{Entries}
 use Rattle.cache_model.specs.Stands.{ImageStandsFor}
@@ -25,7 +26,7 @@ use Rattle.trace_model.specs.declared.ran.Ran.{Ran}
 use Rattle.trace_model.specs.Backs.{ReadsFew, WritesBack, WritesNone}
 use Rattle.trace_model.specs.Fits.{FitsEnd, armed_after}
 use Rattle.trace_model.specs.Readings.{Reading, Reads}
-use Rattle.trace_model.specs.Run.{cuts_in, disk_without, end_answers, end_of, stopped}
+use Rattle.trace_model.specs.Run.{cuts_in, disk_without, end_answers, end_of, lines_of, stopped}
 use Rattle.trace_model.specs.Text.{text}
 use Rattle.trace_model.proofs.RunLemmas.{disk_without-none}
 use Rattle.trace_replay.specs.declared.ended.Ended.{Ended}
@@ -33,26 +34,18 @@ use Rattle.trace_replay.specs.declared.ended.Ended.TheVariants as ended
 use Rattle.trace_replay.specs.Before.{IsBefore}
 use Rattle.trace_replay.specs.Commands.{TellsRefusal, TellsRefusalPart}
 use Rattle.trace_replay.specs.Said.{RoseAtLeast, Takes}
-use Rattle.trace_replay.specs.Theorem.{EndsPart, EndsRefused, EndsUnread, LeavesRig, RunsWhole}
+use Rattle.trace_replay.specs.Theorem.{EndsEarly, EndsPart, LeavesRig, RunsWhole}
 use Rattle.trace_replay.specs.Went.{Keeps as KeepsDisk}
 use Rattle.trace_replay.proofs.FromLemmas.{before_itself, leaves_from, part_from, refused_from, unread_from}
 use Rattle.cache_run.specs.Begun.{IsNewVolume}
 use Rattle.cache_run.specs.Fitted.{fitted_for}
-use Rattle.cache_run.specs.Inspected.{Asks, EndsInspecting, Inspects, LoadsAs, PrintsFront, PrintsReport, TellsInspectPart}
+use Rattle.cache_run.specs.Inspected.{Asks, EndsInspected, EndsInspecting, Inspects, LoadsAs, PrintsFront, PrintsReport, TellsInspectPart}
 use Rattle.cache_run.proofs.SilentLemmas.{front_silent, kept_none, kept_then, none_stopped}
 use Rattle.cache_run.proofs.UncutLemmas.{disk_after-uncut, uncut_none}
 use Rattle.trace_replay.proofs.EndingLemmas.{failed_by}
-use Rattle.trace_replay.proofs.CutsLemmas.{long_stopped, stops_all}
+use Rattle.trace_replay.proofs.CutsLemmas.{counts_then, long_stopped, stops_all}
 
 -- ---- how it ended
-
-pub at_end : {A : Type 0} (e : Ended) → (IsErrOf (failed_by e) ended.Trace → A) → (IsErrOf (failed_by e) ended.Source → A) → (e ≢ ended.Trace → e ≢ ended.Source → A) → A
-at_end ended.Trace trace source other = trace refl
-at_end ended.Source trace source other = source refl
-at_end ended.Sink trace source other = other (λ is. cc) (λ is. cc)
-at_end ended.Flash trace source other = other (λ is. cc) (λ is. cc)
-at_end ended.Disk trace source other = other (λ is. cc) (λ is. cc)
-at_end ended.Memory trace source other = other (λ is. cc) (λ is. cc)
 
 -- what was taken at any end, from what was where the sink failed and where not
 takes_at : (e : Ended) (says : List Answer → Type 0) (short : List Answer → Option Answer → Type 0) (front : List Answer) (next : Answer)
@@ -78,26 +71,38 @@ widen : (g : Geometry) (loads : (Place → Page) → Entries → Type 0) (now : 
 widen g loads now x y run answers None part = part
 widen g loads now x y run answers (Some next) part = inl part
 
-pub inspecting_line : (o : Told) (reads : List Reading → Bool → Type 0) (loads : (Place → Page) → Entries → Type 0) (stands : Image → PlainDisk → Type 0) (x y : SinkState) (first now : State) (e : Ended)
+pub inspecting_line : (o : Told) (reads : ℕ → List Reading → Bool → Type 0) (loads : (Place → Page) → Entries → Type 0) (stands : Image → PlainDisk → Type 0) (x y : SinkState) (first now : State) (e : Ended)
     → EndsPart o reads (TellsRefusal x y) (TellsRefusalPart x y) stands first now e → EndsInspecting o reads loads x y stands first now e
 inspecting_line o reads loads stands x y first now e ends =
     let none = front_silent o ends.whole ends.run ends.left ends.part.front ends.part.rest ends.due ends.may ends.part.both ends.proper in
     record {
       part = part_from o reads reads (TellsRefusal x y) (TellsRefusal x y) stands stands first first now
-          (λ all whole known. known) (λ run answers said. said) (λ image d stood. stood) (before_itself first)
+          (λ lines all whole known. known) (λ run answers said. said) (λ image d stood. stood) (before_itself first)
           (TellsRefusalPart x y) (TellsInspectPart o.geometry loads now x y) (widen o.geometry loads now x y) e ends;
       silent = λ other. subst (λ (r : List Answer). Appends x.taken y.taken (text r)) none (took_front e (TellsRefusal x y ends.run) (TellsRefusalPart x y ends.run) ends.part.front ends.part.rest ends.part.taken other);
     }
 
+-- and within its report, if it was no refusal and no fault of the source
+pub inspected_then : {o : Told} {reads : ℕ → List Reading → Bool → Type 0} {loads : (Place → Page) → Entries → Type 0} {x y : SinkState} {stands : Image → PlainDisk → Type 0} {first now : State} (e : Ended)
+    → (e ≡ ended.Trace → ⊥) → (e ≡ ended.Source → ⊥) → EndsInspecting o reads loads x y stands first now e → EndsInspected o reads loads x y stands first now (Err e)
+inspected_then ended.Trace not_trace not_source ends = absurd (not_trace refl)
+inspected_then ended.Source not_trace not_source ends = absurd (not_source refl)
+inspected_then ended.Sink not_trace not_source ends = ends
+inspected_then ended.Flash not_trace not_source ends = ends
+inspected_then ended.Disk not_trace not_source ends = ends
+inspected_then ended.Memory not_trace not_source ends = ends
+
 -- ---- a report after all lines
 
 -- all lines were run, and then a report was asked for, again after so many cuts
-module _ (o : Told) (reads : List Reading → Bool → Type 0) (stands after : Image → PlainDisk → Type 0) (loads : (Place → Page) → Entries → Type 0) (x y z : SinkState) (first mid now : State)
-    (quiet : RunsWhole o reads (TellsRefusal x y) stands first mid) (silent : Keeps x.taken y.taken) (n : ℕ) (asks : Asks n mid now) (kept : KeepsDisk stands after mid.contents now.contents) where
+module _ (o : Told) (reads : ℕ → List Reading → Bool → Type 0) (stands after : Image → PlainDisk → Type 0) (loads : (Place → Page) → Entries → Type 0) (x y z : SinkState) (first mid now : State)
+    (quiet : RunsWhole o reads (TellsRefusal x y) stands first mid) (silent : Keeps x.taken y.taken) (n : ℕ) (asks : Asks n mid now) (kept : KeepsDisk stands after mid.contents now.contents) (acked : o.ack ≡ ack.Write) where
   rig_then : LeavesRig o first now quiet.run quiet.run
   rig_then = record {
     on = asks.on;
     shape = asks.shape ∙ quiet.leaves.rig.shape;
+    counts = counts_then first.counts mid.counts now.counts quiet.leaves.rig.counts asks.counts;
+    programs = λ below. let later = asks.counts.programs in let rose = quiet.leaves.rig.programs (omega arith) in omega arith;
     reads = subst (λ k. ReadsFew o quiet.run quiet.run first.counts.disk_reads k) (sym asks.disk_reads) quiet.leaves.rig.reads;
     writes = subst (λ k. WritesNone o quiet.run quiet.run first.counts.disk_writes k) (sym asks.disk_writes) quiet.leaves.rig.writes;
   }
@@ -115,8 +120,8 @@ module _ (o : Told) (reads : List Reading → Bool → Type 0) (stands after : I
   risen_then : RoseAtLeast (cuts_in quiet.run + (quiet.cuts + n)) first.faults.cuts now.faults.cuts
   risen_then = λ below. let two = asks.risen below in let later = asks.later in let one = quiet.leaves.risen (omega arith) in omega arith
 
-  fits_then : FitsEnd quiet.run (quiet.cuts + n) quiet.lost
-  fits_then = record { few = few_then; none = quiet.leaves.fits.none }
+  fits_then : FitsEnd o.ack quiet.run (quiet.cuts + n) quiet.lost
+  fits_then = record { few = few_then; cut = λ none. quiet.leaves.fits.cut (omega (arith, none)); losses = quiet.leaves.fits.losses }
 
   disk_then : StandFor after now.contents (disk_without quiet.lost quiet.run)
   disk_then = kept (disk_without quiet.lost quiet.run) quiet.leaves.disk
@@ -146,14 +151,14 @@ module _ (o : Told) (reads : List Reading → Bool → Type 0) (stands after : I
     };
     uncut = λ calm.
         let none = uncut_none o.ack quiet.run (quiet.cuts + n) first.faults.cuts now.faults.cuts quiet.lines.fits few_then risen_then calm in
-        subst (λ (d : PlainDisk). StandFor after now.contents d) (disk_without-none quiet.lost quiet.run quiet.leaves.fits.none ∙ disk_after-uncut o.ack quiet.run quiet.lines.fits none) disk_then;
+        subst (λ (d : PlainDisk). StandFor after now.contents d) (disk_without-none quiet.lost quiet.run (quiet.leaves.fits.losses.none acked) ∙ disk_after-uncut o.ack quiet.run quiet.lines.fits none) disk_then;
   }
 
   -- it ended before all of it was printed
   pub inspecting_then : (e : Ended) → (e ≡ ended.Sink → PrintsFront o.geometry loads now y z) → (e ≢ ended.Sink → z ≡ y) → EndsInspecting o reads loads x z after first now e
   inspecting_then e short same =
       let k = quiet.cuts + n in
-      let none = quiet.leaves.fits.none in
+      let none = quiet.leaves.fits.losses.none acked in
       let nothing : e ≢ ended.Sink → Appends x.taken z.taken [] = λ other. subst (λ (s : SinkState). Appends x.taken s.taken []) (sym (same other)) (kept_none x.taken y.taken silent) in
       record {
         part = record {
@@ -162,6 +167,9 @@ module _ (o : Told) (reads : List Reading → Bool → Type 0) (stands after : I
           run = quiet.run;
           left = [];
           due = end_answers quiet.run k quiet.lost;
+          given = length (lines_of quiet.run);
+          after = omega arith;
+          next = omega arith;
           trace = quiet.trace;
           lines = quiet.lines;
           may = record { cuts = k; lost = quiet.lost; fits = fits_then; told = refl };
@@ -189,10 +197,16 @@ module _ (o : Told) (reads : List Reading → Bool → Type 0) (stands after : I
         silent = nothing;
       }
 
+  -- by what the report answered
+  pub inspected_by : (r : Result (Unit {0}) Ended) → OnOk r (n ≡ 0 → KeepsReady mid now) → OnOk r (PrintsReport o.geometry loads now y z) → (IsErrOf r ended.Sink → PrintsFront o.geometry loads now y z)
+      → IfErr r (λ e. e ≢ ended.Sink → z ≡ y) → (IsErrOf r ended.Trace → ⊥) → (IsErrOf r ended.Source → ⊥) → EndsInspected o reads loads x z after first now r
+  inspected_by (Ok done) ready prints short same not_trace not_source = whole_then ready prints
+  inspected_by (Err e) ready prints short same not_trace not_source = inspected_then e (λ is. not_trace (ap failed_by is)) (λ is. not_source (ap failed_by is)) (inspecting_then e (λ is. short (ap failed_by is)) same)
+
 -- ---- from an earlier state, for another reading of the images and of the flash
 
-module _ (o : Told) (reads other : List Reading → Bool → Type 0) (loads : (Place → Page) → Entries → Type 0) (x y : SinkState) (stands images : Image → PlainDisk → Type 0) (earlier first now : State)
-    (read : (all : List Reading) (whole : Bool) → reads all whole → other all whole)
+module _ (o : Told) (reads other : ℕ → List Reading → Bool → Type 0) (loads : (Place → Page) → Entries → Type 0) (x y : SinkState) (stands images : Image → PlainDisk → Type 0) (earlier first now : State)
+    (read : (lines : ℕ) (all : List Reading) (whole : Bool) → reads lines all whole → other lines all whole)
     (stood : (image : Image) (d : PlainDisk) → stands image d → images image d)
     (before : IsBefore earlier first) where
   rose_since : Rose first.faults.cuts now.faults.cuts → Rose earlier.faults.cuts now.faults.cuts
@@ -210,7 +224,7 @@ module _ (o : Told) (reads other : List Reading → Bool → Type 0) (loads : (P
       run = ends.whole.run;
       cuts = ends.whole.cuts;
       lost = ends.whole.lost;
-      trace = read ends.whole.all true ends.whole.trace;
+      trace = read _ ends.whole.all true ends.whole.trace;
       lines = ends.whole.lines;
       printed = ends.whole.printed;
       leaves = leaves_from o stands images earlier first now stood before ends.whole.run ends.whole.cuts ends.whole.lost ends.whole.leaves;
@@ -226,6 +240,35 @@ module _ (o : Told) (reads other : List Reading → Bool → Type 0) (loads : (P
     silent = ends.silent;
   }
 
+  pub inspected_from : (r : Result (Unit {0}) Ended) → EndsInspected o reads loads x y stands first now r → EndsInspected o other loads x y images earlier now r
+  inspected_from (Ok done) ends = inspects_from ends
+  inspected_from (Err ended.Trace) ends = refused_from o reads other (TellsRefusal x y) (TellsRefusal x y) stands images earlier first now read (λ run answers says. says) stood before ends
+  inspected_from (Err ended.Source) ends = unread_from o reads other (TellsRefusal x y) (TellsRefusal x y) stands images earlier first now read (λ run answers says. says) stood before ends
+  inspected_from (Err ended.Sink) ends = inspecting_from ended.Sink ends
+  inspected_from (Err ended.Flash) ends = inspecting_from ended.Flash ends
+  inspected_from (Err ended.Disk) ends = inspecting_from ended.Disk ends
+  inspected_from (Err ended.Memory) ends = inspecting_from ended.Memory ends
+
+-- an inspection that ended within its lines ended as the run over them
+pub inspected_lines : (o : Told) (reads : ℕ → List Reading → Bool → Type 0) (loads : (Place → Page) → Entries → Type 0) (stands : Image → PlainDisk → Type 0) (x y : SinkState) (first now : State) (e : Ended)
+    → EndsEarly o reads (TellsRefusal x y) (TellsRefusalPart x y) stands first now e → EndsInspected o reads loads x y stands first now (Err e)
+inspected_lines o reads loads stands x y first now ended.Trace ends = ends
+inspected_lines o reads loads stands x y first now ended.Source ends = ends
+inspected_lines o reads loads stands x y first now ended.Sink ends = inspecting_line o reads loads stands x y first now ended.Sink ends
+inspected_lines o reads loads stands x y first now ended.Flash ends = inspecting_line o reads loads stands x y first now ended.Flash ends
+inspected_lines o reads loads stands x y first now ended.Disk ends = inspecting_line o reads loads stands x y first now ended.Disk ends
+inspected_lines o reads loads stands x y first now ended.Memory ends = inspecting_line o reads loads stands x y first now ended.Memory ends
+
+-- a run that ended early left power on
+pub early_on : (o : Told) (reads : ℕ → List Reading → Bool → Type 0) (says : List Ran → List Answer → Type 0) (short : List Ran → List Answer → Option Answer → Type 0) (stands : Image → PlainDisk → Type 0) (first now : State) (e : Ended)
+    → EndsEarly o reads says short stands first now e → now.power.on ≡ true
+early_on o reads says short stands first now ended.Trace ends = ends.leaves.rig.on
+early_on o reads says short stands first now ended.Source ends = ends.leaves.rig.on
+early_on o reads says short stands first now ended.Sink ends = ends.rig.on
+early_on o reads says short stands first now ended.Flash ends = ends.rig.on
+early_on o reads says short stands first now ended.Disk ends = ends.rig.on
+early_on o reads says short stands first now ended.Memory ends = ends.rig.on
+
 -- ---- over a new volume
 
 module _ (mode kind : Mode) (options : Options) (is : mode ≡ kind) {owns : Contents → Type 0} {v : VolumeState} {old begun : State} (new : IsNewVolume (told_for kind options) owns v old begun)
@@ -233,30 +276,9 @@ module _ (mode kind : Mode) (options : Options) (is : mode ≡ kind) {owns : Con
   same : v.told ≡ told_for mode options
   same = new.told ∙ ap (λ (m : Mode). told_for m options) (sym is)
 
-  pub inspects_new : Inspects v.told (Reads v.told.geometry.size a z) (LoadsAs v.told.geometry) x y (ImageIs u) begun now
-      → Inspects (told_for mode options) (Reads options.geometry.size a z) (LoadsAs options.geometry) x y (ImageStandsFor options.geometry) (fitted_for options.geometry old) now
-  inspects_new ends =
-      inspects_from (told_for mode options) (Reads options.geometry.size a z) (Reads options.geometry.size a z) (LoadsAs options.geometry) x y (ImageIs (told_for mode options)) (ImageStandsFor options.geometry) (fitted_for options.geometry old) begun now
-      (λ all w reads. reads) (image_stands (told_for mode options)) new.before
-      (subst (λ (k : Told). Inspects k (Reads k.geometry.size a z) (LoadsAs k.geometry) x y (ImageIs k) begun now) same (subst (λ (k : Told). Inspects v.told (Reads v.told.geometry.size a z) (LoadsAs v.told.geometry) x y (ImageIs k) begun now) stays ends))
-
-  pub refused_quiet : EndsRefused v.told (Reads v.told.geometry.size a z) (TellsRefusal x y) (ImageIs u) begun now
-      → EndsRefused (told_for mode options) (Reads options.geometry.size a z) (TellsRefusal x y) (ImageStandsFor options.geometry) (fitted_for options.geometry old) now
-  refused_quiet ends =
-      refused_from (told_for mode options) (Reads options.geometry.size a z) (Reads options.geometry.size a z) (TellsRefusal x y) (TellsRefusal x y) (ImageIs (told_for mode options)) (ImageStandsFor options.geometry) (fitted_for options.geometry old) begun now
-      (λ all w reads. reads) (λ run answers says. says) (image_stands (told_for mode options)) new.before
-      (subst (λ (k : Told). EndsRefused k (Reads k.geometry.size a z) (TellsRefusal x y) (ImageIs k) begun now) same (subst (λ (k : Told). EndsRefused v.told (Reads v.told.geometry.size a z) (TellsRefusal x y) (ImageIs k) begun now) stays ends))
-
-  pub unread_quiet : EndsUnread v.told (Reads v.told.geometry.size a z) (TellsRefusal x y) (ImageIs u) begun now
-      → EndsUnread (told_for mode options) (Reads options.geometry.size a z) (TellsRefusal x y) (ImageStandsFor options.geometry) (fitted_for options.geometry old) now
-  unread_quiet ends =
-      unread_from (told_for mode options) (Reads options.geometry.size a z) (Reads options.geometry.size a z) (TellsRefusal x y) (TellsRefusal x y) (ImageIs (told_for mode options)) (ImageStandsFor options.geometry) (fitted_for options.geometry old) begun now
-      (λ all w reads. reads) (λ run answers says. says) (image_stands (told_for mode options)) new.before
-      (subst (λ (k : Told). EndsUnread k (Reads k.geometry.size a z) (TellsRefusal x y) (ImageIs k) begun now) same (subst (λ (k : Told). EndsUnread v.told (Reads v.told.geometry.size a z) (TellsRefusal x y) (ImageIs k) begun now) stays ends))
-
-  pub inspecting_new : (e : Ended) → EndsInspecting v.told (Reads v.told.geometry.size a z) (LoadsAs v.told.geometry) x y (ImageIs u) begun now e
-      → EndsInspecting (told_for mode options) (Reads options.geometry.size a z) (LoadsAs options.geometry) x y (ImageStandsFor options.geometry) (fitted_for options.geometry old) now e
-  inspecting_new e ends =
-      inspecting_from (told_for mode options) (Reads options.geometry.size a z) (Reads options.geometry.size a z) (LoadsAs options.geometry) x y (ImageIs (told_for mode options)) (ImageStandsFor options.geometry) (fitted_for options.geometry old) begun now
-      (λ all w reads. reads) (image_stands (told_for mode options)) new.before e
-      (subst (λ (k : Told). EndsInspecting k (Reads k.geometry.size a z) (LoadsAs k.geometry) x y (ImageIs k) begun now e) same (subst (λ (k : Told). EndsInspecting v.told (Reads v.told.geometry.size a z) (LoadsAs v.told.geometry) x y (ImageIs k) begun now e) stays ends))
+  pub inspected_new : (r : Result (Unit {0}) Ended) → EndsInspected v.told (Reads v.told.geometry.size a z) (LoadsAs v.told.geometry) x y (ImageIs u) begun now r
+      → EndsInspected (told_for mode options) (Reads options.geometry.size a z) (LoadsAs options.geometry) x y (ImageStandsFor options.geometry) (fitted_for options.geometry old) now r
+  inspected_new r ends =
+      inspected_from (told_for mode options) (Reads options.geometry.size a z) (Reads options.geometry.size a z) (LoadsAs options.geometry) x y (ImageIs (told_for mode options)) (ImageStandsFor options.geometry) (fitted_for options.geometry old) begun now
+      (λ lines all w reads. reads) (image_stands (told_for mode options)) new.before r
+      (subst (λ (k : Told). EndsInspected k (Reads k.geometry.size a z) (LoadsAs k.geometry) x y (ImageIs k) begun now r) same (subst (λ (k : Told). EndsInspected v.told (Reads v.told.geometry.size a z) (LoadsAs v.told.geometry) x y (ImageIs k) begun now r) stays ends))

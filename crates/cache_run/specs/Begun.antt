@@ -4,6 +4,7 @@ use Rattle.ft_base.specs.Contents.{Contents}
 use Rattle.ft_base.specs.Count.{Rose}
 use Rattle.ft_base.specs.PlainDisk.{empty}
 use Rattle.ft_base.specs.Told.{Told}
+use Rattle.ft_media.specs.Passes.{NeverFall}
 use Rattle.ft_media.specs.State.{State}
 use Rattle.ft_volume.specs.Opening.{ImageIs}
 use Rattle.ft_volume.specs.Volume.{VolumeState}
@@ -27,15 +28,27 @@ pub record IsNewVolume (o : Told) (owns : Contents → Type 0) (v : VolumeState)
   pub before : IsBefore (fitted_for o.geometry old) now
 
 -- what making a volume does to the rig, whatever it answers: a device that failed is told by its count; power is on and
--- nothing is armed unless memory was refused; no block of the disk is read or written
+-- nothing is armed unless memory was refused; no count falls, and no block of the disk is read or written
 pub record Begins {V : Type 0} (result : Result V Ended) (old now : State) : Type 0 where
   pub only : OnErr result (IsErrOf result Flash ⊎ IsErrOf result Disk ⊎ IsErrOf result Memory)
   pub flash : IsErrOf result Flash → Rose old.faults.flash now.faults.flash
   pub disk : IsErrOf result Disk → Rose old.faults.disk now.faults.disk
   pub on : (IsErrOf result Memory → ⊥) → now.power.on ≡ true
   pub unarmed : (IsErrOf result Memory → ⊥) → now.power.stops ≡ []
+  pub counts : NeverFall old.counts now.counts
   pub disk_reads : now.counts.disk_reads ≡ old.counts.disk_reads
   pub disk_writes : now.counts.disk_writes ≡ old.counts.disk_writes
   pub flash_later : old.faults.flash ≤ now.faults.flash
   pub disk_later : old.faults.disk ≤ now.faults.disk
   pub lent : now.lent ≡ old.lent
+
+-- it ended before its volume was made: nothing was read or printed, no count fell, no block of the disk was read or
+-- written, and if a device failed no stop is armed
+pub record IsUnbegun {T I O : Type 0} (result : Result T Ended) (a b : I) (x y : O) (old now : State) : Type 0 where
+  pub only : IsErrOf result Flash ⊎ IsErrOf result Disk ⊎ IsErrOf result Memory
+  pub source : b ≡ a
+  pub sink : y ≡ x
+  pub counts : NeverFall old.counts now.counts
+  pub disk_reads : now.counts.disk_reads ≡ old.counts.disk_reads
+  pub disk_writes : now.counts.disk_writes ≡ old.counts.disk_writes
+  pub unarmed : IsErrOf result Flash ⊎ IsErrOf result Disk → now.power.stops ≡ []

@@ -11,6 +11,7 @@ use Rattle.ft_base.specs.declared.block.Place.{Place}
 use Rattle.ft_base.specs.declared.geometry.Geometry.{Geometry}
 use Rattle.cache_model.specs.Loading.{load}
 use Rattle.cache_model.specs.Records.{Entries}
+use Rattle.ft_media.specs.Passes.{NeverFall}
 use Rattle.ft_media.specs.State.{State}
 use Rattle.ft_volume.specs.Reported.{IsReport}
 use Rattle.ft_volume.specs.Standing.{StandFor}
@@ -27,7 +28,7 @@ use Rattle.trace_replay.specs.declared.ended.Ended.{Ended}
 use Rattle.trace_replay.specs.declared.ended.Ended.TheVariants as ended
 use Rattle.trace_replay.specs.Commands.{TellsRefusal, TellsRefusalPart, is_end}
 use Rattle.trace_replay.specs.Said.{RoseAtLeast}
-use Rattle.trace_replay.specs.Theorem.{EndsPart, RunsWhole}
+use Rattle.trace_replay.specs.Theorem.{EndsPart, EndsRefused, EndsUnread, RunsWhole}
 
 -- ---- the text
 
@@ -69,11 +70,12 @@ pub record PrintsFront (g : Geometry) (loads : (Place → Page) → Entries → 
 -- ---- asking for a report
 
 -- after so many cuts of it: power is on, the shape and what lies beneath stay, no block of the disk was read or
--- written, no count of faults fell, and of the stops those that cut it are gone, each of which was counted
+-- written, no count fell, and of the stops those that cut it are gone, each of which was counted
 pub record Asks (cuts : ℕ) (old new : State) : Type 0 where
   pub on : new.power.on ≡ true
   pub shape : new.contents.shape ≡ old.contents.shape
   pub lent : new.lent ≡ old.lent
+  pub counts : NeverFall old.counts new.counts
   pub disk_reads : new.counts.disk_reads ≡ old.counts.disk_reads
   pub disk_writes : new.counts.disk_writes ≡ old.counts.disk_writes
   pub flash : old.faults.flash ≤ new.faults.flash
@@ -103,7 +105,7 @@ TellsReport report old new run answers = Prints report old new
 -- every line was run, over what is known of them; a report of the entries that the flash has at the end was printed and
 -- nothing else; and where no stop and no cut line was run, or power was not cut, the media stand for the plain disk
 -- after all block writes of the lines
-pub record Inspects (o : Told) (reads : List Reading → Bool → Type 0) (loads : (Place → Page) → Entries → Type 0) (old new : SinkState)
+pub record Inspects (o : Told) (reads : ℕ → List Reading → Bool → Type 0) (loads : (Place → Page) → Entries → Type 0) (old new : SinkState)
     (stands : Image → PlainDisk → Type 0) (first now : State) : Type 0 where
   pub report : Report
   pub is : IsReportOf o.geometry loads now report
@@ -122,7 +124,22 @@ TellsInspectPart g loads now old new run answers (Some next) = TellsRefusalPart 
 
 -- it ended so before all of its text was printed: the media are the plain disk after the lines that were run, with
 -- first block writes of the next one; and where the sink did not fail nothing was printed
-pub record EndsInspecting (o : Told) (reads : List Reading → Bool → Type 0) (loads : (Place → Page) → Entries → Type 0)
+pub record EndsInspecting (o : Told) (reads : ℕ → List Reading → Bool → Type 0) (loads : (Place → Page) → Entries → Type 0)
     (old new : SinkState) (stands : Image → PlainDisk → Type 0) (first now : State) (e : Ended) : Type 0 where
   pub part : EndsPart o reads (TellsRefusal old new) (TellsInspectPart o.geometry loads now old new) stands first now e
   pub silent : e ≢ ended.Sink → Appends old.taken new.taken []
+
+-- how an inspection ended that gave this result
+module _ (o : Told) (reads : ℕ → List Reading → Bool → Type 0) (loads : (Place → Page) → Entries → Type 0) (old new : SinkState)
+    (stands : Image → PlainDisk → Type 0) (first now : State) where
+  abbrev pub EndsInspectedAt : Ended → Type 0
+  EndsInspectedAt ended.Trace = EndsRefused o reads (TellsRefusal old new) stands first now
+  EndsInspectedAt ended.Source = EndsUnread o reads (TellsRefusal old new) stands first now
+  EndsInspectedAt ended.Sink = EndsInspecting o reads loads old new stands first now ended.Sink
+  EndsInspectedAt ended.Flash = EndsInspecting o reads loads old new stands first now ended.Flash
+  EndsInspectedAt ended.Disk = EndsInspecting o reads loads old new stands first now ended.Disk
+  EndsInspectedAt ended.Memory = EndsInspecting o reads loads old new stands first now ended.Memory
+
+  abbrev pub EndsInspected : Result (Unit {0}) Ended → Type 0
+  EndsInspected (Ok done) = Inspects o reads loads old new stands first now
+  EndsInspected (Err e) = EndsInspectedAt e

@@ -1,16 +1,15 @@
 //! A trace that is run without printing, and what it leaves in the cache.
-ghost use Rattle.std.specs.Prelude.{◌≡◌, ◌≢◌, ◌⊎◌, [], true, OnOk, IfErr, IsErrOf};
+ghost use Rattle.std.specs.Prelude.{◌≡◌, ◌⊎◌, true, OnOk, IsErrOf};
 ghost use Rattle.std.specs.Io.KnownBytes.{IsAtEnd};
 ghost use Rattle.ft_volume.specs.Volume.{told_for};
 ghost use Rattle.cache_model.specs.Stands.{ImageStandsFor};
 ghost use Rattle.trace_model.specs.Readings.{Reads};
 ghost use Rattle.trace_replay.specs.Causes.{EndHasCause};
 ghost use Rattle.trace_replay.specs.Lent.{KeepsLent};
-ghost use Rattle.trace_replay.specs.Commands.{TellsRefusal};
 ghost use Rattle.trace_replay.specs.AsMade.{IsAsMade};
-ghost use Rattle.trace_replay.specs.Theorem.{EndsRefused, EndsUnread};
 ghost use Rattle.cache_run.specs.Fitted.{fitted_for};
-ghost use Rattle.cache_run.specs.Inspected.{EndsInspecting, Inspects, LoadsAs};
+ghost use Rattle.cache_run.specs.Begun.{IsUnbegun};
+ghost use Rattle.cache_run.specs.Inspected.{EndsInspected, LoadsAs};
 
 use crate::beginning::{begin_back, begin_through};
 use crate::reporting::tell_report;
@@ -31,19 +30,9 @@ fn inspect<I: Source, O: Sink, R: Rig, V: Volume<R>>(
     requires owns { V.owns volume.old (R.state rig.old).contents }
     requires fresh { IsAsMade V.stands (V.state volume.old) (R.state rig.old) }
     ensures told { (V.state volume.new).told ≡ (V.state volume.old).told }
-    ensures whole { OnOk result (Inspects (V.state volume.old).told
+    ensures ends { EndsInspected (V.state volume.old).told
         (Reads (V.state volume.old).told.geometry.size (I.state source.old) (I.state source.new)) (V.loads (V.state volume.old).told)
-        (O.state sink.old) (O.state sink.new) (V.stands (V.state volume.new).told) (R.state rig.old) (R.state rig.new)) }
-    ensures refused { IsErrOf result Ended.Trace → EndsRefused (V.state volume.old).told
-        (Reads (V.state volume.old).told.geometry.size (I.state source.old) (I.state source.new))
-        (TellsRefusal (O.state sink.old) (O.state sink.new)) (V.stands (V.state volume.new).told) (R.state rig.old) (R.state rig.new) }
-    ensures unread { IsErrOf result Ended.Source → EndsUnread (V.state volume.old).told
-        (Reads (V.state volume.old).told.geometry.size (I.state source.old) (I.state source.new))
-        (TellsRefusal (O.state sink.old) (O.state sink.new)) (V.stands (V.state volume.new).told) (R.state rig.old) (R.state rig.new) }
-    ensures part { IfErr result (λ e. e ≢ Ended.Trace → e ≢ Ended.Source
-        → EndsInspecting (V.state volume.old).told (Reads (V.state volume.old).told.geometry.size (I.state source.old) (I.state source.new))
-        (V.loads (V.state volume.old).told)
-        (O.state sink.old) (O.state sink.new) (V.stands (V.state volume.new).told) (R.state rig.old) (R.state rig.new) e) }
+        (O.state sink.old) (O.state sink.new) (V.stands (V.state volume.new).told) (R.state rig.old) (R.state rig.new) result }
     ensures causes { EndHasCause result (I.state source.old) (I.state source.new) (O.state sink.old) (O.state sink.new) (R.state rig.old)
         (R.state rig.new) }
     ensures on { (R.state rig.new).power.on ≡ true }
@@ -68,30 +57,12 @@ pub fn inspect_with<I: Source, O: Sink, R: Rig>(
     sink: &mut O,
     rig: &mut R,
 ) -> Result<(), Ended>
-    ensures whole { OnOk result (Inspects (told_for mode options.now)
-        (Reads options.now.geometry.size (I.state source.old) (I.state source.new)) (LoadsAs options.now.geometry)
-        (O.state sink.old) (O.state sink.new) (ImageStandsFor options.now.geometry) (fitted_for options.now.geometry (R.state rig.old))
-        (R.state rig.new)) }
+    // It ended before the volume was made, or as a run over it with a report.
+    ensures ends { IsUnbegun result source.old source.new sink.old sink.new (R.state rig.old) (R.state rig.new)
+        ⊎ EndsInspected (told_for mode options.now) (Reads options.now.geometry.size (I.state source.old) (I.state source.new))
+        (LoadsAs options.now.geometry) (O.state sink.old) (O.state sink.new)
+        (ImageStandsFor options.now.geometry) (fitted_for options.now.geometry (R.state rig.old)) (R.state rig.new) result }
     ensures end { OnOk result (IsAtEnd (I.state source.new).left) }
-    ensures refused { IsErrOf result Ended.Trace → EndsRefused (told_for mode options.now)
-        (Reads options.now.geometry.size (I.state source.old) (I.state source.new))
-        (TellsRefusal (O.state sink.old) (O.state sink.new)) (ImageStandsFor options.now.geometry)
-        (fitted_for options.now.geometry (R.state rig.old)) (R.state rig.new) }
-    ensures unread { IsErrOf result Ended.Source → EndsUnread (told_for mode options.now)
-        (Reads options.now.geometry.size (I.state source.old) (I.state source.new))
-        (TellsRefusal (O.state sink.old) (O.state sink.new)) (ImageStandsFor options.now.geometry)
-        (fitted_for options.now.geometry (R.state rig.old)) (R.state rig.new) }
-
-    // Another end comes before anything was read or printed, with no call of the disk that reads or writes, and
-    // with nothing armed where a device failed; or within the answers of a line, or within the report.
-    ensures part { IfErr result (λ e. e ≢ Ended.Trace → e ≢ Ended.Source → ((source.new ≡ source.old) × (sink.new ≡ sink.old)
-        × ((R.state rig.new).counts.disk_reads ≡ (R.state rig.old).counts.disk_reads)
-        × ((R.state rig.new).counts.disk_writes ≡ (R.state rig.old).counts.disk_writes)
-        × ((e ≡ Ended.Flash) ⊎ (e ≡ Ended.Disk) → (R.state rig.new).power.stops ≡ []))
-        ⊎ EndsInspecting (told_for mode options.now) (Reads options.now.geometry.size (I.state source.old) (I.state source.new))
-        (LoadsAs options.now.geometry)
-        (O.state sink.old) (O.state sink.new) (ImageStandsFor options.now.geometry) (fitted_for options.now.geometry (R.state rig.old))
-        (R.state rig.new) e) }
     ensures causes { EndHasCause result (I.state source.old) (I.state source.new) (O.state sink.old) (O.state sink.new) (R.state rig.old)
         (R.state rig.new) }
     ensures on { (IsErrOf result Ended.Memory → ⊥) → (R.state rig.new).power.on ≡ true }

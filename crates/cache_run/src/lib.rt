@@ -7,6 +7,7 @@
 mod beginning;
 mod defaults;
 mod ending;
+mod holding;
 mod inspecting;
 mod making;
 mod replaying;
@@ -14,6 +15,7 @@ mod reporting;
 
 pub use defaults::default_options;
 pub use ending::status_of;
+pub use holding::replay_lines;
 pub use inspecting::inspect_with;
 pub use making::gen_with;
 pub use replaying::replay_with;

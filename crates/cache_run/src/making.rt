@@ -1,10 +1,11 @@
-ghost use Rattle.std.specs.Prelude.{◌≡◌, ◌⊎◌, [], true, OnOk, IfErr, IsErrOf};
+ghost use Rattle.std.specs.Prelude.{◌≡◌, ◌⊎◌, true, IsErrOf};
 ghost use Rattle.ft_volume.specs.Volume.{told_for};
 ghost use Rattle.cache_model.specs.Stands.{ImageStandsFor};
 ghost use Rattle.trace_gen.specs.Made.{made_trace};
 ghost use Rattle.trace_replay.specs.Causes.{EndHasCauseUntraced, KeepsLentUntraced};
 ghost use Rattle.trace_replay.specs.Commands.{Gives, TellsEnd, TellsEndPart};
-ghost use Rattle.trace_replay.specs.Theorem.{EndsPart, RunsWhole};
+ghost use Rattle.trace_replay.specs.Theorem.{EndsAs};
+ghost use Rattle.cache_run.specs.Begun.{IsUnbegun};
 ghost use Rattle.cache_run.specs.Fitted.{fitted_for};
 
 use crate::beginning::{begin_back, begin_through};
@@ -26,19 +27,11 @@ pub fn gen_with<O: Sink, R: Rig>(
     sink: &mut O,
     rig: &mut R,
 ) -> Result<(), Ended>
-    ensures whole { OnOk result (RunsWhole (told_for mode options.now) (Gives (made_trace number count options.now.geometry))
-        (TellsEnd (O.state sink.old) (O.state sink.new))
-        (ImageStandsFor options.now.geometry) (fitted_for options.now.geometry (R.state rig.old)) (R.state rig.new)) }
-
-    // Another end comes before anything was printed, with no call of the disk that reads or writes, and with
-    // nothing armed where a device failed; or within the answers of a line.
-    ensures part { IfErr result (λ e. ((sink.new ≡ sink.old)
-        × ((R.state rig.new).counts.disk_reads ≡ (R.state rig.old).counts.disk_reads)
-        × ((R.state rig.new).counts.disk_writes ≡ (R.state rig.old).counts.disk_writes)
-        × ((e ≡ Ended.Flash) ⊎ (e ≡ Ended.Disk) → (R.state rig.new).power.stops ≡ []))
-        ⊎ EndsPart (told_for mode options.now) (Gives (made_trace number count options.now.geometry))
+    // It ended before the volume was made, or as a run over it; there is no source.
+    ensures ends { IsUnbegun result (tt {0}) (tt {0}) sink.old sink.new (R.state rig.old) (R.state rig.new)
+        ⊎ EndsAs (told_for mode options.now) (Gives (made_trace number count options.now.geometry))
         (TellsEnd (O.state sink.old) (O.state sink.new)) (TellsEndPart (O.state sink.old) (O.state sink.new))
-        (ImageStandsFor options.now.geometry) (fitted_for options.now.geometry (R.state rig.old)) (R.state rig.new) e) }
+        (ImageStandsFor options.now.geometry) (fitted_for options.now.geometry (R.state rig.old)) (R.state rig.new) result }
     // No line of a made trace is refused, and no source is read.
     ensures causes { EndHasCauseUntraced result (O.state sink.old) (O.state sink.new) (R.state rig.old) (R.state rig.new) }
     ensures on { (IsErrOf result Ended.Memory → ⊥) → (R.state rig.new).power.on ≡ true }

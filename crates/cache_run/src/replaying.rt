@@ -1,4 +1,4 @@
-ghost use Rattle.std.specs.Prelude.{◌≡◌, ◌≢◌, ◌⊎◌, [], true, OnOk, IfErr, IsErrOf};
+ghost use Rattle.std.specs.Prelude.{◌≡◌, ◌⊎◌, true, OnOk, IsErrOf};
 ghost use Rattle.std.specs.Io.KnownBytes.{IsAtEnd};
 ghost use Rattle.ft_volume.specs.Volume.{told_for};
 ghost use Rattle.cache_model.specs.Stands.{ImageStandsFor};
@@ -6,7 +6,8 @@ ghost use Rattle.trace_model.specs.Readings.{Reads};
 ghost use Rattle.trace_replay.specs.Causes.{EndHasCause};
 ghost use Rattle.trace_replay.specs.Lent.{KeepsLent};
 ghost use Rattle.trace_replay.specs.Said.{Tells, TellsPart};
-ghost use Rattle.trace_replay.specs.Theorem.{EndsPart, EndsRefused, EndsUnread, RunsWhole};
+ghost use Rattle.trace_replay.specs.Theorem.{EndsAs};
+ghost use Rattle.cache_run.specs.Begun.{IsUnbegun};
 ghost use Rattle.cache_run.specs.Fitted.{fitted_for};
 
 use crate::beginning::{begin_back, begin_through};
@@ -26,25 +27,12 @@ pub fn replay_with<I: Source, O: Sink, R: Rig>(
     sink: &mut O,
     rig: &mut R,
 ) -> Result<(), Ended>
-    ensures whole { OnOk result (RunsWhole (told_for mode options.now)
-        (Reads options.now.geometry.size (I.state source.old) (I.state source.new)) (Tells (O.state sink.old) (O.state sink.new))
-        (ImageStandsFor options.now.geometry) (fitted_for options.now.geometry (R.state rig.old)) (R.state rig.new)) }
-    ensures end { OnOk result (IsAtEnd (I.state source.new).left) }
-    ensures refused { IsErrOf result Ended.Trace → EndsRefused (told_for mode options.now)
-        (Reads options.now.geometry.size (I.state source.old) (I.state source.new)) (Tells (O.state sink.old) (O.state sink.new))
-        (ImageStandsFor options.now.geometry) (fitted_for options.now.geometry (R.state rig.old)) (R.state rig.new) }
-    ensures unread { IsErrOf result Ended.Source → EndsUnread (told_for mode options.now)
-        (Reads options.now.geometry.size (I.state source.old) (I.state source.new)) (Tells (O.state sink.old) (O.state sink.new))
-        (ImageStandsFor options.now.geometry) (fitted_for options.now.geometry (R.state rig.old)) (R.state rig.new) }
-    // Another end comes before anything was read or printed, with no call of the disk that reads or writes, and
-    // with nothing armed where a device failed; or within the answers of a line.
-    ensures part { IfErr result (λ e. e ≢ Ended.Trace → e ≢ Ended.Source → ((source.new ≡ source.old) × (sink.new ≡ sink.old)
-        × ((R.state rig.new).counts.disk_reads ≡ (R.state rig.old).counts.disk_reads)
-        × ((R.state rig.new).counts.disk_writes ≡ (R.state rig.old).counts.disk_writes)
-        × ((e ≡ Ended.Flash) ⊎ (e ≡ Ended.Disk) → (R.state rig.new).power.stops ≡ []))
-        ⊎ EndsPart (told_for mode options.now) (Reads options.now.geometry.size (I.state source.old) (I.state source.new))
+    // It ended before the volume was made, or as a run over it.
+    ensures ends { IsUnbegun result source.old source.new sink.old sink.new (R.state rig.old) (R.state rig.new)
+        ⊎ EndsAs (told_for mode options.now) (Reads options.now.geometry.size (I.state source.old) (I.state source.new))
         (Tells (O.state sink.old) (O.state sink.new)) (TellsPart (O.state sink.old) (O.state sink.new))
-        (ImageStandsFor options.now.geometry) (fitted_for options.now.geometry (R.state rig.old)) (R.state rig.new) e) }
+        (ImageStandsFor options.now.geometry) (fitted_for options.now.geometry (R.state rig.old)) (R.state rig.new) result }
+    ensures end { OnOk result (IsAtEnd (I.state source.new).left) }
     ensures causes { EndHasCause result (I.state source.old) (I.state source.new) (O.state sink.old) (O.state sink.new) (R.state rig.old)
         (R.state rig.new) }
     ensures on { (IsErrOf result Ended.Memory → ⊥) → (R.state rig.new).power.on ≡ true }

@@ -1,9 +1,10 @@
 use Rattle.std.proofs.Common.{ap, ◌∙◌, subst}
+use Rattle.std.proofs.lemmas.Result.{on_ok_weaker, IfErr-weaker}
 use Rattle.ft_base.specs.Told.{Told}
+use Rattle.trace_model.specs.Readings.{Reads}
+use Rattle.trace_replay.specs.Commands.{TellsRefusal, TellsRefusalPart}
 use Rattle.cache_run.specs.Inspected.{PrintsFront, PrintsReport}
-use Rattle.cache_run.proofs.InspectLemmas.{at_end, inspecting_line, inspecting_then, whole_then}
-use Rattle.trace_replay.proofs.EndingLemmas.{failed_by}
-use Rattle.cache_run.proofs.AskLemmas.{if_err_is, on_both}
+use Rattle.cache_run.proofs.InspectLemmas.{early_on, inspected_by, inspected_lines}
 use Rattle.trace_replay.proofs.ExitLemmas.{rose_later}
 use Rattle.cache_run.proofs.inspecting.inspect.Goals as goal
 
@@ -12,8 +13,8 @@ use Rattle.cache_run.proofs.inspecting.inspect.Goals as goal
 pub returns-in-Ok-clause-told : goal.returns-in-Ok-clause-told
 returns-in-Ok-clause-told g c = c.tell_report.ensures.told ∙ c.replay_quiet.ensures.owner.1
 
-pub returns-in-Ok-clause-whole : goal.returns-in-Ok-clause-whole
-returns-in-Ok-clause-whole g c =
+pub returns-in-Ok-clause-ends : goal.returns-in-Ok-clause-ends
+returns-in-Ok-clause-ends g c =
     let o = (g.V.Volume.state c.args.volume.now).told in
     let mid = (g.V.Volume.state c.replay_quiet.new.volume).told in
     let after = (g.V.Volume.state c.tell_report.new.volume).told in
@@ -24,30 +25,13 @@ returns-in-Ok-clause-whole g c =
     let between = g.R.Media.state c.replay_quiet.new.rig in
     let now = g.R.Media.state c.tell_report.new.rig in
     let asks = c.tell_report.ensures.asks in
-    on_both c.tell_report.result (λ prints ready.
-    whole_then o _ (g.V.Volume.stands mid) (g.V.Volume.stands after) (g.V.Volume.loads o) x y z first between now
-    c.in-Ok.ensures.whole c.in-Ok.ensures.silent asks.0 asks.1 c.tell_report.ensures.kept ready
-    (subst (λ (k : Told). PrintsReport k.geometry (g.V.Volume.loads k) now y z) c.replay_quiet.ensures.owner.1 prints))
-    c.tell_report.ensures.printed asks.2
-
-pub returns-in-Ok-clause-part : goal.returns-in-Ok-clause-part
-returns-in-Ok-clause-part g c =
-    let o = (g.V.Volume.state c.args.volume.now).told in
-    let mid = (g.V.Volume.state c.replay_quiet.new.volume).told in
-    let after = (g.V.Volume.state c.tell_report.new.volume).told in
-    let x = g.O.Sink.state c.args.sink.now in
-    let y = g.O.Sink.state c.replay_quiet.new.sink in
-    let z = g.O.Sink.state c.tell_report.new.sink in
-    let first = g.R.Media.state c.args.rig.now in
-    let between = g.R.Media.state c.replay_quiet.new.rig in
-    let now = g.R.Media.state c.tell_report.new.rig in
-    let asks = c.tell_report.ensures.asks in
-    if_err_is c.tell_report.result (λ e is silent not_trace not_source.
-    inspecting_then o _ (g.V.Volume.stands mid) (g.V.Volume.stands after) (g.V.Volume.loads o) x y z first between now
-    c.in-Ok.ensures.whole c.in-Ok.ensures.silent asks.0 asks.1 c.tell_report.ensures.kept e
-    (λ broke. subst (λ (k : Told). PrintsFront k.geometry (g.V.Volume.loads k) now y z) c.replay_quiet.ensures.owner.1 (c.tell_report.ensures.short (is ∙ ap failed_by broke)))
-    (λ other. ap g.O.Sink.state (silent other)))
-    c.tell_report.ensures.silent
+    let causes = c.tell_report.ensures.causes in
+    inspected_by o _ (g.V.Volume.stands mid) (g.V.Volume.stands after) (g.V.Volume.loads o) x y z first between now
+    c.in-Ok.ensures.ends c.in-Ok.ensures.silent asks.0 asks.1 c.tell_report.ensures.kept c.requires.fresh.ack c.tell_report.result asks.2
+    (on_ok_weaker c.tell_report.result (λ prints. subst (λ (k : Told). PrintsReport k.geometry (g.V.Volume.loads k) now y z) c.replay_quiet.ensures.owner.1 prints) c.tell_report.ensures.printed)
+    (λ broke. subst (λ (k : Told). PrintsFront k.geometry (g.V.Volume.loads k) now y z) c.replay_quiet.ensures.owner.1 (c.tell_report.ensures.short broke))
+    (IfErr-weaker c.tell_report.result _ _ (λ e silent other. ap g.O.Sink.state (silent other)) c.tell_report.ensures.silent)
+    causes.not_trace causes.not_source
 
 pub returns-in-Ok-clause-causes : goal.returns-in-Ok-clause-causes
 returns-in-Ok-clause-causes g c =
@@ -70,11 +54,21 @@ returns-in-Ok-clause-lent g c =
 
 -- ---- it ended before that
 
-pub returns-in-Err-clause-part : goal.returns-in-Err-clause-part
-returns-in-Err-clause-part g c = λ not_trace not_source. inspecting_line _ _ _ _ _ _ _ _ _ (c.in-Err.ensures.part not_trace not_source)
+pub returns-in-Err-clause-ends : goal.returns-in-Err-clause-ends
+returns-in-Err-clause-ends g c =
+    let o = (g.V.Volume.state c.args.volume.now).told in
+    let mid = (g.V.Volume.state c.replay_quiet.new.volume).told in
+    inspected_lines o (Reads o.geometry.size (g.I.Source.state c.args.source.now) (g.I.Source.state c.replay_quiet.new.source)) (g.V.Volume.loads o) (g.V.Volume.stands mid)
+    (g.O.Sink.state c.args.sink.now) (g.O.Sink.state c.replay_quiet.new.sink) (g.R.Media.state c.args.rig.now) (g.R.Media.state c.replay_quiet.new.rig) c.in-Err.ended c.in-Err.ensures.ends
 
 pub returns-in-Err-clause-on : goal.returns-in-Err-clause-on
-returns-in-Err-clause-on g c = at_end c.in-Err.ended (λ is. (c.in-Err.ensures.refused is).leaves.rig.on) (λ is. (c.in-Err.ensures.unread is).leaves.rig.on) (λ not_trace not_source. (c.in-Err.ensures.part not_trace not_source).rig.on)
+returns-in-Err-clause-on g c =
+    let o = (g.V.Volume.state c.args.volume.now).told in
+    let mid = (g.V.Volume.state c.replay_quiet.new.volume).told in
+    let x = g.O.Sink.state c.args.sink.now in
+    let y = g.O.Sink.state c.replay_quiet.new.sink in
+    early_on o (Reads o.geometry.size (g.I.Source.state c.args.source.now) (g.I.Source.state c.replay_quiet.new.source)) (TellsRefusal x y) (TellsRefusalPart x y) (g.V.Volume.stands mid)
+    (g.R.Media.state c.args.rig.now) (g.R.Media.state c.replay_quiet.new.rig) c.in-Err.ended c.in-Err.ensures.ends
 
 pub returns-in-Err-clause-causes : goal.returns-in-Err-clause-causes
 returns-in-Err-clause-causes g c = c.in-Err.ensures.causes

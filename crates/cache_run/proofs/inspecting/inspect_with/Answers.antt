@@ -1,8 +1,7 @@
-use Rattle.std.proofs.Common.{inr}
-use Rattle.std.proofs.lemmas.Result.{on_ok_weaker, IfErr-weaker}
+use Rattle.std.proofs.Common.{inl, inr}
 use Rattle.ft_base.specs.declared.told.Mode.TheVariants.{Back, Through}
-use Rattle.cache_run.proofs.BeginLemmas.{cause_begun, cause_later, empty_new, fresh_new, lent_later}
-use Rattle.cache_run.proofs.InspectLemmas.{inspecting_new, inspects_new, refused_quiet, unread_quiet}
+use Rattle.cache_run.proofs.BeginLemmas.{cause_begun, cause_later, empty_new, fresh_new, lent_later, unbegun}
+use Rattle.cache_run.proofs.InspectLemmas.{inspected_new}
 use Rattle.cache_run.proofs.inspecting.inspect_with.Goals as goal
 
 -- ---- a volume that writes back
@@ -10,35 +9,19 @@ use Rattle.cache_run.proofs.inspecting.inspect_with.Goals as goal
 pub inspect-requires-clause-fresh : goal.inspect-requires-clause-fresh
 inspect-requires-clause-fresh g c = fresh_new Back c.args.options.now _ c.in-Ok.ensures.new (empty_new c.in-Ok.ensures.new)
 
-pub returns-in-Ok-clause-whole : goal.returns-in-Ok-clause-whole
-returns-in-Ok-clause-whole g c =
-    on_ok_weaker c.inspect.result (inspects_new c.args.mode Back c.args.options.now c.in-Back.is c.in-Ok.ensures.new _ c.inspect.ensures.told
-    (g.I.Source.state c.args.source.now) (g.I.Source.state c.inspect.new.source) (g.O.Sink.state c.args.sink.now) (g.O.Sink.state c.inspect.new.sink) (g.R.Media.state c.inspect.new.rig)) c.inspect.ensures.whole
-
-pub returns-in-Ok-clause-refused : goal.returns-in-Ok-clause-refused
-returns-in-Ok-clause-refused g c = λ is.
-    refused_quiet c.args.mode Back c.args.options.now c.in-Back.is c.in-Ok.ensures.new _ c.inspect.ensures.told
-    (g.I.Source.state c.args.source.now) (g.I.Source.state c.inspect.new.source) (g.O.Sink.state c.args.sink.now) (g.O.Sink.state c.inspect.new.sink) (g.R.Media.state c.inspect.new.rig)
-    (c.inspect.ensures.refused is)
-
-pub returns-in-Ok-clause-unread : goal.returns-in-Ok-clause-unread
-returns-in-Ok-clause-unread g c = λ is.
-    unread_quiet c.args.mode Back c.args.options.now c.in-Back.is c.in-Ok.ensures.new _ c.inspect.ensures.told
-    (g.I.Source.state c.args.source.now) (g.I.Source.state c.inspect.new.source) (g.O.Sink.state c.args.sink.now) (g.O.Sink.state c.inspect.new.sink) (g.R.Media.state c.inspect.new.rig)
-    (c.inspect.ensures.unread is)
-
-pub returns-in-Ok-clause-part : goal.returns-in-Ok-clause-part
-returns-in-Ok-clause-part g c =
-    IfErr-weaker c.inspect.result _ _ (λ e part not_trace not_source. inr (
-    inspecting_new c.args.mode Back c.args.options.now c.in-Back.is c.in-Ok.ensures.new _ c.inspect.ensures.told
-    (g.I.Source.state c.args.source.now) (g.I.Source.state c.inspect.new.source) (g.O.Sink.state c.args.sink.now) (g.O.Sink.state c.inspect.new.sink) (g.R.Media.state c.inspect.new.rig)
-    e (part not_trace not_source))) c.inspect.ensures.part
+pub returns-in-Ok-clause-ends : goal.returns-in-Ok-clause-ends
+returns-in-Ok-clause-ends g c = inr (
+    inspected_new c.args.mode Back c.args.options.now c.in-Back.is c.in-Ok.ensures.new _ c.inspect.ensures.told 
+    (g.I.Source.state c.args.source.now) (g.I.Source.state c.inspect.new.source) (g.O.Sink.state c.args.sink.now) (g.O.Sink.state c.inspect.new.sink) (g.R.Media.state c.inspect.new.rig) c.inspect.result c.inspect.ensures.ends)
 
 pub returns-in-Ok-clause-causes : goal.returns-in-Ok-clause-causes
 returns-in-Ok-clause-causes g c = cause_later c.in-Ok.ensures.begins c.inspect.ensures.causes
 
 pub returns-in-Ok-clause-lent : goal.returns-in-Ok-clause-lent
 returns-in-Ok-clause-lent g c = lent_later c.in-Ok.ensures.begins c.inspect.ensures.lent
+
+pub returns-in-Err-clause-ends : goal.returns-in-Err-clause-ends
+returns-in-Err-clause-ends g c = inl (unbegun c.in-Err.ended _ _ _ _ c.in-Err.ensures.begins)
 
 pub returns-in-Err-clause-causes : goal.returns-in-Err-clause-causes
 returns-in-Err-clause-causes g c = cause_begun c.in-Err.ended _ _ _ _ c.in-Err.ensures.begins
@@ -48,35 +31,19 @@ returns-in-Err-clause-causes g c = cause_begun c.in-Err.ended _ _ _ _ c.in-Err.e
 pub inspect-requires-in-Ok-begin_through-clause-fresh : goal.inspect-requires-in-Ok-begin_through-clause-fresh
 inspect-requires-in-Ok-begin_through-clause-fresh g c = fresh_new Through c.args.options.now _ c.in-Ok-begin_through.ensures.new (empty_new c.in-Ok-begin_through.ensures.new)
 
-pub returns-in-Ok-begin_through-clause-whole : goal.returns-in-Ok-begin_through-clause-whole
-returns-in-Ok-begin_through-clause-whole g c =
-    on_ok_weaker c.inspect-in-Ok-begin_through.result (inspects_new c.args.mode Through c.args.options.now c.in-Through.is c.in-Ok-begin_through.ensures.new _ c.inspect-in-Ok-begin_through.ensures.told
-    (g.I.Source.state c.args.source.now) (g.I.Source.state c.inspect-in-Ok-begin_through.new.source) (g.O.Sink.state c.args.sink.now) (g.O.Sink.state c.inspect-in-Ok-begin_through.new.sink) (g.R.Media.state c.inspect-in-Ok-begin_through.new.rig)) c.inspect-in-Ok-begin_through.ensures.whole
-
-pub returns-in-Ok-begin_through-clause-refused : goal.returns-in-Ok-begin_through-clause-refused
-returns-in-Ok-begin_through-clause-refused g c = λ is.
-    refused_quiet c.args.mode Through c.args.options.now c.in-Through.is c.in-Ok-begin_through.ensures.new _ c.inspect-in-Ok-begin_through.ensures.told
-    (g.I.Source.state c.args.source.now) (g.I.Source.state c.inspect-in-Ok-begin_through.new.source) (g.O.Sink.state c.args.sink.now) (g.O.Sink.state c.inspect-in-Ok-begin_through.new.sink) (g.R.Media.state c.inspect-in-Ok-begin_through.new.rig)
-    (c.inspect-in-Ok-begin_through.ensures.refused is)
-
-pub returns-in-Ok-begin_through-clause-unread : goal.returns-in-Ok-begin_through-clause-unread
-returns-in-Ok-begin_through-clause-unread g c = λ is.
-    unread_quiet c.args.mode Through c.args.options.now c.in-Through.is c.in-Ok-begin_through.ensures.new _ c.inspect-in-Ok-begin_through.ensures.told
-    (g.I.Source.state c.args.source.now) (g.I.Source.state c.inspect-in-Ok-begin_through.new.source) (g.O.Sink.state c.args.sink.now) (g.O.Sink.state c.inspect-in-Ok-begin_through.new.sink) (g.R.Media.state c.inspect-in-Ok-begin_through.new.rig)
-    (c.inspect-in-Ok-begin_through.ensures.unread is)
-
-pub returns-in-Ok-begin_through-clause-part : goal.returns-in-Ok-begin_through-clause-part
-returns-in-Ok-begin_through-clause-part g c =
-    IfErr-weaker c.inspect-in-Ok-begin_through.result _ _ (λ e part not_trace not_source. inr (
-    inspecting_new c.args.mode Through c.args.options.now c.in-Through.is c.in-Ok-begin_through.ensures.new _ c.inspect-in-Ok-begin_through.ensures.told
-    (g.I.Source.state c.args.source.now) (g.I.Source.state c.inspect-in-Ok-begin_through.new.source) (g.O.Sink.state c.args.sink.now) (g.O.Sink.state c.inspect-in-Ok-begin_through.new.sink) (g.R.Media.state c.inspect-in-Ok-begin_through.new.rig)
-    e (part not_trace not_source))) c.inspect-in-Ok-begin_through.ensures.part
+pub returns-in-Ok-begin_through-clause-ends : goal.returns-in-Ok-begin_through-clause-ends
+returns-in-Ok-begin_through-clause-ends g c = inr (
+    inspected_new c.args.mode Through c.args.options.now c.in-Through.is c.in-Ok-begin_through.ensures.new _ c.inspect-in-Ok-begin_through.ensures.told 
+    (g.I.Source.state c.args.source.now) (g.I.Source.state c.inspect-in-Ok-begin_through.new.source) (g.O.Sink.state c.args.sink.now) (g.O.Sink.state c.inspect-in-Ok-begin_through.new.sink) (g.R.Media.state c.inspect-in-Ok-begin_through.new.rig) c.inspect-in-Ok-begin_through.result c.inspect-in-Ok-begin_through.ensures.ends)
 
 pub returns-in-Ok-begin_through-clause-causes : goal.returns-in-Ok-begin_through-clause-causes
 returns-in-Ok-begin_through-clause-causes g c = cause_later c.in-Ok-begin_through.ensures.begins c.inspect-in-Ok-begin_through.ensures.causes
 
 pub returns-in-Ok-begin_through-clause-lent : goal.returns-in-Ok-begin_through-clause-lent
 returns-in-Ok-begin_through-clause-lent g c = lent_later c.in-Ok-begin_through.ensures.begins c.inspect-in-Ok-begin_through.ensures.lent
+
+pub returns-in-Err-begin_through-clause-ends : goal.returns-in-Err-begin_through-clause-ends
+returns-in-Err-begin_through-clause-ends g c = inl (unbegun c.in-Err-begin_through.ended _ _ _ _ c.in-Err-begin_through.ensures.begins)
 
 pub returns-in-Err-begin_through-clause-causes : goal.returns-in-Err-begin_through-clause-causes
 returns-in-Err-begin_through-clause-causes g c = cause_begun c.in-Err-begin_through.ended _ _ _ _ c.in-Err-begin_through.ensures.begins

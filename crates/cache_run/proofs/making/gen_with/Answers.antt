@@ -1,7 +1,7 @@
-use Rattle.std.proofs.Common.{inr}
-use Rattle.std.proofs.lemmas.Result.{on_ok_weaker, IfErr-weaker}
+use Rattle.std.proofs.Common.{inl, inr}
 use Rattle.ft_base.specs.declared.told.Mode.TheVariants.{Back, Through}
-use Rattle.cache_run.proofs.BeginLemmas.{empty_new, fresh_new, lent_untraced, part_made, untraced_begun, untraced_later, whole_made}
+use Rattle.trace_replay.specs.Commands.{TellsEnd, TellsEndPart}
+use Rattle.cache_run.proofs.BeginLemmas.{empty_new, fresh_new, ends_made, lent_untraced, unbegun, untraced_begun, untraced_later}
 use Rattle.cache_run.proofs.making.gen_with.Goals as goal
 
 -- ---- a volume that writes back
@@ -9,23 +9,19 @@ use Rattle.cache_run.proofs.making.gen_with.Goals as goal
 pub replay_made-requires-clause-fresh : goal.replay_made-requires-clause-fresh
 replay_made-requires-clause-fresh g c = fresh_new Back c.args.options.now _ c.in-Ok.ensures.new (empty_new c.in-Ok.ensures.new)
 
-pub returns-in-Ok-clause-whole : goal.returns-in-Ok-clause-whole
-returns-in-Ok-clause-whole g c =
-    on_ok_weaker c.replay_made.result (whole_made c.args.mode Back c.args.options.now c.in-Back.is c.in-Ok.ensures.new _ c.replay_made.ensures.owner.1 _ _ c.new-made.ensures.lines
-    (g.O.Sink.state c.args.sink.now) (g.O.Sink.state c.replay_made.new.sink) (g.R.Media.state c.replay_made.new.rig)) c.replay_made.ensures.whole
-
-pub returns-in-Ok-clause-part : goal.returns-in-Ok-clause-part
-returns-in-Ok-clause-part g c =
-    IfErr-weaker c.replay_made.result _ _ (λ e part. inr (
-    part_made c.args.mode Back c.args.options.now c.in-Back.is c.in-Ok.ensures.new _ c.replay_made.ensures.owner.1 _ _ c.new-made.ensures.lines
-    (g.O.Sink.state c.args.sink.now) (g.O.Sink.state c.replay_made.new.sink) (g.R.Media.state c.replay_made.new.rig)
-    e part)) c.replay_made.ensures.part
+pub returns-in-Ok-clause-ends : goal.returns-in-Ok-clause-ends
+returns-in-Ok-clause-ends g c = inr (
+    ends_made c.args.mode Back c.args.options.now c.in-Back.is c.in-Ok.ensures.new _ c.replay_made.ensures.owner.1 _ _ c.new-made.ensures.lines
+    (TellsEnd (g.O.Sink.state c.args.sink.now) (g.O.Sink.state c.replay_made.new.sink)) (TellsEndPart (g.O.Sink.state c.args.sink.now) (g.O.Sink.state c.replay_made.new.sink)) (g.R.Media.state c.replay_made.new.rig) c.replay_made.result c.replay_made.ensures.ends)
 
 pub returns-in-Ok-clause-causes : goal.returns-in-Ok-clause-causes
 returns-in-Ok-clause-causes g c = untraced_later c.in-Ok.ensures.begins c.replay_made.ensures.causes
 
 pub returns-in-Ok-clause-lent : goal.returns-in-Ok-clause-lent
 returns-in-Ok-clause-lent g c = lent_untraced c.in-Ok.ensures.begins c.replay_made.ensures.lent
+
+pub returns-in-Err-clause-ends : goal.returns-in-Err-clause-ends
+returns-in-Err-clause-ends g c = inl (unbegun c.in-Err.ended _ _ _ _ c.in-Err.ensures.begins)
 
 pub returns-in-Err-clause-causes : goal.returns-in-Err-clause-causes
 returns-in-Err-clause-causes g c = untraced_begun c.in-Err.ended _ _ _ c.in-Err.ensures.begins
@@ -35,23 +31,19 @@ returns-in-Err-clause-causes g c = untraced_begun c.in-Err.ended _ _ _ c.in-Err.
 pub replay_made-requires-in-Ok-begin_through-clause-fresh : goal.replay_made-requires-in-Ok-begin_through-clause-fresh
 replay_made-requires-in-Ok-begin_through-clause-fresh g c = fresh_new Through c.args.options.now _ c.in-Ok-begin_through.ensures.new (empty_new c.in-Ok-begin_through.ensures.new)
 
-pub returns-in-Ok-begin_through-clause-whole : goal.returns-in-Ok-begin_through-clause-whole
-returns-in-Ok-begin_through-clause-whole g c =
-    on_ok_weaker c.replay_made-in-Ok-begin_through.result (whole_made c.args.mode Through c.args.options.now c.in-Through.is c.in-Ok-begin_through.ensures.new _ c.replay_made-in-Ok-begin_through.ensures.owner.1 _ _ c.new-made.ensures.lines
-    (g.O.Sink.state c.args.sink.now) (g.O.Sink.state c.replay_made-in-Ok-begin_through.new.sink) (g.R.Media.state c.replay_made-in-Ok-begin_through.new.rig)) c.replay_made-in-Ok-begin_through.ensures.whole
-
-pub returns-in-Ok-begin_through-clause-part : goal.returns-in-Ok-begin_through-clause-part
-returns-in-Ok-begin_through-clause-part g c =
-    IfErr-weaker c.replay_made-in-Ok-begin_through.result _ _ (λ e part. inr (
-    part_made c.args.mode Through c.args.options.now c.in-Through.is c.in-Ok-begin_through.ensures.new _ c.replay_made-in-Ok-begin_through.ensures.owner.1 _ _ c.new-made.ensures.lines
-    (g.O.Sink.state c.args.sink.now) (g.O.Sink.state c.replay_made-in-Ok-begin_through.new.sink) (g.R.Media.state c.replay_made-in-Ok-begin_through.new.rig)
-    e part)) c.replay_made-in-Ok-begin_through.ensures.part
+pub returns-in-Ok-begin_through-clause-ends : goal.returns-in-Ok-begin_through-clause-ends
+returns-in-Ok-begin_through-clause-ends g c = inr (
+    ends_made c.args.mode Through c.args.options.now c.in-Through.is c.in-Ok-begin_through.ensures.new _ c.replay_made-in-Ok-begin_through.ensures.owner.1 _ _ c.new-made.ensures.lines
+    (TellsEnd (g.O.Sink.state c.args.sink.now) (g.O.Sink.state c.replay_made-in-Ok-begin_through.new.sink)) (TellsEndPart (g.O.Sink.state c.args.sink.now) (g.O.Sink.state c.replay_made-in-Ok-begin_through.new.sink)) (g.R.Media.state c.replay_made-in-Ok-begin_through.new.rig) c.replay_made-in-Ok-begin_through.result c.replay_made-in-Ok-begin_through.ensures.ends)
 
 pub returns-in-Ok-begin_through-clause-causes : goal.returns-in-Ok-begin_through-clause-causes
 returns-in-Ok-begin_through-clause-causes g c = untraced_later c.in-Ok-begin_through.ensures.begins c.replay_made-in-Ok-begin_through.ensures.causes
 
 pub returns-in-Ok-begin_through-clause-lent : goal.returns-in-Ok-begin_through-clause-lent
 returns-in-Ok-begin_through-clause-lent g c = lent_untraced c.in-Ok-begin_through.ensures.begins c.replay_made-in-Ok-begin_through.ensures.lent
+
+pub returns-in-Err-begin_through-clause-ends : goal.returns-in-Err-begin_through-clause-ends
+returns-in-Err-begin_through-clause-ends g c = inl (unbegun c.in-Err-begin_through.ended _ _ _ _ c.in-Err-begin_through.ensures.begins)
 
 pub returns-in-Err-begin_through-clause-causes : goal.returns-in-Err-begin_through-clause-causes
 returns-in-Err-begin_through-clause-causes g c = untraced_begun c.in-Err-begin_through.ended _ _ _ c.in-Err-begin_through.ensures.begins

@@ -1,0 +1,49 @@
+use Rattle.std.proofs.Common.{inl, inr, refl}
+use Rattle.ft_base.specs.declared.told.Mode.TheVariants.{Back, Through}
+use Rattle.trace_replay.specs.Said.{Tells, TellsPart}
+use Rattle.cache_run.proofs.BeginLemmas.{empty_new, fresh_new, ends_made, lent_untraced, unbegun, untraced_begun, untraced_later}
+use Rattle.cache_run.proofs.holding.replay_lines.Goals as goal
+
+-- ---- a volume that writes back
+
+pub replay_held-requires-clause-fresh : goal.replay_held-requires-clause-fresh
+replay_held-requires-clause-fresh g c = fresh_new Back c.args.options.now _ c.in-Ok.ensures.new (empty_new c.in-Ok.ensures.new)
+
+pub returns-in-Ok-clause-ends : goal.returns-in-Ok-clause-ends
+returns-in-Ok-clause-ends g c = inr (
+    ends_made c.args.mode Back c.args.options.now c.in-Back.is c.in-Ok.ensures.new _ c.replay_held.ensures.owner.1 _ _ refl
+    (Tells (g.O.Sink.state c.args.sink.now) (g.O.Sink.state c.replay_held.new.sink)) (TellsPart (g.O.Sink.state c.args.sink.now) (g.O.Sink.state c.replay_held.new.sink)) (g.R.Media.state c.replay_held.new.rig) c.replay_held.result c.replay_held.ensures.ends)
+
+pub returns-in-Ok-clause-causes : goal.returns-in-Ok-clause-causes
+returns-in-Ok-clause-causes g c = untraced_later c.in-Ok.ensures.begins c.replay_held.ensures.causes
+
+pub returns-in-Ok-clause-lent : goal.returns-in-Ok-clause-lent
+returns-in-Ok-clause-lent g c = lent_untraced c.in-Ok.ensures.begins c.replay_held.ensures.lent
+
+pub returns-in-Err-clause-ends : goal.returns-in-Err-clause-ends
+returns-in-Err-clause-ends g c = inl (unbegun c.in-Err.ended _ _ _ _ c.in-Err.ensures.begins)
+
+pub returns-in-Err-clause-causes : goal.returns-in-Err-clause-causes
+returns-in-Err-clause-causes g c = untraced_begun c.in-Err.ended _ _ _ c.in-Err.ensures.begins
+
+-- ---- a volume that writes through
+
+pub replay_held-requires-in-Ok-begin_through-clause-fresh : goal.replay_held-requires-in-Ok-begin_through-clause-fresh
+replay_held-requires-in-Ok-begin_through-clause-fresh g c = fresh_new Through c.args.options.now _ c.in-Ok-begin_through.ensures.new (empty_new c.in-Ok-begin_through.ensures.new)
+
+pub returns-in-Ok-begin_through-clause-ends : goal.returns-in-Ok-begin_through-clause-ends
+returns-in-Ok-begin_through-clause-ends g c = inr (
+    ends_made c.args.mode Through c.args.options.now c.in-Through.is c.in-Ok-begin_through.ensures.new _ c.replay_held-in-Ok-begin_through.ensures.owner.1 _ _ refl
+    (Tells (g.O.Sink.state c.args.sink.now) (g.O.Sink.state c.replay_held-in-Ok-begin_through.new.sink)) (TellsPart (g.O.Sink.state c.args.sink.now) (g.O.Sink.state c.replay_held-in-Ok-begin_through.new.sink)) (g.R.Media.state c.replay_held-in-Ok-begin_through.new.rig) c.replay_held-in-Ok-begin_through.result c.replay_held-in-Ok-begin_through.ensures.ends)
+
+pub returns-in-Ok-begin_through-clause-causes : goal.returns-in-Ok-begin_through-clause-causes
+returns-in-Ok-begin_through-clause-causes g c = untraced_later c.in-Ok-begin_through.ensures.begins c.replay_held-in-Ok-begin_through.ensures.causes
+
+pub returns-in-Ok-begin_through-clause-lent : goal.returns-in-Ok-begin_through-clause-lent
+returns-in-Ok-begin_through-clause-lent g c = lent_untraced c.in-Ok-begin_through.ensures.begins c.replay_held-in-Ok-begin_through.ensures.lent
+
+pub returns-in-Err-begin_through-clause-ends : goal.returns-in-Err-begin_through-clause-ends
+returns-in-Err-begin_through-clause-ends g c = inl (unbegun c.in-Err-begin_through.ended _ _ _ _ c.in-Err-begin_through.ensures.begins)
+
+pub returns-in-Err-begin_through-clause-causes : goal.returns-in-Err-begin_through-clause-causes
+returns-in-Err-begin_through-clause-causes g c = untraced_begun c.in-Err-begin_through.ended _ _ _ c.in-Err-begin_through.ensures.begins
