@@ -1,12 +1,15 @@
 -- What holds at a status, from what a run answered.
-use Rattle.std.proofs.Common.{◌≡◌, ◌≢◌, ◌≤◌, ◌⊎◌, inl, inr, ℕ, List, Result, Ok, Err, OnOk, IfErr, IsErrOf, refl, sym, ◌∙◌, arith}
+use Rattle.std.proofs.Common.{◌≡◌, ◌⊎◌, inl, inr, ℕ, List, Option, Some, Result, Ok, Err, OnOk, IsErrOf, IfSome, refl, sym, subst, ◌∙◌, arith}
 use Rattle.ft_base.specs.StreamState.{SinkState, SourceState}
 use Rattle.ft_base.specs.Told.{Told}
 use Rattle.ft_media.specs.State.{State}
 use Rattle.command_line.specs.Command.{IsGen, Text}
+use Rattle.command_line.specs.Spoken.{AreWordsOf}
+use Rattle.command_line.specs.declared.command.Command.{Command}
 use Rattle.trace_replay.specs.Causes.{EndHasCause, EndHasCauseUntraced}
 use Rattle.trace_replay.specs.declared.ended.Ended.{Ended}
 use Rattle.trace_replay.specs.declared.ended.Ended.TheVariants.{Trace, Source, Sink, Flash, Disk, Memory}
+use Rattle.cache_run.specs.Begun.{IsUnbegun}
 use Rattle.cache_run.specs.Status.{status_of}
 use Rattle.flashtier_cli.specs.Status.{RunsEveryLine, StatusHasCause}
 use Rattle.flashtier_cli.specs.Words.{ReadsTrace}
@@ -128,47 +131,14 @@ module _ (words : List Text) (r : Result (Unit {0}) Ended) (n : ℕ) (is : n ≡
     complete_made = λ o number count says sink flash disk. untold r n is causes.not_trace (unfailed r n is causes.not_source (λ so. sink (causes.sink so)) (λ so. flash (causes.flash so)) (λ so. disk (causes.disk so)));
   }
 
--- ---- any other end
+-- ---- the words of a command
 
--- by which status a device failed
-by_device : (e : Ended) (n : ℕ) → n ≡ status_of (Err e) → (n ≡ 5) ⊎ (n ≡ 6) → (e ≡ Flash) ⊎ (e ≡ Disk)
-by_device Trace n is failed = absurd (elim failed [ inl flash ↦ omega (arith, is, flash) | inr disk ↦ omega (arith, is, disk) ])
-by_device Source n is failed = absurd (elim failed [ inl flash ↦ omega (arith, is, flash) | inr disk ↦ omega (arith, is, disk) ])
-by_device Sink n is failed = absurd (elim failed [ inl flash ↦ omega (arith, is, flash) | inr disk ↦ omega (arith, is, disk) ])
-by_device Flash n is failed = inl refl
-by_device Disk n is failed = inr refl
-by_device Memory n is failed = absurd (elim failed [ inl flash ↦ omega (arith, is, flash) | inr disk ↦ omega (arith, is, disk) ])
+-- what is said of a command that was read is said of the one that runs
+pub spoken : (words : List Text) (f : Option Command) (k : Command) → f ≡ Some k → IfSome f (AreWordsOf words) → AreWordsOf words k
+spoken words f k is said = subst (λ (h : Option Command). IfSome h (AreWordsOf words)) is said
 
--- before anything was read or said, or within a line of a trace that is read
-module _ (source sink reads writes unarmed : Type 0) (Says : Told → Type 0) (P : Told → Ended → Type 0) (Made : Type 0) (o : Told) (said : Says o) where
-  ended_so : (e : Ended) (n : ℕ) → n ≡ status_of (Err e) → (source × sink × reads × writes × ((e ≡ Flash) ⊎ (e ≡ Disk) → unarmed)) ⊎ P o e
-      → (source × sink × reads × writes × ((n ≡ 5) ⊎ (n ≡ 6) → unarmed)) ⊎ (((p : Told) × (f : Ended) × Says p × (n ≡ status_of (Err f)) × P p f) ⊎ Made)
-  ended_so e n is (inl nothing) = inl (nothing.0, nothing.1, nothing.2, nothing.3, λ failed. nothing.4 (by_device e n is failed))
-  ended_so e n is (inr part) = inr (inl (o, e, said, is, part))
+-- ---- before the volume was made
 
-  pub at_part : (r : Result (Unit {0}) Ended) (n : ℕ) → n ≡ status_of r → IfErr r (λ e. e ≢ Trace → e ≢ Source → (source × sink × reads × writes × ((e ≡ Flash) ⊎ (e ≡ Disk) → unarmed)) ⊎ P o e) → 4 ≤ n
-      → (source × sink × reads × writes × ((n ≡ 5) ⊎ (n ≡ 6) → unarmed)) ⊎ (((p : Told) × (f : Ended) × Says p × (n ≡ status_of (Err f)) × P p f) ⊎ Made)
-  at_part (Ok done) n is part late = absurd (omega (arith, is, late))
-  at_part (Err Trace) n is part late = absurd (omega (arith, is, late))
-  at_part (Err Source) n is part late = absurd (omega (arith, is, late))
-  at_part (Err Sink) n is part late = ended_so Sink n is (part (λ same. cc) (λ same. cc))
-  at_part (Err Flash) n is part late = ended_so Flash n is (part (λ same. cc) (λ same. cc))
-  at_part (Err Disk) n is part late = ended_so Disk n is (part (λ same. cc) (λ same. cc))
-  at_part (Err Memory) n is part late = ended_so Memory n is (part (λ same. cc) (λ same. cc))
-
--- before anything was read or said, or within a line of a trace that is inspected or its report
-module _ (source sink reads writes unarmed : Type 0) (Says : Told → Type 0) (P : Told → Ended → Type 0) (Read Made : Type 0) (o : Told) (said : Says o) where
-  pub at_inspected_part : (r : Result (Unit {0}) Ended) (n : ℕ) → n ≡ status_of r → IfErr r (λ e. e ≢ Trace → e ≢ Source → (source × sink × reads × writes × ((e ≡ Flash) ⊎ (e ≡ Disk) → unarmed)) ⊎ P o e) → 4 ≤ n
-      → (source × sink × reads × writes × ((n ≡ 5) ⊎ (n ≡ 6) → unarmed)) ⊎ (Read ⊎ (Made ⊎ ((p : Told) × (f : Ended) × Says p × (n ≡ status_of (Err f)) × P p f)))
-  at_inspected_part r n is part late = elim (at_part source sink reads writes unarmed Says P ⊥ o said r n is part late) [
-    | inl nothing ↦ inl nothing
-    | inr within ↦ inr (inr (inr (elim within [ inl line ↦ line | inr none ↦ absurd none ])))
-  ]
-
--- before anything was said, or within a line of a made trace
-module _ (source sink reads writes unarmed : Type 0) (Read Inspected : Type 0) (Says : Told → ℕ → ℕ → Type 0) (P : Told → ℕ → ℕ → Ended → Type 0) (o : Told) (number count : ℕ) (said : Says o number count) (same : source) where
-  pub at_made_part : (r : Result (Unit {0}) Ended) (n : ℕ) → n ≡ status_of r → IfErr r (λ e. (sink × reads × writes × ((e ≡ Flash) ⊎ (e ≡ Disk) → unarmed)) ⊎ P o number count e) → 4 ≤ n
-      → (source × sink × reads × writes × ((n ≡ 5) ⊎ (n ≡ 6) → unarmed)) ⊎ (Read ⊎ (((p : Told) × (m : ℕ) × (c : ℕ) × (f : Ended) × Says p m c × (n ≡ status_of (Err f)) × P p m c f) ⊎ Inspected))
-  at_made_part (Ok done) n is part late = absurd (omega (arith, is, late))
-  at_made_part (Err e) n is (inl nothing) late = inl (same, nothing.0, nothing.1, nothing.2, λ failed. nothing.3 (by_device e n is failed))
-  at_made_part (Err e) n is (inr part) late = inr (inr (inl (o, number, count, e, said, is, part)))
+-- where there was no source to read, it is as before
+pub unbegun_source : {I O : Type 0} {r : Result (Unit {0}) Ended} {a : I} {x y : O} {old now : State} → IsUnbegun r (tt {0}) (tt {0}) x y old now → IsUnbegun r a a x y old now
+unbegun_source none = record { only = none.only; source = refl; sink = none.sink; counts = none.counts; disk_reads = none.disk_reads; disk_writes = none.disk_writes; unarmed = none.unarmed }

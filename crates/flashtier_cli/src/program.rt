@@ -1,19 +1,15 @@
-ghost use Rattle.std.specs.Prelude.{◌≡◌, ◌≢◌, ◌⊎◌, ◌≤◌, ℕ, [], true, Err, map};
+ghost use Rattle.std.specs.Prelude.{◌≡◌, ◌≢◌, ◌⊎◌, ◌≤◌, ℕ, Result, true, map};
 ghost use Rattle.std.specs.String.{string_bytes};
 ghost use Rattle.std.specs.Io.KnownBytes.{IsAtEnd};
 ghost use Rattle.ft_base.specs.Told.{Told};
-ghost use Rattle.cache_model.specs.Stands.{ImageStandsFor};
-ghost use Rattle.trace_model.specs.Readings.{Reads};
-ghost use Rattle.trace_gen.specs.Made.{made_trace};
-ghost use Rattle.trace_replay.specs.declared.ended.Ended as ended;
+ghost use Rattle.trace_replay.specs.declared.ended.Ended.{Ended};
 ghost use Rattle.trace_replay.specs.Lent.{KeepsLent};
-ghost use Rattle.trace_replay.specs.Commands.{Gives, TellsEnd, TellsEndPart, TellsRefusal};
-ghost use Rattle.trace_replay.specs.Said.{Tells, TellsPart};
-ghost use Rattle.trace_replay.specs.Theorem.{EndsPart, EndsRefused, EndsUnread, RunsWhole};
-ghost use Rattle.command_line.specs.Command.{IsCommand, IsGen, IsInspect};
-ghost use Rattle.cache_run.specs.Fitted.{fitted_for};
-ghost use Rattle.cache_run.specs.Inspected.{EndsInspecting, Inspects, LoadsAs};
+ghost use Rattle.command_line.specs.Command.{IsGen};
+ghost use Rattle.command_line.specs.Spoken.{AreWordsOf};
+ghost use Rattle.command_line.specs.declared.command.Command.{Command};
+ghost use Rattle.cache_run.specs.Begun.{IsUnbegun};
 ghost use Rattle.cache_run.specs.Status as status;
+ghost use Rattle.flashtier_cli.specs.Ends.{EndsCommand, IsUntouched};
 ghost use Rattle.flashtier_cli.specs.Status.{RunsEveryLine, StatusHasCause};
 ghost use Rattle.flashtier_cli.specs.Words.{ReadsTrace, RefusesWords};
 
@@ -67,19 +63,15 @@ pub fn run<I: Source, O: Sink, R: Rig>(
     sink: &mut O,
     rig: &mut R,
 ) -> u8
-    // The text is what a plain disk prints that holds, after each recovery, a prefix of the block writes
-    // with every acknowledged one; and the media are that disk, wherever power stops next. Of a made trace it is
-    // the end line of that text. With `inspect` the media are so, and the text is a report of what the flash has.
-    ensures whole { result ≡ 0 → ((o : Told) × IsCommand (map string_bytes words.now) o
-        × RunsWhole o (Reads o.geometry.size (I.state source.old) (I.state source.new)) (Tells (O.state sink.old) (O.state sink.new))
-        (ImageStandsFor o.geometry) (fitted_for o.geometry (R.state rig.old)) (R.state rig.new))
-        ⊎ (((o : Told) × (number : ℕ) × (count : ℕ) × IsGen (map string_bytes words.now) o number count
-        × RunsWhole o (Gives (made_trace number count o.geometry)) (TellsEnd (O.state sink.old) (O.state sink.new))
-        (ImageStandsFor o.geometry) (fitted_for o.geometry (R.state rig.old)) (R.state rig.new))
-        ⊎ ((o : Told) × IsInspect (map string_bytes words.now) o
-        × Inspects o (Reads o.geometry.size (I.state source.old) (I.state source.new)) (LoadsAs o.geometry) (O.state sink.old)
-        (O.state sink.new)
-        (ImageStandsFor o.geometry) (fitted_for o.geometry (R.state rig.old)) (R.state rig.new))) }
+    // The words are a command, and it ended so: before its volume was made, or over it; or nothing was touched.
+    // Over its volume the text is what a plain disk prints that holds, after each recovery, a prefix of the block
+    // writes with every acknowledged one; and the media are that disk, wherever power stops next.
+    ensures ends { ((command : Command) × (end : Result (Unit {0}) Ended) × AreWordsOf (map string_bytes words.now) command
+        × (result ≡ status.status_of end)
+        × (IsUnbegun end source.old source.new sink.old sink.new (R.state rig.old) (R.state rig.new)
+        ⊎ EndsCommand (I.state source.old) (I.state source.new) (O.state sink.old) (O.state sink.new) (R.state rig.old)
+        (R.state rig.new) command end))
+        ⊎ IsUntouched result source.old source.new sink.old sink.new rig.old rig.new }
     ensures end { result ≡ 0 → (o : Told) → ReadsTrace (map string_bytes words.now) o → IsAtEnd (I.state source.new).left }
 
     // A made trace takes nothing from the source, however it ends.
@@ -88,40 +80,6 @@ pub fn run<I: Source, O: Sink, R: Rig>(
     // Words that are no command touch nothing, also where memory for reading them is refused.
     ensures words { RefusesWords (map string_bytes words.now) result source.old source.new sink.old sink.new rig.old rig.new }
 
-    // A made trace has no line that is refused and no source that fails, so these come with a trace that is read.
-    ensures refused { result ≡ 2 → ((o : Told) × IsCommand (map string_bytes words.now) o
-        × EndsRefused o (Reads o.geometry.size (I.state source.old) (I.state source.new)) (Tells (O.state sink.old) (O.state sink.new))
-        (ImageStandsFor o.geometry) (fitted_for o.geometry (R.state rig.old)) (R.state rig.new))
-        ⊎ ((o : Told) × IsInspect (map string_bytes words.now) o
-        × EndsRefused o (Reads o.geometry.size (I.state source.old) (I.state source.new))
-        (TellsRefusal (O.state sink.old) (O.state sink.new))
-        (ImageStandsFor o.geometry) (fitted_for o.geometry (R.state rig.old)) (R.state rig.new)) }
-    ensures unread { result ≡ 3 → ((o : Told) × IsCommand (map string_bytes words.now) o
-        × EndsUnread o (Reads o.geometry.size (I.state source.old) (I.state source.new)) (Tells (O.state sink.old) (O.state sink.new))
-        (ImageStandsFor o.geometry) (fitted_for o.geometry (R.state rig.old)) (R.state rig.new))
-        ⊎ ((o : Told) × IsInspect (map string_bytes words.now) o
-        × EndsUnread o (Reads o.geometry.size (I.state source.old) (I.state source.new))
-        (TellsRefusal (O.state sink.old) (O.state sink.new))
-        (ImageStandsFor o.geometry) (fitted_for o.geometry (R.state rig.old)) (R.state rig.new)) }
-
-    // Another end comes before anything was read or printed, with no call of the disk that reads or writes, and
-    // with nothing armed where a device failed; or within the answers of a line, or within the report.
-    ensures part { 4 ≤ result → ((source.new ≡ source.old) × (sink.new ≡ sink.old)
-        × ((R.state rig.new).counts.disk_reads ≡ (R.state rig.old).counts.disk_reads)
-        × ((R.state rig.new).counts.disk_writes ≡ (R.state rig.old).counts.disk_writes)
-        × ((result ≡ 5) ⊎ (result ≡ 6) → (R.state rig.new).power.stops ≡ []))
-        ⊎ (((o : Told) × (e : ended.Ended) × IsCommand (map string_bytes words.now) o × (result ≡ status.status_of (Err e))
-        × EndsPart o (Reads o.geometry.size (I.state source.old) (I.state source.new)) (Tells (O.state sink.old) (O.state sink.new))
-        (TellsPart (O.state sink.old) (O.state sink.new))
-        (ImageStandsFor o.geometry) (fitted_for o.geometry (R.state rig.old)) (R.state rig.new) e)
-        ⊎ (((o : Told) × (number : ℕ) × (count : ℕ) × (e : ended.Ended) × IsGen (map string_bytes words.now) o number count
-        × (result ≡ status.status_of (Err e)) × EndsPart o (Gives (made_trace number count o.geometry))
-        (TellsEnd (O.state sink.old) (O.state sink.new)) (TellsEndPart (O.state sink.old) (O.state sink.new))
-        (ImageStandsFor o.geometry) (fitted_for o.geometry (R.state rig.old)) (R.state rig.new) e)
-        ⊎ ((o : Told) × (e : ended.Ended) × IsInspect (map string_bytes words.now) o × (result ≡ status.status_of (Err e))
-        × EndsInspecting o (Reads o.geometry.size (I.state source.old) (I.state source.new)) (LoadsAs o.geometry) (O.state sink.old)
-        (O.state sink.new)
-        (ImageStandsFor o.geometry) (fitted_for o.geometry (R.state rig.old)) (R.state rig.new) e))) }
     ensures known { result ≤ 7 }
 
     ensures causes { StatusHasCause result (I.state source.old) (I.state source.new) (O.state sink.old) (O.state sink.new)

@@ -1,10 +1,16 @@
-use Rattle.std.proofs.Common.{inl, inr, refl, sym, ◌∙◌}
+use Rattle.std.proofs.Common.{◌⊎◌, inl, inr, refl, sym, subst, ◌∙◌}
 use Rattle.command_line.proofs.ValueLemmas.{apart, inspected_made}
-use Rattle.flashtier_cli.proofs.StatusLemmas.{at_inspected_part, at_made_part, at_ok, at_part, at_source, at_trace, not_one, runs_made, runs_read, status_cause, status_untraced}
+use Rattle.command_line.specs.declared.command.Command.{Command}
+use Rattle.cache_run.specs.Begun.{IsUnbegun}
+use Rattle.flashtier_cli.specs.Ends.{EndsCommand}
+use Rattle.flashtier_cli.proofs.StatusLemmas.{at_ok, not_one, runs_made, runs_read, spoken, status_cause, status_untraced, unbegun_source}
 use Rattle.flashtier_cli.proofs.WordsLemmas.{no_words, not_made, says_inspected, says_made, says_read, words_refused, words_run}
 use Rattle.flashtier_cli.proofs.program.run.Goals as goal
 
 -- ---- words that are no command
+
+pub returns-in_default-command-clause-ends : goal.returns-in_default-command-clause-ends
+returns-in_default-command-clause-ends g c = inr (record { answer = inl refl; source = refl; sink = refl; rig = refl })
 
 pub returns-in_default-command-clause-words : goal.returns-in_default-command-clause-words
 returns-in_default-command-clause-words g c = words_refused _ _ _ _ (no_words _ _ c.in_default-command.is c.in-Ok.ensures.none c.in-Ok.ensures.none_made c.in-Ok.ensures.none_inspected)
@@ -20,8 +26,8 @@ returns-in_default-command-clause-complete g c =
 
 -- ---- a trace that is read
 
-pub returns-in-Replay-clause-whole : goal.returns-in-Replay-clause-whole
-returns-in-Replay-clause-whole g c = λ is. inl (_, says_read _ _ _ _ _ c.in-Some.is c.in-Replay.is c.in-Ok.ensures.command, at_ok c.replay_with.result c.replay_with.ensures.whole (sym c.status_of.ensures ∙ is))
+pub returns-in-Replay-clause-ends : goal.returns-in-Replay-clause-ends
+returns-in-Replay-clause-ends g c = inl (_, c.replay_with.result, spoken _ _ _ c.in-Some.is c.in-Ok.ensures.command, c.status_of.ensures, subst (λ (k : Command). IsUnbegun c.replay_with.result c.args.source.now c.replay_with.new.source c.args.sink.now c.replay_with.new.sink (g.R.Media.state c.args.rig.now) (g.R.Media.state c.replay_with.new.rig) ⊎ EndsCommand (g.I.Source.state c.args.source.now) (g.I.Source.state c.replay_with.new.source) (g.O.Sink.state c.args.sink.now) (g.O.Sink.state c.replay_with.new.sink) (g.R.Media.state c.args.rig.now) (g.R.Media.state c.replay_with.new.rig) k c.replay_with.result) (sym c.in-Replay.is) c.replay_with.ensures.ends)
 
 pub returns-in-Replay-clause-unused : goal.returns-in-Replay-clause-unused
 returns-in-Replay-clause-unused g c = λ o number count made. absurd (apart _ _ _ _ _ (says_read _ _ _ _ _ c.in-Some.is c.in-Replay.is c.in-Ok.ensures.command) made)
@@ -38,19 +44,10 @@ returns-in-Replay-clause-causes g c = status_cause c.replay_with.result _ c.stat
 pub returns-in-Replay-clause-complete : goal.returns-in-Replay-clause-complete
 returns-in-Replay-clause-complete g c = runs_read _ c.replay_with.result _ c.status_of.ensures _ _ _ _ _ _ (not_made _ _ (inl (says_read _ _ _ _ _ c.in-Some.is c.in-Replay.is c.in-Ok.ensures.command))) c.replay_with.ensures.causes
 
-pub returns-in-Replay-clause-refused : goal.returns-in-Replay-clause-refused
-returns-in-Replay-clause-refused g c = λ is. inl (_, says_read _ _ _ _ _ c.in-Some.is c.in-Replay.is c.in-Ok.ensures.command, at_trace c.replay_with.result c.replay_with.ensures.refused (sym c.status_of.ensures ∙ is))
-
-pub returns-in-Replay-clause-unread : goal.returns-in-Replay-clause-unread
-returns-in-Replay-clause-unread g c = λ is. inl (_, says_read _ _ _ _ _ c.in-Some.is c.in-Replay.is c.in-Ok.ensures.command, at_source c.replay_with.result c.replay_with.ensures.unread (sym c.status_of.ensures ∙ is))
-
-pub returns-in-Replay-clause-part : goal.returns-in-Replay-clause-part
-returns-in-Replay-clause-part g c = at_part _ _ _ _ _ _ _ _ _ (says_read _ _ _ _ _ c.in-Some.is c.in-Replay.is c.in-Ok.ensures.command) c.replay_with.result _ c.status_of.ensures c.replay_with.ensures.part
-
 -- ---- a made trace
 
-pub returns-in-Gen-clause-whole : goal.returns-in-Gen-clause-whole
-returns-in-Gen-clause-whole g c = λ is. inr (inl (_, _, _, says_made _ _ _ _ _ _ _ c.in-Some.is c.in-Gen.is c.in-Ok.ensures.command, at_ok c.gen_with.result c.gen_with.ensures.whole (sym c.status_of-in-Gen.ensures ∙ is)))
+pub returns-in-Gen-clause-ends : goal.returns-in-Gen-clause-ends
+returns-in-Gen-clause-ends g c = inl (_, c.gen_with.result, spoken _ _ _ c.in-Some.is c.in-Ok.ensures.command, c.status_of-in-Gen.ensures, subst (λ (k : Command). IsUnbegun c.gen_with.result c.args.source.now c.args.source.now c.args.sink.now c.gen_with.new.sink (g.R.Media.state c.args.rig.now) (g.R.Media.state c.gen_with.new.rig) ⊎ EndsCommand (g.I.Source.state c.args.source.now) (g.I.Source.state c.args.source.now) (g.O.Sink.state c.args.sink.now) (g.O.Sink.state c.gen_with.new.sink) (g.R.Media.state c.args.rig.now) (g.R.Media.state c.gen_with.new.rig) k c.gen_with.result) (sym c.in-Gen.is) (elim c.gen_with.ensures.ends [ inl none ↦ inl (unbegun_source none) | inr ends ↦ inr ends ]))
 
 pub returns-in-Gen-clause-words : goal.returns-in-Gen-clause-words
 returns-in-Gen-clause-words g c = words_run _ _ _ _ _ _ _ _ (inr (inl (_, _, _, says_made _ _ _ _ _ _ _ c.in-Some.is c.in-Gen.is c.in-Ok.ensures.command))) (not_one c.gen_with.result _ c.status_of-in-Gen.ensures)
@@ -69,13 +66,10 @@ returns-in-Gen-clause-lent g c =
 pub returns-in-Gen-clause-complete : goal.returns-in-Gen-clause-complete
 returns-in-Gen-clause-complete g c = runs_made _ c.gen_with.result _ c.status_of-in-Gen.ensures _ _ _ _ _ _ (λ o reads. not_made _ o reads _ _ _ (says_made _ _ _ _ _ _ _ c.in-Some.is c.in-Gen.is c.in-Ok.ensures.command)) c.gen_with.ensures.causes
 
-pub returns-in-Gen-clause-part : goal.returns-in-Gen-clause-part
-returns-in-Gen-clause-part g c = at_made_part _ _ _ _ _ _ _ _ _ _ _ _ (says_made _ _ _ _ _ _ _ c.in-Some.is c.in-Gen.is c.in-Ok.ensures.command) refl c.gen_with.result _ c.status_of-in-Gen.ensures c.gen_with.ensures.part
-
 -- ---- a trace that is inspected
 
-pub returns-in-Inspect-clause-whole : goal.returns-in-Inspect-clause-whole
-returns-in-Inspect-clause-whole g c = λ is. inr (inr (_, says_inspected _ _ _ _ _ c.in-Some.is c.in-Inspect.is c.in-Ok.ensures.command, at_ok c.inspect_with.result c.inspect_with.ensures.whole (sym c.status_of-in-Inspect.ensures ∙ is)))
+pub returns-in-Inspect-clause-ends : goal.returns-in-Inspect-clause-ends
+returns-in-Inspect-clause-ends g c = inl (_, c.inspect_with.result, spoken _ _ _ c.in-Some.is c.in-Ok.ensures.command, c.status_of-in-Inspect.ensures, subst (λ (k : Command). IsUnbegun c.inspect_with.result c.args.source.now c.inspect_with.new.source c.args.sink.now c.inspect_with.new.sink (g.R.Media.state c.args.rig.now) (g.R.Media.state c.inspect_with.new.rig) ⊎ EndsCommand (g.I.Source.state c.args.source.now) (g.I.Source.state c.inspect_with.new.source) (g.O.Sink.state c.args.sink.now) (g.O.Sink.state c.inspect_with.new.sink) (g.R.Media.state c.args.rig.now) (g.R.Media.state c.inspect_with.new.rig) k c.inspect_with.result) (sym c.in-Inspect.is) c.inspect_with.ensures.ends)
 
 pub returns-in-Inspect-clause-unused : goal.returns-in-Inspect-clause-unused
 returns-in-Inspect-clause-unused g c = λ o number count made. absurd (inspected_made _ _ _ _ _ (says_inspected _ _ _ _ _ c.in-Some.is c.in-Inspect.is c.in-Ok.ensures.command) made)
@@ -91,12 +85,3 @@ returns-in-Inspect-clause-causes g c = status_cause c.inspect_with.result _ c.st
 
 pub returns-in-Inspect-clause-complete : goal.returns-in-Inspect-clause-complete
 returns-in-Inspect-clause-complete g c = runs_read _ c.inspect_with.result _ c.status_of-in-Inspect.ensures _ _ _ _ _ _ (not_made _ _ (inr (says_inspected _ _ _ _ _ c.in-Some.is c.in-Inspect.is c.in-Ok.ensures.command))) c.inspect_with.ensures.causes
-
-pub returns-in-Inspect-clause-refused : goal.returns-in-Inspect-clause-refused
-returns-in-Inspect-clause-refused g c = λ is. inr (_, says_inspected _ _ _ _ _ c.in-Some.is c.in-Inspect.is c.in-Ok.ensures.command, at_trace c.inspect_with.result c.inspect_with.ensures.refused (sym c.status_of-in-Inspect.ensures ∙ is))
-
-pub returns-in-Inspect-clause-unread : goal.returns-in-Inspect-clause-unread
-returns-in-Inspect-clause-unread g c = λ is. inr (_, says_inspected _ _ _ _ _ c.in-Some.is c.in-Inspect.is c.in-Ok.ensures.command, at_source c.inspect_with.result c.inspect_with.ensures.unread (sym c.status_of-in-Inspect.ensures ∙ is))
-
-pub returns-in-Inspect-clause-part : goal.returns-in-Inspect-clause-part
-returns-in-Inspect-clause-part g c = at_inspected_part _ _ _ _ _ _ _ _ _ _ (says_inspected _ _ _ _ _ c.in-Some.is c.in-Inspect.is c.in-Ok.ensures.command) c.inspect_with.result _ c.status_of-in-Inspect.ensures c.inspect_with.ensures.part

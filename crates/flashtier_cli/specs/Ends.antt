@@ -1,0 +1,34 @@
+-- How a command ends.
+use Rattle.std.specs.Prelude.{◌≡◌, ◌⊎◌, ℕ, Result}
+use Rattle.cache_model.specs.Stands.{ImageStandsFor}
+use Rattle.cache_run.specs.Fitted.{fitted_for}
+use Rattle.cache_run.specs.Inspected.{EndsInspected, LoadsAs}
+use Rattle.command_line.specs.declared.command.Command.{Command}
+use Rattle.command_line.specs.declared.command.Command.TheVariants.{Replay, Gen, Inspect}
+use Rattle.ft_base.specs.StreamState.{SinkState, SourceState}
+use Rattle.ft_media.specs.State.{State}
+use Rattle.ft_volume.specs.Volume.{told_for}
+use Rattle.trace_gen.specs.Made.{made_trace}
+use Rattle.trace_model.specs.Readings.{Reads}
+use Rattle.trace_replay.specs.Commands.{Gives, TellsEnd, TellsEndPart}
+use Rattle.trace_replay.specs.Said.{Tells, TellsPart}
+use Rattle.trace_replay.specs.Theorem.{EndsAs}
+use Rattle.trace_replay.specs.declared.ended.Ended.{Ended}
+
+-- a command ended so over its volume: a trace that was read, with each answer printed; a made trace, with its end line
+-- alone; or a trace that was read, with a report of what is in the cache
+module _ (a b : SourceState) (x y : SinkState) (old now : State) where
+  abbrev pub EndsCommand : Command → Result (Unit {0}) Ended → Type 0
+  EndsCommand (Replay mode options) end = EndsAs (told_for mode options) (Reads options.geometry.size a b) (Tells x y) (TellsPart x y)
+      (ImageStandsFor options.geometry) (fitted_for options.geometry old) now end
+  EndsCommand (Gen mode options number count) end = EndsAs (told_for mode options) (Gives (made_trace number count options.geometry))
+      (TellsEnd x y) (TellsEndPart x y) (ImageStandsFor options.geometry) (fitted_for options.geometry old) now end
+  EndsCommand (Inspect mode options) end = EndsInspected (told_for mode options) (Reads options.geometry.size a b)
+      (LoadsAs options.geometry) x y (ImageStandsFor options.geometry) (fitted_for options.geometry old) now end
+
+-- nothing was read, printed or done: the words are no command, or memory for reading them was refused
+pub record IsUntouched {I O R : Type 0} (status : ℕ) (a b : I) (x y : O) (old new : R) : Type 0 where
+  pub answer : (status ≡ 1) ⊎ (status ≡ 7)
+  pub source : b ≡ a
+  pub sink : y ≡ x
+  pub rig : new ≡ old
