@@ -4,6 +4,7 @@ use flashtier_cli::run;
 use ft_base::{MemSink, MemSource};
 use mem_rig::MemRig;
 use std::alloc::Global;
+use std::process::Abort;
 use std::test::Fail;
 
 /// The options of a volume of 64 blocks in 16 groups, on flash with erase blocks of 4 pages.
@@ -27,8 +28,18 @@ struct Outcome {
     text: Vec<u8>,
 }
 
-/// Runs `inspect` with these options over a new rig, with the trace in pieces of 7 bytes.
+/// Runs `inspect` with these options over a new rig.
 fn inspect(alloc: Global, options: &[&str], trace: &[u8]) -> Result<Outcome, Fail> {
+    inspect_on(alloc, options, trace, MemRig::new(alloc))
+}
+
+/// Runs `inspect` with these options over this rig, with the trace in pieces of 7 bytes.
+fn inspect_on(
+    alloc: Global,
+    options: &[&str],
+    trace: &[u8],
+    mut rig: MemRig,
+) -> Result<Outcome, Fail> {
     let mut words = Vec::new(alloc);
     words.push(String::from_str(alloc, "inspect")?)?;
     for option in options {
@@ -36,7 +47,6 @@ fn inspect(alloc: Global, options: &[&str], trace: &[u8]) -> Result<Outcome, Fai
     }
     let mut source = MemSource::new(Vec::from_slice(alloc, trace)?, 7, Vec::new(alloc));
     let mut sink = MemSink::new(alloc, 1000, 10, Vec::new(alloc))?;
-    let mut rig = MemRig::new(alloc);
     let status = run(alloc, words.as_slice(), &mut source, &mut sink, &mut rig);
     let text = Vec::from_slice(alloc, sink.bytes())?;
     Ok(Outcome { status, text })
@@ -115,5 +125,61 @@ fn a_report_that_is_cut_tells_what_recovery_found(rt: HostRuntime) -> Result<(),
         let outcome = inspect(alloc, &SMALL, trace)?;
         assert_eq!(rt; (outcome.status, outcome.text.as_slice()), (0, text));
     }
+    Ok(())
+}
+
+/// Inspects a trace over a rig of which this call of the flash or of the disk fails.
+fn inspect_without(
+    alloc: Global,
+    trace: &[u8],
+    of_flash: bool,
+    number: u64,
+) -> Result<Outcome, Fail> {
+    let one = [number].to_vec(alloc)?;
+    let none = Vec::new(alloc);
+    let rig = if of_flash {
+        MemRig::failing(alloc, one, none)
+    } else {
+        MemRig::failing(alloc, none, one)
+    };
+    inspect_on(alloc, &SMALL, trace, rig)
+}
+
+/// Lets each call of a device fail in turn: the run ends for it with this status and prints nothing, or nothing
+/// failed and the text is whole. Says how many calls failed.
+fn inspect_each(
+    rt: &impl Abort,
+    alloc: Global,
+    trace: &[u8],
+    of_flash: bool,
+    status: u8,
+) -> Result<u64, Fail> {
+    let whole = inspect(alloc, &SMALL, trace)?;
+    let mut failed: u64 = 0;
+    for number in 1..200 {
+        let outcome = inspect_without(alloc, trace, of_flash, number)?;
+        if outcome.status == 0 {
+            assert_eq!(rt; outcome.text.as_slice(), whole.text.as_slice());
+        } else {
+            assert_eq!(rt;
+                (outcome.status, outcome.text.as_slice()),
+                (status, b"".as_slice())
+            );
+            failed += 1;
+        }
+    }
+    Ok(failed)
+}
+
+// A failed read within a merge, a failed page of the log in the report and a failed page that the report reads
+// are among these calls.
+#[test]
+fn each_call_of_a_device_that_fails_ends_it_silently(rt: HostRuntime) -> Result<(), Fail> {
+    let alloc = rt.alloc();
+    let trace = b"w 0 2 1\nr 0 3\nw 4 2 2\nw 9 1 3\nr 20 1\ni\nw 1 1 4\n";
+    let of_flash = inspect_each(&rt, alloc, trace, true, 5)?;
+    assert!(rt; of_flash > 60 && of_flash < 199);
+    let of_disk = inspect_each(&rt, alloc, trace, false, 6)?;
+    assert!(rt; of_disk > 4 && of_disk < 199);
     Ok(())
 }

@@ -11,6 +11,8 @@ mod cuts;
 #[cfg(test)]
 mod faults;
 #[cfg(test)]
+mod held;
+#[cfg(test)]
 mod inspected;
 #[cfg(test)]
 mod made;

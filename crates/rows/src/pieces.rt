@@ -165,3 +165,61 @@ fn each_call_of_the_sink_that_fails_ends_the_run(rt: HostRuntime) -> Result<(), 
     }
     Ok(())
 }
+
+/// How many bytes the source still has.
+fn left_in(source: &mut MemSource) -> Result<usize, Fail> {
+    let mut left: usize = 0;
+    let mut buffer = [0u8; 512];
+    for _ in 0..100 {
+        match source.give(&mut buffer) {
+            Ok(0) => break,
+            Ok(count) => left = left.saturating_add(count),
+            Err(_) => break,
+        }
+    }
+    Ok(left)
+}
+
+/// A trace whose first line writes a block; two more pieces of comments follow.
+fn three_pieces(alloc: Global) -> Result<Vec<u8>, AllocError> {
+    let mut trace = Vec::from_slice(alloc, b"w 0 1 1\n")?;
+    for _ in 0..120 {
+        trace.push(b'#')?;
+        trace.extend_from_slice([b'x'; 98].as_slice())?;
+        trace.push(b'\n')?;
+    }
+    Ok(trace)
+}
+
+/// Runs the trace over a rig of which this call of the flash fails. Says how it ended, and how many bytes of the
+/// trace were not read.
+fn unread_after(alloc: Global, trace: &[u8], failing: u64) -> Result<(u8, usize), Fail> {
+    let mut source = MemSource::new(Vec::from_slice(alloc, trace)?, 5000, Vec::new(alloc));
+    let mut sink = MemSink::new(alloc, 1000, 100, Vec::new(alloc))?;
+    let mut rig = MemRig::failing(alloc, [failing].to_vec(alloc)?, Vec::new(alloc));
+    let mut words = Vec::new(alloc);
+    for word in WORDS {
+        words.push(String::from_str(alloc, word)?)?;
+    }
+    let status = run(alloc, words.as_slice(), &mut source, &mut sink, &mut rig);
+    Ok((status, left_in(&mut source)?))
+}
+
+// A call that fails before the volume is made leaves the whole trace; one that fails in the first line leaves all
+// of it but the first piece of 4,096 bytes.
+#[test]
+fn a_first_line_that_fails_leaves_the_rest_in_the_source(rt: HostRuntime) -> Result<(), Fail> {
+    let alloc = rt.alloc();
+    let trace = three_pieces(alloc)?;
+    let mut in_line: u64 = 0;
+    for failing in 1..30 {
+        let (status, left) = unread_after(alloc, trace.as_slice(), failing)?;
+        // The reads of the end come after all of the trace.
+        if status == 5 && left > 0 && left < trace.len() {
+            in_line += 1;
+            assert_eq!(rt; trace.len() - left, 4096);
+        }
+    }
+    assert!(rt; in_line > 1);
+    Ok(())
+}

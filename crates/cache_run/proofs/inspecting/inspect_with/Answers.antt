@@ -11,7 +11,7 @@ inspect-requires-clause-fresh g c = fresh_new Back c.args.options.now _ c.in-Ok.
 
 pub returns-in-Ok-clause-ends : goal.returns-in-Ok-clause-ends
 returns-in-Ok-clause-ends g c = inr (
-    inspected_new c.args.mode Back c.args.options.now c.in-Back.is c.in-Ok.ensures.new _ c.inspect.ensures.told 
+    inspected_new c.args.mode Back c.args.options.now c.in-Back.is c.in-Ok.ensures.new _ c.inspect.ensures.told
     (g.I.Source.state c.args.source.now) (g.I.Source.state c.inspect.new.source) (g.O.Sink.state c.args.sink.now) (g.O.Sink.state c.inspect.new.sink) (g.R.Media.state c.inspect.new.rig) c.inspect.result c.inspect.ensures.ends)
 
 pub returns-in-Ok-clause-causes : goal.returns-in-Ok-clause-causes
@@ -33,7 +33,7 @@ inspect-requires-in-Ok-begin_through-clause-fresh g c = fresh_new Through c.args
 
 pub returns-in-Ok-begin_through-clause-ends : goal.returns-in-Ok-begin_through-clause-ends
 returns-in-Ok-begin_through-clause-ends g c = inr (
-    inspected_new c.args.mode Through c.args.options.now c.in-Through.is c.in-Ok-begin_through.ensures.new _ c.inspect-in-Ok-begin_through.ensures.told 
+    inspected_new c.args.mode Through c.args.options.now c.in-Through.is c.in-Ok-begin_through.ensures.new _ c.inspect-in-Ok-begin_through.ensures.told
     (g.I.Source.state c.args.source.now) (g.I.Source.state c.inspect-in-Ok-begin_through.new.source) (g.O.Sink.state c.args.sink.now) (g.O.Sink.state c.inspect-in-Ok-begin_through.new.sink) (g.R.Media.state c.inspect-in-Ok-begin_through.new.rig) c.inspect-in-Ok-begin_through.result c.inspect-in-Ok-begin_through.ensures.ends)
 
 pub returns-in-Ok-begin_through-clause-causes : goal.returns-in-Ok-begin_through-clause-causes

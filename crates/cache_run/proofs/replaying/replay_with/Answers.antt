@@ -10,7 +10,7 @@ replay-requires-clause-fresh g c = fresh_new Back c.args.options.now _ c.in-Ok.e
 
 pub returns-in-Ok-clause-ends : goal.returns-in-Ok-clause-ends
 returns-in-Ok-clause-ends g c = inr (
-    ends_new c.args.mode Back c.args.options.now c.in-Back.is c.in-Ok.ensures.new _ c.replay.ensures.owner.1 
+    ends_new c.args.mode Back c.args.options.now c.in-Back.is c.in-Ok.ensures.new _ c.replay.ensures.owner.1
     (g.I.Source.state c.args.source.now) (g.I.Source.state c.replay.new.source) (g.O.Sink.state c.args.sink.now) (g.O.Sink.state c.replay.new.sink) (g.R.Media.state c.replay.new.rig) c.replay.result c.replay.ensures.ends)
 
 pub returns-in-Ok-clause-causes : goal.returns-in-Ok-clause-causes
@@ -32,7 +32,7 @@ replay-requires-in-Ok-begin_through-clause-fresh g c = fresh_new Through c.args.
 
 pub returns-in-Ok-begin_through-clause-ends : goal.returns-in-Ok-begin_through-clause-ends
 returns-in-Ok-begin_through-clause-ends g c = inr (
-    ends_new c.args.mode Through c.args.options.now c.in-Through.is c.in-Ok-begin_through.ensures.new _ c.replay-in-Ok-begin_through.ensures.owner.1 
+    ends_new c.args.mode Through c.args.options.now c.in-Through.is c.in-Ok-begin_through.ensures.new _ c.replay-in-Ok-begin_through.ensures.owner.1
     (g.I.Source.state c.args.source.now) (g.I.Source.state c.replay-in-Ok-begin_through.new.source) (g.O.Sink.state c.args.sink.now) (g.O.Sink.state c.replay-in-Ok-begin_through.new.sink) (g.R.Media.state c.replay-in-Ok-begin_through.new.rig) c.replay-in-Ok-begin_through.result c.replay-in-Ok-begin_through.ensures.ends)
 
 pub returns-in-Ok-begin_through-clause-causes : goal.returns-in-Ok-begin_through-clause-causes
