@@ -165,7 +165,7 @@ fn inspect_each(
                 (outcome.status, outcome.text.as_slice()),
                 (status, b"".as_slice())
             );
-            failed += 1;
+            failed = failed.saturating_add(1);
         }
     }
     Ok(failed)

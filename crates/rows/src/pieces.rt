@@ -216,7 +216,7 @@ fn a_first_line_that_fails_leaves_the_rest_in_the_source(rt: HostRuntime) -> Res
         let (status, left) = unread_after(alloc, trace.as_slice(), failing)?;
         // The reads of the end come after all of the trace.
         if status == 5 && left > 0 && left < trace.len() {
-            in_line += 1;
+            in_line = in_line.saturating_add(1);
             assert_eq!(rt; trace.len() - left, 4096);
         }
     }
