@@ -178,7 +178,7 @@ fn each_call_of_a_device_that_fails_ends_it_silently(rt: HostRuntime) -> Result<
     let alloc = rt.alloc();
     let trace = b"w 0 2 1\nr 0 3\nw 4 2 2\nw 9 1 3\nr 20 1\ni\nw 1 1 4\n";
     let of_flash = inspect_each(&rt, alloc, trace, true, 5)?;
-    assert!(rt; of_flash > 60 && of_flash < 199);
+    assert!(rt; of_flash > 40 && of_flash < 199);
     let of_disk = inspect_each(&rt, alloc, trace, false, 6)?;
     assert!(rt; of_disk > 4 && of_disk < 199);
     Ok(())
