@@ -1,4 +1,4 @@
-use Rattle.std.proofs.Common.{◌∙◌}
+use Rattle.std.proofs.Common.{◌∙◌, refl}
 use Rattle.std.specs.FinMap.{empty}
 use Rattle.cache_model.specs.Cache.{written_clean}
 use Rattle.mem_rig.specs.Rig.{state_of}
@@ -9,6 +9,13 @@ pub commit-requires : goal.commit-requires
 commit-requires c =
     let written = c.in_ok-write_clean.ensures.done empty (c.in_ok-cache.ensures.holds empty c.in_ok-format.ensures.done) in
     record { up = record { list = written_clean c.args.lba c.args.block.now written.left; holds = written.holds; up = c.in_ok-write_clean.ensures.runs.stopped } }
+
+pub returns-clause-disk : goal.returns-clause-disk
+returns-clause-disk c =
+    c.in_ok-commit.ensures.runs.drives.disk.stays refl
+    ∙ c.in_ok-write_clean.ensures.runs.drives.disk.stays refl
+    ∙ c.in_ok-cache.ensures.drives.disk.stays refl
+    ∙ c.in_ok-format.ensures.drives.disk.stays refl
 
 pub returns-clause-alone : goal.returns-clause-alone
 returns-clause-alone c =
