@@ -1,13 +1,13 @@
 //! Measures the program and parts of it, and prints what it found as a table. Without words it prints one
 //! fixed line; the first word names what is measured. After `run` come the options of a made trace, as the
-//! program's own word `gen` takes them.
+//! program's own word `gen` takes them; after `sweep` those that `replay` takes.
 //!
 //! | Status | When |
 //! |---|---|
 //! | 0 | it was measured and printed, or there was no word |
 //! | 1 | the words are none of these; a line says which there are |
 //! | 2 | memory, the clock or the output failed, a word can't be read, a map lost a key, the floor a page, or a run has no end line |
-//! | another, or 1 | a run ended with it, as one does whose options are none of `gen`; a line says so |
+//! | another, or 1 | a run ended with it, as one does whose options are none of its word; a line says so |
 #![tactic(auto)]
 
 mod words;
@@ -30,11 +30,14 @@ fn words_of(rt: &(impl Env + AllocGlobal)) -> io::Result<Vec<String>> {
 fn run(rt: &(impl Env + AllocGlobal + Clock + Files + Print + Eprint)) -> io::Result<u8> {
     let words = words_of(rt)?;
     match task_of(words.as_slice()) {
-        Some(Task::Hint) => println!(rt; "bench: give the word map or run")?,
+        Some(Task::Hint) => println!(rt; "bench: give the word map, run or sweep")?,
         Some(Task::Map) => map_bench::measure(rt)?,
+        Some(Task::Sweep) => {
+            return run_bench::measure_sweep(rt, after_first(words.as_slice()));
+        }
         Some(Task::Run) => return run_bench::measure(rt, after_first(words.as_slice())),
         None => {
-            eprintln!(rt; "use: bench [map | run [options of gen]]")?;
+            eprintln!(rt; "use: bench [map | run [options of gen] | sweep [options of replay]]")?;
             return Ok(1);
         }
     }

@@ -11,12 +11,15 @@ pub(crate) enum Task {
     Map,
     /// `run`, and after it the options of a made trace: the whole program.
     Run,
+    /// `sweep`, and after it the options of a volume: a sweep beside its runs.
+    Sweep,
 }
 
 /// What the words ask for, and `None` where they are none of these.
 pub(crate) fn task_of(words: &[String]) -> Option<Task>
     ensures hint { (result ≡ Some task.Hint) ↔ (words.now ≡ []) }
     ensures map { (result ≡ Some task.Map) ↔ (map string_bytes words.now ≡ codes "map" ∷ []) }
+    ensures sweep { (result ≡ Some task.Sweep) ↔ (take 1 (map string_bytes words.now) ≡ codes "sweep" ∷ []) }
     ensures run { (result ≡ Some task.Run) ↔ (take 1 (map string_bytes words.now) ≡ codes "run" ∷ []) }
 {
     let Some((first, others)) = words.split_first() else {
@@ -24,6 +27,9 @@ pub(crate) fn task_of(words: &[String]) -> Option<Task>
     };
     if first.as_str() == "run" {
         return Some(Task::Run);
+    }
+    if first.as_str() == "sweep" {
+        return Some(Task::Sweep);
     }
     if others.is_empty() && first.as_str() == "map" {
         return Some(Task::Map);

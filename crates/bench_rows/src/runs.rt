@@ -6,6 +6,7 @@ use run_bench::memory::{peak_in, peak_memory};
 use run_bench::replayed::{End, Replayed, replay};
 use run_bench::ring::Ring;
 use run_bench::row::Row;
+use run_bench::swept::{Swept, sweep};
 use std::alloc::{AllocError, Global};
 use std::test::Fail;
 use std::time::Duration;
@@ -42,6 +43,24 @@ fn a_run_is_measured_by_its_end_line_and_its_devices(rt: HostRuntime) -> Result<
 fn words_that_are_none_of_gen_end_with_1(rt: HostRuntime) -> Result<(), Fail> {
     let words = vec![in rt.alloc(); String::from_str(rt.alloc(), "--cound")?]?;
     assert_eq!(rt; replay(&rt, words.as_slice())?, Err(1));
+    Ok(())
+}
+
+#[test]
+fn a_sweep_is_measured_beside_its_runs(rt: HostRuntime) -> Result<(), Fail> {
+    let mut words = Vec::new(rt.alloc());
+    words.push(String::from_str(rt.alloc(), "--data=16")?)?;
+    let Ok(swept) = sweep(&rt, words.as_slice())? else {
+        return Err(Fail::new("the sweep ended early"));
+    };
+    // Two device writes for each of 32 blocks, and the erase of an erase block for the first.
+    assert_eq!(rt; swept.runs, 65);
+    let swept = Swept {
+        runs: 5,
+        sweep: Duration::from_micros(2_100),
+        single: Duration::from_micros(2_000),
+    };
+    assert_eq!(rt; swept.ratio(), 105);
     Ok(())
 }
 

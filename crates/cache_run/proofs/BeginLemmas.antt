@@ -1,5 +1,5 @@
 -- A run over a new volume, from a run over any volume.
-use Rattle.std.proofs.Common.{◌≡◌, ◌≢◌, ◌⊎◌, inl, inr, ◌≤◌, ◌+◌, ◌&&◌, nat_le, nat_lt, ℕ, true, false, List, [], map, filter, Option, Result, Err, IsErrOf, refl, sym, ap, ◌∙◌, subst}
+use Rattle.std.proofs.Common.{◌≡◌, ◌≢◌, ◌⊎◌, inl, inr, ◌≤◌, ◌+◌, ◌&&◌, nat_le, nat_lt, ℕ, true, false, List, [], map, filter, Option, Result, Err, IsErrOf, refl, sym, ap, ◌∙◌, subst, arith}
 use Rattle.std.proofs.lemmas.List.{nil_from_length}
 use Rattle.std.specs.FinMap.{entries, get-empty, len-empty, len-entries}
 use Rattle.std.specs.Option.{is_some}
@@ -26,9 +26,10 @@ use Rattle.trace_model.specs.declared.answer.Answer.{Answer}
 use Rattle.trace_model.specs.declared.line.Line.{Line}
 use Rattle.trace_model.specs.declared.ran.Ran.{Ran}
 use Rattle.trace_model.specs.Readings.{Reads}
+use Rattle.trace_replay.proofs.CutsLemmas.{counts_then}
 use Rattle.trace_replay.proofs.FromLemmas.{ends_from}
 use Rattle.trace_replay.specs.Before.{IsBefore}
-use Rattle.trace_replay.specs.Causes.{EndHasCause, EndHasCauseUntraced, KeepsLentUntraced}
+use Rattle.trace_replay.specs.Causes.{EndHasCause, EndHasCauseUntraced, KeepsLentUntraced, KeepsStreamsUntraced}
 use Rattle.trace_replay.specs.Lent.{KeepsLent}
 use Rattle.trace_replay.specs.Commands.{Gives}
 use Rattle.trace_replay.specs.AsMade.{IsAsMade}
@@ -154,6 +155,24 @@ lent_later begins lent = record { source_lent = lent.source_lent; sink_lent = le
 
 pub lent_untraced : {V : Type 0} {made : Result V Ended} {x y : SinkState} {old begun now : State} → Begins made old begun → KeepsLentUntraced x y begun now → KeepsLentUntraced x y old now
 lent_untraced begins lent = record { sink_lent = lent.sink_lent; rig_lent = lent.rig_lent ∙ begins.lent }
+
+pub goes_later : {V : Type 0} {made : Result V Ended} {x y : SinkState} {old begun now : State} → Begins made old begun → KeepsStreamsUntraced x y begun now → KeepsStreamsUntraced x y old now
+goes_later {old = old} {begun = begun} {now = now} begins goes = record {
+  counts = counts_then old.counts begun.counts now.counts begins.counts goes.counts;
+  sink_later = goes.sink_later;
+  flash_later = (let first = begins.flash_later in let next = goes.flash_later in omega (arith, first, next));
+  disk_later = (let first = begins.disk_later in let next = goes.disk_later in omega (arith, first, next));
+  lent = record { sink_lent = goes.lent.sink_lent; rig_lent = goes.lent.rig_lent ∙ begins.lent };
+}
+
+pub goes_begun : {V : Type 0} {made : Result V Ended} (x : SinkState) {old now : State} → Begins made old now → KeepsStreamsUntraced x x old now
+goes_begun x begins = record {
+  counts = begins.counts;
+  sink_later = omega arith;
+  flash_later = begins.flash_later;
+  disk_later = begins.disk_later;
+  lent = record { sink_lent = refl; rig_lent = begins.lent };
+}
 
 -- ---- the records of a run over it
 

@@ -1,5 +1,6 @@
 pub mod AskLemmas
 pub mod BeginLemmas
+pub mod CountLemmas
 pub mod InspectLemmas
 pub mod SilentLemmas
 pub mod UncutLemmas

@@ -62,7 +62,7 @@ drop_none : (n : ℕ) (stops : List Stop) → n ≡ 0 → stops ≡ [] → drop 
 drop_none n stops zero none = ap (λ k. drop k stops) zero ∙ none
 
 -- without a stop line and a cut line no stop is armed, and power is never cut
-uncut_lines : (ack : Ack) (run : List Ran) → FitsRun ack run → AreUncut run → (armed_after run ≡ []) × (cuts_in run ≡ 0)
+pub uncut_lines : (ack : Ack) (run : List Ran) → FitsRun ack run → AreUncut run → (armed_after run ≡ []) × (cuts_in run ≡ 0)
 uncut_lines ack [] fits uncut = (refl, refl)
 uncut_lines ack (ran ∷ earlier) fits uncut =
     let before = uncut_lines ack earlier fits.1 uncut.1 in

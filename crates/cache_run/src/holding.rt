@@ -2,7 +2,7 @@ ghost use Rattle.std.specs.Prelude.{◌≡◌, ◌⊎◌, ◌≤◌, ◌<◌, �
 ghost use Rattle.ft_volume.specs.Volume.{told_for};
 ghost use Rattle.cache_model.specs.Stands.{ImageStandsFor};
 ghost use Rattle.trace_model.specs.Lines.{IsRunnable};
-ghost use Rattle.trace_replay.specs.Causes.{EndHasCauseUntraced, KeepsLentUntraced};
+ghost use Rattle.trace_replay.specs.Causes.{EndHasCauseUntraced, KeepsStreamsUntraced};
 ghost use Rattle.trace_replay.specs.Commands.{Gives};
 ghost use Rattle.trace_replay.specs.Held.{stops_held};
 ghost use Rattle.trace_replay.specs.Said.{Tells, TellsPart};
@@ -42,7 +42,7 @@ pub fn replay_lines<O: Sink, R: Rig>(
         (ImageStandsFor options.now.geometry) (fitted_for options.now.geometry (R.state rig.old)) (R.state rig.new) result }
     ensures causes { EndHasCauseUntraced result (O.state sink.old) (O.state sink.new) (R.state rig.old) (R.state rig.new) }
     ensures on { (IsErrOf result Ended.Memory → ⊥) → (R.state rig.new).power.on ≡ true }
-    ensures lent { KeepsLentUntraced (O.state sink.old) (O.state sink.new) (R.state rig.old) (R.state rig.new) }
+    ensures goes { KeepsStreamsUntraced (O.state sink.old) (O.state sink.new) (R.state rig.old) (R.state rig.new) }
 {
     match mode {
         Mode::Back => match begin_back(alloc, rig, options) {

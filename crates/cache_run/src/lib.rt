@@ -1,10 +1,12 @@
 //! A run: a rig is fitted, a new volume of a mode is made on it, and a trace is run over it, printed or not.
 //!
 //! The programs rely on the clauses of `replay_with`, `gen_with` and `inspect_with`, over any mode and options, on
-//! `status_of`, and on `default_options`.
+//! `status_of`, and on `default_options`. A sweep relies on those of `replay_lines` and `count_lines`, which run lines
+//! that are held.
 #![tactic(auto)]
 
 mod beginning;
+mod counting;
 mod defaults;
 mod ending;
 mod holding;
@@ -13,6 +15,7 @@ mod making;
 mod replaying;
 mod reporting;
 
+pub use counting::count_lines;
 pub use defaults::default_options;
 pub use ending::status_of;
 pub use holding::replay_lines;

@@ -13,8 +13,10 @@ use Rattle.ft_base.specs.declared.geometry.Geometry.{Geometry}
 use Rattle.ft_base.specs.declared.geometry.GeometryError.{GeometryError}
 use Rattle.ft_base.specs.declared.told.Mode.{Mode}
 use Rattle.ft_base.specs.declared.told.Mode.TheVariants.{Back, Through}
+use Rattle.ft_base.specs.declared.power.Outcome.{Outcome}
+use Rattle.ft_base.specs.declared.power.Outcome.TheVariants.{Blank, Whole, Torn, Mixed}
 use Rattle.std.specs.List.{list_all}
-use Rattle.command_line.specs.Command.{AreNumbers, IsCommand, IsCount, IsDirty, IsGen, IsGiven, IsInspect, IsRunOf, Say, SayMade, Setting, Spells, Text, gen_names, mode_word, option_names, value_in}
+use Rattle.command_line.specs.Command.{AreNumbers, IsCommand, IsCount, IsDirty, IsGen, IsGiven, IsInspect, IsRunOf, IsSweep, Say, SayMade, Setting, Spells, Text, gen_names, mode_word, option_names, outcome_word, sweep_names, value_in}
 use Rattle.command_line.specs.Matching.{is_name}
 use Rattle.command_line.proofs.Pairs.{pair_value, pairs_of}
 use Rattle.command_line.proofs.SettingLemmas.{spelled_options, value_pairs}
@@ -203,3 +205,61 @@ inspected_apart words o other inspect command = differ (codes "inspect") (codes 
 
 pub inspected_made : (words : List Text) (o other : Told) (number count : ℕ) → IsInspect words o → IsGen words other number count → ⊥
 inspected_made words o other number count inspect gen = differ (codes "inspect") (codes "gen") refl (cc (inspect.first, gen.first))
+
+-- ---- a sweep
+
+same_outcome_word : (x y : Outcome) → outcome_word x ≡ outcome_word y → x ≡ y
+same_outcome_word Blank Blank is = refl
+same_outcome_word Blank Whole is = absurd (differ (codes "blank") (codes "whole") refl is)
+same_outcome_word Blank Torn is = absurd (differ (codes "blank") (codes "torn") refl is)
+same_outcome_word Blank Mixed is = absurd (differ (codes "blank") (codes "mixed") refl is)
+same_outcome_word Whole Blank is = absurd (differ (codes "whole") (codes "blank") refl is)
+same_outcome_word Whole Whole is = refl
+same_outcome_word Whole Torn is = absurd (differ (codes "whole") (codes "torn") refl is)
+same_outcome_word Whole Mixed is = absurd (differ (codes "whole") (codes "mixed") refl is)
+same_outcome_word Torn Blank is = absurd (differ (codes "torn") (codes "blank") refl is)
+same_outcome_word Torn Whole is = absurd (differ (codes "torn") (codes "whole") refl is)
+same_outcome_word Torn Torn is = refl
+same_outcome_word Torn Mixed is = absurd (differ (codes "torn") (codes "mixed") refl is)
+same_outcome_word Mixed Blank is = absurd (differ (codes "mixed") (codes "blank") refl is)
+same_outcome_word Mixed Whole is = absurd (differ (codes "mixed") (codes "whole") refl is)
+same_outcome_word Mixed Torn is = absurd (differ (codes "mixed") (codes "torn") refl is)
+same_outcome_word Mixed Mixed is = refl
+
+same_outcome : (word : Option Text) (x y : Outcome) → IsGiven outcome_word Torn word x → IsGiven outcome_word Torn word y → x ≡ y
+same_outcome None x y given other = given ∙ sym other
+same_outcome (Some word) x y given other = same_outcome_word x y (sym given ∙ other)
+
+left_along : (value other : Text → Option Text) (x : Outcome) → ((name : Text) → value name ≡ other name) → IsGiven outcome_word Torn (value (codes "outcome")) x → IsGiven outcome_word Torn (other (codes "outcome")) x
+left_along value other x same = subst (λ (word : Option Text). IsGiven outcome_word Torn word x) (same (codes "outcome"))
+
+pub same_sweep : (words : List Text) (o other : Told) (x y : Outcome) → IsSweep words o x → IsSweep words other y → (o ≡ other) × (x ≡ y)
+same_sweep words o other x y sweep also =
+    let rest : sweep.others ≡ also.others = cc (sweep.first, also.first) in
+    let spelled = subst (λ (ws : List Text). Spells sweep_names ws sweep.settings) rest sweep.spelled in
+    let values = same_values sweep_names also.others sweep.settings also.settings refl spelled also.spelled in (
+      same_said (value_in also.settings) o other (say_along (value_in sweep.settings) (value_in also.settings) o values sweep.says) also.says,
+      same_outcome (value_in also.settings (codes "outcome")) x y (left_along (value_in sweep.settings) (value_in also.settings) x values sweep.leaves) also.leaves,
+    )
+
+module _ (others : List Text) (settings : List Setting) (value : Text → Option Text) (values : (name : Text) → value name ≡ value_in settings name) where
+  sweep_values : Spells sweep_names others settings → (o : Told) (x : Outcome) (sweep : IsSweep (codes "sweep" ∷ others) o x) → (name : Text) → value_in sweep.settings name ≡ value name
+  sweep_values spelled o x sweep name =
+      let rest : sweep.others ≡ others = cc sweep.first in
+      let also = subst (λ (ws : List Text). Spells sweep_names ws sweep.settings) rest sweep.spelled in
+      same_values sweep_names others sweep.settings settings refl also spelled name ∙ sym (values name)
+
+  pub no_sweep_volume : Spells sweep_names others settings → ((o : Told) → Say value o → ⊥) → (o : Told) (x : Outcome) → IsSweep (codes "sweep" ∷ others) o x → ⊥
+  no_sweep_volume spelled says o x sweep = says o (say_along (value_in sweep.settings) value o (sweep_values spelled o x sweep) sweep.says)
+
+  pub no_sweep_outcome : Spells sweep_names others settings → ((x : Outcome) → IsGiven outcome_word Torn (value (codes "outcome")) x → ⊥) → (o : Told) (x : Outcome) → IsSweep (codes "sweep" ∷ others) o x → ⊥
+  no_sweep_outcome spelled says o x sweep = says x (left_along (value_in sweep.settings) value x (sweep_values spelled o x sweep) sweep.leaves)
+
+pub swept_apart : (words : List Text) (o other : Told) (x : Outcome) → IsSweep words o x → IsCommand words other → ⊥
+swept_apart words o other x sweep command = differ (codes "sweep") (codes "replay") refl (cc (sweep.first, command.first))
+
+pub swept_inspected : (words : List Text) (o other : Told) (x : Outcome) → IsSweep words o x → IsInspect words other → ⊥
+swept_inspected words o other x sweep inspect = differ (codes "sweep") (codes "inspect") refl (cc (sweep.first, inspect.first))
+
+pub swept_made : (words : List Text) (o other : Told) (x : Outcome) (number count : ℕ) → IsSweep words o x → IsGen words other number count → ⊥
+swept_made words o other x number count sweep gen = differ (codes "sweep") (codes "gen") refl (cc (sweep.first, gen.first))

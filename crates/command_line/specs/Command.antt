@@ -3,6 +3,8 @@ use Rattle.std.specs.Prelude.{◌≡◌, ◌+◌, ◌/◌, ◌≤◌, ◌<◌, �
 use Rattle.std.specs.List.{AllByRecursion, list_any}
 use Rattle.ft_base.specs.Told.{Told}
 use Rattle.ft_base.specs.declared.geometry.Geometry.{Geometry}
+use Rattle.ft_base.specs.declared.power.Outcome.{Outcome}
+use Rattle.ft_base.specs.declared.power.Outcome.TheVariants.{Blank, Whole, Torn, Mixed}
 use Rattle.ft_base.specs.declared.told.Ack.TheVariants.{Write}
 use Rattle.ft_base.specs.declared.told.Mode.{Mode}
 use Rattle.ft_base.specs.declared.told.Mode.TheVariants.{Back, Through}
@@ -20,6 +22,10 @@ option_names = codes "mode" ∷ codes "pages" ∷ codes "data" ∷ codes "log" �
 -- the options of a made trace
 abbrev pub gen_names : List Text
 gen_names = option_names ++ codes "number" ∷ codes "count" ∷ []
+
+-- the options of a sweep
+abbrev pub sweep_names : List Text
+sweep_names = option_names ++ codes "outcome" ∷ []
 
 -- there is an option of this name
 abbrev pub is_known : Text → List Text → Bool
@@ -72,6 +78,13 @@ IsGiven spelling default (Some word) value = word ≡ spelling value
 abbrev pub mode_word : Mode → Text
 mode_word Back = codes "back"
 mode_word Through = codes "through"
+
+-- how it is spelled what a power cut leaves
+abbrev pub outcome_word : Outcome → Text
+outcome_word Blank = codes "blank"
+outcome_word Whole = codes "whole"
+outcome_word Torn = codes "torn"
+outcome_word Mixed = codes "mixed"
 
 -- the numbers of the cache, each spelled by its decimal digits; a geometry has them in their ranges
 pub record AreNumbers (value : Text → Option Text) (g : Geometry) : Type 0 where
@@ -130,3 +143,12 @@ pub record IsGen (words : List Text) (o : Told) (number count : ℕ) : Type 0 wh
   pub spelled : Spells gen_names others settings
   pub says : Say (value_in settings) o
   pub made : SayMade (value_in settings) number count
+
+-- the word sweep, and then options that say this of the volume and of what each power cut leaves
+pub record IsSweep (words : List Text) (o : Told) (outcome : Outcome) : Type 0 where
+  pub others : List Text
+  pub first : words ≡ codes "sweep" ∷ others
+  pub settings : List Setting
+  pub spelled : Spells sweep_names others settings
+  pub says : Say (value_in settings) o
+  pub leaves : IsGiven outcome_word Torn (value_in settings (codes "outcome")) outcome

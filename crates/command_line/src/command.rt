@@ -1,12 +1,14 @@
 ghost use Rattle.std.specs.Prelude.{◌∷◌, ℕ, IfOk, IfSome, IfNone, codes, map};
 ghost use Rattle.std.specs.String.{string_bytes};
 ghost use Rattle.ft_base.specs.Told.{Told};
+ghost use Rattle.ft_base.specs.declared.power.Outcome.{Outcome};
 ghost use Rattle.ft_volume.specs.Volume.{told_for};
-ghost use Rattle.command_line.specs.Command.{IsCommand, IsGen, IsInspect, IsRunOf, Text};
+ghost use Rattle.command_line.specs.Command.{IsCommand, IsGen, IsInspect, IsRunOf, IsSweep, Text};
 ghost use Rattle.command_line.specs.Spoken.{AreWordsOf};
 
-use crate::matching::{gen_options, run_options};
-use crate::settings::{made_of, volume_of};
+use crate::matching::{gen_options, run_options, sweep_options};
+use crate::settings::{made_of, outcome_of, volume_of};
+use ft_base::Outcome;
 use ft_volume::{Mode, Options};
 use std::alloc::{AllocError, Global};
 
@@ -38,11 +40,20 @@ pub enum Command {
         /// What the volume is made with.
         options: Options,
     },
+    /// Over a trace that is read, once for each device write that it makes, with power cut at this one.
+    Sweep {
+        /// When a block that was written comes to the disk.
+        mode: Mode,
+        /// What the volume is made with.
+        options: Options,
+        /// What each power cut leaves.
+        outcome: Outcome,
+    },
 }
 
 /// The command that the words after the program's name say, or None where they are none.
 ///
-/// The first word is `replay`, `gen` or `inspect`. After it come options in any order, each at most once, as
+/// The first word is `replay`, `gen`, `inspect` or `sweep`. After it come options in any order, each at most once, as
 /// `--name value` or `--name=value`. A value in a word by itself doesn't begin with `-`. A number is `0`, or
 /// decimal digits of which the first isn't 0. Every other word is refused, also `--` and flags for help or a
 /// version.
@@ -58,12 +69,14 @@ pub enum Command {
 /// | `--dirty` | dirty groups that an idle step leaves alone, 1 to the data blocks | half of these, rounded up |
 /// | `--number`, of `gen` alone | which made trace, 0 to 2^64 - 1 | 1 |
 /// | `--count`, of `gen` alone | lines of the made trace, 1 to 1,000,000 | 20,000 |
+/// | `--outcome`, of `sweep` alone | what a power cut leaves: `blank`, `whole`, `torn` or `mixed` | `torn` |
 pub fn command_of(alloc: Global, words: &[String]) -> Result<Option<Command>, AllocError>
     ensures command { IfOk result (λ c. IfSome c (AreWordsOf (map string_bytes words.now))) }
     ensures none { IfOk result (λ c. IfNone c ((o : Told) → IsCommand (map string_bytes words.now) o → ⊥)) }
     ensures none_inspected { IfOk result (λ c. IfNone c ((o : Told) → IsInspect (map string_bytes words.now) o → ⊥)) }
     ensures none_made { IfOk result (λ c. IfNone c ((o : Told) (number count : ℕ)
         → IsGen (map string_bytes words.now) o number count → ⊥)) }
+    ensures none_swept { IfOk result (λ c. IfNone c ((o : Told) (outcome : Outcome) → IsSweep (map string_bytes words.now) o outcome → ⊥)) }
 {
     let Some((first, others)) = words.split_first() else {
         return Ok(None);
@@ -76,6 +89,9 @@ pub fn command_of(alloc: Global, words: &[String]) -> Result<Option<Command>, Al
     }
     if first.as_str() == "inspect" {
         return inspect_command(alloc, others);
+    }
+    if first.as_str() == "sweep" {
+        return sweep_command(alloc, others);
     }
     Ok(None)
 }
@@ -137,5 +153,27 @@ fn gen_command(alloc: Global, others: &[String]) -> Result<Option<Command>, Allo
         options,
         number,
         count,
+    }))
+}
+
+/// The command that `sweep` and these words after it say, or None if they are none.
+fn sweep_command(alloc: Global, others: &[String]) -> Result<Option<Command>, AllocError>
+    ensures command { IfOk result (λ c. IfSome c (AreWordsOf (codes "sweep" ∷ map string_bytes others.now))) }
+    ensures none { IfOk result (λ c. IfNone c ((o : Told) (outcome : Outcome)
+        → IsSweep (codes "sweep" ∷ map string_bytes others.now) o outcome → ⊥)) }
+{
+    let Some(matches) = sweep_options(alloc, others)? else {
+        return Ok(None);
+    };
+    let Some((mode, options)) = volume_of(&matches) else {
+        return Ok(None);
+    };
+    let Some(outcome) = outcome_of(&matches) else {
+        return Ok(None);
+    };
+    Ok(Some(Command::Sweep {
+        mode,
+        options,
+        outcome,
     }))
 }

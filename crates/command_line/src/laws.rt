@@ -1,8 +1,9 @@
 ghost use Rattle.std.specs.Prelude.{◌≡◌, ℕ, List};
 ghost use Rattle.ft_base.specs.Told.{Told};
-ghost use Rattle.command_line.specs.Command.{IsCommand, IsGen, IsInspect, Text};
+ghost use Rattle.ft_base.specs.declared.power.Outcome.{Outcome};
+ghost use Rattle.command_line.specs.Command.{IsCommand, IsGen, IsInspect, IsSweep, Text};
 
-/// No words say two things: of two commands that they would say, the word and all numbers are the same.
+/// No words say two things: of two commands that they would say, the word and all values are the same.
 pub fn command_law()
     ensures replay { (words : List Text) (o other : Told) → IsCommand words o → IsCommand words other → o ≡ other }
     ensures made { (words : List Text) (o other : Told) (number number_too count count_too : ℕ) → IsGen words o number count
@@ -13,4 +14,10 @@ pub fn command_law()
     ensures inspected_apart { (words : List Text) (o other : Told) → IsInspect words o → IsCommand words other → ⊥ }
     ensures inspected_made { (words : List Text) (o other : Told) (number count : ℕ) → IsInspect words o → IsGen words other number count
         → ⊥ }
+    ensures swept { (words : List Text) (o other : Told) (outcome outcome_too : Outcome) → IsSweep words o outcome
+        → IsSweep words other outcome_too → (o ≡ other) × (outcome ≡ outcome_too) }
+    ensures swept_apart { (words : List Text) (o other : Told) (outcome : Outcome) → IsSweep words o outcome → IsCommand words other → ⊥ }
+    ensures swept_inspected { (words : List Text) (o other : Told) (outcome : Outcome) → IsSweep words o outcome → IsInspect words other → ⊥ }
+    ensures swept_made { (words : List Text) (o other : Told) (outcome : Outcome) (number count : ℕ) → IsSweep words o outcome
+        → IsGen words other number count → ⊥ }
 {}

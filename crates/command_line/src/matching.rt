@@ -2,7 +2,7 @@ ghost use Rattle.std.specs.Prelude.{◌≡◌, ◌≢◌, List, [], map, true, f
 ghost use Rattle.std.specs.String.{string_bytes};
 ghost use Rattle.std.specs.List.{list_all};
 ghost use Rattle.clap.specs.Words.{app_of, rule_of, rows_of, found_of, matches_of, fault_of, is_simple_and_free};
-ghost use Rattle.command_line.specs.Command.{Setting, Spells, Text, gen_names, option_names, value_in};
+ghost use Rattle.command_line.specs.Command.{Setting, Spells, Text, gen_names, option_names, sweep_names, value_in};
 ghost use Rattle.command_line.specs.Matching.{bare_app, is_fair_word, is_name, option_rule, options_app, value_of};
 
 use clap::error::ErrorKind;
@@ -15,6 +15,11 @@ static RUN_NAMES: [&str; 7] = ["mode", "pages", "data", "log", "journal", "size"
 /// The options of a made trace.
 static GEN_NAMES: [&str; 9] = [
     "mode", "pages", "data", "log", "journal", "size", "dirty", "number", "count",
+];
+
+/// The options of a sweep.
+static SWEEP_NAMES: [&str; 8] = [
+    "mode", "pages", "data", "log", "journal", "size", "dirty", "outcome",
 ];
 
 /// An option of this name, which takes a value.
@@ -137,6 +142,20 @@ pub(crate) fn gen_options<'a>(
         → ⊥)) }
 {
     options(alloc, GEN_NAMES.as_slice(), words)
+}
+
+/// The options of a sweep that the words spell, or None if they spell none.
+pub(crate) fn sweep_options<'a>(
+    alloc: Global,
+    words: &'a [String],
+) -> Result<Option<ArgMatches<'a>>, AllocError>
+    ensures some { IfOk result (λ r. IfSome r (λ m. (settings : List Setting)
+        × Spells sweep_names (map string_bytes words.entry.now) settings
+        × ((name : Text) → value_of m name ≡ value_in settings name))) }
+    ensures none { IfOk result (λ r. IfNone r ((settings : List Setting) → Spells sweep_names (map string_bytes words.entry.now) settings
+        → ⊥)) }
+{
+    options(alloc, SWEEP_NAMES.as_slice(), words)
 }
 
 /// The value of the option of this name, where it is given.

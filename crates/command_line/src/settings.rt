@@ -1,16 +1,18 @@
 ghost use Rattle.std.specs.Prelude.{◌≡◌, ◌<◌, ◌≤◌, ◌^◌, ℕ, IfSome, IfNone, codes, decimal};
 ghost use Rattle.ft_base.specs.Told.{Told};
 ghost use Rattle.ft_base.specs.declared.geometry.Geometry.{Geometry};
+ghost use Rattle.ft_base.specs.declared.power.Outcome.{Outcome};
+ghost use Rattle.ft_base.specs.declared.power.Outcome.TheVariants.{Torn};
 ghost use Rattle.ft_base.specs.declared.told.Mode.{Mode};
 ghost use Rattle.ft_base.specs.declared.told.Mode.TheVariants.{Back};
 ghost use Rattle.ft_volume.specs.Volume.{told_for};
-ghost use Rattle.command_line.specs.Command.{AreNumbers, IsCount, IsDirty, IsGiven, Say, SayMade, mode_word};
+ghost use Rattle.command_line.specs.Command.{AreNumbers, IsCount, IsDirty, IsGiven, Say, SayMade, mode_word, outcome_word};
 ghost use Rattle.command_line.specs.Matching.{value_of};
 
 use crate::matching::value;
 use crate::number::number_of;
 use clap::ArgMatches;
-use ft_base::Geometry;
+use ft_base::{Geometry, Outcome};
 use ft_volume::{Mode, Options};
 
 /// The number of the option of this name, or the default where it is not given.
@@ -126,4 +128,35 @@ pub(crate) fn made_of(matches: &ArgMatches<'_>) -> Option<(u64, u64)>
     let which = number(matches, "number", 1)?;
     let count = count_of(matches)?;
     Some((which, count))
+}
+
+/// The outcome of which this is the word.
+fn outcome_named(word: &str) -> Option<Outcome>
+    ensures some { IfSome result (λ x. word.now ≡ outcome_word x) }
+    ensures none { IfNone result ((x : Outcome) → word.now ≡ outcome_word x → ⊥) }
+{
+    if word == "blank" {
+        return Some(Outcome::Blank);
+    }
+    if word == "whole" {
+        return Some(Outcome::Whole);
+    }
+    if word == "torn" {
+        return Some(Outcome::Torn);
+    }
+    if word == "mixed" {
+        return Some(Outcome::Mixed);
+    }
+    None
+}
+
+/// What each power cut leaves: what is given, or torn pages.
+pub(crate) fn outcome_of(matches: &ArgMatches<'_>) -> Option<Outcome>
+    ensures some { IfSome result (IsGiven outcome_word Torn (value_of matches.now (codes "outcome"))) }
+    ensures none { IfNone result ((x : Outcome) → IsGiven outcome_word Torn (value_of matches.now (codes "outcome")) x → ⊥) }
+{
+    match value(matches, "outcome") {
+        Some(word) => outcome_named(word),
+        None => Some(Outcome::Torn),
+    }
 }

@@ -69,14 +69,14 @@ fn is_in_table(example: &Example, text: &[u8]) -> bool {
     example.shown.is_empty() || is_text(example.shown.as_slice(), text)
 }
 
-/// Whether this text stands beside the trace that an example names, where that is replayed.
+/// Whether this text stands beside the trace that an example names, if one does.
 fn is_beside_trace(
     rt: &(impl AllocGlobal + Files),
     example: &Example,
     text: &[u8],
 ) -> io::Result<bool> {
     match &example.name {
-        Some(name) if example.is_replay() => {
+        Some(name) if example.has_text() => {
             let wanted = read_file(rt, name.as_str(), "text")?;
             Ok(wanted.as_bytes() == text)
         }

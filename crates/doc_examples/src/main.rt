@@ -26,7 +26,7 @@ fn try_page(rt: &(impl AllocGlobal + Files + Print)) -> io::Result<bool> {
     let mut are_shown = true;
     for example in examples.iter() {
         tables = tables.saturating_add(usize::from(!example.shown.is_empty()));
-        texts = texts.saturating_add(usize::from(example.name.is_some() && example.is_replay()));
+        texts = texts.saturating_add(usize::from(example.name.is_some() && example.has_text()));
         if let Some(difference) = differs(rt, example)? {
             tell(rt, difference, tables, texts)?;
             are_shown = false;

@@ -55,10 +55,10 @@ impl Example {
         })
     }
 
-    /// Whether it runs a trace and prints what each line answered.
-    pub(crate) fn is_replay(&self) -> bool {
+    /// Whether it prints what each line of its trace answered, and so has a text beside the trace.
+    pub(crate) fn has_text(&self) -> bool {
         match self.words.first() {
-            Some(word) => word.as_str() == "replay",
+            Some(word) => word.as_str() == "replay" || word.as_str() == "sweep",
             None => false,
         }
     }

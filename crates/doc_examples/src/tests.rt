@@ -12,7 +12,7 @@ fn a_table_belongs_to_the_command_before_it(rt: HostRuntime) -> Result<(), Fail>
     assert_eq!(rt; examples.len(), 2);
     assert_eq!(rt; (examples[0].status, examples[1].status), (2, 0));
     assert!(rt; matches!(&examples[0].name, Some(name) if name.as_str() == "some"));
-    assert!(rt; examples[1].name.is_none() && examples[1].is_replay() && !examples[0].is_replay());
+    assert!(rt; examples[1].name.is_none() && examples[1].has_text() && !examples[0].has_text());
     assert_eq!(rt; (examples[0].words.len(), examples[0].lines.len()), (3, 0));
     assert_eq!(rt;
         (

@@ -78,6 +78,16 @@ not_one (Err Flash) n is one = omega (arith, is, one)
 not_one (Err Disk) n is one = omega (arith, is, one)
 not_one (Err Memory) n is one = omega (arith, is, one)
 
+-- where memory was not refused
+pub unless_memory : {A : Type 0} (r : Result (Unit {0}) Ended) (n : ℕ) → n ≡ status_of r → ((IsErrOf r Memory → ⊥) → A) → (n ≡ 7 → ⊥) → A
+unless_memory (Ok done) n is a other = a (λ so. cc)
+unless_memory (Err Trace) n is a other = a (λ so. cc)
+unless_memory (Err Source) n is a other = a (λ so. cc)
+unless_memory (Err Sink) n is a other = a (λ so. cc)
+unless_memory (Err Flash) n is a other = a (λ so. cc)
+unless_memory (Err Disk) n is a other = a (λ so. cc)
+unless_memory (Err Memory) n is a other = absurd (other is)
+
 -- ---- why it ended so, and that it ran every line where nothing failed
 
 module _ (r : Result (Unit {0}) Ended) (n : ℕ) (is : n ≡ status_of r) (a b : SourceState) (x y : SinkState) (old new : State) where
@@ -119,15 +129,13 @@ module _ (words : List Text) (r : Result (Unit {0}) Ended) (n : ℕ) (is : n ≡
   pub runs_read : ((o : Told) (number count : ℕ) → IsGen words o number count → ⊥) → EndHasCause r a b x y old new → RunsEveryLine words n a b x y old new
   runs_read other causes = record {
     complete = λ o says source sink flash disk. unfailed r n is (λ so. source (causes.source so)) (λ so. sink (causes.sink so)) (λ so. flash (causes.flash so)) (λ so. disk (causes.disk so));
-    complete_inspected = λ o says source sink flash disk. unfailed r n is (λ so. source (causes.source so)) (λ so. sink (causes.sink so)) (λ so. flash (causes.flash so)) (λ so. disk (causes.disk so));
     complete_made = λ o number count says sink flash disk. absurd (other o number count says);
   }
 
   -- they say that one is made
   pub runs_made : ((o : Told) → ReadsTrace words o → ⊥) → EndHasCauseUntraced r x y old new → RunsEveryLine words n a b x y old new
   runs_made other causes = record {
-    complete = λ o says source sink flash disk. absurd (other o (inl says));
-    complete_inspected = λ o says source sink flash disk. absurd (other o (inr says));
+    complete = λ o says source sink flash disk. absurd (other o says);
     complete_made = λ o number count says sink flash disk. untold r n is causes.not_trace (unfailed r n is causes.not_source (λ so. sink (causes.sink so)) (λ so. flash (causes.flash so)) (λ so. disk (causes.disk so)));
   }
 

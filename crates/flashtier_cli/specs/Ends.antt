@@ -1,22 +1,24 @@
 -- How a command ends.
-use Rattle.std.specs.Prelude.{◌≡◌, ◌⊎◌, ℕ, Result}
+use Rattle.std.specs.Prelude.{◌≡◌, ◌⊎◌, ℕ, Result, ⊤}
 use Rattle.cache_model.specs.Stands.{ImageStandsFor}
 use Rattle.cache_run.specs.Fitted.{fitted_for}
 use Rattle.cache_run.specs.Inspected.{EndsInspected, LoadsAs}
 use Rattle.command_line.specs.declared.command.Command.{Command}
-use Rattle.command_line.specs.declared.command.Command.TheVariants.{Replay, Gen, Inspect}
+use Rattle.command_line.specs.declared.command.Command.TheVariants.{Replay, Gen, Inspect, Sweep}
 use Rattle.ft_base.specs.StreamState.{SinkState, SourceState}
 use Rattle.ft_media.specs.State.{State}
 use Rattle.ft_volume.specs.Volume.{told_for}
+use Rattle.held_trace.specs.Sweep.{SweepReads}
 use Rattle.trace_gen.specs.Made.{made_trace}
 use Rattle.trace_model.specs.Readings.{Reads}
 use Rattle.trace_replay.specs.Commands.{Gives, TellsEnd, TellsEndPart}
 use Rattle.trace_replay.specs.Said.{Tells, TellsPart}
 use Rattle.trace_replay.specs.Theorem.{EndsAs}
 use Rattle.trace_replay.specs.declared.ended.Ended.{Ended}
+use Rattle.trace_sweep.specs.Ends.{EndsSweep}
 
--- a command ended so over its volume: a trace that was read, with each answer printed; a made trace, with its end line
--- alone; or a trace that was read, with a report of what is in the cache
+-- a command ended so: over its volume, a trace that was read, with each answer printed; a made trace, with its end line
+-- alone; a trace that was read, with a report of what is in the cache; or a sweep of a trace, over a volume for each run
 module _ (a b : SourceState) (x y : SinkState) (old now : State) where
   abbrev pub EndsCommand : Command → Result (Unit {0}) Ended → Type 0
   EndsCommand (Replay mode options) end = EndsAs (told_for mode options) (Reads options.geometry.size a b) (Tells x y) (TellsPart x y)
@@ -25,6 +27,13 @@ module _ (a b : SourceState) (x y : SinkState) (old now : State) where
       (TellsEnd x y) (TellsEndPart x y) (ImageStandsFor options.geometry) (fitted_for options.geometry old) now end
   EndsCommand (Inspect mode options) end = EndsInspected (told_for mode options) (Reads options.geometry.size a b)
       (LoadsAs options.geometry) x y (ImageStandsFor options.geometry) (fitted_for options.geometry old) now end
+  EndsCommand (Sweep mode options outcome) end = EndsSweep (told_for mode options) outcome (SweepReads options.geometry.size a b) x y
+      (ImageStandsFor options.geometry) old now end
+
+-- it runs over one volume, which is made before anything is read
+abbrev pub IsOverOne : Command → Type 0
+IsOverOne (Sweep mode options outcome) = ⊥
+IsOverOne other = ⊤
 
 -- nothing was read, printed or done: the words are no command, or memory for reading them was refused
 pub record IsUntouched {I O R : Type 0} (status : ℕ) (a b : I) (x y : O) (old new : R) : Type 0 where

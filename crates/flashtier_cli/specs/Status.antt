@@ -4,7 +4,8 @@ use Rattle.ft_base.specs.Count.{Rose}
 use Rattle.ft_base.specs.StreamState.{SinkState, SourceState}
 use Rattle.ft_base.specs.Told.{Told}
 use Rattle.ft_media.specs.State.{State}
-use Rattle.command_line.specs.Command.{IsCommand, IsGen, IsInspect, Text}
+use Rattle.command_line.specs.Command.{IsGen, Text}
+use Rattle.flashtier_cli.specs.Words.{ReadsTrace}
 
 -- a status has its cause: where it tells that the source, the sink, the flash or the disk failed, that one's count of faults rose
 pub record StatusHasCause (status : ℕ) (a b : SourceState) (x y : SinkState) (old new : State) : Type 0 where
@@ -15,11 +16,7 @@ pub record StatusHasCause (status : ℕ) (a b : SourceState) (x y : SinkState) (
 
 -- where nothing failed, memory was there and no line is refused, every line is run
 pub record RunsEveryLine (words : List Text) (status : ℕ) (a b : SourceState) (x y : SinkState) (old new : State) : Type 0 where
-  pub complete : (o : Told) → IsCommand words o
-      → (Rose a.faults b.faults → ⊥) → (Rose x.faults y.faults → ⊥)
-      → (Rose old.faults.flash new.faults.flash → ⊥) → (Rose old.faults.disk new.faults.disk → ⊥)
-      → (status ≡ 0) ⊎ (status ≡ 2) ⊎ (status ≡ 7)
-  pub complete_inspected : (o : Told) → IsInspect words o
+  pub complete : (o : Told) → ReadsTrace words o
       → (Rose a.faults b.faults → ⊥) → (Rose x.faults y.faults → ⊥)
       → (Rose old.faults.flash new.faults.flash → ⊥) → (Rose old.faults.disk new.faults.disk → ⊥)
       → (status ≡ 0) ⊎ (status ≡ 2) ⊎ (status ≡ 7)

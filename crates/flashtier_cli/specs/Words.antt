@@ -1,16 +1,20 @@
 -- Whether words are a command.
 use Rattle.std.specs.Prelude.{◌≡◌, ◌⊎◌, ℕ, List}
 use Rattle.ft_base.specs.Told.{Told}
-use Rattle.command_line.specs.Command.{IsCommand, IsGen, IsInspect, Text}
+use Rattle.ft_base.specs.declared.power.Outcome.{Outcome}
+use Rattle.command_line.specs.Command.{IsCommand, IsGen, IsInspect, IsSweep, Text}
 
--- the words are a command: over a trace that is read or a made one, or to tell what a trace leaves in the cache
-abbrev pub AreCommand : List Text → Type 0
-AreCommand words = ((o : Told) × IsCommand words o)
-    ⊎ (((o : Told) × (number : ℕ) × (count : ℕ) × IsGen words o number count) ⊎ ((o : Told) × IsInspect words o))
+-- the words are a sweep of a trace, whatever a power cut leaves in it
+abbrev pub IsAnySweep : List Text → Told → Type 0
+IsAnySweep words o = (outcome : Outcome) × IsSweep words o outcome
 
--- the words are a command that reads a trace
+-- the words are a command that reads a trace: to run it, to tell what it leaves in the cache, or to sweep it
 abbrev pub ReadsTrace : List Text → Told → Type 0
-ReadsTrace words o = IsCommand words o ⊎ IsInspect words o
+ReadsTrace words o = IsCommand words o ⊎ (IsInspect words o ⊎ IsAnySweep words o)
+
+-- the words are a command: over a trace that is read or a made one
+abbrev pub AreCommand : List Text → Type 0
+AreCommand words = ((o : Told) × ReadsTrace words o) ⊎ ((o : Told) × (number : ℕ) × (count : ℕ) × IsGen words o number count)
 
 -- words that are no command are told so, unless memory for reading them is refused, and touch nothing; and no command is told so
 pub record RefusesWords {I O R : Type 0} (said : List Text) (status : ℕ) (a b : I) (x y : O) (old new : R) : Type 0 where

@@ -9,20 +9,21 @@ ghost use Rattle.command_line.specs.Spoken.{AreWordsOf};
 ghost use Rattle.command_line.specs.declared.command.Command.{Command};
 ghost use Rattle.cache_run.specs.Begun.{IsUnbegun};
 ghost use Rattle.cache_run.specs.Status as status;
-ghost use Rattle.flashtier_cli.specs.Ends.{EndsCommand, IsUntouched};
+ghost use Rattle.flashtier_cli.specs.Ends.{EndsCommand, IsOverOne, IsUntouched};
 ghost use Rattle.flashtier_cli.specs.Status.{RunsEveryLine, StatusHasCause};
-ghost use Rattle.flashtier_cli.specs.Words.{ReadsTrace, RefusesWords};
+ghost use Rattle.flashtier_cli.specs.Words.{IsAnySweep, ReadsTrace, RefusesWords};
 
 use cache_run::{gen_with, inspect_with, replay_with, status_of};
 use command_line::{Command, command_of};
 use ft_base::{Sink, Source};
 use ft_media::{Media, Rig};
 use std::alloc::Global;
+use trace_sweep::sweep_with;
 
 /// Runs the command that the words say, and answers its status.
 ///
-/// The words are those after the program's name: `replay`, `gen` or `inspect`, and after it options, in any
-/// order and each at most once, as `--name value` or `--name=value`.
+/// The words are those after the program's name: `replay`, `gen`, `inspect` or `sweep`, and after it options, in
+/// any order and each at most once, as `--name value` or `--name=value`.
 ///
 /// | Option | Says | Range | Default |
 /// |---|---|---|---|
@@ -35,6 +36,7 @@ use std::alloc::Global;
 /// | `--dirty` | groups that an idle step leaves dirty | 1 to the data blocks | half of these, rounded up |
 /// | `--number`, of `gen` alone | which made trace | 0 to 2^64 - 1 | 1 |
 /// | `--count`, of `gen` alone | lines of the made trace | 1 to 1,000,000 | 20,000 |
+/// | `--outcome`, of `sweep` alone | what a power cut leaves: `blank`, `whole`, `torn` or `mixed` | | `torn` |
 ///
 /// With `replay` it reads a trace from the source, runs it over a cache of these numbers before a disk, both
 /// of them on the rig, and prints to the sink what each request answered. Power may stop within any device
@@ -47,12 +49,17 @@ use std::alloc::Global;
 /// `held H`, the addresses that the cache has; `dirty groups D`, the groups with one that the disk lacks;
 /// `buckets B`, those of the map of page-mapped addresses; and `scrubbed S`, the pages that were read.
 ///
+/// With `sweep` it reads a trace of at most 4,096 bytes and 256 blocks, in which no line cuts power. It runs the trace
+/// once without printing, and counts its device writes. Then it runs it once for each of these, over a new volume,
+/// with power cut there and in the second device write after it. For each of these runs it prints `at K` and what
+/// each request answered, and at the end `swept N`.
+///
 /// | Status | Comes |
 /// |---|---|
 /// | 0 | the source was read to its end, or the trace is a made one, and every line was run |
 /// | 1 | the words are no command; nothing is read or printed |
-/// | 2 | a line was refused, after those before it were run; the last line printed says why; not with `gen` |
-/// | 3 | the source failed, after the lines that ended before were run; not with `gen` |
+/// | 2 | a line was refused, after those before it were run, or before any was with `sweep`; the last line printed says why; not with `gen` |
+/// | 3 | the source failed, after the lines that ended before were run, or before any was with `sweep`; not with `gen` |
 /// | 4 | the sink failed; what it took is a front of the text |
 /// | 5, 6 | the flash, the disk failed |
 /// | 7 | memory was refused, also that in which the words are read |
@@ -68,7 +75,7 @@ pub fn run<I: Source, O: Sink, R: Rig>(
     // writes with every acknowledged one; and the media are that disk, wherever power stops next.
     ensures ends { ((command : Command) × (end : Result (Unit {0}) Ended) × AreWordsOf (map string_bytes words.now) command
         × (result ≡ status.status_of end)
-        × (IsUnbegun end source.old source.new sink.old sink.new (R.state rig.old) (R.state rig.new)
+        × ((IsOverOne command × IsUnbegun end source.old source.new sink.old sink.new (R.state rig.old) (R.state rig.new))
         ⊎ EndsCommand (I.state source.old) (I.state source.new) (O.state sink.old) (O.state sink.new) (R.state rig.old)
         (R.state rig.new) command end))
         ⊎ IsUntouched result source.old source.new sink.old sink.new rig.old rig.new }
@@ -85,8 +92,9 @@ pub fn run<I: Source, O: Sink, R: Rig>(
     ensures causes { StatusHasCause result (I.state source.old) (I.state source.new) (O.state sink.old) (O.state sink.new)
         (R.state rig.old) (R.state rig.new) }
 
-    // Also where power was off before.
-    ensures on { result ≢ 1 → result ≢ 7 → (R.state rig.new).power.on ≡ true }
+    // Also if power was off before; but a sweep of a trace that it refuses leaves the rig as it was.
+    ensures on { result ≢ 1 → result ≢ 7 → ((R.state rig.new).power.on ≡ true)
+        ⊎ (((o : Told) × IsAnySweep (map string_bytes words.now) o) × (rig.new ≡ rig.old)) }
     ensures lent { KeepsLent (I.state source.old) (I.state source.new) (O.state sink.old) (O.state sink.new) (R.state rig.old)
         (R.state rig.new) }
 
@@ -113,5 +121,10 @@ pub fn run<I: Source, O: Sink, R: Rig>(
         Command::Inspect { mode, options } => {
             status_of(inspect_with(alloc, mode, &options, source, sink, rig))
         }
+        Command::Sweep {
+            mode,
+            options,
+            outcome,
+        } => status_of(sweep_with(alloc, mode, &options, outcome, source, sink, rig)),
     }
 }

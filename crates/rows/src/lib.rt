@@ -1,7 +1,8 @@
 //! Worked examples of the whole program, as tables: a trace, the text that it prints and its status; many
 //! small traces with power cuts over volumes of both modes, whose texts are those that the plain programs
 //! compute; a trace of which each call of flash and disk fails in turn, and each of the source and the sink;
-//! traces in pieces of every size; made traces; and what traces leave in the cache.
+//! traces in pieces of every size; made traces; what traces leave in the cache; and sweeps of small traces, each of whose
+//! runs prints what the plain programs compute.
 //!
 //! No layer stands on this crate; it has tests alone.
 #![tactic(auto)]
@@ -30,5 +31,7 @@ mod refusals;
 mod replay;
 #[cfg(test)]
 mod small;
+#[cfg(test)]
+mod swept;
 #[cfg(test)]
 mod untouched;

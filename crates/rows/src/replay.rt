@@ -203,7 +203,7 @@ const WRONG: [&[&str]; 45] = [
     &["gen", "x"],
     &["gen", "--count=0"],
     &["replay", "--count=5"],
-    &["sweep"],
+    &["sweep", "--outcome=soon"],
     &["inspect", "--number=1"],
     &["help"],
     &["--help"],

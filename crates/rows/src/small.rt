@@ -44,11 +44,11 @@ pub(crate) struct Outcome {
     pub(crate) rig: MemRig,
 }
 
-/// The words of a replay over such a volume, some in one word and some in two.
-fn words_of(alloc: Global, shape: &Shape) -> Result<Vec<String>, AllocError> {
+/// The words of a command over such a volume, some in one word and some in two.
+fn words_of(alloc: Global, command: &str, shape: &Shape) -> Result<Vec<String>, AllocError> {
     let mode = if shape.through { "through" } else { "back" };
     let mut words = Vec::new(alloc);
-    words.push(String::from_str(alloc, "replay")?)?;
+    words.push(String::from_str(alloc, command)?)?;
     words.push(String::from_str(alloc, "--pages=4")?)?;
     words.push(String::from_str(alloc, "--data")?)?;
     words.push(format!(in alloc; "{}", shape.data)?)?;
@@ -62,22 +62,45 @@ fn words_of(alloc: Global, shape: &Shape) -> Result<Vec<String>, AllocError> {
     Ok(words)
 }
 
-/// Runs the trace over this rig, in pieces of 7 bytes.
+/// Runs the words with a trace over this rig, in pieces of 7 bytes.
+fn run_words_on(
+    alloc: Global,
+    words: &[String],
+    trace: &[u8],
+    mut rig: MemRig,
+) -> Result<Outcome, Fail> {
+    let mut source = MemSource::new(Vec::from_slice(alloc, trace)?, 7, Vec::new(alloc));
+    let mut sink = MemSink::new(alloc, 200_000, 100, Vec::new(alloc))?;
+    let status = run_words(alloc, words, &mut source, &mut sink, &mut rig);
+    let text = Vec::from_slice(alloc, sink.bytes())?;
+    Ok(Outcome { status, text, rig })
+}
+
+/// Runs the trace over this rig.
 pub(crate) fn run_on(
     alloc: Global,
     shape: &Shape,
     trace: &[u8],
-    mut rig: MemRig,
+    rig: MemRig,
 ) -> Result<Outcome, Fail> {
-    let words = words_of(alloc, shape)?;
-    let mut source = MemSource::new(Vec::from_slice(alloc, trace)?, 7, Vec::new(alloc));
-    let mut sink = MemSink::new(alloc, 100_000, 100, Vec::new(alloc))?;
-    let status = run_words(alloc, words.as_slice(), &mut source, &mut sink, &mut rig);
-    let text = Vec::from_slice(alloc, sink.bytes())?;
-    Ok(Outcome { status, text, rig })
+    let words = words_of(alloc, "replay", shape)?;
+    run_words_on(alloc, words.as_slice(), trace, rig)
 }
 
 /// The same over a rig of which no call fails.
 pub(crate) fn run(alloc: Global, shape: &Shape, trace: &[u8]) -> Result<Outcome, Fail> {
     run_on(alloc, shape, trace, MemRig::new(alloc))
+}
+
+/// Sweeps the trace over this rig. A power cut leaves what the word says.
+pub(crate) fn sweep_on(
+    alloc: Global,
+    shape: &Shape,
+    outcome: &str,
+    trace: &[u8],
+    rig: MemRig,
+) -> Result<Outcome, Fail> {
+    let mut words = words_of(alloc, "sweep", shape)?;
+    words.push(format!(in alloc; "--outcome={outcome}")?)?;
+    run_words_on(alloc, words.as_slice(), trace, rig)
 }

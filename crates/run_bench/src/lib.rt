@@ -1,5 +1,6 @@
 //! The whole program: a made trace, run over flash and disk in memory, and beside it the floor, which is what
-//! the same pages and blocks cost a plain loop. Both are measured in one process, one after the other.
+//! the same pages and blocks cost a plain loop; and a sweep, and beside it its runs one by one. What stands side by side
+//! is measured in one process, one after the other.
 #![tactic(auto)]
 
 pub mod floor;
@@ -8,6 +9,7 @@ pub mod replayed;
 pub mod ring;
 pub mod row;
 pub mod slot;
+pub mod swept;
 
 use floor::floor;
 use memory::peak_memory;
@@ -15,6 +17,7 @@ use replayed::replay;
 use row::{Row, print_head};
 use std::io;
 use std::rt::{Clock, Files};
+use swept::{Swept, sweep};
 
 /// Runs the made trace that these options of `gen` say, and prints a row. Answers the status of the run.
 pub fn measure(
@@ -35,5 +38,28 @@ pub fn measure(
     print_head(rt)?;
     let line = row.line(rt.alloc())?;
     println!(rt; "{line}")?;
+    Ok(0)
+}
+
+/// Sweeps a trace over a cache of these options, and prints how long that took, and how long its runs one by one.
+/// Answers the status of the sweep.
+pub fn measure_sweep(
+    rt: &(impl AllocGlobal + Clock + Print + Eprint),
+    options: &[String],
+) -> io::Result<u8> {
+    let swept: Swept = match sweep(rt, options)? {
+        Ok(swept) => swept,
+        Err(status) => {
+            eprintln!(rt; "bench: the sweep ended with status {status}")?;
+            return Ok(status);
+        }
+    };
+    let (ratio, runs) = (swept.ratio(), swept.runs);
+    let (sweep, single) = (swept.sweep.as_millis(), swept.single.as_millis());
+    println!(rt;
+        "{runs} runs: a sweep takes {sweep} ms, its runs one by one {single} ms: {}.{:02} times",
+        ratio / 100,
+        ratio % 100
+    )?;
     Ok(0)
 }

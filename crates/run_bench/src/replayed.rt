@@ -1,5 +1,5 @@
 //! One run of a made trace, as the program runs it: flash and disk in memory, and a sink for its end line.
-ghost use Rattle.std.specs.Prelude.{◌≡◌, ◌∷◌, ℕ, List, IfOk, IfSome, codes, map};
+ghost use Rattle.std.specs.Prelude.{◌≡◌, ◌∷◌, ℕ, List, IfOk, IfSome, map};
 ghost use Rattle.std.specs.String.{string_bytes};
 ghost use Rattle.trace_model.specs.Text.{text_of};
 ghost use Rattle.trace_model.specs.declared.answer.Answer.TheVariants as answer;
@@ -46,34 +46,66 @@ pub fn replay(
     rt: &(impl AllocGlobal + Clock),
     options: &[String],
 ) -> io::Result<Result<Replayed, u8>> {
-    let alloc = rt.alloc();
-    let words = words_of(alloc, options)?;
-    let mut source = MemSource::new(Vec::new(alloc), 1, Vec::new(alloc));
-    let mut sink = MemSink::new(alloc, ROOM, ROOM, Vec::new(alloc))?;
-    let mut rig = MemRig::new(alloc);
-    let start = Instant::now(rt)?;
-    let status = run(alloc, words.as_slice(), &mut source, &mut sink, &mut rig);
-    let time = start.elapsed(rt)?;
-    if status != 0 {
-        return Ok(Err(status));
+    let ended = run_timed(rt, "gen", options, Vec::new(rt.alloc()), ROOM)?;
+    if ended.status != 0 {
+        return Ok(Err(ended.status));
     }
-    let Some(end) = end_of(sink.bytes()) else {
+    let Some(end) = end_of(ended.text.as_slice()) else {
         return Err(io::Error::other("a run has no end line"));
     };
+    let rig = ended.rig;
     Ok(Ok(Replayed {
         end,
         counts: rig.counts(),
         pages: u64::from(rig.flash_blocks()).saturating_mul(u64::from(rig.flash_pages())),
-        time,
+        time: ended.time,
     }))
 }
 
-/// The words of the program with these options.
-fn words_of(alloc: Global, options: &[String]) -> Result<Vec<String>, AllocError>
-    ensures { IfOk result (λ words. map string_bytes words.items ≡ codes "gen" ∷ map string_bytes options.now) }
+/// How a run of the program ended.
+#[derive(Drop)]
+pub(crate) struct Ended {
+    /// Its status.
+    pub(crate) status: u8,
+    /// What it printed.
+    pub(crate) text: Vec<u8>,
+    /// Flash and disk.
+    pub(crate) rig: MemRig,
+    /// How long it took.
+    pub(crate) time: Duration,
+}
+
+/// Runs the program with this word and these options over a trace. There is room for so many bytes of text.
+pub(crate) fn run_timed(
+    rt: &(impl AllocGlobal + Clock),
+    command: &str,
+    options: &[String],
+    trace: Vec<u8>,
+    room: usize,
+) -> io::Result<Ended> {
+    let alloc = rt.alloc();
+    let words = words_of(alloc, command, options)?;
+    let mut source = MemSource::new(trace, 4096, Vec::new(alloc));
+    let mut sink = MemSink::new(alloc, room, 1 << 16, Vec::new(alloc))?;
+    let mut rig = MemRig::new(alloc);
+    let start = Instant::now(rt)?;
+    let status = run(alloc, words.as_slice(), &mut source, &mut sink, &mut rig);
+    let time = start.elapsed(rt)?;
+    let text = Vec::from_slice(alloc, sink.bytes())?;
+    Ok(Ended {
+        status,
+        text,
+        rig,
+        time,
+    })
+}
+
+/// The words of the program: this one, and then these options.
+fn words_of(alloc: Global, command: &str, options: &[String]) -> Result<Vec<String>, AllocError>
+    ensures { IfOk result (λ words. map string_bytes words.items ≡ command.now ∷ map string_bytes options.now) }
 {
     let mut words = Vec::new(alloc);
-    words.push(String::from_str(alloc, "gen")?)?;
+    words.push(String::from_str(alloc, command)?)?;
     for option in options {
         words.push(String::from_str(alloc, option.as_str())?)?;
     }

@@ -1,6 +1,7 @@
 //! The words after the program's name, as commands or none.
 
 use command_line::{Command, command_law, command_of};
+use ft_base::Outcome;
 use ft_volume::{Mode, Options};
 use std::alloc::Global;
 use std::test::Fail;
@@ -36,7 +37,7 @@ const OTHER_WORDS: [&str; 39] = [
     "replay replay",
     "generate",
     "Gen",
-    "sweep",
+    "Sweep",
     "inspect inspect",
     "inspect replay",
     "inspect --number 1",
@@ -178,6 +179,31 @@ fn a_made_trace_has_its_options_once_and_in_range(rt: HostRuntime) -> Result<(),
     Ok(())
 }
 
+const NO_SWEEPS: [&str; 16] = [
+    "sweep torn",
+    "sweep replay",
+    "sweep --outcome",
+    "sweep --outcome=",
+    "sweep --outcome soon",
+    "sweep --outcome Torn",
+    "sweep --outcome=torn,blank",
+    "sweep --outcome torn blank",
+    "sweep --outcome torn --outcome torn",
+    "sweep --outcomes torn",
+    "sweep --number 1",
+    "sweep --count=5",
+    "sweep --size 0",
+    "sweep --",
+    "replay --outcome torn",
+    "inspect --outcome=torn",
+];
+
+#[test]
+fn what_a_cut_leaves_is_one_word_and_of_a_sweep_alone(rt: HostRuntime) -> Result<(), Fail> {
+    assert_eq!(rt; first_command(rt.alloc(), &NO_SWEEPS)?, None);
+    Ok(())
+}
+
 // ---- commands
 
 /// The numbers in the order of the options.
@@ -200,6 +226,8 @@ enum Kind {
     Inspect,
     /// A made trace of this number, and how many lines it has.
     Gen(u64, u64),
+    /// Each power cut leaves this.
+    Sweep(Outcome),
 }
 
 /// A line, and what its words say: the command, the mode, and the numbers in the order of the options.
@@ -215,6 +243,11 @@ fn says(command: Command, kind: Kind, mode: Mode, numbers: [u64; 6]) -> bool {
             number,
             count,
         } => (Kind::Gen(number, count), mode, options),
+        Command::Sweep {
+            mode,
+            options,
+            outcome,
+        } => (Kind::Sweep(outcome), mode, options),
     };
     found == kind && how == mode && numbers_of(&options) == numbers
 }
@@ -249,6 +282,46 @@ const INSPECTION: [Row; 1] = [(
 #[test]
 fn an_inspection_has_the_options_of_a_replay(rt: HostRuntime) -> Result<(), Fail> {
     assert_eq!(rt; first_other(rt.alloc(), &INSPECTION)?, None);
+    Ok(())
+}
+
+const SWEEPS: [Row; 6] = [
+    ("sweep", Kind::Sweep(Outcome::Torn), Mode::Back, NUMBERS),
+    (
+        "sweep --outcome blank",
+        Kind::Sweep(Outcome::Blank),
+        Mode::Back,
+        NUMBERS,
+    ),
+    (
+        "sweep --outcome=whole",
+        Kind::Sweep(Outcome::Whole),
+        Mode::Back,
+        NUMBERS,
+    ),
+    (
+        "sweep --outcome=torn",
+        Kind::Sweep(Outcome::Torn),
+        Mode::Back,
+        NUMBERS,
+    ),
+    (
+        "sweep --outcome mixed",
+        Kind::Sweep(Outcome::Mixed),
+        Mode::Back,
+        NUMBERS,
+    ),
+    (
+        "sweep --mode=through --pages 4 --outcome mixed --data=2 --log 2 --journal=1 --size 64 --dirty=1",
+        Kind::Sweep(Outcome::Mixed),
+        Mode::Through,
+        [4, 2, 2, 1, 64, 1],
+    ),
+];
+
+#[test]
+fn a_sweep_has_the_options_of_a_replay_and_what_a_cut_leaves(rt: HostRuntime) -> Result<(), Fail> {
+    assert_eq!(rt; first_other(rt.alloc(), &SWEEPS)?, None);
     Ok(())
 }
 

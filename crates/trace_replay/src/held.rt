@@ -4,7 +4,7 @@ ghost use Rattle.trace_model.specs.Lines.{IsRunnable};
 ghost use Rattle.ft_volume.specs.Volume.{StaysOwner};
 ghost use Rattle.trace_model.specs.SoFar as so_far;
 ghost use Rattle.trace_replay.specs.AsMade.{IsAsMade};
-ghost use Rattle.trace_replay.specs.Causes.{EndHasCauseUntraced, KeepsLentUntraced};
+ghost use Rattle.trace_replay.specs.Causes.{EndHasCauseUntraced, KeepsStreamsUntraced};
 ghost use Rattle.trace_replay.specs.Commands.{Gives};
 ghost use Rattle.trace_replay.specs.Held.{AreRunnable-prop, stops_held};
 ghost use Rattle.trace_replay.specs.Said.{Tells, TellsPart};
@@ -192,7 +192,7 @@ pub fn replay_held<O: Sink, R: Rig, V: Volume<R>>(
         (Tells (O.state sink.old) (O.state sink.new)) (TellsPart (O.state sink.old) (O.state sink.new))
         (V.stands (V.state volume.new).told) (R.state rig.old) (R.state rig.new) result }
     ensures causes { EndHasCauseUntraced result (O.state sink.old) (O.state sink.new) (R.state rig.old) (R.state rig.new) }
-    ensures lent { KeepsLentUntraced (O.state sink.old) (O.state sink.new) (R.state rig.old) (R.state rig.new) }
+    ensures goes { KeepsStreamsUntraced (O.state sink.old) (O.state sink.new) (R.state rig.old) (R.state rig.new) }
 {
     let mut script = HeldScript::new(alloc, first, lines, sink, volume.size());
     replay_script(alloc, &mut script, rig, volume)

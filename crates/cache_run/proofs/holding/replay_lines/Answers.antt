@@ -1,7 +1,7 @@
 use Rattle.std.proofs.Common.{inl, inr, refl}
 use Rattle.ft_base.specs.declared.told.Mode.TheVariants.{Back, Through}
 use Rattle.trace_replay.specs.Said.{Tells, TellsPart}
-use Rattle.cache_run.proofs.BeginLemmas.{empty_new, fresh_new, ends_made, lent_untraced, unbegun, untraced_begun, untraced_later}
+use Rattle.cache_run.proofs.BeginLemmas.{empty_new, fresh_new, ends_made, goes_begun, goes_later, unbegun, untraced_begun, untraced_later}
 use Rattle.cache_run.proofs.holding.replay_lines.Goals as goal
 
 -- ---- a volume that writes back
@@ -17,14 +17,17 @@ returns-in-Ok-clause-ends g c = inr (
 pub returns-in-Ok-clause-causes : goal.returns-in-Ok-clause-causes
 returns-in-Ok-clause-causes g c = untraced_later c.in-Ok.ensures.begins c.replay_held.ensures.causes
 
-pub returns-in-Ok-clause-lent : goal.returns-in-Ok-clause-lent
-returns-in-Ok-clause-lent g c = lent_untraced c.in-Ok.ensures.begins c.replay_held.ensures.lent
+pub returns-in-Ok-clause-goes : goal.returns-in-Ok-clause-goes
+returns-in-Ok-clause-goes g c = goes_later c.in-Ok.ensures.begins c.replay_held.ensures.goes
 
 pub returns-in-Err-clause-ends : goal.returns-in-Err-clause-ends
 returns-in-Err-clause-ends g c = inl (unbegun c.in-Err.ended _ _ _ _ c.in-Err.ensures.begins)
 
 pub returns-in-Err-clause-causes : goal.returns-in-Err-clause-causes
 returns-in-Err-clause-causes g c = untraced_begun c.in-Err.ended _ _ _ c.in-Err.ensures.begins
+
+pub returns-in-Err-clause-goes : goal.returns-in-Err-clause-goes
+returns-in-Err-clause-goes g c = goes_begun _ c.in-Err.ensures.begins
 
 -- ---- a volume that writes through
 
@@ -39,11 +42,14 @@ returns-in-Ok-begin_through-clause-ends g c = inr (
 pub returns-in-Ok-begin_through-clause-causes : goal.returns-in-Ok-begin_through-clause-causes
 returns-in-Ok-begin_through-clause-causes g c = untraced_later c.in-Ok-begin_through.ensures.begins c.replay_held-in-Ok-begin_through.ensures.causes
 
-pub returns-in-Ok-begin_through-clause-lent : goal.returns-in-Ok-begin_through-clause-lent
-returns-in-Ok-begin_through-clause-lent g c = lent_untraced c.in-Ok-begin_through.ensures.begins c.replay_held-in-Ok-begin_through.ensures.lent
+pub returns-in-Ok-begin_through-clause-goes : goal.returns-in-Ok-begin_through-clause-goes
+returns-in-Ok-begin_through-clause-goes g c = goes_later c.in-Ok-begin_through.ensures.begins c.replay_held-in-Ok-begin_through.ensures.goes
 
 pub returns-in-Err-begin_through-clause-ends : goal.returns-in-Err-begin_through-clause-ends
 returns-in-Err-begin_through-clause-ends g c = inl (unbegun c.in-Err-begin_through.ended _ _ _ _ c.in-Err-begin_through.ensures.begins)
 
 pub returns-in-Err-begin_through-clause-causes : goal.returns-in-Err-begin_through-clause-causes
 returns-in-Err-begin_through-clause-causes g c = untraced_begun c.in-Err-begin_through.ended _ _ _ c.in-Err-begin_through.ensures.begins
+
+pub returns-in-Err-begin_through-clause-goes : goal.returns-in-Err-begin_through-clause-goes
+returns-in-Err-begin_through-clause-goes g c = goes_begun _ c.in-Err-begin_through.ensures.begins

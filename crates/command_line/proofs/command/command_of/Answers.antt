@@ -1,6 +1,6 @@
 use Rattle.std.proofs.Common.{◌≡◌, List, ◌∷◌, ap, codes, map, subst, ◌∙◌}
 use Rattle.std.specs.String.{string_bytes}
-use Rattle.command_line.specs.Command.{IsCommand, IsGen, IsInspect, Text}
+use Rattle.command_line.specs.Command.{IsCommand, IsGen, IsInspect, IsSweep, Text}
 use Rattle.command_line.proofs.FoundLemmas.{none_weaker}
 use Rattle.command_line.proofs.ValueLemmas.{first_word}
 use Rattle.command_line.proofs.command.command_of.Goals as goal
@@ -25,3 +25,10 @@ returns-then-eq-3-clause-none_inspected c =
     let inspect = first_word (string_bytes c.in-Some.first.now) c.as_str-3.result.now (codes "inspect") c.eq-3.result c.as_str-3.ensures.value c.eq-3.ensures c.if-eq-3.true in
     let first : map string_bytes c.args.words.now ≡ codes "inspect" ∷ others = ap (map string_bytes) c.in-Some.ensures.cases.0 ∙ ap (λ word. word ∷ others) inspect in
     none_weaker c.inspect_command.result _ _ (λ none o command. none o (subst (λ (ws : List Text). IsInspect ws o) first command)) c.inspect_command.ensures.none
+
+pub returns-then-eq-4-clause-none_swept : goal.returns-then-eq-4-clause-none_swept
+returns-then-eq-4-clause-none_swept c =
+    let others = map string_bytes c.in-Some.others.now in
+    let sweep = first_word (string_bytes c.in-Some.first.now) c.as_str-4.result.now (codes "sweep") c.eq-4.result c.as_str-4.ensures.value c.eq-4.ensures c.if-eq-4.true in
+    let first : map string_bytes c.args.words.now ≡ codes "sweep" ∷ others = ap (map string_bytes) c.in-Some.ensures.cases.0 ∙ ap (λ word. word ∷ others) sweep in
+    none_weaker c.sweep_command.result _ _ (λ none o outcome swept. none o outcome (subst (λ (ws : List Text). IsSweep ws o outcome) first swept)) c.sweep_command.ensures.none

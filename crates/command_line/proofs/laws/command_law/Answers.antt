@@ -1,5 +1,5 @@
 use Rattle.std.proofs.Common.{codes}
-use Rattle.command_line.proofs.ValueLemmas.{apart, inspected_apart, inspected_made, same_command, same_gen}
+use Rattle.command_line.proofs.ValueLemmas.{apart, inspected_apart, inspected_made, same_command, same_gen, same_sweep, swept_apart, swept_inspected, swept_made}
 use Rattle.command_line.proofs.laws.command_law.Goals as goal
 
 pub returns-clause-replay : goal.returns-clause-replay
@@ -19,3 +19,15 @@ returns-clause-inspected_apart c = inspected_apart
 
 pub returns-clause-inspected_made : goal.returns-clause-inspected_made
 returns-clause-inspected_made c = inspected_made
+
+pub returns-clause-swept : goal.returns-clause-swept
+returns-clause-swept c = same_sweep
+
+pub returns-clause-swept_apart : goal.returns-clause-swept_apart
+returns-clause-swept_apart c = swept_apart
+
+pub returns-clause-swept_inspected : goal.returns-clause-swept_inspected
+returns-clause-swept_inspected c = swept_inspected
+
+pub returns-clause-swept_made : goal.returns-clause-swept_made
+returns-clause-swept_made c = swept_made

@@ -1,10 +1,10 @@
 use Rattle.std.proofs.Common.{◌⊎◌, inl, inr, refl, sym, subst, ◌∙◌}
-use Rattle.command_line.proofs.ValueLemmas.{apart, inspected_made}
+use Rattle.command_line.proofs.ValueLemmas.{apart, inspected_made, swept_made}
 use Rattle.command_line.specs.declared.command.Command.{Command}
 use Rattle.cache_run.specs.Begun.{IsUnbegun}
-use Rattle.flashtier_cli.specs.Ends.{EndsCommand}
-use Rattle.flashtier_cli.proofs.StatusLemmas.{at_ok, not_one, runs_made, runs_read, spoken, status_cause, status_untraced, unbegun_source}
-use Rattle.flashtier_cli.proofs.WordsLemmas.{no_words, not_made, says_inspected, says_made, says_read, words_refused, words_run}
+use Rattle.flashtier_cli.specs.Ends.{EndsCommand, IsOverOne}
+use Rattle.flashtier_cli.proofs.StatusLemmas.{at_ok, not_one, runs_made, runs_read, spoken, status_cause, status_untraced, unbegun_source, unless_memory}
+use Rattle.flashtier_cli.proofs.WordsLemmas.{no_words, not_made, says_inspected, says_made, says_read, says_swept, words_refused, words_run}
 use Rattle.flashtier_cli.proofs.program.run.Goals as goal
 
 -- ---- words that are no command
@@ -13,27 +13,29 @@ pub returns-in_default-command-clause-ends : goal.returns-in_default-command-cla
 returns-in_default-command-clause-ends g c = inr (record { answer = inl refl; source = refl; sink = refl; rig = refl })
 
 pub returns-in_default-command-clause-words : goal.returns-in_default-command-clause-words
-returns-in_default-command-clause-words g c = words_refused _ _ _ _ (no_words _ _ c.in_default-command.is c.in-Ok.ensures.none c.in-Ok.ensures.none_made c.in-Ok.ensures.none_inspected)
+returns-in_default-command-clause-words g c = words_refused _ _ _ _ (no_words _ _ c.in_default-command.is c.in-Ok.ensures.none c.in-Ok.ensures.none_made c.in-Ok.ensures.none_inspected c.in-Ok.ensures.none_swept)
 
 pub returns-in_default-command-clause-complete : goal.returns-in_default-command-clause-complete
 returns-in_default-command-clause-complete g c =
-    let none = no_words _ _ c.in_default-command.is c.in-Ok.ensures.none c.in-Ok.ensures.none_made c.in-Ok.ensures.none_inspected in
+    let none = no_words _ _ c.in_default-command.is c.in-Ok.ensures.none c.in-Ok.ensures.none_made c.in-Ok.ensures.none_inspected c.in-Ok.ensures.none_swept in
     record {
       complete = λ o says source sink flash disk. absurd (none (inl (o, says)));
-      complete_inspected = λ o says source sink flash disk. absurd (none (inr (inr (o, says))));
-      complete_made = λ o number count says sink flash disk. absurd (none (inr (inl (o, number, count, says))));
+      complete_made = λ o number count says sink flash disk. absurd (none (inr (o, number, count, says)));
     }
 
 -- ---- a trace that is read
 
 pub returns-in-Replay-clause-ends : goal.returns-in-Replay-clause-ends
-returns-in-Replay-clause-ends g c = inl (_, c.replay_with.result, spoken _ _ _ c.in-Some.is c.in-Ok.ensures.command, c.status_of.ensures, subst (λ (k : Command). IsUnbegun c.replay_with.result c.args.source.now c.replay_with.new.source c.args.sink.now c.replay_with.new.sink (g.R.Media.state c.args.rig.now) (g.R.Media.state c.replay_with.new.rig) ⊎ EndsCommand (g.I.Source.state c.args.source.now) (g.I.Source.state c.replay_with.new.source) (g.O.Sink.state c.args.sink.now) (g.O.Sink.state c.replay_with.new.sink) (g.R.Media.state c.args.rig.now) (g.R.Media.state c.replay_with.new.rig) k c.replay_with.result) (sym c.in-Replay.is) c.replay_with.ensures.ends)
+returns-in-Replay-clause-ends g c = inl (_, c.replay_with.result, spoken _ _ _ c.in-Some.is c.in-Ok.ensures.command, c.status_of.ensures, subst (λ (k : Command). (IsOverOne k × IsUnbegun c.replay_with.result c.args.source.now c.replay_with.new.source c.args.sink.now c.replay_with.new.sink (g.R.Media.state c.args.rig.now) (g.R.Media.state c.replay_with.new.rig)) ⊎ EndsCommand (g.I.Source.state c.args.source.now) (g.I.Source.state c.replay_with.new.source) (g.O.Sink.state c.args.sink.now) (g.O.Sink.state c.replay_with.new.sink) (g.R.Media.state c.args.rig.now) (g.R.Media.state c.replay_with.new.rig) k c.replay_with.result) (sym c.in-Replay.is) (elim c.replay_with.ensures.ends [ inl none ↦ inl (tt, none) | inr ends ↦ inr ends ]))
 
 pub returns-in-Replay-clause-unused : goal.returns-in-Replay-clause-unused
 returns-in-Replay-clause-unused g c = λ o number count made. absurd (apart _ _ _ _ _ (says_read _ _ _ _ _ c.in-Some.is c.in-Replay.is c.in-Ok.ensures.command) made)
 
+pub returns-in-Replay-clause-on : goal.returns-in-Replay-clause-on
+returns-in-Replay-clause-on g c = λ other memory. inl (unless_memory c.replay_with.result _ c.status_of.ensures c.replay_with.ensures.on memory)
+
 pub returns-in-Replay-clause-words : goal.returns-in-Replay-clause-words
-returns-in-Replay-clause-words g c = words_run _ _ _ _ _ _ _ _ (inl (_, says_read _ _ _ _ _ c.in-Some.is c.in-Replay.is c.in-Ok.ensures.command)) (not_one c.replay_with.result _ c.status_of.ensures)
+returns-in-Replay-clause-words g c = words_run _ _ _ _ _ _ _ _ (inl (_, inl (says_read _ _ _ _ _ c.in-Some.is c.in-Replay.is c.in-Ok.ensures.command))) (not_one c.replay_with.result _ c.status_of.ensures)
 
 pub returns-in-Replay-clause-end : goal.returns-in-Replay-clause-end
 returns-in-Replay-clause-end g c = λ is o reads. at_ok c.replay_with.result c.replay_with.ensures.end (sym c.status_of.ensures ∙ is)
@@ -47,10 +49,13 @@ returns-in-Replay-clause-complete g c = runs_read _ c.replay_with.result _ c.sta
 -- ---- a made trace
 
 pub returns-in-Gen-clause-ends : goal.returns-in-Gen-clause-ends
-returns-in-Gen-clause-ends g c = inl (_, c.gen_with.result, spoken _ _ _ c.in-Some.is c.in-Ok.ensures.command, c.status_of-in-Gen.ensures, subst (λ (k : Command). IsUnbegun c.gen_with.result c.args.source.now c.args.source.now c.args.sink.now c.gen_with.new.sink (g.R.Media.state c.args.rig.now) (g.R.Media.state c.gen_with.new.rig) ⊎ EndsCommand (g.I.Source.state c.args.source.now) (g.I.Source.state c.args.source.now) (g.O.Sink.state c.args.sink.now) (g.O.Sink.state c.gen_with.new.sink) (g.R.Media.state c.args.rig.now) (g.R.Media.state c.gen_with.new.rig) k c.gen_with.result) (sym c.in-Gen.is) (elim c.gen_with.ensures.ends [ inl none ↦ inl (unbegun_source none) | inr ends ↦ inr ends ]))
+returns-in-Gen-clause-ends g c = inl (_, c.gen_with.result, spoken _ _ _ c.in-Some.is c.in-Ok.ensures.command, c.status_of-in-Gen.ensures, subst (λ (k : Command). (IsOverOne k × IsUnbegun c.gen_with.result c.args.source.now c.args.source.now c.args.sink.now c.gen_with.new.sink (g.R.Media.state c.args.rig.now) (g.R.Media.state c.gen_with.new.rig)) ⊎ EndsCommand (g.I.Source.state c.args.source.now) (g.I.Source.state c.args.source.now) (g.O.Sink.state c.args.sink.now) (g.O.Sink.state c.gen_with.new.sink) (g.R.Media.state c.args.rig.now) (g.R.Media.state c.gen_with.new.rig) k c.gen_with.result) (sym c.in-Gen.is) (elim c.gen_with.ensures.ends [ inl none ↦ inl (tt, unbegun_source none) | inr ends ↦ inr ends ]))
+
+pub returns-in-Gen-clause-on : goal.returns-in-Gen-clause-on
+returns-in-Gen-clause-on g c = λ other memory. inl (unless_memory c.gen_with.result _ c.status_of-in-Gen.ensures c.gen_with.ensures.on memory)
 
 pub returns-in-Gen-clause-words : goal.returns-in-Gen-clause-words
-returns-in-Gen-clause-words g c = words_run _ _ _ _ _ _ _ _ (inr (inl (_, _, _, says_made _ _ _ _ _ _ _ c.in-Some.is c.in-Gen.is c.in-Ok.ensures.command))) (not_one c.gen_with.result _ c.status_of-in-Gen.ensures)
+returns-in-Gen-clause-words g c = words_run _ _ _ _ _ _ _ _ (inr (_, _, _, says_made _ _ _ _ _ _ _ c.in-Some.is c.in-Gen.is c.in-Ok.ensures.command)) (not_one c.gen_with.result _ c.status_of-in-Gen.ensures)
 
 pub returns-in-Gen-clause-end : goal.returns-in-Gen-clause-end
 returns-in-Gen-clause-end g c = λ is o reads. absurd (not_made _ o reads _ _ _ (says_made _ _ _ _ _ _ _ c.in-Some.is c.in-Gen.is c.in-Ok.ensures.command))
@@ -69,13 +74,16 @@ returns-in-Gen-clause-complete g c = runs_made _ c.gen_with.result _ c.status_of
 -- ---- a trace that is inspected
 
 pub returns-in-Inspect-clause-ends : goal.returns-in-Inspect-clause-ends
-returns-in-Inspect-clause-ends g c = inl (_, c.inspect_with.result, spoken _ _ _ c.in-Some.is c.in-Ok.ensures.command, c.status_of-in-Inspect.ensures, subst (λ (k : Command). IsUnbegun c.inspect_with.result c.args.source.now c.inspect_with.new.source c.args.sink.now c.inspect_with.new.sink (g.R.Media.state c.args.rig.now) (g.R.Media.state c.inspect_with.new.rig) ⊎ EndsCommand (g.I.Source.state c.args.source.now) (g.I.Source.state c.inspect_with.new.source) (g.O.Sink.state c.args.sink.now) (g.O.Sink.state c.inspect_with.new.sink) (g.R.Media.state c.args.rig.now) (g.R.Media.state c.inspect_with.new.rig) k c.inspect_with.result) (sym c.in-Inspect.is) c.inspect_with.ensures.ends)
+returns-in-Inspect-clause-ends g c = inl (_, c.inspect_with.result, spoken _ _ _ c.in-Some.is c.in-Ok.ensures.command, c.status_of-in-Inspect.ensures, subst (λ (k : Command). (IsOverOne k × IsUnbegun c.inspect_with.result c.args.source.now c.inspect_with.new.source c.args.sink.now c.inspect_with.new.sink (g.R.Media.state c.args.rig.now) (g.R.Media.state c.inspect_with.new.rig)) ⊎ EndsCommand (g.I.Source.state c.args.source.now) (g.I.Source.state c.inspect_with.new.source) (g.O.Sink.state c.args.sink.now) (g.O.Sink.state c.inspect_with.new.sink) (g.R.Media.state c.args.rig.now) (g.R.Media.state c.inspect_with.new.rig) k c.inspect_with.result) (sym c.in-Inspect.is) (elim c.inspect_with.ensures.ends [ inl none ↦ inl (tt, none) | inr ends ↦ inr ends ]))
 
 pub returns-in-Inspect-clause-unused : goal.returns-in-Inspect-clause-unused
 returns-in-Inspect-clause-unused g c = λ o number count made. absurd (inspected_made _ _ _ _ _ (says_inspected _ _ _ _ _ c.in-Some.is c.in-Inspect.is c.in-Ok.ensures.command) made)
 
+pub returns-in-Inspect-clause-on : goal.returns-in-Inspect-clause-on
+returns-in-Inspect-clause-on g c = λ other memory. inl (unless_memory c.inspect_with.result _ c.status_of-in-Inspect.ensures c.inspect_with.ensures.on memory)
+
 pub returns-in-Inspect-clause-words : goal.returns-in-Inspect-clause-words
-returns-in-Inspect-clause-words g c = words_run _ _ _ _ _ _ _ _ (inr (inr (_, says_inspected _ _ _ _ _ c.in-Some.is c.in-Inspect.is c.in-Ok.ensures.command))) (not_one c.inspect_with.result _ c.status_of-in-Inspect.ensures)
+returns-in-Inspect-clause-words g c = words_run _ _ _ _ _ _ _ _ (inl (_, inr (inl (says_inspected _ _ _ _ _ c.in-Some.is c.in-Inspect.is c.in-Ok.ensures.command)))) (not_one c.inspect_with.result _ c.status_of-in-Inspect.ensures)
 
 pub returns-in-Inspect-clause-end : goal.returns-in-Inspect-clause-end
 returns-in-Inspect-clause-end g c = λ is o reads. at_ok c.inspect_with.result c.inspect_with.ensures.end (sym c.status_of-in-Inspect.ensures ∙ is)
@@ -84,4 +92,30 @@ pub returns-in-Inspect-clause-causes : goal.returns-in-Inspect-clause-causes
 returns-in-Inspect-clause-causes g c = status_cause c.inspect_with.result _ c.status_of-in-Inspect.ensures _ _ _ _ _ _ c.inspect_with.ensures.causes
 
 pub returns-in-Inspect-clause-complete : goal.returns-in-Inspect-clause-complete
-returns-in-Inspect-clause-complete g c = runs_read _ c.inspect_with.result _ c.status_of-in-Inspect.ensures _ _ _ _ _ _ (not_made _ _ (inr (says_inspected _ _ _ _ _ c.in-Some.is c.in-Inspect.is c.in-Ok.ensures.command))) c.inspect_with.ensures.causes
+returns-in-Inspect-clause-complete g c = runs_read _ c.inspect_with.result _ c.status_of-in-Inspect.ensures _ _ _ _ _ _ (not_made _ _ (inr (inl (says_inspected _ _ _ _ _ c.in-Some.is c.in-Inspect.is c.in-Ok.ensures.command)))) c.inspect_with.ensures.causes
+
+-- ---- a trace that is swept
+
+pub returns-in-Sweep-clause-ends : goal.returns-in-Sweep-clause-ends
+returns-in-Sweep-clause-ends g c = inl (_, c.sweep_with.result, spoken _ _ _ c.in-Some.is c.in-Ok.ensures.command, c.status_of-in-Sweep.ensures, subst (λ (k : Command). (IsOverOne k × IsUnbegun c.sweep_with.result c.args.source.now c.sweep_with.new.source c.args.sink.now c.sweep_with.new.sink (g.R.Media.state c.args.rig.now) (g.R.Media.state c.sweep_with.new.rig)) ⊎ EndsCommand (g.I.Source.state c.args.source.now) (g.I.Source.state c.sweep_with.new.source) (g.O.Sink.state c.args.sink.now) (g.O.Sink.state c.sweep_with.new.sink) (g.R.Media.state c.args.rig.now) (g.R.Media.state c.sweep_with.new.rig) k c.sweep_with.result) (sym c.in-Sweep.is) (inr c.sweep_with.ensures.ends))
+
+pub returns-in-Sweep-clause-unused : goal.returns-in-Sweep-clause-unused
+returns-in-Sweep-clause-unused g c = λ o number count made. absurd (swept_made _ _ _ _ _ _ (says_swept _ _ _ _ _ _ c.in-Some.is c.in-Sweep.is c.in-Ok.ensures.command) made)
+
+pub returns-in-Sweep-clause-on : goal.returns-in-Sweep-clause-on
+returns-in-Sweep-clause-on g c = λ other memory. elim (unless_memory c.sweep_with.result _ c.status_of-in-Sweep.ensures c.sweep_with.ensures.on memory) [
+  | inl same ↦ inr ((_, (_, says_swept _ _ _ _ _ _ c.in-Some.is c.in-Sweep.is c.in-Ok.ensures.command)), same)
+  | inr on ↦ inl on
+]
+
+pub returns-in-Sweep-clause-words : goal.returns-in-Sweep-clause-words
+returns-in-Sweep-clause-words g c = words_run _ _ _ _ _ _ _ _ (inl (_, inr (inr (_, says_swept _ _ _ _ _ _ c.in-Some.is c.in-Sweep.is c.in-Ok.ensures.command)))) (not_one c.sweep_with.result _ c.status_of-in-Sweep.ensures)
+
+pub returns-in-Sweep-clause-end : goal.returns-in-Sweep-clause-end
+returns-in-Sweep-clause-end g c = λ is o reads. at_ok c.sweep_with.result c.sweep_with.ensures.end (sym c.status_of-in-Sweep.ensures ∙ is)
+
+pub returns-in-Sweep-clause-causes : goal.returns-in-Sweep-clause-causes
+returns-in-Sweep-clause-causes g c = status_cause c.sweep_with.result _ c.status_of-in-Sweep.ensures _ _ _ _ _ _ c.sweep_with.ensures.causes
+
+pub returns-in-Sweep-clause-complete : goal.returns-in-Sweep-clause-complete
+returns-in-Sweep-clause-complete g c = runs_read _ c.sweep_with.result _ c.status_of-in-Sweep.ensures _ _ _ _ _ _ (not_made _ _ (inr (inr (_, says_swept _ _ _ _ _ _ c.in-Some.is c.in-Sweep.is c.in-Ok.ensures.command)))) c.sweep_with.ensures.causes

@@ -1,4 +1,4 @@
-use Rattle.std.proofs.Common.{◌++◌, ◌∙◌, List, ap, map, refl, rules, subst, sym}
+use Rattle.std.proofs.Common.{◌++◌, ◌≡◌, ◌∙◌, List, ap, map, refl, rules, subst, sym}
 use Rattle.trace_model.specs.Readings.{accepted}
 use Rattle.trace_replay.proofs.ExitLemmas.{blamed_at}
 use Rattle.trace_replay.proofs.FromLemmas.{before_itself, ends_from, refused_at, unread_at}
@@ -38,3 +38,19 @@ returns-clause-ends g c =
     (before_itself _)
     _ _ (shown_by x (g.O.Sink.state c.replay_script.new.script.sink.now) _ (search rules))
     c.replay_script.result (c.replay_script.ensures.ends (stand_in (c.args.first.now ++ c.args.lines.now)) x c.new-script.ensures.came)
+
+pub returns-clause-goes : goal.returns-clause-goes
+returns-clause-goes g c =
+    let script = c.replay_script.new.script in
+    let goes = c.replay_script.ensures.goes in
+    let lent = goes.script_lent in
+    let same_sink : script.sink.ghost_name ≡ c.new-script.result.sink.ghost_name = cc in
+    let sink_lent : (g.O.Sink.state script.sink.now).lent ≡ (g.O.Sink.state c.new-script.result.sink.now).lent = cc in
+    let sink = goes.sink in
+    record {
+      counts = goes.counts;
+      sink_later = search (rules, same_sink, sink);
+      flash_later = goes.flash;
+      disk_later = goes.disk;
+      lent = record { sink_lent = search (rules, same_sink, sink_lent); rig_lent = goes.lent };
+    }

@@ -1,0 +1,21 @@
+use Rattle.std.proofs.Common.{◌≡◌, ◌<◌, ◌+◌, sym, ap, ◌∙◌, subst, arith}
+use Rattle.ft_base.specs.Count.{last_count}
+use Rattle.ft_media.specs.Passes.{device_writes}
+use Rattle.ft_media.specs.declared.rig.Counts.{Counts}
+use Rattle.trace_replay.specs.Held.{stops_held}
+use Rattle.cache_run.proofs.CountLemmas.{counts_whole, none_rose, only_rig, unarmed_lines}
+use Rattle.cache_run.proofs.counting.count_over.Goals as goal
+
+pub replay_held-requires-clause-stops : goal.replay_held-requires-clause-stops
+replay_held-requires-clause-stops g c =
+    let none : stops_held c.args.lines.now ≡ 0 = unarmed_lines c.args.lines.now c.requires.uncut in
+    omega (arith, none)
+
+pub returns-in-Some-clause-counted : goal.returns-in-Some-clause-counted
+returns-in-Some-clause-counted g c =
+    counts_whole c.in-Some.count c.requires.uncut c.in-Ok.ensures.ends
+    (sym (ap device_writes c.counts.ensures) ∙ c.in-Some.ensures.exact ∙ ap (λ (k : Counts). device_writes k + c.in-Some.count) c.counts-before.ensures)
+    (subst (λ (k : Counts). k.programs < last_count) c.counts.ensures c.in-Some.ensures.below)
+
+pub returns-in-Err-clause-only : goal.returns-in-Err-clause-only
+returns-in-Err-clause-only g c = only_rig c.in-Err.ended c.in-Err.ensures.causes none_rose

@@ -1,0 +1,267 @@
+//! Sweeps: the runs of a trace with power cut in each of its device writes, each of which prints what a plain disk prints.
+
+use crate::plain::is_plain;
+use crate::random::shape_of;
+use crate::small::{Outcome, Shape, THROUGH, back, sweep_on};
+use ft_media::Rig;
+use mem_rig::MemRig;
+use rand_core::SeedableRng;
+use rand_core::utils::NextWord;
+use rand_pcg::Lcg64Xsh32;
+use std::alloc::Global;
+use std::ops::Range;
+use std::process::Abort;
+use std::test::Fail;
+use trace_model::Answer;
+use trace_sweep::plain_text_at;
+use trace_text::next_line;
+
+/// Words for what a power cut leaves.
+const OUTCOMES: [&str; 4] = ["blank", "whole", "torn", "mixed"];
+
+/// What is printed at the end of a trace that named address 0, which is a zero block.
+const ZERO: &str = "end 1 0 1 4f2cfec1c5dc3827cdeb42906713b37cae91e009aa0e2d211c376ccb9969b3ea";
+
+fn sweep(alloc: Global, shape: &Shape, outcome: &str, trace: &[u8]) -> Result<Outcome, Fail> {
+    sweep_on(alloc, shape, outcome, trace, MemRig::new(alloc))
+}
+
+/// The text of one run, and what comes after it.
+fn run_text(text: &[u8]) -> (&[u8], &[u8]) {
+    let mut rest = text;
+    for _ in 0..text.len() {
+        match next_line(rest, true) {
+            Some((line, after)) if !line.starts_with(b"at ") && !line.starts_with(b"swept ") => {
+                rest = after;
+            }
+            _ => break,
+        }
+    }
+    (&text[..text.len() - rest.len()], rest)
+}
+
+/// How many runs a text is of, if each is what a plain disk prints of the trace with power cut at its number.
+fn runs_in(alloc: Global, outcome: &str, trace: &[u8], text: &[u8]) -> Result<Option<u64>, Fail> {
+    let mut rest = text;
+    for number in 1..=text.len() as u64 {
+        let at = format!(in alloc; "at {number}\n")?;
+        if !rest.starts_with(at.as_bytes()) {
+            let last = format!(in alloc; "swept {}\n", number - 1)?;
+            return Ok(if rest == last.as_bytes() {
+                Some(number - 1)
+            } else {
+                None
+            });
+        }
+        let (run, after) = run_text(&rest[at.len()..]);
+        let stops = format!(in alloc; "stop {number} {outcome}\nstop 2 {outcome}\n")?;
+        let mut lines = Vec::from_slice(alloc, stops.as_bytes())?;
+        lines.extend_from_slice(trace)?;
+        if !is_plain(alloc, lines.as_slice(), run, 64)? {
+            return Ok(None);
+        }
+        rest = after;
+    }
+    Ok(None)
+}
+
+#[test]
+fn each_device_write_of_a_write_is_cut(rt: HostRuntime) -> Result<(), Fail> {
+    let alloc = rt.alloc();
+    let torn = sweep(alloc, &back(2, 2), "torn", b"w 0 1 1\n")?;
+    let mut text = Vec::new(alloc);
+    for number in 1..=3 {
+        let run = format!(in alloc; "at {number}\nstopped\nstopped\nkept 0 of 1\n{ZERO}\n")?;
+        text.extend_from_slice(run.as_bytes())?;
+    }
+    text.extend_from_slice(b"swept 3\n")?;
+    assert_eq!(rt; (torn.status, torn.text.as_slice()), (0, text.as_slice()));
+    Ok(())
+}
+
+// The third device write is the log page that commits the block.
+#[test]
+fn a_write_that_is_whole_is_kept(rt: HostRuntime) -> Result<(), Fail> {
+    let alloc = rt.alloc();
+    let whole = sweep(alloc, &back(2, 2), "whole", b"w 0 1 1\n")?;
+    assert_eq!(rt; whole.status, 0);
+    let text = whole.text.as_slice();
+    assert!(rt; text.starts_with(b"at 1\nstopped\nstopped\nkept 0 of 1\nend 1 0 1 "));
+    let (_, second) = run_text(&text[5..]);
+    assert!(rt; second.starts_with(b"at 2\nstopped\nstopped\nkept 0 of 1\nend 1 0 1 "));
+    let (_, third) = run_text(&second[5..]);
+    assert!(rt; third.starts_with(b"at 3\nstopped\nstopped\nkept 1 of 1\nend 1 0 1 "));
+    let (_, last) = run_text(&third[5..]);
+    assert_eq!(rt; last, b"swept 3\n".as_slice());
+    assert_eq!(rt; runs_in(alloc, "whole", b"w 0 1 1\n", text)?, Some(3));
+    Ok(())
+}
+
+// The disk write, the disk flush, the erase of a pool block and the flash page.
+#[test]
+fn a_write_through_has_four_device_writes(rt: HostRuntime) -> Result<(), Fail> {
+    let alloc = rt.alloc();
+    let swept = sweep(alloc, &THROUGH, "torn", b"w 0 1 1\n")?;
+    assert_eq!(rt;
+        (
+            swept.status,
+            runs_in(alloc, "torn", b"w 0 1 1\n", swept.text.as_slice())?
+        ),
+        (0, Some(4))
+    );
+    Ok(())
+}
+
+#[test]
+fn a_trace_without_device_writes_has_no_runs(rt: HostRuntime) -> Result<(), Fail> {
+    let swept = sweep(rt.alloc(), &back(2, 2), "torn", b"# nothing\n\n")?;
+    assert_eq!(rt;
+        (swept.status, swept.text.as_slice()),
+        (0, b"swept 0\n".as_slice())
+    );
+    Ok(())
+}
+
+/// Sweeps a trace over a small volume of each mode, with each outcome.
+fn sweep_all_ways(rt: &impl Abort, alloc: Global, trace: &[u8]) -> Result<u64, Fail> {
+    let mut runs: u64 = 0;
+    for outcome in OUTCOMES {
+        for shape in [back(2, 2), THROUGH] {
+            let swept = sweep(alloc, &shape, outcome, trace)?;
+            assert_eq!(rt; swept.status, 0);
+            let count = runs_in(alloc, outcome, trace, swept.text.as_slice())?;
+            assert!(rt; count.is_some());
+            runs = runs.saturating_add(count.unwrap_or(0));
+        }
+    }
+    Ok(runs)
+}
+
+#[test]
+fn groups_are_swept_in_all_ways(rt: HostRuntime) -> Result<(), Fail> {
+    let alloc = rt.alloc();
+    let runs = sweep_all_ways(&rt, alloc, b"w 0 4 1\n")?;
+    assert!(rt; runs >= 32);
+    let runs = sweep_all_ways(&rt, alloc, b"w 4 4 1\n")?;
+    assert!(rt; runs >= 32);
+    Ok(())
+}
+
+#[test]
+fn a_block_that_is_written_again_is_swept_in_all_ways(rt: HostRuntime) -> Result<(), Fail> {
+    let runs = sweep_all_ways(&rt, rt.alloc(), b"w 0 1 1\nw 0 1 2\n")?;
+    assert!(rt; runs >= 16);
+    Ok(())
+}
+
+/// A trace of 6 lines over the first 16 blocks: writes and reads of up to 3 blocks, flushes and idle steps.
+fn trace_of(alloc: Global, words: &mut Lcg64Xsh32) -> Result<Vec<u8>, Fail> {
+    let mut trace = Vec::new(alloc);
+    for tag in 1..=6 {
+        let kind = words.next_word() % 10;
+        let first = words.next_word() % 14;
+        let some = 1 + words.next_word() % 3;
+        let line = if kind < 6 {
+            format!(in alloc; "w {first} {some} {tag}\n")?
+        } else if kind < 8 {
+            format!(in alloc; "r {first} {some}\n")?
+        } else if kind == 8 {
+            format!(in alloc; "f\n")?
+        } else {
+            format!(in alloc; "i\n")?
+        };
+        trace.extend_from_slice(line.as_bytes())?;
+    }
+    Ok(trace)
+}
+
+/// Sweeps the traces of these numbers, each over a volume made at random, and says how many runs there were.
+fn sweep_traces(
+    rt: &impl Abort,
+    alloc: Global,
+    through: bool,
+    numbers: Range<u64>,
+) -> Result<u64, Fail> {
+    let mut runs: u64 = 0;
+    for number in numbers {
+        let mut words = Lcg64Xsh32::seed_from_u64(number);
+        let shape = shape_of(&mut words, through);
+        let trace = trace_of(alloc, &mut words)?;
+        let outcome = OUTCOMES[(number % 4) as usize];
+        let swept = sweep(alloc, &shape, outcome, trace.as_slice())?;
+        assert_eq!(rt; swept.status, 0);
+        let count = runs_in(alloc, outcome, trace.as_slice(), swept.text.as_slice())?;
+        assert!(rt; count.is_some());
+        runs = runs.saturating_add(count.unwrap_or(0));
+    }
+    Ok(runs)
+}
+
+#[test]
+fn sweeps_of_traces_that_are_written_back_print_what_a_plain_disk_prints(
+    rt: HostRuntime,
+) -> Result<(), Fail> {
+    let runs = sweep_traces(&rt, rt.alloc(), false, 500..520)?;
+    assert!(rt; runs > 200);
+    Ok(())
+}
+
+#[test]
+fn sweeps_of_traces_that_are_written_through_print_what_a_plain_disk_prints(
+    rt: HostRuntime,
+) -> Result<(), Fail> {
+    let runs = sweep_traces(&rt, rt.alloc(), true, 520..540)?;
+    assert!(rt; runs > 200);
+    Ok(())
+}
+
+// ---- traces that are refused
+
+/// Sweeps a trace that is refused: that is all that is printed, and the rig is as it was.
+fn refuses(rt: &impl Abort, alloc: Global, trace: &[u8], text: &[u8]) -> Result<(), Fail> {
+    let swept = sweep(alloc, &back(2, 2), "torn", trace)?;
+    assert_eq!(rt; (swept.status, swept.text.as_slice()), (2, text));
+    assert_eq!(rt; swept.rig.counts(), MemRig::new(alloc).counts());
+    Ok(())
+}
+
+#[test]
+fn lines_that_cut_power_are_refused_before_any_is_run(rt: HostRuntime) -> Result<(), Fail> {
+    let refused: [(&[u8], &[u8]); 6] = [
+        (b"cut blank\n", b"line 1: BadWord\n"),
+        (b"w 0 1 1\nstop 1 torn\n", b"line 2: BadWord\n"),
+        (b"w 0 1 1\nstop 0 torn\n", b"line 2: BadNumber\n"),
+        (b"w 0 1 1\ncut\n", b"line 2: BadCount\n"),
+        (b"w 0 1 1\nr 64 1\n", b"line 2: OutOfVolume\n"),
+        (b"w 0 1 1\nq\n", b"line 2: BadWord\n"),
+    ];
+    for (trace, text) in refused {
+        refuses(&rt, rt.alloc(), trace, text)?;
+    }
+    Ok(())
+}
+
+#[test]
+fn long_traces_are_refused_before_any_line_is_run(rt: HostRuntime) -> Result<(), Fail> {
+    let alloc = rt.alloc();
+    let mut blocks = Vec::from_slice(alloc, b"w 0 64 1\nw 0 64 2\nr 0 64\nr 0 63\n")?;
+    blocks.extend_from_slice(b"w 0 2 3\n")?;
+    refuses(&rt, alloc, blocks.as_slice(), b"line 5: TooLong\n")?;
+    let mut bytes = Vec::new(alloc);
+    for _ in 0..2048 {
+        bytes.extend_from_slice(b"f\n")?;
+    }
+    bytes.push(b'f')?;
+    refuses(&rt, alloc, bytes.as_slice(), b"line 2049: TooLong\n")
+}
+
+// ---- a run by itself
+
+#[test]
+fn the_text_of_a_run_has_its_number_first(rt: HostRuntime) -> Result<(), Fail> {
+    let alloc = rt.alloc();
+    let answers = [Answer::Stopped, Answer::Kept { kept: 0, count: 1 }];
+    let text = plain_text_at(alloc, 3, &answers)?;
+    assert_eq!(rt; text.as_slice(), b"at 3\nstopped\nkept 0 of 1\n".as_slice());
+    Ok(())
+}

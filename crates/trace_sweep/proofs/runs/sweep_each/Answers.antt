@@ -1,0 +1,29 @@
+use Rattle.std.proofs.Common.{◌≡◌, ◌<◌, ◌+◌, ℕ, [], ◌∷◌, length, subst, arith}
+use Rattle.cache_model.specs.Stands.{ImageStandsFor}
+use Rattle.ft_volume.specs.Volume.{told_for}
+use Rattle.trace_sweep.specs.Ends.{BreaksAt}
+use Rattle.trace_sweep.specs.SoFar.{RunsAt}
+use Rattle.trace_sweep.proofs.RunLemmas.{breaks_more, has_more, streams_then}
+use Rattle.trace_sweep.proofs.runs.sweep_each.Goals as goal
+
+pub runs-preserved : goal.runs-preserved
+runs-preserved g c =
+    let so = c.runs.invariant.has in
+    let long : length so.0 ≡ c.runs.number = so.1 in
+    let next : c.runs.number + 1 ≡ length so.0 + 1 = omega (arith, long) in
+    let at = subst (λ (k : ℕ). RunsAt (told_for c.args.sweep.now.mode c.args.sweep.now.options.now) c.args.sweep.now.outcome c.args.sweep.now.lines.now (g.O.Sink.state c.runs.sink) (g.O.Sink.state c.sweep_at.new.sink) (ImageStandsFor c.args.sweep.now.options.now.geometry) (g.R.Media.state c.runs.rig) (g.R.Media.state c.sweep_at.new.rig) k) next c.in-Ok.ensures.whole in
+    record {
+      within = omega arith;
+      on = c.in-Ok.ensures.on (λ is. cc);
+      goes = streams_then c.runs.invariant.goes c.in-Ok.ensures.goes;
+      has = (at.s ∷ so.0, omega (arith, long), has_more _ _ _ _ _ _ so.0 so.2 at);
+    }
+
+pub returns-in-Err-clause-part : goal.returns-in-Err-clause-part
+returns-in-Err-clause-part g c =
+    let so = c.runs.invariant.has in
+    let long : length so.0 ≡ c.runs.number = so.1 in
+    let next : c.runs.number + 1 ≡ length so.0 + 1 = omega (arith, long) in
+    let few : length so.0 < c.args.count = omega (arith, long) in
+    breaks_more c.args.count _ _ _ _ _ _ so.0 c.in-Err.ended few so.2
+    (subst (λ (k : ℕ). BreaksAt (told_for c.args.sweep.now.mode c.args.sweep.now.options.now) c.args.sweep.now.outcome c.args.sweep.now.lines.now k [] (g.O.Sink.state c.runs.sink) (g.O.Sink.state c.sweep_at.new.sink) (ImageStandsFor c.args.sweep.now.options.now.geometry) (g.R.Media.state c.sweep_at.new.rig) c.in-Err.ended) next c.in-Err.ensures.part)

@@ -1,0 +1,24 @@
+use Rattle.std.proofs.Common.{◌≡◌, ◌≤◌, ◌-◌, List, length, true}
+use Rattle.cache_model.specs.Stands.{ImageStandsFor}
+use Rattle.ft_volume.specs.Volume.{told_for}
+use Rattle.trace_replay.specs.Causes.{KeepsStreamsUntraced}
+use Rattle.trace_sweep.specs.Runs.{Swept}
+use Rattle.trace_sweep.specs.SoFar.{HasSwept}
+use Rattle.trace_sweep.proofs.runs.sweep_each.Given as goal
+
+abbrev pub invariant-runs : goal.invariant-runs
+invariant-runs g l =
+    let x = g.O.Sink.state l.fn.sink in
+    let y = g.O.Sink.state l.sink in
+    let old = g.R.Media.state l.fn.rig in
+    let now = g.R.Media.state l.rig in
+    record {
+      within : l.number ≤ l.count;
+      on : now.power.on ≡ true;
+      goes : KeepsStreamsUntraced x y old now;
+      has : (runs : List Swept) × (length runs ≡ l.number)
+          × HasSwept (told_for l.sweep.mode l.sweep.options.now) l.sweep.outcome l.sweep.lines.now x y (ImageStandsFor l.sweep.options.now.geometry) old now runs;
+    }
+
+abbrev pub decreases-runs : goal.decreases-runs
+decreases-runs g l = l.count - l.number
