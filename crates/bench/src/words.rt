@@ -28,11 +28,11 @@ pub(crate) fn task_of(words: &[String]) -> Option<Task>
     if first.as_str() == "run" {
         return Some(Task::Run);
     }
-    if first.as_str() == "sweep" {
-        return Some(Task::Sweep);
-    }
     if others.is_empty() && first.as_str() == "map" {
         return Some(Task::Map);
+    }
+    if first.as_str() == "sweep" {
+        return Some(Task::Sweep);
     }
     None
 }
