@@ -27,40 +27,59 @@ fn sweep(alloc: Global, shape: &Shape, outcome: &str, trace: &[u8]) -> Result<Ou
 }
 
 /// The text of one run, and what comes after it.
-fn run_text(text: &[u8]) -> (&[u8], &[u8]) {
+fn run_text(alloc: Global, text: &[u8]) -> Result<(Vec<u8>, &[u8]), Fail> {
+    let mut run = Vec::new(alloc);
     let mut rest = text;
     for _ in 0..text.len() {
-        match next_line(rest, true) {
-            Some((line, after)) if !line.starts_with(b"at ") && !line.starts_with(b"swept ") => {
-                rest = after;
-            }
-            _ => break,
+        let Some((line, after)) = next_line(rest, true) else {
+            break;
+        };
+        if line.starts_with(b"at ") || line.starts_with(b"swept ") {
+            break;
         }
+        run.extend_from_slice(line)?;
+        run.push(b'\n')?;
+        rest = after;
     }
-    (&text[..text.len() - rest.len()], rest)
+    Ok((run, rest))
 }
 
-/// How many runs a text is of, if each is what a plain disk prints of the trace with power cut at its number.
+/// Whether this is what a plain disk prints of the trace with power cut in this device write, and in the second one
+/// after it.
+fn is_plain_at(
+    alloc: Global,
+    number: u64,
+    outcome: &str,
+    trace: &[u8],
+    run: &[u8],
+) -> Result<bool, Fail> {
+    let stops = format!(in alloc; "stop {number} {outcome}\nstop 2 {outcome}\n")?;
+    let mut lines = Vec::from_slice(alloc, stops.as_bytes())?;
+    lines.extend_from_slice(trace)?;
+    is_plain(alloc, lines.as_slice(), run, 64)
+}
+
+/// How many runs a text is of, if each is what a plain disk prints.
 fn runs_in(alloc: Global, outcome: &str, trace: &[u8], text: &[u8]) -> Result<Option<u64>, Fail> {
     let mut rest = text;
-    for number in 1..=text.len() as u64 {
-        let at = format!(in alloc; "at {number}\n")?;
-        if !rest.starts_with(at.as_bytes()) {
-            let last = format!(in alloc; "swept {}\n", number - 1)?;
-            return Ok(if rest == last.as_bytes() {
-                Some(number - 1)
-            } else {
-                None
-            });
+    let mut runs: u64 = 0;
+    for _ in 0..text.len() {
+        let Some((line, after)) = next_line(rest, true) else {
+            break;
+        };
+        let number = runs.saturating_add(1);
+        let at = format!(in alloc; "at {number}")?;
+        if line != at.as_bytes() {
+            let last = format!(in alloc; "swept {runs}")?;
+            let is_last = line == last.as_bytes() && after.is_empty();
+            return Ok(if is_last { Some(runs) } else { None });
         }
-        let (run, after) = run_text(&rest[at.len()..]);
-        let stops = format!(in alloc; "stop {number} {outcome}\nstop 2 {outcome}\n")?;
-        let mut lines = Vec::from_slice(alloc, stops.as_bytes())?;
-        lines.extend_from_slice(trace)?;
-        if !is_plain(alloc, lines.as_slice(), run, 64)? {
+        let (run, later) = run_text(alloc, after)?;
+        if !is_plain_at(alloc, number, outcome, trace, run.as_slice())? {
             return Ok(None);
         }
-        rest = after;
+        rest = later;
+        runs = number;
     }
     Ok(None)
 }
@@ -85,14 +104,14 @@ fn a_write_that_is_whole_is_kept(rt: HostRuntime) -> Result<(), Fail> {
     let alloc = rt.alloc();
     let whole = sweep(alloc, &back(2, 2), "whole", b"w 0 1 1\n")?;
     assert_eq!(rt; whole.status, 0);
+    let lost = format!(in alloc; "stopped\nstopped\nkept 0 of 1\n{ZERO}\n")?;
+    let front = format!(in alloc;
+        "at 1\n{}at 2\n{}at 3\nstopped\nstopped\nkept 1 of 1\nend 1 0 1 ",
+        lost.as_str(),
+        lost.as_str()
+    )?;
     let text = whole.text.as_slice();
-    assert!(rt; text.starts_with(b"at 1\nstopped\nstopped\nkept 0 of 1\nend 1 0 1 "));
-    let (_, second) = run_text(&text[5..]);
-    assert!(rt; second.starts_with(b"at 2\nstopped\nstopped\nkept 0 of 1\nend 1 0 1 "));
-    let (_, third) = run_text(&second[5..]);
-    assert!(rt; third.starts_with(b"at 3\nstopped\nstopped\nkept 1 of 1\nend 1 0 1 "));
-    let (_, last) = run_text(&third[5..]);
-    assert_eq!(rt; last, b"swept 3\n".as_slice());
+    assert!(rt; text.starts_with(front.as_bytes()));
     assert_eq!(rt; runs_in(alloc, "whole", b"w 0 1 1\n", text)?, Some(3));
     Ok(())
 }
