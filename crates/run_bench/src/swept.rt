@@ -3,12 +3,12 @@
 ghost use Rattle.std.specs.Prelude.{◌≡◌};
 ghost use Rattle.figures.specs.Figures.{hundredths, nanoseconds};
 
-use crate::replayed::{Ended, run_timed};
+use crate::replayed::run_timed;
 use figures::{hundredths_of, nanoseconds};
 use std::alloc::{AllocError, Global};
 use std::io;
 use std::rt::Clock;
-use std::time::Duration;
+use std::time::{Duration, Instant};
 
 /// The trace writes so many blocks, each by a line of its own.
 const WRITES: u64 = 32;
@@ -23,7 +23,7 @@ pub struct Swept {
     pub runs: u64,
     /// How long the sweep took.
     pub sweep: Duration,
-    /// How long its runs took one by one, and the one that counts.
+    /// How long its runs took one by one, and the one that counts, each over flash and disk of its own.
     pub single: Duration,
 }
 
@@ -60,16 +60,16 @@ pub fn sweep(rt: &(impl AllocGlobal + Clock), options: &[String]) -> io::Result<
     let Some(runs) = runs_in(swept.text.as_slice()) else {
         return Ok(Err(swept.status));
     };
-    let mut single = Duration::ZERO;
+    let start = Instant::now(rt)?;
     for number in 0..=runs {
         let stops = match number {
             0 => String::new(alloc),
             _ => format!(in alloc; "stop {number} torn\nstop 2 torn\n")?,
         };
         let trace = trace_behind(alloc, stops.as_str())?;
-        let Ended { time, .. } = run_timed(rt, "replay", options, trace, ROOM)?;
-        single = single.saturating_add(time);
+        run_timed(rt, "replay", options, trace, ROOM)?;
     }
+    let single = start.elapsed(rt)?;
     Ok(Ok(Swept {
         runs,
         sweep: swept.time,
