@@ -1,9 +1,11 @@
 -- Pages by their lines.
 use Rattle.std.proofs.Common.{◌≡◌, ℕ, zero, suc, ◌+◌, ◌-◌, ◌*◌, ◌<◌, ◌≤◌, Bool, true, false, cond, ◌&&◌, List, [], ◌∷◌, ◌++◌, length, get_or, set}
 use Rattle.std.proofs.Common.{take, drop, flat_map, Some, None, Option, IsTrue, ◌↔◌, refl, sym, ◌∙◌, ap, ap₂, subst, arith, append_assoc, leb-true, le-leb, lt-ltb, ◌^◌, length-append}
+use Rattle.std.proofs.Common.{◌==◌, bit_and, nat_lt, eqb-true, ltb-true}
 use Rattle.std.specs.Bool.{OnTrue, OnFalse}
 use Rattle.std.specs.List.{list_all}
 use Rattle.std.proofs.lemmas.Bool.{and_parts, and_from, both_ways}
+use Rattle.std.proofs.lemmas.Nat.{and_le_l}
 use Rattle.std.proofs.lemmas.List.{take_more, take_more_set, flat_map_more, take-take, drop-drop, drop-take, take-append-drop, length-take-le, drop_at, take_at}
 use Rattle.std.proofs.lemmas.List.Folds.{list_all_more, list_all-append}
 use Rattle.ft_base.specs.declared.record.Record.{Record}
@@ -11,11 +13,11 @@ use Rattle.ft_base.specs.declared.record.Record.TheVariants.{SetPage, Remove, Cl
 use Rattle.cache_model.specs.declared.format.PageKind.{PageKind}
 use Rattle.cache_model.specs.declared.format.PageKind.TheVariants.{Log, Map, Seal as SealPage}
 use Rattle.cache_model.specs.declared.format.Header.{Header}
-use Rattle.cache_model.specs.Spelling.{zeros, spelled_header, spelled_record, rest_of_page, has_widths, is_sound, goes_on, may_stand_in, header_in_range, is_log_or_map, count_in_range, IsPageHeaderOf, IsPage}
+use Rattle.cache_model.specs.Spelling.{zeros, spelled_header, spelled_record, rest_of_page, has_widths, is_sound, goes_on, may_stand_in, header_in_range, is_log_or_map, count_in_range, page_limit, IsPageHeaderOf, IsPage}
 use Rattle.cache_model.specs.Reading.{record_in, read_page_header, read_records}
 use Rattle.cache_model.proofs.ReadingLemmas.{read_is, read_again}
 use Rattle.cache_model.proofs.SpellingLemmas.{record-again, take-record, drop-record, page_read, page_spelled}
-use Rattle.record_codec.specs.Lines.{BeginsWith, read_record}
+use Rattle.record_codec.specs.Lines.{BeginsWith, FitsLine, read_record}
 
 -- ---- lines
 
@@ -37,6 +39,26 @@ at_index : {X : Type 0} (p : X → Bool) (xs : List X) (i : ℕ) (d : X) → i <
 at_index p [] i d within t = absurd (omega arith)
 at_index p (x ∷ xs) zero d within t = (and_parts (p x) (list_all p xs) t).0
 at_index p (x ∷ xs) (suc i) d within t = at_index p xs i d (omega arith) (and_parts (p x) (list_all p xs) t).1
+
+-- a record that may stand in a page fits a line: its dirty pages are among the present ones
+dirty_below : (present dirty : ℕ) → bit_and present dirty ≡ dirty → dirty ≤ present
+dirty_below present dirty within = subst (λ n. n ≤ present) within (and_le_l present dirty)
+
+sound_fits : (r : Record) → is_sound r ≡ true → FitsLine r
+sound_fits (SetPage lba place dirty) t = let low : place.page < 64 = ltb-true _ _ t in omega arith
+sound_fits (Remove lba) t = tt
+sound_fits (Clean lba) t = tt
+sound_fits (SetGroup group block present dirty) t =
+    let p = and_parts (nat_lt 0 present && (bit_and present dirty == dirty)) (nat_lt present (2 ^ page_limit)) t in
+    let low : present < 2 ^ 64 = ltb-true _ _ p.1 in
+    let less = dirty_below present dirty (eqb-true _ _ (and_parts (nat_lt 0 present) (bit_and present dirty == dirty) p.0).1) in
+    (low, omega arith)
+sound_fits (RemoveGroup group) t = tt
+
+pub fits_at : (kind : PageKind) (rs : List Record) (i : ℕ) (d : Record) → i < length rs → list_all (may_stand_in kind) rs ≡ true → FitsLine (get_or rs i d)
+fits_at kind rs i d within all =
+    let r = get_or rs i d in
+    sound_fits r (and_parts (is_sound r) (goes_on kind r) (at_index (may_stand_in kind) rs i d within all)).0
 
 -- these records stand from line 1 on
 pub record RecordsSoFar (old now : List ℕ) (rs : List Record) (i : ℕ) : Type 0 where

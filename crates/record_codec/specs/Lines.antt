@@ -20,13 +20,13 @@ pub record FitsWidths (block first second third : ℕ) : Type 0 where
   pub second_fits : second < 2 ^ 64
   pub third_fits : third < 2 ^ 64
 
--- the page of a place takes one byte
-abbrev pub HasShortPage : Record → Type 0
-HasShortPage (SetPage lba place dirty) = place.page < 256
-HasShortPage (Remove lba) = Unit {0}
-HasShortPage (Clean lba) = Unit {0}
-HasShortPage (SetGroup group block present dirty) = Unit {0}
-HasShortPage (RemoveGroup group) = Unit {0}
+-- the page of a place takes one byte, and a set of pages eight
+abbrev pub FitsLine : Record → Type 0
+FitsLine (SetPage lba place dirty) = place.page < 256
+FitsLine (Remove lba) = Unit {0}
+FitsLine (Clean lba) = Unit {0}
+FitsLine (SetGroup group block present dirty) = (present < 2 ^ 64) × (dirty < 2 ^ 64)
+FitsLine (RemoveGroup group) = Unit {0}
 
 -- the record that a line spells
 unfoldable pub read_record : List ℕ → Option Record

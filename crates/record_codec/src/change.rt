@@ -1,7 +1,7 @@
 ghost use Rattle.std.specs.Prelude.{◌≡◌, IsTrue, slice_index};
 ghost use Rattle.cache_model.specs.Spelling.{spelled_record, has_widths, is_sound, goes_on};
 ghost use Rattle.cache_model.specs.Reading.{record_in};
-ghost use Rattle.record_codec.specs.Lines.{spelled_line, FitsWidths, HasShortPage, read_record as record_read};
+ghost use Rattle.record_codec.specs.Lines.{spelled_line, FitsLine, FitsWidths, read_record as record_read};
 
 use crate::line::{put_u32, put_u64, u32_at, u64_at};
 use cache_model::PageKind;
@@ -36,7 +36,7 @@ fn line_of(kind: u8, flag: u8, page: u8, block: u32, numbers: [u64; 3]) -> [u8; 
 
 /// The one spelling of a record.
 pub fn spelled_record(change: &Record) -> [u8; 32]
-    requires { HasShortPage change.now }
+    requires { FitsLine change.now }
     ensures spelled { result ≡ spelled_record change.now }
     ensures widths { IsTrue (has_widths change.now) }
 {
@@ -55,7 +55,13 @@ pub fn spelled_record(change: &Record) -> [u8; 32]
             block,
             present,
             dirty,
-        } => line_of(SET_GROUP, 0, 0, block, [group, present, dirty]),
+        } => line_of(
+            SET_GROUP,
+            0,
+            0,
+            block,
+            [group, present as u64, dirty as u64],
+        ),
         Record::RemoveGroup { group } => line_of(REMOVE_GROUP, 0, 0, 0, [group, 0, 0]),
     }
 }
@@ -64,7 +70,7 @@ pub fn spelled_record(change: &Record) -> [u8; 32]
 /// isn't.
 fn record_in(line: &[u8; 32]) -> Record
     ensures found { result ≡ record_in line.now }
-    ensures page { HasShortPage result }
+    ensures fits { FitsLine result }
 {
     let first = u64_at(line, 8);
     let block = u32_at(line, 4);
@@ -82,20 +88,22 @@ fn record_in(line: &[u8; 32]) -> Record
         SET_GROUP => Record::SetGroup {
             group: first,
             block,
-            present: u64_at(line, 16),
-            dirty: u64_at(line, 24),
+            present: u128::from(u64_at(line, 16)),
+            dirty: u128::from(u64_at(line, 24)),
         },
         _ => Record::RemoveGroup { group: first },
     }
 }
 
-/// Whether the page of a record is one of an erase block, and its dirty pages are present ones.
+/// Whether the pages of a record are those of an erase block, and its dirty pages are present ones.
 fn is_sound(change: &Record) -> bool
     ensures { result ≡ is_sound change.now }
 {
     match *change {
         Record::SetPage { place, .. } => place.page < 64,
-        Record::SetGroup { present, dirty, .. } => present > 0 && present & dirty == dirty,
+        Record::SetGroup { present, dirty, .. } => {
+            present > 0 && present & dirty == dirty && present < 1 << 64
+        }
         Record::Remove { .. } | Record::Clean { .. } | Record::RemoveGroup { .. } => true,
     }
 }

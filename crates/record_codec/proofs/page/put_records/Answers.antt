@@ -1,6 +1,9 @@
 use Rattle.std.proofs.Common.{◌∙◌, ap, ◌+◌, ◌*◌, ◌++◌, take}
-use Rattle.record_codec.proofs.PageLemmas.{records_more}
+use Rattle.record_codec.proofs.PageLemmas.{fits_at, records_more}
 use Rattle.record_codec.proofs.page.put_records.Goals as goal
+
+pub spelled_record-line-requires : goal.spelled_record-line-requires
+spelled_record-line-requires c = fits_at c.args.kind c.args.changes.now c.loop-i.i _ c.loop-i-test.true c.requires.changes
 
 pub loop-i-preserved : goal.loop-i-preserved
 loop-i-preserved c =
