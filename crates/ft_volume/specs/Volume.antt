@@ -167,7 +167,16 @@ volume_lost (Err PowerLost) = true
 volume_lost (Err e) = false
 volume_lost (Ok value) = false
 
--- each fault has its cause
+-- the answer blames the media
+abbrev pub blames_media : {T : Type 0} → Result T VolumeError → Bool
+blames_media (Ok value) = false
+blames_media (Err FlashFault) = true
+blames_media (Err DiskFault) = true
+blames_media (Err PowerLost) = true
+blames_media (Err OutOfMemory) = false
+blames_media (Err OutOfVolume) = false
+
+-- each fault has its cause, and none is hidden
 pub record HasCause {T : Type 0} (old new : Faults) (result : Result T VolumeError) : Type 0 where
   pub flash : old.flash ≤ new.flash
   pub disk : old.disk ≤ new.disk
@@ -175,6 +184,7 @@ pub record HasCause {T : Type 0} (old new : Faults) (result : Result T VolumeErr
   pub flash_fault : IsErrOf result FlashFault → Rose old.flash new.flash
   pub disk_fault : IsErrOf result DiskFault → Rose old.disk new.disk
   pub power_lost : IsErrOf result PowerLost → Rose old.cuts new.cuts
+  pub none : blames_media result ≡ false → new ≡ old
 
 -- what every call does, whatever it is for
 pub record Goes {T : Type 0} (old new : VolumeState) (before after : State) (result : Result T VolumeError) : Type 0 where
