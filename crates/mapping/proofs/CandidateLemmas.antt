@@ -182,7 +182,7 @@ module _ (g : Geometry) (m n : Entries) (group : ℕ) (before now : Option Block
   pub block_now : (b : BlockPages) → now ≡ Some b → IsDataBlock g n group b
   block_now b is = subst (λ o. IfSome o (IsDataBlock g n group)) is change.has_block
 
-  pub noted_some : (b : BlockPages) (old new : List ℕ) (count : ℕ) → now ≡ Some b → dirty ≡ false → AreOthers old → count ≡ page_count 64 b.present → new ≡ set old (b.block - first_pool g) count → AreCandidates g n new
+  pub noted_some : (b : BlockPages) (old new : List ℕ) (count : ℕ) → now ≡ Some b → dirty ≡ false → AreOthers old → count ≡ page_count 128 b.present → new ≡ set old (b.block - first_pool g) count → AreCandidates g n new
   noted_some b old new count is clean others counted put =
       let own_block = block_now b is in
       let x = stands_some g n group b own_block in
@@ -218,5 +218,5 @@ module _ (g : Geometry) (m n : Entries) (group : ℕ) (before now : Option Block
       back_again : (first block : ℕ) → first ≤ block → first + (block - first) ≡ block
       back_again first block low = omega arith
 
-pub count_small : (set count : ℕ) → count ≡ page_count 64 set → count < 2 ^ 16
-count_small set count is = let most = page_count-most 64 set in omega (arith, is, most)
+pub count_small : (set count : ℕ) → count ≡ page_count 128 set → count < 2 ^ 16
+count_small set count is = let most = page_count-most 128 set in omega (arith, is, most)

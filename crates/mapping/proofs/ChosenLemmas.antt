@@ -11,6 +11,7 @@ use Rattle.ft_base.specs.declared.geometry.Geometry.{Geometry}
 use Rattle.ft_base.specs.declared.record.Record.TheVariants.{SetGroup}
 use Rattle.cache_model.specs.declared.entry.Entry.{Entry}
 use Rattle.cache_model.specs.Records.{Entries}
+use Rattle.cache_model.specs.Spelling.{page_limit}
 use Rattle.block_map.specs.PageSets.{BlockPages, has_page, page_count}
 use Rattle.block_map.proofs.PageSetLemmas.{page_count-more, page_count-none, page_count-ones}
 use Rattle.mapping.specs.declared.bits.Choice.{Choice}
@@ -129,13 +130,25 @@ module _ (g : Geometry) (m : Entries) (group : ℕ) where
       entry_of a None there t = absurd (let f : is_chosen choice None ≡ false = refl in both_ways (is_chosen choice None) f t)
       entry_of a (Some e) there t = (e, there, t)
 
-  -- the pages of a set of 64 are those of the group
-  pub pages_held-count : (set n : ℕ) → set ≡ chosen_of Mapped g m group → n ≡ page_count 64 set → n ≡ pages_held g m group
+  -- no chosen page is past the last of an erase block
+  pub chosen_below : (choice : Choice) → chosen_of choice g m group < 2 ^ g.p
+  chosen_below choice = set_below (λ i. is_chosen choice (get m (group * g.p + i))) g.p
+
+  -- so their set is one that a record spells
+  pub chosen_short : (choice : Choice) → chosen_of choice g m group < 2 ^ page_limit
+  chosen_short choice =
+      let small = chosen_below choice in
+      let wider : 2 ^ g.p ≤ 2 ^ 64 = pow-le-pow_right (omega arith) g.in_range.p_high in
+      omega arith
+
+  -- the pages of a set of 128 are those of the group
+  pub pages_held-count : (set n : ℕ) → set ≡ chosen_of Mapped g m group → n ≡ page_count 128 set → n ≡ pages_held g m group
   pages_held-count set n is counted =
       let pages = chosen_of Mapped g m group in
-      let small : pages < 2 ^ g.p = set_below (λ i. is_chosen Mapped (get m (group * g.p + i))) g.p in
-      let wider : 2 ^ g.p ≤ 2 ^ 64 = pow-le-pow_right (omega arith) g.in_range.p_high in
-      counted ∙ ap (page_count 64) is ∙ sym (page_count-ones 64 pages (omega arith)) ∙ page_count-ones g.p pages small
+      let small = chosen_below Mapped in
+      let high : g.p ≤ 128 = omega (arith, g.in_range.p_high) in
+      let wider : 2 ^ g.p ≤ 2 ^ 128 = pow-le-pow_right (omega arith) high in
+      counted ∙ ap (page_count 128) is ∙ sym (page_count-ones 128 pages (omega arith)) ∙ page_count-ones g.p pages small
 
   pub pages_held-none : chosen_of Mapped g m group ≡ 0 → 0 ≡ pages_held g m group
   pages_held-none empty = sym (ap (page_count g.p) empty ∙ page_count-empty g.p)

@@ -1,7 +1,7 @@
 -- A map has no more page-mapped entries than its log blocks have pages; and its buckets stay few.
 use Rattle.std.proofs.Common.{◌≡◌, ℕ, zero, suc, ◌+◌, ◌*◌, ◌^◌, ◌<◌, ◌≤◌, ◌==◌, ◌||◌, Bool, true, false, cond, List, [], ◌∷◌, ◌++◌, length, map, filter, Some, sym, ◌∙◌, ap, ap₂, subst, arith}
 use Rattle.std.proofs.Common.{◌⊎◌, max, inl, inr, nat_cmp, nat_le, eqb-true, length-append, pow-suc}
-use Rattle.std.proofs.Math.Nat.{max-le}
+use Rattle.std.proofs.Math.Nat.{le-max_left, le-max_right, max-le}
 use Rattle.std.specs.List.{AllByRecursion, range_with_len}
 use Rattle.std.specs.FinMap.{get, entries, entries_sorted, is_sorted}
 use Rattle.std.specs.FinMap.Entries.{below_all}
@@ -21,7 +21,7 @@ use Rattle.cache_model.proofs.MapLemmas.{all_entries, holds}
 use Rattle.sparse_map.specs.Home.{IsDoubledFor}
 use Rattle.mapping.specs.Counts.{page_mapped_count, data_block_count}
 use Rattle.mapping.specs.MapValue.{MapValue}
-use Rattle.mapping.specs.Room.{GrewForPages, GrewForGroups, HasFewBuckets, HasNoMoreRoom, KeepsBuckets, KeepsFewBuckets}
+use Rattle.mapping.specs.Room.{GrewForPages, GrewForGroups, HasFewBuckets, HasNoMoreRoom, KeepsBuckets, KeepsFewBuckets, most_groups}
 use Rattle.mapping.proofs.AscendingLemmas.{Items}
 use Rattle.mapping.proofs.MarksLemmas.{member_from}
 use Rattle.mapping.proofs.TallyLemmas.{above}
@@ -164,14 +164,21 @@ few_doubled need most narrow wide enough doubled few = elim (start_or_few need n
     start_few true = few
     start_few false = inl (omega arith)
 
-module _ (g : Geometry) (m : Entries) (is_map : IsMap g m) (more old new : ℕ) (few : more ≤ most_page_records) where
+-- so many are few: the records of a page, and the pages of an erase block
+pub few_of_page : (g : Geometry) (n : ℕ) → n ≤ most_page_records → n ≤ most_groups g
+few_of_page g n few = omega (arith, few, le-max_left most_page_records g.p)
+
+pub few_of_block : (g : Geometry) → g.p ≤ most_groups g
+few_of_block g = le-max_right most_page_records g.p
+
+module _ (g : Geometry) (m : Entries) (is_map : IsMap g m) (more old new : ℕ) where
   -- the buckets of the page-mapped addresses after a reservation for so many more
-  pub pages_grown : IsDoubledFor (page_mapped_count m + more) old new → AreFewFor (g.l * g.p + most_page_records) old → AreFewFor (g.l * g.p + most_page_records) new
-  pages_grown = let held = pages_few g m is_map in few_doubled (page_mapped_count m + more) (g.l * g.p + most_page_records) old new (omega (arith, few))
+  pub pages_grown : more ≤ most_page_records → IsDoubledFor (page_mapped_count m + more) old new → AreFewFor (g.l * g.p + most_page_records) old → AreFewFor (g.l * g.p + most_page_records) new
+  pages_grown few = let held = pages_few g m is_map in few_doubled (page_mapped_count m + more) (g.l * g.p + most_page_records) old new (omega (arith, few))
 
   -- and those of the groups
-  pub groups_grown : IsDoubledFor (data_block_count g m + more) old new → AreFewFor (g.c + most_page_records) old → AreFewFor (g.c + most_page_records) new
-  groups_grown = let held = is_map.data_blocks in few_doubled (data_block_count g m + more) (g.c + most_page_records) old new (omega (arith, few))
+  pub groups_grown : more ≤ most_groups g → IsDoubledFor (data_block_count g m + more) old new → AreFewFor (g.c + most_groups g) old → AreFewFor (g.c + most_groups g) new
+  groups_grown few = let held = is_map.data_blocks in few_doubled (data_block_count g m + more) (g.c + most_groups g) old new (omega (arith, few))
 
 -- a new map has few
 pub few_new : (m : MapValue) → m.spare_pages ≡ 0 → m.spare_groups ≡ 0 → m.buckets ≡ 0 → m.group_buckets ≡ 0 → HasFewBuckets m
@@ -184,23 +191,23 @@ few_kept old new same room kept few =
     let q = few.groups in
     record {
       pages = omega (arith, room.pages, p);
-      groups = omega (arith, room.groups, q);
+      groups = subst (λ g. new.spare_groups ≤ most_groups g) (sym same) (omega (arith, room.groups, q));
       buckets = subst (λ b. AreFewFor (new.geometry.l * new.geometry.p + most_page_records) b) (sym kept.pages)
           (subst (λ (g : Geometry). AreFewFor (g.l * g.p + most_page_records) old.buckets) (sym same) few.buckets);
-      group_buckets = subst (λ b. AreFewFor (new.geometry.c + most_page_records) b) (sym kept.groups)
-          (subst (λ (g : Geometry). AreFewFor (g.c + most_page_records) old.group_buckets) (sym same) few.group_buckets);
+      group_buckets = subst (λ b. AreFewFor (new.geometry.c + most_groups new.geometry) b) (sym kept.groups)
+          (subst (λ (g : Geometry). AreFewFor (g.c + most_groups g) old.group_buckets) (sym same) few.group_buckets);
     }
 
--- where they grew for no more than the records of a page, they are few
-pub few_grown : (old new : MapValue) (p q : ℕ) → IsMap old.geometry old.entries → new.geometry ≡ old.geometry → p ≤ most_page_records → q ≤ most_page_records
-    → new.spare_pages ≤ most_page_records → new.spare_groups ≤ most_page_records
+-- where they grew for few, they are few
+pub few_grown : (old new : MapValue) (p q : ℕ) → IsMap old.geometry old.entries → new.geometry ≡ old.geometry → p ≤ most_page_records → q ≤ most_groups old.geometry
+    → new.spare_pages ≤ most_page_records → new.spare_groups ≤ most_groups old.geometry
     → GrewForPages old new p → GrewForGroups old new q → HasFewBuckets old → HasFewBuckets new
 few_grown old new p q is_map same few_p few_q pages groups grew grew' few = record {
   pages = pages;
-  groups = groups;
+  groups = subst (λ g. new.spare_groups ≤ most_groups g) (sym same) groups;
   buckets = subst (λ (g : Geometry). AreFewFor (g.l * g.p + most_page_records) new.buckets) (sym same)
       (pages_grown old.geometry old.entries is_map p old.buckets new.buckets few_p grew few.buckets);
-  group_buckets = subst (λ (g : Geometry). AreFewFor (g.c + most_page_records) new.group_buckets) (sym same)
+  group_buckets = subst (λ (g : Geometry). AreFewFor (g.c + most_groups g) new.group_buckets) (sym same)
       (groups_grown old.geometry old.entries is_map q old.group_buckets new.group_buckets few_q grew' few.group_buckets);
 }
 
@@ -225,12 +232,12 @@ pub record IsReserved (p q : ℕ) (old new : MapValue) : Type 0 where
   pub buckets : GrewForPages old new new.spare_pages
   pub group_buckets : GrewForGroups old new new.spare_groups
 
-pub keeps_reserved : (p q : ℕ) (old new : MapValue) → p ≤ most_page_records → q ≤ most_page_records → IsReserved p q old new → KeepsFewBuckets old new
+pub keeps_reserved : (p q : ℕ) (old new : MapValue) → p ≤ most_page_records → q ≤ most_groups old.geometry → IsReserved p q old new → KeepsFewBuckets old new
 keeps_reserved p q old new few_p few_q ready = record {
   is_map = is_map_same old new ready.geometry ready.entries;
   few = λ is few.
       let pages : new.spare_pages ≤ most_page_records = subst (λ n. n ≤ most_page_records) (sym ready.pages) (max-le few.pages few_p) in
-      let groups : new.spare_groups ≤ most_page_records = subst (λ n. n ≤ most_page_records) (sym ready.groups) (max-le few.groups few_q) in
+      let groups : new.spare_groups ≤ most_groups old.geometry = subst (λ n. n ≤ most_groups old.geometry) (sym ready.groups) (max-le few.groups few_q) in
       few_grown old new new.spare_pages new.spare_groups is ready.geometry pages groups pages groups ready.buckets ready.group_buckets few;
 }
 
@@ -239,11 +246,11 @@ pub few_refused : (p : ℕ) (old new : MapValue) → p ≤ most_page_records →
     → (new.buckets ≡ old.buckets) ⊎ GrewForPages old new (max old.spare_pages p) → new.group_buckets ≡ old.group_buckets → HasFewBuckets old → HasFewBuckets new
 few_refused p old new few_p is same pages groups buckets group_buckets few = record {
   pages = subst (λ n. n ≤ most_page_records) (sym pages) few.pages;
-  groups = subst (λ n. n ≤ most_page_records) (sym groups) few.groups;
+  groups = subst (λ g. new.spare_groups ≤ most_groups g) (sym same) (subst (λ n. n ≤ most_groups old.geometry) (sym groups) few.groups);
   buckets = subst (λ (g : Geometry). AreFewFor (g.l * g.p + most_page_records) new.buckets) (sym same) (elim buckets [
     | inl kept ↦ subst (λ b. AreFewFor (old.geometry.l * old.geometry.p + most_page_records) b) (sym kept) few.buckets
     | inr grew ↦ pages_grown old.geometry old.entries is (max old.spare_pages p) old.buckets new.buckets (max-le few.pages few_p) grew few.buckets
   ]);
-  group_buckets = subst (λ b. AreFewFor (new.geometry.c + most_page_records) b) (sym group_buckets)
-      (subst (λ (g : Geometry). AreFewFor (g.c + most_page_records) old.group_buckets) (sym same) few.group_buckets);
+  group_buckets = subst (λ b. AreFewFor (new.geometry.c + most_groups new.geometry) b) (sym group_buckets)
+      (subst (λ (g : Geometry). AreFewFor (g.c + most_groups g) old.group_buckets) (sym same) few.group_buckets);
 }

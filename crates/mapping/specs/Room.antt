@@ -1,6 +1,7 @@
 -- How many buckets there are after a reservation: as many as before, or 32 in place of none, doubled just as often as the items and so
 -- many more ask; and what other calls keep.
-use Rattle.std.specs.Prelude.{◌≡◌, ◌≤◌, ℕ, ◌+◌, ◌*◌}
+use Rattle.std.specs.Prelude.{◌≡◌, ◌≤◌, ℕ, ◌+◌, ◌*◌, max}
+use Rattle.ft_base.specs.declared.geometry.Geometry.{Geometry}
 use Rattle.ft_base.specs.Layout.{most_page_records}
 use Rattle.cache_model.specs.Entries.{IsMap}
 use Rattle.cache_model.specs.Buckets.{AreFewFor}
@@ -16,13 +17,17 @@ GrewForPages old new more = IsDoubledFor (page_mapped_count old.entries + more) 
 abbrev pub GrewForGroups : MapValue → MapValue → ℕ → Type 0
 GrewForGroups old new more = IsDoubledFor (data_block_count old.geometry old.entries + more) old.group_buckets new.group_buckets
 
--- room for no more pages and groups than the records of one page take; and buckets that are few for all page-mapped addresses, and all
--- groups with a data block, that a map of its geometry may have, with that room beside them
+-- the most groups that room is made for: as many as the records of one page take, or the pages of an erase block
+abbrev pub most_groups : Geometry → ℕ
+most_groups g = max most_page_records g.p
+
+-- room for no more pages than the records of one page take, and for few groups; and buckets that are few for all page-mapped addresses,
+-- and all groups with a data block, that a map of its geometry may have, with that room beside them
 pub record HasFewBuckets (m : MapValue) : Type 0 where
   pub pages : m.spare_pages ≤ most_page_records
-  pub groups : m.spare_groups ≤ most_page_records
+  pub groups : m.spare_groups ≤ most_groups m.geometry
   pub buckets : AreFewFor (m.geometry.l * m.geometry.p + most_page_records) m.buckets
-  pub group_buckets : AreFewFor (m.geometry.c + most_page_records) m.group_buckets
+  pub group_buckets : AreFewFor (m.geometry.c + most_groups m.geometry) m.group_buckets
 
 -- a map of its geometry stays one, and keeps few buckets where it had few
 pub record KeepsFewBuckets (old new : MapValue) : Type 0 where

@@ -11,11 +11,11 @@ use crate::held::Held;
 use crate::index::Index;
 use crate::marks::{Mark, may_have};
 use crate::seeking::{Sought, found_in};
-use block_map::page_set::PAGES;
+use block_map::page_set::{PAGES, PageSet};
 use ft_base::{Geometry, Record};
 
 /// Whether a set has one of the pages of an erase block.
-fn has_page(geometry: &Geometry, set: u64) -> bool
+fn has_page(geometry: &Geometry, set: PageSet) -> bool
     ensures { IsTrue result ↔ HasPageBelow set geometry.now.p }
 {
     for page in 0..geometry.p {
@@ -27,7 +27,7 @@ fn has_page(geometry: &Geometry, set: u64) -> bool
 }
 
 /// Whether a set has no pages but those of an erase block.
-fn is_set_below(geometry: &Geometry, set: u64) -> bool
+fn is_set_below(geometry: &Geometry, set: PageSet) -> bool
     ensures { IsTrue result ↔ (set < 2 ^ geometry.now.p) }
 {
     if geometry.p == PAGES {
@@ -37,7 +37,7 @@ fn is_set_below(geometry: &Geometry, set: u64) -> bool
 }
 
 /// Whether the present pages of a group are below the volume's size.
-fn ends_below_size(geometry: &Geometry, group: u64, present: u64) -> bool
+fn ends_below_size(geometry: &Geometry, group: u64, present: PageSet) -> bool
     requires { group ≤ (geometry.now.size - 1) / geometry.now.p }
     ensures { IsTrue result ↔ EndsBelowSize geometry.now group present }
 {
@@ -58,7 +58,7 @@ fn may_come(
     geometry: &Geometry,
     group: u64,
     block: u32,
-    present: u64,
+    present: PageSet,
 ) -> bool
     requires group { group ≤ (geometry.now.size - 1) / geometry.now.p }
     requires indexed { IsIndexed geometry.now held.now.entries index.now }
@@ -89,8 +89,8 @@ pub fn fits_group(
     data_blocks: u32,
     group: u64,
     block: u32,
-    present: u64,
-    dirty: u64,
+    present: PageSet,
+    dirty: PageSet,
 ) -> bool
     requires geometry { held.now.geometry ≡ geometry.now }
     requires indexed { IsIndexed geometry.now held.now.entries index.now }

@@ -24,6 +24,7 @@ use crate::ranges::{change_entries, first_of, group_of};
 use crate::seeking::{Sought, found_in};
 use crate::sets::chosen_any;
 use block_map::BlockAt;
+use block_map::page_set::PageSet;
 use ft_base::{Geometry, Place, Record};
 use std::alloc::{AllocError, Global};
 use std::marker::Model;
@@ -290,14 +291,14 @@ impl Map {
     }
 
     /// The held pages of a group: the bit of value 2^i for its address i.
-    pub fn held_bits(&self, group: u64) -> u64
+    pub fn held_bits(&self, group: u64) -> PageSet
         ensures { result ≡ chosen_of held_choice self.now.geometry self.now.entries group }
     {
         chosen_any(&self.held, &self.geometry, Choice::Held, group)
     }
 
     /// The dirty pages of a group: the bit of value 2^i for its address i.
-    pub fn dirty_bits(&self, group: u64) -> u64
+    pub fn dirty_bits(&self, group: u64) -> PageSet
         ensures { result ≡ chosen_of Dirty self.now.geometry self.now.entries group }
     {
         chosen_any(&self.held, &self.geometry, Choice::Dirty, group)

@@ -5,10 +5,11 @@ ghost use Rattle.mapping.specs.Bits.{chosen_of};
 
 use crate::bits::Choice;
 use crate::held::Held;
+use block_map::page_set::PageSet;
 use ft_base::Geometry;
 
 /// The set of the chosen pages of a group.
-fn chosen(held: &Held, geometry: &Geometry, choice: Choice, group: u64) -> u64
+fn chosen(held: &Held, geometry: &Geometry, choice: Choice, group: u64) -> PageSet
     requires group { group ≤ (geometry.now.size - 1) / geometry.now.p }
     ensures set { result ≡ chosen_of choice geometry.now held.now.entries group }
     ensures below { result < 2 ^ geometry.now.p }
@@ -24,7 +25,7 @@ fn chosen(held: &Held, geometry: &Geometry, choice: Choice, group: u64) -> u64
 }
 
 /// The set of the chosen pages of any group: of none past the volume's size.
-pub fn chosen_any(held: &Held, geometry: &Geometry, choice: Choice, group: u64) -> u64
+pub fn chosen_any(held: &Held, geometry: &Geometry, choice: Choice, group: u64) -> PageSet
     requires { IsMap geometry.now held.now.entries }
     ensures { result ≡ chosen_of choice geometry.now held.now.entries group }
 {

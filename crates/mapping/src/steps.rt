@@ -9,6 +9,7 @@ ghost use Rattle.mapping.specs.Room.{KeepsTables};
 
 use crate::held::Held;
 use block_map::BlockAt;
+use block_map::page_set::PageSet;
 use ft_base::{Place, Record};
 
 /// The step of a record. There is room for what it takes.
@@ -50,7 +51,7 @@ fn set_page(held: &mut Held, lba: u64, place: Place, dirty: bool)
 }
 
 /// The blocks of a group stand in this data block from now on.
-fn set_group(held: &mut Held, group: u64, block: u32, present: u64, dirty: u64)
+fn set_group(held: &mut Held, group: u64, block: u32, present: PageSet, dirty: PageSet)
     requires group { group ≤ (held.old.geometry.size - 1) / held.old.geometry.p }
     requires below { present < 2 ^ held.old.geometry.p }
     requires room { 1 ≤ held.old.spare_blocks }
