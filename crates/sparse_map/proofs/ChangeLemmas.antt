@@ -15,7 +15,7 @@ use Rattle.sparse_map.specs.declared.map.SparseMap.TheInside.{Inside}
 use Rattle.sparse_map.specs.Slots.{slot_at, key_at, items_of}
 use Rattle.sparse_map.specs.Home.{buckets_for}
 use Rattle.sparse_map.specs.Groups.{all_slots, slots_of, IsTable}
-use Rattle.sparse_map.specs.Places.{sizes_of, lacking}
+use Rattle.sparse_map.specs.Places.{sizes_of, lacking, past_of}
 use Rattle.sparse_map.specs.Packed.{IsPacked, PackedTable, map_of}
 use Rattle.sparse_map.specs.Kept.{KeepsTable}
 use Rattle.sparse_map.specs.Seen.{seen_of}
@@ -60,8 +60,8 @@ module _ {V : Type 0} (bits len spare blanks : ℕ) (touched : Touched) (us : Li
   -- the same number of buckets, other items
   pub kept_changed : (len_2 spare_2 blanks_2 : ℕ) (touched_2 : Touched) (ws : List (Group V)) → IsTable (buckets_for bits) ws → IsPacked (slots_of (buckets_for bits) ws) → len_2 ≡ length (items_of (slots_of (buckets_for bits) ws))
       → len_2 + spare_2 ≤ len + spare → min spare_2 (lacking spare_2 Nowhere (sizes_of ws)) ≤ blanks_2 → lacking 1 touched_2 (sizes_of ws) ≤ lacking 1 touched (sizes_of us)
-      → KeepsTable bits len_2 spare_2 blanks_2 touched_2 ws
-  kept_changed len_2 spare_2 blanks_2 touched_2 ws table packed counted less stocked ready =
+      → past_of (sizes_of ws) ≤ past_of (sizes_of us) → blanks_2 ≤ blanks → KeepsTable bits len_2 spare_2 blanks_2 touched_2 ws
+  kept_changed len_2 spare_2 blanks_2 touched_2 ws table packed counted less stocked ready short fewer =
       record {
         few = kept.few;
         many = kept.many;
@@ -71,6 +71,8 @@ module _ {V : Type 0} (bits len spare blanks : ℕ) (touched : Touched) (us : Li
         room = omega (arith, kept.room, less);
         stocked = stocked;
         ready = omega (arith, ready, kept.ready);
+        short = omega (arith, short, kept.short);
+        few_blanks = omega (arith, fewer, kept.few_blanks);
       }
 
   -- a key that is there, or room for one, shows that there are buckets
@@ -160,6 +162,8 @@ module _ {V : Type 0} (m : Inside V) (t : PackedTable V) (kept : KeepsTable m.bi
         (omega arith)
         (subst (λ s. min m.spare (lacking m.spare Nowhere s) ≤ vec_len m.stock) (sym sizes) kept.stocked)
         (omega (arith, ap (lacking 1 m.touched) sizes))
+        (omega (arith, ap past_of sizes))
+        (omega arith)
 
     pub map_value : (u : PackedTable V) → u.slots ≡ slots_of (buckets_for m.bits) ws → key_at (slots_of (buckets_for m.bits) m.groups.items) b ≡ Some key → map_of u ≡ map.insert (map_of t) key v
     map_value u at has =
@@ -167,8 +171,9 @@ module _ {V : Type 0} (m : Inside V) (t : PackedTable V) (kept : KeepsTable m.bi
 
     pub kept_new_key : (blanks : ℕ) (touched : Touched) → IsFreeFor (slots_of (buckets_for m.bits) m.groups.items) key b → 1 ≤ m.spare → vec_len m.stock ≤ blanks + 1
         → ((n : ℕ) → vec_len m.stock + lacking n Nowhere (sizes_of ws) ≤ blanks + lacking (n + 1) Nowhere (sizes_of m.groups.items))
-        → lacking 1 touched (sizes_of ws) ≤ lacking 1 m.touched (sizes_of m.groups.items) → KeepsTable m.bits (m.len + 1) (m.spare - 1) blanks touched ws
-    kept_new_key blanks touched place more one_less fewer_lack ready =
+        → lacking 1 touched (sizes_of ws) ≤ lacking 1 m.touched (sizes_of m.groups.items) → past_of (sizes_of ws) ≤ past_of (sizes_of m.groups.items) → blanks ≤ vec_len m.stock
+        → KeepsTable m.bits (m.len + 1) (m.spare - 1) blanks touched ws
+    kept_new_key blanks touched place more one_less fewer_lack ready short fewer_blanks =
         let before : m.spare - 1 + 1 ≡ m.spare = omega (arith, more) in
         let fewer : vec_len m.stock + lacking (m.spare - 1) Nowhere (sizes_of ws) ≤ blanks + lacking m.spare Nowhere (sizes_of m.groups.items) =
         subst (λ n. vec_len m.stock + lacking (m.spare - 1) Nowhere (sizes_of ws) ≤ blanks + lacking n Nowhere (sizes_of m.groups.items)) before (fewer_lack (m.spare - 1)) in
@@ -179,6 +184,8 @@ module _ {V : Type 0} (m : Inside V) (t : PackedTable V) (kept : KeepsTable m.bi
         (omega arith)
         (omega (arith, kept.stocked, one_less, fewer, more))
         ready
+        short
+        fewer_blanks
 
     pub map_new_key : (u : PackedTable V) → u.slots ≡ slots_of (buckets_for m.bits) ws → IsFreeFor (slots_of (buckets_for m.bits) m.groups.items) key b → map_of u ≡ map.insert (map_of t) key v
     map_new_key u at place =
@@ -187,18 +194,22 @@ module _ {V : Type 0} (m : Inside V) (t : PackedTable V) (kept : KeepsTable m.bi
   -- without a key, among the n buckets that there are
   pub kept_removed : (n : ℕ) → buckets_for m.bits ≡ n → (ws : List (Group V)) → IsTable n ws → IsPacked (slots_of n ws)
       → length (items_of (slots_of n ws)) + 1 ≡ length (items_of (slots_of n m.groups.items))
-      → ((n : ℕ) (t : Touched) → lacking n t (sizes_of ws) ≤ lacking n t (sizes_of m.groups.items)) → KeepsTable m.bits (m.len - 1) m.spare (vec_len m.stock) m.touched ws
+      → ((n : ℕ) (t : Touched) → lacking n t (sizes_of ws) ≤ lacking n t (sizes_of m.groups.items)) → past_of (sizes_of ws) ≤ past_of (sizes_of m.groups.items)
+      → KeepsTable m.bits (m.len - 1) m.spare (vec_len m.stock) m.touched ws
   kept_removed n size ws =
       subst (λ n. IsTable n ws → IsPacked (slots_of n ws) → length (items_of (slots_of n ws)) + 1 ≡ length (items_of (slots_of n m.groups.items))
-      → ((n : ℕ) (t : Touched) → lacking n t (sizes_of ws) ≤ lacking n t (sizes_of m.groups.items)) → KeepsTable m.bits (m.len - 1) m.spare (vec_len m.stock) m.touched ws) size
-      (λ table packed count fewer.
+      → ((n : ℕ) (t : Touched) → lacking n t (sizes_of ws) ≤ lacking n t (sizes_of m.groups.items)) → past_of (sizes_of ws) ≤ past_of (sizes_of m.groups.items)
+      → KeepsTable m.bits (m.len - 1) m.spare (vec_len m.stock) m.touched ws) size
+      (λ table packed count fewer short.
       kept_changed m.bits m.len m.spare (vec_len m.stock) m.touched m.groups.items kept (m.len - 1) m.spare (vec_len m.stock) m.touched ws
       table
       packed
       (omega (arith, kept.counted, count))
       (omega arith)
       (omega (arith, kept.stocked, fewer m.spare Nowhere))
-      (omega (arith, fewer 1 m.touched)))
+      (omega (arith, fewer 1 m.touched))
+      short
+      (omega arith))
 
 -- without a key that is nowhere a map is as it is
 pub absent_stays : {V : Type 0} (t : PackedTable V) (key : ℕ) → ((b : ℕ) → key_at t.slots b ≢ Some key) → map_of t ≡ map.remove (map_of t) key

@@ -16,8 +16,8 @@ use Rattle.sparse_map.specs.Groups.{all_slots, slots_of, lists_for, IsTable}
 use Rattle.sparse_map.specs.Packed.{IsPacked, PackedTable, map_of, len_of, IsSound}
 use Rattle.sparse_map.specs.Kept.{KeepsTable, HasFreeBucket}
 use Rattle.sparse_map.specs.Seen.{more_free}
-use Rattle.sparse_map.specs.Places.{lacks, lacking}
-use Rattle.sparse_map.proofs.PlacesLemmas.{sizes-new, no-untouched}
+use Rattle.sparse_map.specs.Places.{sizes_of, places_of, lacks, lacking, past_most, past_of}
+use Rattle.sparse_map.proofs.PlacesLemmas.{sizes-new, no-untouched, length-sizes, past-few}
 use Rattle.sparse_map.specs.Moved.{IsDistinct}
 use Rattle.sparse_map.proofs.HomeLemmas.{IsSized, shifted_one, sized, some_buckets, no_buckets}
 use Rattle.sparse_map.proofs.TableLemmas.{length-all_slots}
@@ -126,13 +126,15 @@ module _ {V : Type 0} where
     kept_len u same =
         len_of-items u (subst (λ s. Once s) (sym same) kept.packed.once) ∙ ap (λ s. length (items_of s)) same ∙ sym kept.counted
 
-    pub kept_sound : (u : PackedTable V) → u.slots ≡ slots_of (buckets_for bits) groups → u.spare ≡ spare → IsSound u
-    kept_sound u same ready =
-        let long = ap length same in
+    pub kept_sound : (u : PackedTable V) → u.slots ≡ slots_of (buckets_for bits) groups → u.spare ≡ spare → u.places ≡ places_of (sizes_of groups) → u.blanks ≡ blanks → IsSound u
+    kept_sound u same ready sizes blank =
+        let long : length u.slots ≡ length (slots_of (buckets_for bits) groups) = ap length same in
         record {
           packed = subst (λ s. IsPacked s) (sym same) kept.packed;
           room = omega (arith, kept.room, kept_len u same, ready, long, kept_long);
           buckets = λ some. let b = kept_some (omega (arith, some, long)) in (bits, kept.many b, long ∙ kept_buckets b);
+          places = omega (arith, past-few (sizes_of groups) kept.short, length-sizes groups, kept.table.count, sizes, long, kept_long);
+          blanks = omega (arith, kept.few_blanks, blank, long, kept_long);
         }
 
     -- a key in a bucket: there are buckets
@@ -173,9 +175,9 @@ module _ {V : Type 0} where
   unfolding map_of items_of
   map_of-new u us same = ap (λ s. map.from_entries {R = nat_cmp} (items_of s)) (same ∙ no_slots us)
 
-  pub kept_new : (us : List (Group V)) (blanks : ℕ) → us ≡ [] → KeepsTable 0 0 0 blanks Nowhere us
+  pub kept_new : (us : List (Group V)) (blanks : ℕ) → us ≡ [] → blanks ≡ 0 → KeepsTable 0 0 0 blanks Nowhere us
   unfolding items_of
-  kept_new us blanks e =
+  kept_new us blanks e none_blank =
       let none = no_slots us in
       record {
         few = omega arith;
@@ -189,4 +191,6 @@ module _ {V : Type 0} where
         room = omega arith;
         stocked = omega arith;
         ready = ap (lacking 1 Nowhere) (sizes-new us e) ∙ no-untouched (lacks 1);
+        short = ap past_of (sizes-new us e) ∙ no-untouched past_most;
+        few_blanks = omega (arith, none_blank);
       }

@@ -12,8 +12,8 @@ use Rattle.sparse_map.specs.declared.table.Touched.{Touched}
 use Rattle.sparse_map.specs.declared.table.Touched.TheVariants.{Nowhere}
 use Rattle.sparse_map.specs.Home.{IsTableSize, buckets_for}
 use Rattle.sparse_map.specs.Slots.{slot_at, key_at, items_of}
-use Rattle.sparse_map.specs.Groups.{slots_in, all_slots, slots_of, IsTable}
-use Rattle.sparse_map.specs.Places.{sizes_of, lacking}
+use Rattle.sparse_map.specs.Groups.{slots_in, all_slots, slots_of, lists_for, IsTable}
+use Rattle.sparse_map.specs.Places.{sizes_of, lacking, past_of}
 use Rattle.sparse_map.specs.Packed.{IsPacked}
 use Rattle.sparse_map.specs.Kept.{KeepsTable}
 use Rattle.sparse_map.specs.Moved.{IsDistinct, after_items}
@@ -115,8 +115,9 @@ module _ {V : Type 0} where
       }
 
   pub kept_groups : (bits len spare blanks : ℕ) (us : List (Group V)) → IsTableSize bits → IsTable (2 ^ bits) us → IsPacked (slots_of (2 ^ bits) us) → len ≡ length (items_of (slots_of (2 ^ bits) us))
-      → 4 * (len + spare) ≤ 3 * 2 ^ bits → min spare (lacking spare Nowhere (sizes_of us)) ≤ blanks → lacking 1 Nowhere (sizes_of us) ≡ 0 → KeepsTable bits len spare blanks Nowhere us
-  kept_groups bits len spare blanks us bounds table packed counted room stocked ready =
+      → 4 * (len + spare) ≤ 3 * 2 ^ bits → min spare (lacking spare Nowhere (sizes_of us)) ≤ blanks → lacking 1 Nowhere (sizes_of us) ≡ 0
+      → past_of (sizes_of us) ≡ 0 → blanks ≤ lists_for (2 ^ bits) → KeepsTable bits len spare blanks Nowhere us
+  kept_groups bits len spare blanks us bounds table packed counted room stocked ready short few =
       let size : 2 ^ bits ≡ buckets_for bits = sym (some_buckets bits (omega (arith, bounds.many))) in
       record {
         few = bounds.few;
@@ -127,13 +128,15 @@ module _ {V : Type 0} where
         room = omega (arith, room, size);
         stocked = stocked;
         ready = ready;
+        short = short;
+        few_blanks = omega (arith, few, size);
       }
 
   -- ---- other groups with the same buckets, perhaps with more room
   pub kept_stocked : (bits len spare blanks : ℕ) (touched : Touched) (us ws : List (Group V)) (spare_2 blanks_2 : ℕ) (touched_2 : Touched) → KeepsTable bits len spare blanks touched us → all_slots ws ≡ all_slots us
       → 4 * (len + spare_2) ≤ 3 * buckets_for bits → min spare_2 (lacking spare_2 Nowhere (sizes_of ws)) ≤ blanks_2 → lacking 1 touched_2 (sizes_of ws) ≤ lacking 1 touched (sizes_of us)
-      → KeepsTable bits len spare_2 blanks_2 touched_2 ws
-  kept_stocked bits len spare blanks touched us ws spare_2 blanks_2 touched_2 kept all room stocked ready =
+      → past_of (sizes_of ws) ≤ past_of (sizes_of us) → blanks_2 ≤ lists_for (buckets_for bits) → KeepsTable bits len spare_2 blanks_2 touched_2 ws
+  kept_stocked bits len spare blanks touched us ws spare_2 blanks_2 touched_2 kept all room stocked ready short few =
       let same = same_table (buckets_for bits) us ws all in
       record {
         few = kept.few;
@@ -144,4 +147,6 @@ module _ {V : Type 0} where
         room = room;
         stocked = stocked;
         ready = omega (arith, ready, kept.ready);
+        short = omega (arith, short, kept.short);
+        few_blanks = few;
       }

@@ -11,7 +11,7 @@ use Rattle.sparse_map.specs.declared.table.Touched.{Touched}
 use Rattle.sparse_map.specs.declared.table.Touched.TheVariants.{Nowhere, In, Anywhere}
 use Rattle.sparse_map.specs.Trimmed.{MayBeTouched, IsTrimmed, IsReady}
 use Rattle.sparse_map.specs.Moved.{items_in}
-use Rattle.sparse_map.specs.Places.{list_size, sizes_of, places_of, extra, lacks, sum_untouched, loose_of, lacking, IsBoundedBy}
+use Rattle.sparse_map.specs.Places.{list_size, sizes_of, places_of, extra, lacks, sum_untouched, loose_of, lacking, past_most, past_of, IsBoundedBy}
 
 -- ---- a list that has no place for so many items more
 pub lacks-no : (n : ℕ) (x : ℕ × ℕ) → min 64 (x.0 + n) ≤ x.1 → lacks n x ≡ 0
@@ -159,6 +159,21 @@ lacking-at_most n (x ∷ s) = omega (arith, sum_by-cons (lacks n) x s, lacks-mos
 pub lacking-le : (n m : ℕ) (s : List (ℕ × ℕ)) → n ≤ m → lacking n Nowhere s ≤ lacking m Nowhere s
 unfolding sum_untouched
 lacking-le n m s le = sum_by-le-sum_by (lacks n) (lacks m) s (lacks-next n m le)
+
+-- ---- the places past 65
+pub past-le : (x y : ℕ × ℕ) → x.1 ≤ max y.1 65 → past_most x ≤ past_most y
+unfolding past_most
+past-le x y le = omega (arith, le)
+
+-- where there are none, no more than 65 for each list
+pub past-few : (s : List (ℕ × ℕ)) → past_of s ≡ 0 → places_of s ≤ 65 * length s
+unfolding places_of sum_untouched past_most
+past-few [] none = omega arith
+past-few (x ∷ s) none =
+    let places = sum_by-cons (λ (y : ℕ × ℕ). y.1) x s in
+    let past = sum_by-cons past_most x s in
+    let later : past_of s ≡ 0 = omega (arith, past, none) in
+    omega (arith, places, past, none, past-few s later)
 
 -- no blank list is needed for one new key where no list is full, nor where there is one for each group
 pub stocked_for : (spare blanks : ℕ) (s : List (ℕ × ℕ)) → (min spare (length s) ≤ blanks) ⊎ ((spare ≤ 1) × (lacking 1 Nowhere s ≡ 0)) → min spare (lacking spare Nowhere s) ≤ blanks

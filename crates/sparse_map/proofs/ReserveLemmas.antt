@@ -11,7 +11,7 @@ use Rattle.sparse_map.specs.declared.group.Group.{Group}
 use Rattle.sparse_map.specs.Home.{IsDoubledFor}
 use Rattle.sparse_map.specs.Slots.{items_of}
 use Rattle.sparse_map.specs.Groups.{slots_of, IsEmptyFrom}
-use Rattle.sparse_map.specs.Packed.{IsPacked, PackedTable, map_of, len_of, buckets_of, IsSound}
+use Rattle.sparse_map.specs.Packed.{IsPacked, PackedTable, map_of, len_of, buckets_of, lists_of, IsSound}
 use Rattle.sparse_map.specs.Moved.{IsDistinct, items_in}
 use Rattle.sparse_map.proofs.BucketLemmas.{items_of-groups}
 use Rattle.sparse_map.proofs.MapLemmas.{map_of-same, IsDistinct-items_of}
@@ -65,26 +65,30 @@ module _ {V : Type 0} where
   pub map_of-slots : (t u : PackedTable V) → u.slots ≡ t.slots → map_of u ≡ map_of t
   map_of-slots t u same = map_of-same t u (λ q. ap (λ s. find nat_cmp q (items_of s)) same)
 
-  pub sound_same : (t u : PackedTable V) → IsSound t → u.slots ≡ t.slots → u.spare ≡ t.spare → IsSound u
-  sound_same t u sound same ready =
+  pub sound_same : (t u : PackedTable V) → IsSound t → u.slots ≡ t.slots → u.spare ≡ t.spare → u.places ≤ 65 * lists_of u → u.blanks ≤ lists_of u → IsSound u
+  sound_same t u sound same ready places blanks =
       let long : buckets_of u ≡ buckets_of t = ap length same in
       let len : len_of u ≡ len_of t = ap map.len (map_of-slots t u same) in
       record {
         packed = subst (λ s. IsPacked s) (sym same) sound.packed;
         room = omega (arith, sound.room, long, len, ready);
         buckets = subst (λ m. 0 < m → (b : ℕ) × (5 ≤ b) × (m ≡ 2 ^ b)) (sym long) sound.buckets;
+        places = places;
+        blanks = blanks;
       }
 
   pub sound_stocked : {T E : Type 0} (r : Result T E) (t u : PackedTable V) (n : ℕ) → IsSound t → 4 * (len_of t + n) ≤ 3 * buckets_of t → u.slots ≡ t.slots
-      → OnOk r (u.spare ≡ max t.spare n) → OnErr r (u.spare ≡ t.spare) → IsSound u
-  sound_stocked (Err e) t u n sound room same ok err = sound_same t u sound same err
-  sound_stocked (Ok x) t u n sound room same ok err =
+      → OnOk r (u.spare ≡ max t.spare n) → OnErr r (u.spare ≡ t.spare) → u.places ≤ 65 * lists_of u → u.blanks ≤ lists_of u → IsSound u
+  sound_stocked (Err e) t u n sound room same ok err places blanks = sound_same t u sound same err places blanks
+  sound_stocked (Ok x) t u n sound room same ok err places blanks =
       let long : buckets_of u ≡ buckets_of t = ap length same in
       let len : len_of u ≡ len_of t = ap map.len (map_of-slots t u same) in
       record {
         packed = subst (λ s. IsPacked s) (sym same) sound.packed;
         room = omega (arith, room, sound.room, long, len, ok);
         buckets = subst (λ m. 0 < m → (b : ℕ) × (5 ≤ b) × (m ≡ 2 ^ b)) (sym long) sound.buckets;
+        places = places;
+        blanks = blanks;
       }
 
   pub sound_either : {T E : Type 0} (r : Result T E) (t u : PackedTable V) → IsSound t → OnOk r (IsSound u) → OnErr r (u ≡ t) → IsSound u

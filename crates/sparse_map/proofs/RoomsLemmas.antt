@@ -10,7 +10,7 @@ use Rattle.sparse_map.specs.declared.table.Touched.TheVariants.{Nowhere}
 use Rattle.sparse_map.specs.Plan.{lens_of, rooms_of}
 use Rattle.sparse_map.specs.Heirs.{beyond_four, brought, all_brought, IsPassedOver}
 use Rattle.sparse_map.proofs.HandedOn.{handed_on}
-use Rattle.sparse_map.specs.Places.{list_size, sizes_of, places_of, extra, sum_untouched, loose_of}
+use Rattle.sparse_map.specs.Places.{list_size, sizes_of, places_of, extra, sum_untouched, loose_of, past_most, past_of}
 use Rattle.sparse_map.proofs.PlanLemmas.{len_at, room_at}
 
 -- the sum of f over the first m numbers, each with the places of that list
@@ -21,6 +21,10 @@ over_rooms f rooms (suc m) = over_rooms f rooms m + f m (get_or rooms m 0)
 -- the places alone
 abbrev pub places_at : ℕ → ℕ → ℕ
 places_at q places = places
+
+-- those past 65
+abbrev pub past_at : ℕ → ℕ → ℕ
+past_at q places = places - 65
 
 -- the free ones beyond four, where so many items are counted for each list
 abbrev pub loose_at : List ℕ → ℕ → ℕ → ℕ
@@ -132,6 +136,12 @@ module _ {V : Type 0} where
   places_over us =
       over_sizes (λ s. s.1) us
       ∙ over_all (λ g. vec_capacity g.items) places_at us (λ q e inside. let u = get_or us q e in sym (room_at us q u e u inside refl))
+
+  pub past_over : (us : List (Group V)) → past_of (sizes_of us) ≡ over_rooms past_at (rooms_of us) (length us)
+  unfolding sum_untouched past_most
+  past_over us =
+      over_sizes past_most us
+      ∙ over_all (λ g. past_most (list_size g)) past_at us (λ q e inside. let u = get_or us q e in ap (λ n. n - 65) (sym (room_at us q u e u inside refl)))
 
   pub loose_over : (us : List (Group V)) (counts : List ℕ) → lens_of us ≡ counts → loose_of Nowhere (sizes_of us) ≡ over_rooms (loose_at counts) (rooms_of us) (length us)
   unfolding sum_untouched extra

@@ -1,19 +1,20 @@
 -- The turn of an old group: its list is handed on, and then its items go in.
-use Rattle.std.proofs.Common.{◌≡◌, ℕ, ◌+◌, ◌*◌, ◌/◌, ◌<◌, ◌≤◌, List, [], ◌∷◌, ◌++◌, Option, None, length, get_or, take, drop, map, refl, sym, ap, ◌∙◌, subst, arith}
+use Rattle.std.proofs.Common.{◌≡◌, ℕ, zero, suc, ◌+◌, ◌-◌, ◌*◌, ◌/◌, ◌<◌, ◌≤◌, List, [], ◌∷◌, ◌++◌, Option, None, length, get_or, take, drop, map, refl, sym, ap, ◌∙◌, subst, arith}
 use Rattle.std.specs.Prelude.{is_some, IfSome}
 use Rattle.std.specs.Vec.{vec_len, vec_capacity}
 use Rattle.std.proofs.lemmas.List.{drop_more, take_all, length-drop, length-map}
 use Rattle.sparse_map.specs.declared.group.Group.{Group}
 use Rattle.sparse_map.specs.declared.table.Touched.TheVariants.{Nowhere}
 use Rattle.sparse_map.specs.Groups.{all_slots}
-use Rattle.sparse_map.specs.Places.{sizes_of, places_of, loose_of}
+use Rattle.sparse_map.specs.Places.{sizes_of, places_of, loose_of, past_of}
 use Rattle.sparse_map.specs.Moved.{items_in, CanTake, HasTaken}
 use Rattle.sparse_map.specs.Plan.{Plan, planned, with_items, lens_of, rooms_of, plan_of, RoomsFit}
 use Rattle.sparse_map.specs.Heirs.{IsFit, brought, all_brought, AreRooms, ListsFit}
 use Rattle.sparse_map.proofs.HandedOn.{handed_on}
+use Rattle.sparse_map.proofs.RankLemmas.{ones_at_most_64}
 use Rattle.sparse_map.proofs.PlanLemmas.{with_items-append, room_at}
 use Rattle.sparse_map.proofs.TakingLemmas.{slots_of-same, Taking, taking_first, taking_more, taking_same}
-use Rattle.sparse_map.proofs.RoomsLemmas.{over_rooms, places_at, loose_at, over_rooms-le, over_rooms-none, over_rooms-more, places_over, loose_over, over_rooms-handed, brings, brought_more}
+use Rattle.sparse_map.proofs.RoomsLemmas.{over_rooms, places_at, past_at, loose_at, over_rooms-le, over_rooms-none, over_rooms-more, places_over, past_over, loose_over, over_rooms-handed, brings, brought_more}
 use Rattle.sparse_map.proofs.HeirLemmas.{items_in-more, rooms_last, heir_inside, heir_clear, rooms_after, turn_fits}
 
 module _ {V : Type 0} where
@@ -26,6 +27,7 @@ module _ {V : Type 0} where
     pub within : s ≤ length old
     pub loose : over_rooms (loose_at (with_items n (plan_of n start) (items_in old)).counts) (rooms_of now) (length start) ≤ all_brought (rooms_of old) (with_items n (plan_of n start) (items_in old)).counts heirs s
     pub places : over_rooms places_at (rooms_of now) (length start) ≤ over_rooms places_at (rooms_of start) (length start) + over_rooms places_at (rooms_of old) s
+    pub short : over_rooms past_at (rooms_of now) (length start) ≤ over_rooms past_at (rooms_of start) (length start) + over_rooms past_at (rooms_of old) s
 
   module _ (n : ℕ) (start old : List (Group V)) (heirs : List (Option ℕ)) (lists : ListsFit n start old heirs) (s : ℕ) (now rest later : List (Group V)) (u : Group V)
       (at : AtTurn n start old heirs s now rest) (steps : rest ≡ u ∷ later) where
@@ -89,6 +91,12 @@ module _ {V : Type 0} where
           let more : over_rooms places_at (rooms_of old) (s + 1) ≡ over_rooms places_at (rooms_of old) s + get_or (rooms_of old) s 0 = over_rooms-more places_at (rooms_of old) s in
           omega (arith, now_read, more, room_old, over_rooms-handed places_at (get_or heirs s None) places places (rooms_of now) (length start) (λ g e. omega arith), at.places)
 
+      short_mid : over_rooms past_at (rooms_of mid) (length start) ≤ over_rooms past_at (rooms_of start) (length start) + over_rooms past_at (rooms_of old) (s + 1)
+      short_mid =
+          let now_read : over_rooms past_at (rooms_of mid) (length start) ≡ over_rooms past_at (handed_on (get_or heirs s None) places (rooms_of now)) (length start) = ap (λ r. over_rooms past_at r (length start)) rooms in
+          let more : over_rooms past_at (rooms_of old) (s + 1) ≡ over_rooms past_at (rooms_of old) s + (get_or (rooms_of old) s 0 - 65) = over_rooms-more past_at (rooms_of old) s in
+          omega (arith, now_read, more, room_old, over_rooms-handed past_at (get_or heirs s None) places (places - 65) (rooms_of now) (length start) (λ g e. omega arith), at.short)
+
       taking_mid : Taking n start (items_in old) mid (u.items.items ++ items_in later)
       taking_mid =
           subst (λ r. Taking n start (items_in old) mid r) (ap items_in steps)
@@ -114,6 +122,7 @@ module _ {V : Type 0} where
             within = omega (arith, turn_inside);
             loose = subst (λ r. over_rooms (loose_at (with_items n (plan_of n start) (items_in old)).counts) r (length start) ≤ all_brought (rooms_of old) (with_items n (plan_of n start) (items_in old)).counts heirs (s + 1)) (sym same) loose_mid;
             places = subst (λ r. over_rooms places_at r (length start) ≤ over_rooms places_at (rooms_of start) (length start) + over_rooms places_at (rooms_of old) (s + 1)) (sym same) places_mid;
+            short = subst (λ r. over_rooms past_at r (length start) ≤ over_rooms past_at (rooms_of start) (length start) + over_rooms past_at (rooms_of old) (s + 1)) (sym same) short_mid;
           }
 
   -- ---- before the first turn nothing was brought
@@ -125,12 +134,19 @@ module _ {V : Type 0} where
       omega (arith, none, over_rooms-none (rooms_of start) (length start))
 
   -- ---- after the last turn
+  -- no list has more items than a group
+  len_small : (us : List (Group V)) (q : ℕ) → get_or (lens_of us) q 0 ≤ 64
+  len_small [] q = omega arith
+  len_small (u ∷ us) zero = omega (arith, ones_at_most_64 u.occupied u.fits, u.counted, u.items.ok.0)
+  len_small (u ∷ us) (suc q) = len_small us q
+
   pub record AtEnd (n : ℕ) (start old now : List (Group V)) : Type 0 where
     pub lens : lens_of now ≡ (with_items n (plan_of n start) (items_in old)).counts
     pub fit : (q : ℕ) → q < length (rooms_of now) → IsFit (get_or (rooms_of now) q 0) (get_or (with_items n (plan_of n start) (items_in old)).counts q 0)
     pub few : length now ≡ length start → loose_of Nowhere (sizes_of now) ≤ 8 * (length start / 2)
     pub more : length now ≡ length start → places_of (sizes_of start) ≤ places_of (sizes_of now)
     pub handed : length now ≡ length start → places_of (sizes_of now) ≤ places_of (sizes_of start) + places_of (sizes_of old)
+    pub short : length now ≡ length start → past_of (sizes_of now) ≤ past_of (sizes_of old)
 
   pub turn_last : (n : ℕ) (start old : List (Group V)) (heirs : List (Option ℕ)) → ListsFit n start old heirs → (s : ℕ) (now rest : List (Group V)) → AtTurn n start old heirs s now rest → rest ≡ [] → AtEnd n start old now
   turn_last n start old heirs lists s now rest at none =
@@ -159,4 +175,13 @@ module _ {V : Type 0} where
             let seen : over_rooms places_at (rooms_of now) (length now) ≡ over_rooms places_at (rooms_of now) (length start) = ap (over_rooms places_at (rooms_of now)) level in
             let whole : over_rooms places_at (rooms_of old) s ≡ over_rooms places_at (rooms_of old) (length old) = ap (over_rooms places_at (rooms_of old)) all in
             omega (arith, places_over start, places_over now, places_over old, seen, whole, at.places);
+        short =
+            λ level.
+            let seen : over_rooms past_at (rooms_of now) (length now) ≡ over_rooms past_at (rooms_of now) (length start) = ap (over_rooms past_at (rooms_of now)) level in
+            let whole : over_rooms past_at (rooms_of old) s ≡ over_rooms past_at (rooms_of old) (length old) = ap (over_rooms past_at (rooms_of old)) all in
+            let made : over_rooms past_at (rooms_of start) (length start) ≤ over_rooms (λ q places. 0) (rooms_of start) (length start) =
+            over_rooms-le past_at (λ q places. 0) (rooms_of start) (rooms_of start) (length start) (λ q lt.
+            let count : get_or (lens_of now) q 0 ≡ get_or counts q 0 = ap (λ l. get_or l q 0) lens in
+            omega (arith, lists.made q, count, len_small now q)) in
+            omega (arith, past_over now, past_over old, seen, whole, made, over_rooms-none (rooms_of start) (length start), at.short);
       }

@@ -16,6 +16,7 @@ module _ {V : Type 0} (m : Inside V) (t : PackedTable V) (kept : KeepsTable m.bi
     (is : ◌≡◌ {A = PackedTable V} (seen_of m.bits m.groups.items m.spare (vec_len m.stock) m.touched m.peak) t) where
   pub seen_sound : IsSound t
   seen_sound = kept_sound m.bits m.len m.spare (vec_len m.stock) m.touched m.groups.items kept t (sym (ap (λ (x : PackedTable V). x.slots) is)) (sym (ap (λ (x : PackedTable V). x.spare) is))
+      (sym (ap (λ (x : PackedTable V). x.places) is)) (sym (ap (λ (x : PackedTable V). x.blanks) is))
 
   pub seen_len : m.len ≡ len_of t
   seen_len = sym (kept_len m.bits m.len m.spare (vec_len m.stock) m.touched m.groups.items kept t (sym (ap (λ (x : PackedTable V). x.slots) is)))

@@ -5,13 +5,13 @@ use Rattle.sparse_map.specs.declared.table.Touched.{Touched}
 use Rattle.sparse_map.specs.declared.table.Touched.TheVariants.{Nowhere}
 use Rattle.sparse_map.specs.Home.{IsTableSize, buckets_for}
 use Rattle.sparse_map.specs.Slots.{items_of}
-use Rattle.sparse_map.specs.Groups.{slots_of, IsTable}
-use Rattle.sparse_map.specs.Places.{sizes_of, loose_of, lacking, IsBoundedBy}
+use Rattle.sparse_map.specs.Groups.{slots_of, lists_for, IsTable}
+use Rattle.sparse_map.specs.Places.{sizes_of, loose_of, lacking, past_of, IsBoundedBy}
 use Rattle.sparse_map.specs.Packed.{IsPacked}
 
 -- `bits` is the number of bits of a bucket number, or 0 with no bucket; there are blank lists for the next new keys, or for all lists
 -- without places for so many; a list without a free place, and with fewer than 64, belongs to a group that may have been
--- touched
+-- touched; no list has more than 65 places, and there are no more blank ones than lists
 pub record KeepsTable {V : Type 0} (bits len spare blanks : ℕ) (touched : Touched) (groups : List (Group V)) : Type 0 where
   pub few : bits ≤ 31
   pub many : 0 < bits → 5 ≤ bits
@@ -21,11 +21,16 @@ pub record KeepsTable {V : Type 0} (bits len spare blanks : ℕ) (touched : Touc
   pub room : 4 * (len + spare) ≤ 3 * buckets_for bits
   pub stocked : min spare (lacking spare Nowhere (sizes_of groups)) ≤ blanks
   pub ready : lacking 1 touched (sizes_of groups) ≡ 0
+  pub short : past_of (sizes_of groups) ≡ 0
+  pub few_blanks : blanks ≤ lists_for (buckets_for bits)
 
--- it keeps its table, and a bound of the free places beyond four of the lists of all groups that can't have been touched
-pub record KeepsBound {V : Type 0} (bits len spare blanks : ℕ) (touched : Touched) (beyond : ℕ) (groups : List (Group V)) : Type 0 where
+-- it keeps its table, and a bound of the free places beyond four of the lists of all groups that can't have been touched; there is
+-- memory for no more groups than there are, and for no more blank lists than groups
+pub record KeepsBound {V : Type 0} (bits len spare blanks : ℕ) (touched : Touched) (beyond : ℕ) (groups : List (Group V)) (groups_room blanks_room : ℕ) : Type 0 where
   pub table : KeepsTable bits len spare blanks touched groups
   pub bound : IsBoundedBy beyond (loose_of touched (sizes_of groups))
+  pub groups_fit : groups_room ≡ lists_for (buckets_for bits)
+  pub blanks_fit : blanks_room ≤ lists_for (buckets_for bits)
 
 -- 2^bits buckets under the packed law, of which at least one is free
 pub record HasFreeBucket {V : Type 0} (bits : ℕ) (groups : List (Group V)) : Type 0 where

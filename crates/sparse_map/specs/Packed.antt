@@ -54,10 +54,11 @@ module _ {V : Type 0} where
   abbrev pub memory_of : PackedTable V → ℕ
   memory_of t = t.places + 64 * t.blanks
 
-  -- as a reservation leaves a map: no more places than items, four free ones for each 32 buckets, and what removals left; no more blank
-  -- lists than new keys that there is room for, nor than lists
+  -- as a reservation leaves a map: no more places than items, four free ones for each 32 buckets, and what removals left, which is one
+  -- for each list at most; no more blank lists than new keys that there is room for, nor than lists
   pub record IsFitted (t : PackedTable V) : Type 0 where
     pub places : t.places ≤ len_of t + buckets_of t / 8 + t.loose
+    pub loose : t.loose ≤ lists_of t
     pub blanks : t.blanks ≤ min t.spare (lists_of t)
 
   -- as a doubling leaves it: nothing of removals, and no blank list for a single new key; old and new lists were there at once, and no
@@ -69,8 +70,10 @@ module _ {V : Type 0} where
     pub most : new.peak ≤ memory_of old + memory_of new
 
   -- what holds of every map: the packed law, at most three quarters of the buckets taken and spoken for, and a power of two of
-  -- buckets, at least 32, or none
+  -- buckets, at least 32, or none; at most 65 places for each list, and no more blank lists than lists
   pub record IsSound (t : PackedTable V) : Type 0 where
     pub packed : IsPacked t.slots
     pub room : 4 * (len_of t + t.spare) ≤ 3 * buckets_of t
     pub buckets : 0 < buckets_of t → (b : ℕ) × (5 ≤ b) × (buckets_of t ≡ 2 ^ b)
+    pub places : t.places ≤ 65 * lists_of t
+    pub blanks : t.blanks ≤ lists_of t

@@ -1,5 +1,5 @@
 -- The sizes of the groups' lists: how many items each has, and how many places.
-use Rattle.std.specs.Prelude.{ℕ, ◌+◌, ◌-◌, ◌/◌, ◌^◌, ◌≤◌, nat_lt, min, max, List, map, slice_index_or, if◌then◌else◌}
+use Rattle.std.specs.Prelude.{ℕ, ◌+◌, ◌-◌, ◌*◌, ◌/◌, ◌^◌, ◌≤◌, nat_lt, min, max, List, map, slice_index_or, if◌then◌else◌}
 use Rattle.std.specs.List.{sum_by}
 use Rattle.std.specs.Vec.{vec_len, vec_capacity}
 use Rattle.sparse_map.specs.declared.group.Group.{Group}
@@ -45,6 +45,19 @@ loose_of = sum_untouched extra
 -- how many of their lists have no place for n items more, nor for all that a group can hold
 abbrev pub lacking : ℕ → Touched → List (ℕ × ℕ) → ℕ
 lacking n = sum_untouched (lacks n)
+
+-- the places of a list past 65, which are one more than the items of a whole group
+unfoldable pub past_most : ℕ × ℕ → ℕ
+past_most s = s.1 - 65
+
+-- those of all lists
+abbrev pub past_of : List (ℕ × ℕ) → ℕ
+past_of = sum_untouched past_most Nowhere
+
+-- how many free places beyond four so many lists may have, all together, before they are trimmed: what full ones may grow by, and one
+-- more for each list
+abbrev pub most_loose : ℕ → ℕ
+most_loose lists = 8 * (lists / 2) + lists
 
 -- such a number is bounded by `beyond`, where that is less than 2^64 - 1, which bounds nothing
 unfoldable pub IsBoundedBy : ℕ → ℕ → Type 0

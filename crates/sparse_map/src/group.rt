@@ -394,6 +394,7 @@ impl<V: Drop> Group<V> {
         ensures items { self.new.items.items ≡ self.old.items.items }
         ensures capacity { vec_capacity self.old.items ≤ vec_capacity self.new.items }
         ensures few { vec_capacity self.new.items ≤ max (vec_capacity self.old.items) (vec_len self.new.items + more) }
+        ensures short { vec_capacity self.new.items ≤ max (vec_capacity self.old.items) 64 }
         ensures grown { OnOk result (vec_len self.old.items ≡ vec_capacity self.old.items → vec_len self.old.items < 64
             → vec_capacity self.new.items ≡ grown_to (vec_len self.old.items) more) }
         ensures same { vec_len self.old.items < vec_capacity self.old.items → vec_capacity self.new.items ≡ vec_capacity self.old.items }
@@ -432,6 +433,7 @@ impl<V: Drop> Group<V> {
         ensures items { self.new.items.items ≡ self.old.items.items }
         ensures room { min (vec_capacity self.old.items) (vec_len self.old.items + 4) ≤ vec_capacity self.new.items }
         ensures few { vec_capacity self.new.items ≤ max (vec_capacity self.old.items) (vec_len self.new.items + more) }
+        ensures short { vec_capacity self.new.items ≤ max (vec_capacity self.old.items) 64 }
         ensures trimmed { OnOk result (vec_capacity self.new.items ≤ vec_len self.new.items + more) }
         ensures own { OnOk result (vec_len self.old.items < vec_capacity self.old.items
             → vec_capacity self.new.items ≡ min (vec_capacity self.old.items) (vec_len self.old.items + 4)) }

@@ -2,9 +2,10 @@
 ghost use Rattle.std.specs.Prelude.{◌≡◌, ◌≢◌, ◌⊎◌, ℕ, ◌+◌, ◌-◌, ◌*◌, ◌/◌, ◌^◌, ◌<◌, ◌≤◌, ◌==◌, true, length, min, max, vec_len, Some, None, IfSome, IfNone, OnOk, OnErr, is_some, count_ones, option_copied, MatchOption, if◌then◌else◌};
 ghost use Rattle.std.specs.FinMap as map;
 ghost use Rattle.std.specs.FinMap.{find};
+ghost use Rattle.std.specs.Vec.{vec_capacity};
 ghost use Rattle.sparse_map.specs.Home.{IsDoubledFor, IsTableSize};
 ghost use Rattle.sparse_map.specs.Slots.{slot_at, items_of, unpacked, group};
-ghost use Rattle.sparse_map.specs.Packed.{map_of, len_of, buckets_of, memory_of, IsFitted, IsWidened, IsSound};
+ghost use Rattle.sparse_map.specs.Packed.{map_of, len_of, buckets_of, lists_of, memory_of, IsFitted, IsWidened, IsSound};
 ghost use Rattle.sparse_map.specs.Places.{sizes_of, places_of};
 ghost use Rattle.sparse_map.specs.Probe.{IsPut, IsReplaced};
 ghost use Rattle.sparse_map.specs.Removal.{IsItemTaken};
@@ -13,8 +14,8 @@ use crate::group::{Blank, Group};
 use crate::home::{bits_for, bucket_count};
 use crate::moving::{Widening, groups_ahead, place_groups};
 use crate::table::{
-    Place, Touched, beyond_of, blanks_for, find, fit_touched, places_of, probe, put, remove_at,
-    replace, value_at,
+    Place, Touched, beyond_of, blanks_for, find, fit_touched, most_beyond, places_of, probe, put,
+    remove_at, replace, value_at,
 };
 use std::alloc::{AllocError, Global};
 use std::marker::Model;
@@ -39,6 +40,7 @@ pub struct SparseMap<V> {
 
 impl<V> Model for SparseMap<V> {
     ghost use Rattle.std.specs.Prelude.{vec_len};
+    ghost use Rattle.std.specs.Vec.{vec_capacity};
     ghost use Rattle.sparse_map.specs.Packed.{PackedTable, table_code};
     ghost use Rattle.sparse_map.specs.Seen.{seen_of};
     ghost use Rattle.sparse_map.specs.Kept.{KeepsBound};
@@ -49,7 +51,8 @@ impl<V> Model for SparseMap<V> {
 
     ghost view = { λ m. seen_of m.bits m.groups.items m.spare (vec_len m.stock) m.touched m.peak };
 
-    ghost invariant = { λ m. KeepsBound m.bits m.len m.spare (vec_len m.stock) m.touched m.beyond m.groups.items };
+    ghost invariant = { λ m. KeepsBound m.bits m.len m.spare (vec_len m.stock) m.touched m.beyond m.groups.items
+        (vec_capacity m.groups) (vec_capacity m.stock) };
 }
 
 impl<V: Drop> SparseMap<V> {
@@ -269,8 +272,8 @@ impl<V: Drop> SparseMap<V> {
     }
 
     /// Makes room for `n` new keys within the buckets that there are: the lists of the groups that may have been
-    /// touched are made to fit, and blank ones are made for more than one key, or where any list may be full. What can
-    /// be refused and adds memory to a list comes last.
+    /// touched are made to fit, all are trimmed after as many removals as there are lists, and blank ones are made for
+    /// more than one key, or where any list may be full. What can be refused and adds memory to a list comes last.
     fn stock_up(&mut self, n: u64) -> Result<(), AllocError>
         requires { 4 * (len_of self.old + n) ≤ 3 * buckets_of self.old }
         ensures slots { self.new.slots ≡ self.old.slots }
@@ -281,16 +284,20 @@ impl<V: Drop> SparseMap<V> {
         ensures err { OnErr result (self.new.spare ≡ self.old.spare) }
         ensures refused { OnErr result ((self.new.places ≤ self.old.places)
             × (self.new.blanks ≤ max self.old.blanks (max self.old.spare n))) }
+        ensures places { self.new.places ≤ 65 * lists_of self.new }
+        ensures blanks { self.new.blanks ≤ lists_of self.new }
     {
         let spare = self.spare.max(n);
-        // Where no list was touched, each with a free bucket has a place for one key.
-        if spare <= 1 && self.stock.is_empty() {
+        // Where no list was touched, each with a free bucket has a place for one key; and where not too many places are free,
+        // all lists stay as they are.
+        let lists = self.groups.len();
+        if spare <= 1 && self.stock.is_empty() && self.beyond <= most_beyond(lists) {
             if let Touched::Nowhere = self.touched {
                 self.spare = spare;
                 return Ok(());
             }
         }
-        let wanted = blanks_for(self.touched, spare, self.groups.len() as u64);
+        let wanted = blanks_for(self.touched, spare, lists as u64);
         add_blanks(self.alloc, &mut self.stock, wanted)?;
         fit_touched(
             self.alloc,
@@ -359,10 +366,13 @@ fn add_blanks<V: Drop>(
     ensures ok { OnOk result (vec_len stock.new ≡ max (vec_len stock.old) wanted) }
     ensures kept { vec_len stock.old ≤ vec_len stock.new }
     ensures few { vec_len stock.new ≤ max (vec_len stock.old) wanted }
+    ensures room { vec_capacity stock.new ≤ max (vec_capacity stock.old) wanted }
 {
-    for _have in stock.len() as u64..wanted {
+    let missing = wanted.saturating_sub(stock.len() as u64);
+    stock.reserve_exact(missing as usize)?;
+    for _more in 0..missing {
         let blank = Blank::new(alloc)?;
-        stock.push(blank)?;
+        stock.push_reserved(blank);
     }
     Ok(())
 }

@@ -7,7 +7,7 @@ ghost use Rattle.sparse_map.specs.Slots.{slot_at};
 ghost use Rattle.sparse_map.specs.Groups.{all_slots, lists_for};
 ghost use Rattle.sparse_map.specs.Ranks.{IsRankOf};
 ghost use Rattle.sparse_map.specs.declared.table.Touched.TheVariants.{Nowhere};
-ghost use Rattle.sparse_map.specs.Places.{sizes_of, places_of, loose_of};
+ghost use Rattle.sparse_map.specs.Places.{sizes_of, places_of, loose_of, past_of};
 ghost use Rattle.sparse_map.specs.Moved.{items_in, CanTake, HasTaken};
 ghost use Rattle.sparse_map.specs.Plan.{plan_of, with_items, lens_of, rooms_of, RoomsFit};
 ghost use Rattle.sparse_map.specs.Heirs.{IsFit, HeirsAreBare, FitsItems, AreRooms, ListsFit};
@@ -27,6 +27,9 @@ pub struct Widening<V> {
     pub heirs: Vec<Option<u32>>,
     /// An empty list with room for the items of any old group, which holds them once their own is handed on.
     pub held: Vec<(u64, V)>,
+    ghost groups_fit: { vec_capacity groups ≡ vec_len groups },
+    ghost heirs_fit: { vec_capacity heirs ≡ vec_len heirs },
+    ghost held_room: { vec_capacity held ≡ 64 },
 }
 
 /// Whether a new group takes over the list of its old one.
@@ -66,11 +69,12 @@ fn groups_for<V: Drop>(
     ensures rooms { IfOk result (λ us. AreRooms (rooms_of us.items) counts.now heirs.now 0) }
     ensures bare { IfOk result (λ us. HeirsAreBare (rooms_of us.items) heirs.now) }
     ensures few { IfOk result (λ us. (q : ℕ) → slice_index_or (rooms_of us.items) q 0 ≤ slice_index_or counts.now q 0 + 1) }
+    ensures room { IfOk result (λ us. vec_capacity us ≡ length counts.now) }
 {
     let mut groups = Vec::with_capacity(alloc, counts.len())?;
     for (q, count) in counts.iter().enumerate() {
         let group = Group::with_places(alloc, places_for(heirs, q, *count))?;
-        groups.push(group)?;
+        groups.push_reserved(group);
     }
     Ok(groups)
 }
@@ -202,6 +206,7 @@ pub fn place_groups<V: Drop>(
     ensures fit { All FitsItems groups.new }
     ensures few { loose_of Nowhere (sizes_of groups.new) ≤ 8 * (length groups.old / 2) }
     ensures more { places_of (sizes_of groups.old) ≤ places_of (sizes_of groups.new) }
+    ensures short { past_of (sizes_of groups.new) ≤ past_of (sizes_of old.items) }
     ensures handed { places_of (sizes_of groups.new) ≤ places_of (sizes_of groups.old) + places_of (sizes_of old.items) }
 {
     let mut source = 0;

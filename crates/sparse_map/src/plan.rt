@@ -1,6 +1,7 @@
 //! How many items each group of a wider table gets, counted before any item moves, so that lists are made that fit, and
 //! which groups take over an old list.
-ghost use Rattle.std.specs.Prelude.{◌≡◌, ℕ, ◌+◌, ◌-◌, ◌*◌, ◌/◌, ◌^◌, ◌<◌, ◌≤◌, ◌⊎◌, ◌↔◌, true, false, Some, None, length, IfOk, IfSome, IsTrue, slice_index_or};
+ghost use Rattle.std.specs.Prelude.{◌≡◌, ℕ, ◌+◌, ◌-◌, ◌*◌, ◌/◌, ◌^◌, ◌<◌, ◌≤◌, ◌⊎◌, ◌↔◌, true, false, Some, None, length, vec_len, replicate, IfOk, IfSome, IsTrue, slice_index_or};
+ghost use Rattle.std.specs.Vec.{vec_capacity};
 ghost use Rattle.sparse_map.specs.Home.{home, IsTableSize};
 ghost use Rattle.sparse_map.specs.Groups.{lists_for};
 ghost use Rattle.sparse_map.specs.Moved.{items_in};
@@ -158,6 +159,7 @@ fn heirs_of<V: Drop>(
     requires level { length clear.now ≡ length counts.now }
     requires small { length counts.now < 2 ^ 32 }
     ensures level { IfOk result (λ hs. length hs.items ≡ length groups.now) }
+    ensures room { IfOk result (λ hs. vec_capacity hs ≡ length groups.now) }
     ensures heirs { IfOk result (λ hs. (s q : ℕ) → slice_index_or hs.items s None ≡ Some q
         → IsChosen (rooms_of groups.now) counts.now clear.now s q) }
     ensures few { IfOk result (λ hs. all_brought (rooms_of groups.now) counts.now hs.items (length groups.now)
@@ -172,9 +174,35 @@ fn heirs_of<V: Drop>(
         let places = group.items.capacity();
         let heir = heir_of(counts, clear, source, places, left);
         left -= brought(counts, heir, places);
-        heirs.push(heir)?;
+        heirs.push_reserved(heir);
     }
     Ok(heirs)
+}
+
+/// So many marks, none of which is set, in a list that has memory for no more: one that is longer passes for none.
+fn no_marks(alloc: Global, n: usize) -> Result<Vec<bool>, AllocError>
+    ensures items { IfOk result (λ v. v.items ≡ replicate n false) }
+    ensures len { IfOk result (λ v. vec_len v ≡ n) }
+    ensures room { IfOk result (λ v. vec_capacity v ≡ n) }
+{
+    let marks = vec![in alloc; false; n]?;
+    if marks.capacity() > n {
+        return Err(AllocError);
+    }
+    Ok(marks)
+}
+
+/// So many counts of nothing, in a list that has memory for no more: one that is longer passes for none.
+fn no_counts(alloc: Global, n: usize) -> Result<Vec<u32>, AllocError>
+    ensures items { IfOk result (λ v. v.items ≡ replicate n 0) }
+    ensures len { IfOk result (λ v. vec_len v ≡ n) }
+    ensures room { IfOk result (λ v. vec_capacity v ≡ n) }
+{
+    let counts = vec![in alloc; 0u32; n]?;
+    if counts.capacity() > n {
+        return Err(AllocError);
+    }
+    Ok(counts)
 }
 
 /// What is known of a wider table before any item moves.
@@ -184,6 +212,8 @@ pub struct Ahead {
     pub counts: Vec<u32>,
     /// For each old group the new one that takes over its list, if one does.
     pub heirs: Vec<Option<u32>>,
+    ghost counts_fit: { vec_capacity counts ≡ vec_len counts },
+    ghost heirs_fit: { vec_capacity heirs ≡ vec_len heirs },
 }
 
 /// How many items each group of a table of `2^bits` buckets gets when the items of these groups go into it in order, and
@@ -203,10 +233,10 @@ pub fn count_ahead<V: Drop>(
         ≤ 8 * (lists_for (2 ^ bits) / 2)) }
 {
     let buckets = bucket_count(bits);
-    let mut marks = vec![in alloc; false; buckets as usize]?;
+    let mut marks = no_marks(alloc, buckets as usize)?;
     let count = ((buckets + 32) / 64) as usize;
-    let mut counts = vec![in alloc; 0u32; count]?;
-    let mut clear = vec![in alloc; false; count]?;
+    let mut counts = no_counts(alloc, count)?;
+    let mut clear = no_marks(alloc, count)?;
     mark_groups(
         marks.as_mut_slice(),
         counts.as_mut_slice(),

@@ -12,7 +12,7 @@ ghost use Rattle.sparse_map.specs.Kept.{HasFreeBucket};
 ghost use Rattle.sparse_map.specs.Probe.{IsPlaceOf, IsFirstFree, IsShifted};
 ghost use Rattle.sparse_map.specs.Removal.{shifted_back};
 ghost use Rattle.sparse_map.specs.Trimmed.{MayBeTouched};
-ghost use Rattle.sparse_map.specs.Places.{sizes_of, places_of, loose_of, lacking};
+ghost use Rattle.sparse_map.specs.Places.{sizes_of, places_of, loose_of, lacking, past_of, most_loose};
 ghost use Rattle.sparse_map.specs.Plan.{lens_of, rooms_of, TellsFree};
 ghost use Rattle.sparse_map.specs.declared.table.Touched.{Touched};
 ghost use Rattle.sparse_map.specs.declared.table.Touched.TheVariants.{Nowhere, In, Anywhere};
@@ -133,6 +133,7 @@ fn make_room<V: Drop>(alloc: Global, group: &mut Group<V>, stock: &mut Vec<Blank
     ensures occupied { group.new.occupied ≡ group.old.occupied }
     ensures room { vec_len group.new.items < vec_capacity group.new.items }
     ensures len { vec_len group.new.items ≡ vec_len group.old.items }
+    ensures stock_room { vec_capacity stock.new ≡ vec_capacity stock.old }
     ensures widened { ((result ≡ false) × (vec_capacity group.new.items ≡ vec_capacity group.old.items)
         × (vec_len stock.new ≡ vec_len stock.old))
         ⊎ ((result ≡ true) × (vec_len group.old.items ≡ vec_capacity group.old.items) × (vec_capacity group.new.items ≡ 64)
@@ -172,10 +173,13 @@ pub fn put<V: Drop>(
     requires stocked { 0 < lacking 1 Nowhere (sizes_of groups.old) → 0 < vec_len stock.old }
     ensures slots { all_slots groups.new ≡ slice_set (all_slots groups.old) bucket (Some item) }
     ensures one_less { vec_len stock.old ≤ vec_len stock.new + 1 }
+    ensures no_more { vec_len stock.new ≤ vec_len stock.old }
+    ensures stock_room { vec_capacity stock.new ≡ vec_capacity stock.old }
     ensures fewer_lack { (n : ℕ) → vec_len stock.old + lacking n Nowhere (sizes_of groups.new)
         ≤ vec_len stock.new + lacking (n + 1) Nowhere (sizes_of groups.old) }
     ensures places { places_of (sizes_of groups.new) + 64 * vec_len stock.new ≤ places_of (sizes_of groups.old) + 64 * vec_len stock.old }
     ensures free { TellsFree (lens_of groups.new) (rooms_of groups.old) (rooms_of groups.new) (bucket / 64) result }
+    ensures short { past_of (sizes_of groups.new) ≤ past_of (sizes_of groups.old) }
     ensures less { 4 ≤ result → loose_of Nowhere (sizes_of groups.new) + 1 ≤ loose_of Nowhere (sizes_of groups.old) }
     ensures loose { (before after : Touched) → (result ≡ 0 → MayBeTouched after (bucket / 64))
         → ((i : ℕ) → MayBeTouched before i → MayBeTouched after i)
@@ -206,6 +210,7 @@ fn take<V: Drop>(groups: &mut [Group<V>], bucket: u64, rank: u32) -> (u64, V)
     ensures item { slot_at (all_slots groups.old) bucket ≡ Some result }
     ensures slots { all_slots groups.new ≡ slice_set (all_slots groups.old) bucket None }
     ensures places { places_of (sizes_of groups.new) ≡ places_of (sizes_of groups.old) }
+    ensures short { past_of (sizes_of groups.new) ≤ past_of (sizes_of groups.old) }
     ensures loose { (t : Touched) → loose_of t (sizes_of groups.new) ≤ loose_of t (sizes_of groups.old) + 1 }
     ensures lacking { (n : ℕ) (t : Touched) → lacking n t (sizes_of groups.new) ≤ lacking n t (sizes_of groups.old) }
 {
@@ -400,6 +405,7 @@ pub fn remove_at<V: Drop>(groups: &mut [Group<V>], bits: u32, bucket: u64, rank:
     ensures walk { slots_of (2 ^ bits) groups.new ≡ shifted_back (2 ^ bits) (2 ^ bits - 1) bucket bucket
         (slice_set (slots_of (2 ^ bits) groups.old) bucket None) }
     ensures places { places_of (sizes_of groups.new) ≡ places_of (sizes_of groups.old) }
+    ensures short { past_of (sizes_of groups.new) ≤ past_of (sizes_of groups.old) }
     ensures loose { (t : Touched) → loose_of t (sizes_of groups.new) ≤ loose_of t (sizes_of groups.old) + 1 }
     ensures lacking { (n : ℕ) (t : Touched) → lacking n t (sizes_of groups.new) ≤ lacking n t (sizes_of groups.old) }
 {
@@ -412,6 +418,7 @@ pub fn remove_at<V: Drop>(groups: &mut [Group<V>], bits: u32, bucket: u64, rank:
 fn trim_all<V: Drop>(groups: &mut [Group<V>]) -> Result<(), AllocError>
     ensures slots { all_slots groups.new ≡ all_slots groups.old }
     ensures fewer { places_of (sizes_of groups.new) ≤ places_of (sizes_of groups.old) }
+    ensures short { past_of (sizes_of groups.new) ≤ past_of (sizes_of groups.old) }
     ensures loose { (t : Touched) → loose_of t (sizes_of groups.new) ≤ loose_of t (sizes_of groups.old) }
     ensures lacking { (t : Touched) → lacking 1 t (sizes_of groups.new) ≤ lacking 1 t (sizes_of groups.old) }
     ensures none_loose { OnOk result (loose_of Nowhere (sizes_of groups.new) ≡ 0) }
@@ -426,6 +433,7 @@ fn trim_all<V: Drop>(groups: &mut [Group<V>]) -> Result<(), AllocError>
 /// which there is no memory.
 fn grow_all<V: Drop>(alloc: Global, groups: &mut [Group<V>]) -> Result<(), AllocError>
     ensures slots { all_slots groups.new ≡ all_slots groups.old }
+    ensures short { past_of (sizes_of groups.new) ≤ past_of (sizes_of groups.old) }
     ensures loose { (t : Touched) → loose_of t (sizes_of groups.new) ≤ loose_of t (sizes_of groups.old) }
     ensures lacking { (t : Touched) → lacking 1 t (sizes_of groups.new) ≤ lacking 1 t (sizes_of groups.old) }
     ensures none_lacks { OnOk result (lacking 1 Nowhere (sizes_of groups.new) ≡ 0) }
@@ -447,6 +455,7 @@ fn fit_one<V: Drop>(
     requires { 4 ≤ more }
     ensures slots { all_slots groups.new ≡ all_slots groups.old }
     ensures few { IfOk result (λ n. n + 4 ≤ more) }
+    ensures short { past_of (sizes_of groups.new) ≤ past_of (sizes_of groups.old) }
     ensures loose { loose_of (In bucket) (sizes_of groups.new) ≤ loose_of (In bucket) (sizes_of groups.old) }
     ensures lacking { (t : Touched) → lacking 1 t (sizes_of groups.new) ≤ lacking 1 t (sizes_of groups.old) }
     ensures not_loose { IfOk result (λ n. loose_of Nowhere (sizes_of groups.new) ≤ loose_of (In bucket) (sizes_of groups.old) + n) }
@@ -464,6 +473,7 @@ fn fit_one<V: Drop>(
 /// fails for one that is full, it stays so. Refused, for want of memory for a shorter one, no list got longer.
 fn fit_all<V: Drop>(alloc: Global, groups: &mut [Group<V>]) -> Result<bool, AllocError>
     ensures slots { all_slots groups.new ≡ all_slots groups.old }
+    ensures short { past_of (sizes_of groups.new) ≤ past_of (sizes_of groups.old) }
     ensures loose { (t : Touched) → loose_of t (sizes_of groups.new) ≤ loose_of t (sizes_of groups.old) }
     ensures lacking { (t : Touched) → lacking 1 t (sizes_of groups.new) ≤ lacking 1 t (sizes_of groups.old) }
     ensures none_loose { OnOk result (loose_of Nowhere (sizes_of groups.new) ≡ 0) }
@@ -488,9 +498,44 @@ fn places_more(beyond: u64, lists: usize) -> usize
     }
 }
 
+/// How many free places beyond a few so many lists that weren't touched may have, all together, before all are trimmed:
+/// those that full ones grow by, and one more for each list. Once they were trimmed, only removals lead past it, and more of
+/// them than there are lists: so each pays for one list.
+pub fn most_beyond(lists: usize) -> u64
+    requires { lists < 2 ^ 32 }
+    ensures { result ≡ most_loose lists }
+{
+    (2 * SLACK * (lists / 2) + lists) as u64
+}
+
+/// Trims all lists where those that weren't touched may have more free places than `most_beyond`, and counts from nothing
+/// then. Refused, for want of memory, the lists have no more places than before, and the count stays.
+fn trim_due<V: Drop>(groups: &mut [Group<V>], beyond: &mut u64) -> Result<(), AllocError>
+    requires small { length groups.old < 2 ^ 32 }
+    ensures slots { all_slots groups.new ≡ all_slots groups.old }
+    ensures fewer { places_of (sizes_of groups.new) ≤ places_of (sizes_of groups.old) }
+    ensures short { past_of (sizes_of groups.new) ≤ past_of (sizes_of groups.old) }
+    ensures loose { (t : Touched) → loose_of t (sizes_of groups.new) ≤ loose_of t (sizes_of groups.old) }
+    ensures lacking { (t : Touched) → lacking 1 t (sizes_of groups.new) ≤ lacking 1 t (sizes_of groups.old) }
+    ensures counted { (t : Touched) → min (loose_of t (sizes_of groups.old)) (2 ^ 64 - 1) ≤ beyond.old
+        → min (loose_of t (sizes_of groups.new)) (2 ^ 64 - 1) ≤ beyond.new }
+    ensures kept { beyond.old ≤ most_loose (length groups.old)
+        → (sizes_of groups.new ≡ sizes_of groups.old) × (beyond.new ≡ beyond.old) }
+    ensures trimmed { most_loose (length groups.old) < beyond.old
+        → OnOk result ((loose_of Nowhere (sizes_of groups.new) ≡ 0) × (beyond.new ≡ 0)) }
+    ensures few { OnOk result (beyond.new ≤ most_loose (length groups.old)) }
+{
+    if *beyond <= most_beyond(groups.len()) {
+        return Ok(());
+    }
+    trim_all(groups)?;
+    *beyond = 0;
+    Ok(())
+}
+
 /// Makes the lists fit that may have been touched, and keeps `beyond` a bound of the free places beyond a few of those
-/// that weren't. Where any may have been touched, and memory fails for one that is full, any stays so. Refused, for want
-/// of memory, the lists have no more places than before, all together.
+/// that weren't: where it got too large, all are trimmed. Where any may have been touched, and memory fails for one that is
+/// full, any stays so. Refused, for want of memory, the lists have no more places than before, all together.
 pub fn fit_touched<V: Drop>(
     alloc: Global,
     groups: &mut [Group<V>],
@@ -503,6 +548,8 @@ pub fn fit_touched<V: Drop>(
     ensures counted { min (loose_of touched.new (sizes_of groups.new)) (2 ^ 64 - 1) ≤ beyond.new }
     ensures loose { loose_of touched.new (sizes_of groups.new)
         ≤ max (loose_of touched.old (sizes_of groups.old)) (8 * (length groups.old / 2)) }
+    ensures few { OnOk result (beyond.new ≤ most_loose (length groups.old)) }
+    ensures short { past_of (sizes_of groups.new) ≤ past_of (sizes_of groups.old) }
     ensures ready { lacking 1 touched.new (sizes_of groups.new) ≤ lacking 1 touched.old (sizes_of groups.old) }
     ensures lacking { lacking 1 Nowhere (sizes_of groups.new) ≤ lacking 1 Nowhere (sizes_of groups.old) }
     ensures none_loose { OnOk result (loose_of Nowhere (sizes_of groups.new) ≤ loose_of touched.new (sizes_of groups.new)) }
@@ -510,8 +557,9 @@ pub fn fit_touched<V: Drop>(
     ensures err { OnErr result (places_of (sizes_of groups.new) ≤ places_of (sizes_of groups.old)) }
 {
     match *touched {
-        Touched::Nowhere => return Ok(()),
+        Touched::Nowhere => trim_due(groups, beyond)?,
         Touched::In(bucket) => {
+            trim_due(groups, beyond)?;
             let more = places_more(*beyond, groups.len());
             let here = fit_one(alloc, groups, bucket, more)?;
             *beyond = beyond.saturating_add(here as u64);

@@ -15,6 +15,7 @@ loop-q-init g c =
     let none = c.in_ok-groups.ensures.items in
     record {
       count = c.in_ok-groups.ensures.len;
+      room = c.in_ok-groups.ensures.exact;
       free = all_slots-free_none c.in_ok-groups.groups.items none;
       lens = ap lens_of none;
       rooms = rooms_none (rooms_of c.in_ok-groups.groups.items) c.args.counts.now c.args.heirs.now (ap rooms_of none);
@@ -33,23 +34,24 @@ loop-q-preserved g c =
     let room : IsFit (vec_capacity u.items) (get_or counts i 0) ⊎ (get_or heirs (i / 2) None ≡ Some i) =
     subst (λ r. IsFit r (get_or counts i 0) ⊎ (get_or heirs (i / 2) None ≡ Some i)) (sym c.in_ok-group.ensures.places) c.places_for.ensures.fit in
     record {
-      count = c.in_ok-push.ensures.len ∙ ap (λ n. n + 1) before.count;
-      free = λ b. ap (λ us. slot_at (all_slots us) b) c.in_ok-push.ensures.items ∙ all_slots-free_more us u before.free c.in_ok-group.ensures.slots b;
+      count = c.push_reserved.ensures.len ∙ ap (λ n. n + 1) before.count;
+      room = c.push_reserved.ensures.capacity ∙ before.room;
+      free = λ b. ap (λ us. slot_at (all_slots us) b) c.push_reserved.ensures.items ∙ all_slots-free_more us u before.free c.in_ok-group.ensures.slots b;
       lens =
-          ap lens_of c.in_ok-push.ensures.items
+          ap lens_of c.push_reserved.ensures.items
           ∙ map_push (λ (g : Group _). vec_len g.items) us u
           ∙ (λ j. before.lens j ++ c.in_ok-group.ensures.len j ∷ [])
           ∙ replicate_more i 0;
       rooms =
           let long : length (rooms_of us) ≡ i = length-map us (λ (g : Group _). vec_capacity g.items) ∙ sym c.loop-q.groups.ok.0 ∙ before.count in
-          let more = ap rooms_of c.in_ok-push.ensures.items ∙ map_push (λ (g : Group _). vec_capacity g.items) us u in
+          let more = ap rooms_of c.push_reserved.ensures.items ∙ map_push (λ (g : Group _). vec_capacity g.items) us u in
           rooms_same _ _ counts heirs more (rooms_push (rooms_of us) counts heirs (vec_capacity u.items) i long room before.rooms);
       bare =
           let long : length (rooms_of us) ≡ i = length-map us (λ (g : Group _). vec_capacity g.items) ∙ sym c.loop-q.groups.ok.0 ∙ before.count in
-          let more = ap rooms_of c.in_ok-push.ensures.items ∙ map_push (λ (g : Group _). vec_capacity g.items) us u in
+          let more = ap rooms_of c.push_reserved.ensures.items ∙ map_push (λ (g : Group _). vec_capacity g.items) us u in
           bare_same _ _ heirs more (bare_push (rooms_of us) heirs (vec_capacity u.items) i long (λ heir. c.in_ok-group.ensures.places ∙ c.places_for.ensures.none heir) before.bare);
       few =
           let long : length (rooms_of us) ≡ i = length-map us (λ (g : Group _). vec_capacity g.items) ∙ sym c.loop-q.groups.ok.0 ∙ before.count in
-          let more = ap rooms_of c.in_ok-push.ensures.items ∙ map_push (λ (g : Group _). vec_capacity g.items) us u in
+          let more = ap rooms_of c.push_reserved.ensures.items ∙ map_push (λ (g : Group _). vec_capacity g.items) us u in
           few_same _ _ counts more (few_push (rooms_of us) counts (vec_capacity u.items) i long (omega (arith, c.in_ok-group.ensures.places, c.places_for.ensures.few)) before.few);
     }

@@ -1,5 +1,6 @@
-use Rattle.std.proofs.Common.{◌≡◌, ◌≤◌, ◌+◌, ℕ, None, vec_len, get_or}
+use Rattle.std.proofs.Common.{◌≡◌, ◌≤◌, ◌+◌, ℕ, None, vec_len, length, get_or}
 use Rattle.std.specs.Prelude.{replicate}
+use Rattle.std.specs.Vec.{vec_capacity}
 use Rattle.sparse_map.specs.Slots.{slot_at}
 use Rattle.sparse_map.specs.Groups.{all_slots}
 use Rattle.sparse_map.specs.Plan.{lens_of, rooms_of}
@@ -9,6 +10,7 @@ use Rattle.sparse_map.proofs.moving.groups_for.Given as goal
 abbrev pub invariant-loop-q : goal.invariant-loop-q
 invariant-loop-q g l = record {
   count : vec_len l.groups ≡ l.q;
+  room : vec_capacity l.groups ≡ length l.counts;
   free : (b : ℕ) → slot_at (all_slots l.groups.items) b ≡ None;
   lens : lens_of l.groups.items ≡ replicate l.q 0;
   rooms : AreRooms (rooms_of l.groups.items) l.counts l.heirs 0;

@@ -26,6 +26,7 @@ loop-group-init g c =
         within = omega arith;
         loose = made_few us (with_items n (plan_of n us) (items_in c.args.old.items)).counts c.requires.lists.made (rooms_of c.args.old.items) c.args.heirs.now;
         places = omega arith;
+        short = omega arith;
       };
       none = c.requires.held;
       room = c.requires.room;
@@ -164,6 +165,13 @@ returns-clause-more g c =
     let none = nothing rest (omega (arith, c.in-None.ensures.steps.0, c.loop-group.group-iterator.rest.ok.0)) in
     let last = turn_last (2 ^ c.args.bits) c.args.groups.now c.args.old.items c.args.heirs.now c.requires.lists c.loop-group.source c.loop-group.groups rest c.loop-group.invariant.turn none in
     last.more c.loop-group.auto.groups
+
+pub returns-clause-short : goal.returns-clause-short
+returns-clause-short g c =
+    let rest = into_iter_items c.loop-group.group-iterator in
+    let none = nothing rest (omega (arith, c.in-None.ensures.steps.0, c.loop-group.group-iterator.rest.ok.0)) in
+    let last = turn_last (2 ^ c.args.bits) c.args.groups.now c.args.old.items c.args.heirs.now c.requires.lists c.loop-group.source c.loop-group.groups rest c.loop-group.invariant.turn none in
+    last.short c.loop-group.auto.groups
 
 pub returns-clause-handed : goal.returns-clause-handed
 returns-clause-handed g c =

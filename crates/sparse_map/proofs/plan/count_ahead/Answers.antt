@@ -28,7 +28,7 @@ mark_groups-requires-clause-level g c =
 
 pub mark_groups-requires-clause-none : goal.mark_groups-requires-clause-none
 mark_groups-requires-clause-none g c =
-    λ q. none_noted c.as_mut_slice-3.result.now ((c.bucket_count-buckets.result + 32) / 64) q (c.as_mut_slice-3.ensures.value ∙ c.in_ok-clear.ensures.items_if_clones_equal (λ y same. same))
+    λ q. none_noted c.as_mut_slice-3.result.now ((c.bucket_count-buckets.result + 32) / 64) q (c.as_mut_slice-3.ensures.value ∙ c.in_ok-clear.ensures.items)
 
 pub heirs_of-requires-clause-level : goal.heirs_of-requires-clause-level
 heirs_of-requires-clause-level g c =
@@ -58,9 +58,9 @@ returns-clause-heirs g c =
     let us = c.args.groups.now in
     let buckets = c.bucket_count-buckets.ensures.count in
     let marks : c.as_mut_slice.result.now ≡ replicate n false =
-    c.as_mut_slice.ensures.value ∙ c.in_ok-marks.ensures.items_if_clones_equal (λ y same. same) ∙ ap (λ k. replicate k false) buckets in
+    c.as_mut_slice.ensures.value ∙ c.in_ok-marks.ensures.items ∙ ap (λ k. replicate k false) buckets in
     let zeros : c.as_mut_slice-2.result.now ≡ replicate (lists_for n) 0 =
-    c.as_mut_slice-2.ensures.value ∙ c.in_ok-counts.ensures.items_if_clones_equal (λ y same. same) ∙ ap (λ k. replicate (lists_for k) 0) buckets in
+    c.as_mut_slice-2.ensures.value ∙ c.in_ok-counts.ensures.items ∙ ap (λ k. replicate (lists_for k) 0) buckets in
     let start : planned c.as_mut_slice.result.now c.as_mut_slice-2.result.now ≡ blank_plan n = λ i. planned (marks i) (zeros i) in
     let counts_long : length c.mark_groups.new.counts ≡ vec_len c.in_ok-counts.counts = c.mark_groups.auto.counts ∙ c.as_mut_slice-2.ensures.len in
     let clear_long : length c.mark_groups.new.clear ≡ vec_len c.in_ok-clear.clear = c.mark_groups.auto.clear ∙ c.as_mut_slice-3.ensures.len in

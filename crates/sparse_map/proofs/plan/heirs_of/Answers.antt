@@ -13,6 +13,7 @@ loop-source-init g c =
     let none = c.in_ok-heirs.ensures.items in
     record {
       level = ap length none;
+      room = c.in_ok-heirs.ensures.exact;
       heirs = λ s q is. absurd (let wrong : None ≡ Some q = sym (ap (λ (hs : List (Option ℕ)). get_or hs s None) none) ∙ is in cc);
       few = omega (arith, brought_none (rooms_of c.args.groups.now) c.args.counts.now c.in_ok-heirs.heirs.items);
       kept = λ s past none. absurd (let wrong : ⊥ = omega (arith, past) in wrong);
@@ -40,12 +41,13 @@ loop-source-preserved g c =
       fits = omega (arith, fit, room, c.capacity-places.ensures);
     } in
     record {
-      level = omega (arith, ap length c.in_ok-push.ensures.items, length-append hs (h ∷ []), before.level);
-      heirs = λ s q is. heirs_push (rooms_of us) counts noted hs h i before.level new before.heirs s q (sym (ap (λ (r : List (Option ℕ)). get_or r s None) c.in_ok-push.ensures.items) ∙ is);
+      level = omega (arith, ap length c.push_reserved.ensures.items, length-append hs (h ∷ []), before.level);
+      room = c.push_reserved.ensures.capacity ∙ before.room;
+      heirs = λ s q is. heirs_push (rooms_of us) counts noted hs h i before.level new before.heirs s q (sym (ap (λ (r : List (Option ℕ)). get_or r s None) c.push_reserved.ensures.items) ∙ is);
       few =
           let rooms = rooms_of us in
           let news = hs ++ h ∷ [] in
-          let read = ap (λ (r : List (Option ℕ)). all_brought rooms counts r (i + 1)) c.in_ok-push.ensures.items in
+          let read = ap (λ (r : List (Option ℕ)). all_brought rooms counts r (i + 1)) c.push_reserved.ensures.items in
           let below : all_brought rooms counts news i ≡ all_brought rooms counts hs i = brought_same rooms counts news hs i (λ s lt. get_or_append_left hs (h ∷ []) None s (omega (arith, lt, before.level))) in
           let last : get_or news i None ≡ h = get_or-append_right hs (h ∷ []) i i None before.level (omega arith) ∙ ap (λ k. get_or (h ∷ []) k None) (let none : i - i ≡ 0 = omega arith in none) in
           let here : brought counts (get_or news i None) (get_or rooms i 0) ≡ brought counts h places = λ j. brought counts (last j) (here_room j) in
@@ -56,7 +58,7 @@ loop-source-preserved g c =
           let left : c.loop-source.left ≡ most - all_brought rooms counts hs i = omega (arith, before.few) in
           let passed : h ≡ None → IsPassedOver counts noted i (get_or rooms i 0) (most - all_brought rooms counts hs i) = λ none.
           subst (λ p. IsPassedOver counts noted i p (most - all_brought rooms counts hs i)) (sym here_room) (subst (λ l. IsPassedOver counts noted i places l) left (said.kept none)) in
-          subst (λ r. (s : ℕ) → s < i + 1 → get_or r s None ≡ None → IsPassedOver counts noted s (get_or rooms s 0) (most - all_brought rooms counts r s)) (sym c.in_ok-push.ensures.items)
+          subst (λ r. (s : ℕ) → s < i + 1 → get_or r s None ≡ None → IsPassedOver counts noted s (get_or rooms s 0) (most - all_brought rooms counts r s)) (sym c.push_reserved.ensures.items)
           (kept_push rooms counts noted hs h i most before.level passed before.kept);
     }
 

@@ -2,9 +2,9 @@ use Rattle.std.proofs.Common.{◌≡◌, ◌+◌, ◌-◌, ◌/◌, ◌≤◌, l
 use Rattle.std.specs.Vec.{vec_len, vec_capacity}
 use Rattle.sparse_map.specs.Trimmed.{IsReady}
 use Rattle.sparse_map.specs.declared.table.Touched.TheVariants.{Nowhere, In}
-use Rattle.sparse_map.specs.Places.{sizes_of, extra, lacks, loose_of}
+use Rattle.sparse_map.specs.Places.{list_size, sizes_of, extra, lacks, loose_of, past_most}
 use Rattle.sparse_map.proofs.TableLemmas.{all_slots_trimmed}
-use Rattle.sparse_map.proofs.PlacesLemmas.{extra-is, extra-full, lacks-room, lacks-none, lacks-full, places_in-set, untouched_in-set, untouched_in-at, untouched_in-fitted, untouched-past, length-sizes}
+use Rattle.sparse_map.proofs.PlacesLemmas.{past-le, extra-is, extra-full, lacks-room, lacks-none, lacks-full, places_in-set, untouched_in-set, untouched_in-at, untouched_in-fitted, untouched-past, length-sizes}
 use Rattle.std.proofs.lemmas.Result.{IfOk-weaker, on_ok_weaker, on_err_weaker}
 use Rattle.sparse_map.proofs.table.fit_one.Goals as goal
 
@@ -21,6 +21,15 @@ returns-then-i-groups-clause-not_lacking g c =
 pub returns-clause-slots : goal.returns-clause-slots
 returns-clause-slots g c =
     all_slots_trimmed c.args.groups.now (c.args.bucket / 64) c.index-groups-i.result c.fit.new.self c.if-i-groups.false c.fit.ensures.occupied c.fit.ensures.items
+
+pub returns-clause-short : goal.returns-clause-short
+returns-clause-short g c =
+    let us = c.args.groups.now in
+    let read = c.index-groups-i.result in
+    let u = get_or us (c.args.bucket / 64) read in
+    let w = c.fit.new.self in
+    let past = past-le (list_size w) (list_size u) (omega (arith, c.fit.ensures.short)) in
+    omega (arith, untouched_in-set us (c.args.bucket / 64) u read w c.if-i-groups.false refl past_most Nowhere 0 (omega (arith, past)))
 
 pub returns-clause-loose : goal.returns-clause-loose
 returns-clause-loose g c =

@@ -6,8 +6,9 @@ use Rattle.sparse_map.specs.Slots.{rank, slot_at}
 use Rattle.sparse_map.proofs.GroupLemmas.{free_below_64}
 use Rattle.sparse_map.proofs.TableLemmas.{slot_of_bucket, set_bucket}
 use Rattle.sparse_map.proofs.PlanLemmas.{len_at, room_at}
-use Rattle.sparse_map.specs.Places.{list_size, sizes_of, extra, lacks}
-use Rattle.sparse_map.proofs.PlacesLemmas.{untouched-wider, extra-most, extra-less, lacks-le, lacks-no, lacks-yes, places_in-set, untouched_in-set, untouched_in-at, untouched_in-less, lacking_in-next, lacking-one}
+use Rattle.sparse_map.specs.declared.table.Touched.TheVariants.{Nowhere}
+use Rattle.sparse_map.specs.Places.{list_size, sizes_of, extra, lacks, past_most}
+use Rattle.sparse_map.proofs.PlacesLemmas.{past-le, untouched-wider, extra-most, extra-less, lacks-le, lacks-no, lacks-yes, places_in-set, untouched_in-set, untouched_in-at, untouched_in-less, lacking_in-next, lacking-one}
 use Rattle.sparse_map.proofs.table.put.Goals as goal
 
 pub make_room-grew-requires-clause-below : goal.make_room-grew-requires-clause-below
@@ -103,6 +104,23 @@ returns-clause-loose g c =
           let most = extra-most u w 0 (omega (arith, c.insert.ensures.capacity, kept.1)) (omega (arith, c.insert.ensures.len, c.make_room-grew.ensures.len)) in
           omega (arith, wider, untouched_in-set us i u read w inside refl extra after 0 most)
       | inr grew ↦ omega (arith, wider, untouched_in-at us i u read w inside refl extra after (may (c.left_in.ensures.blank grew.0)))
+    ]
+
+pub returns-clause-short : goal.returns-clause-short
+returns-clause-short g c =
+    let read = c.index-groups-bucket.result in
+    let us = c.args.groups.now in
+    let i = c.args.bucket / 64 in
+    let u = get_or us i read in
+    let w = c.insert.new.self in
+    let inside : i < length us = omega (arith, c.requires.within) in
+    elim c.make_room-grew.ensures.widened [
+      | inl kept ↦
+          let past = past-le (list_size w) (list_size u) (omega (arith, c.insert.ensures.capacity, kept.1)) in
+          omega (arith, untouched_in-set us i u read w inside refl past_most Nowhere 0 (omega (arith, past)))
+      | inr grew ↦
+          let past = past-le (list_size w) (list_size u) (omega (arith, c.insert.ensures.capacity, grew.2)) in
+          omega (arith, untouched_in-set us i u read w inside refl past_most Nowhere 0 (omega (arith, past)))
     ]
 
 pub returns-clause-less : goal.returns-clause-less

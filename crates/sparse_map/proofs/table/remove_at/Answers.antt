@@ -4,7 +4,7 @@ use Rattle.std.specs.Ordering.{nat_cmp}
 use Rattle.std.specs.FinMap.{find}
 use Rattle.sparse_map.specs.Slots.{items_of, slot_at}
 use Rattle.sparse_map.specs.Groups.{slots_of, IsTable}
-use Rattle.sparse_map.specs.Places.{places_of, loose_of, lacking}
+use Rattle.sparse_map.specs.Places.{places_of, loose_of, lacking, past_of}
 use Rattle.sparse_map.specs.declared.group.Group.{Group}
 use Rattle.sparse_map.specs.Home.{IsTableSize}
 use Rattle.sparse_map.specs.Packed.{IsPacked}
@@ -81,6 +81,9 @@ returns-clause-count g c =
 
 pub returns-clause-places : goal.returns-clause-places
 returns-clause-places g c = c.take.ensures.places ∙ ap places_of c.shift_back-hole.ensures.sizes
+
+pub returns-clause-short : goal.returns-clause-short
+returns-clause-short g c = omega (arith, c.take.ensures.short, ap past_of c.shift_back-hole.ensures.sizes)
 
 pub returns-clause-loose : goal.returns-clause-loose
 returns-clause-loose g c = λ t. omega (arith, c.take.ensures.loose t, ap (loose_of t) c.shift_back-hole.ensures.sizes)

@@ -1,8 +1,9 @@
 use Rattle.std.proofs.Common.{refl, ◌∙◌, subst, get_or, arith, ◌/◌, None}
 use Rattle.std.specs.Prelude.{IsSome}
 use Rattle.sparse_map.proofs.TableLemmas.{slot_of_bucket, set_bucket}
-use Rattle.sparse_map.specs.Places.{list_size, extra, lacks}
-use Rattle.sparse_map.proofs.PlacesLemmas.{extra-most, lacks-le, places_in-set, untouched_in-set}
+use Rattle.sparse_map.specs.declared.table.Touched.TheVariants.{Nowhere}
+use Rattle.sparse_map.specs.Places.{list_size, extra, lacks, past_most}
+use Rattle.sparse_map.proofs.PlacesLemmas.{past-le, extra-most, lacks-le, places_in-set, untouched_in-set}
 use Rattle.sparse_map.proofs.table.take.Goals as goal
 
 pub remove-requires-clause-occupied : goal.remove-requires-clause-occupied
@@ -29,6 +30,15 @@ returns-clause-places g c =
     let us = c.args.groups.now in
     let changed = places_in-set us (c.args.bucket / 64) (get_or us (c.args.bucket / 64) read) read c.remove.new.self (omega arith) refl in
     omega (arith, changed, c.remove.ensures.capacity)
+
+pub returns-clause-short : goal.returns-clause-short
+returns-clause-short g c =
+    let read = c.index-groups-bucket.result in
+    let us = c.args.groups.now in
+    let u = get_or us (c.args.bucket / 64) read in
+    let w = c.remove.new.self in
+    let past = past-le (list_size w) (list_size u) (omega (arith, c.remove.ensures.capacity)) in
+    omega (arith, untouched_in-set us (c.args.bucket / 64) u read w (omega arith) refl past_most Nowhere 0 (omega (arith, past)))
 
 pub returns-clause-loose : goal.returns-clause-loose
 returns-clause-loose g c =

@@ -26,7 +26,7 @@ invariant_of-self-lent g c =
     let has = ap (λ us. key_at (slots_of (buckets_for c.self.inside.bits) us) c.in-Some.seat.bucket) (sym c.as_slice.ensures.value) ∙ c.in-Some.ensures.found in
     let kept = lent_kept c.self.inside c.args.self.now c.self.invariant.table c.self.view_is c.in-Some.seat.bucket c.args.key c.index_mut.result.now has c.index_mut.ensures.value in
     let loose = lent_loose c.self.inside c.args.self.now c.self.invariant.table c.self.view_is c.in-Some.seat.bucket c.args.key c.index_mut.result.now has c.index_mut.ensures.value in
-    λ w. record { table = kept w; bound = bounded _ _ (omega (arith, loose w, (bounds _ _ c.self.invariant.bound))) }
+    λ w. record { table = kept w; bound = bounded _ _ (omega (arith, loose w, (bounds _ _ c.self.invariant.bound))); groups_fit = c.self.invariant.groups_fit; blanks_fit = c.self.invariant.blanks_fit }
 
 pub returns-in-Some : goal.returns-in-Some
 returns-in-Some g c =

@@ -11,7 +11,7 @@ use Rattle.sparse_map.specs.Kept.{KeepsTable}
 use Rattle.sparse_map.specs.Trimmed.{MayBeTouched}
 use Rattle.std.proofs.lemmas.Bool.{eq-eqb, ne_eqb}
 use Rattle.sparse_map.specs.declared.table.Touched.TheVariants.{Nowhere}
-use Rattle.sparse_map.specs.Places.{sizes_of, places_of, loose_of, lacking}
+use Rattle.sparse_map.specs.Places.{sizes_of, places_of, loose_of, lacking, past_of}
 use Rattle.sparse_map.proofs.PlacesLemmas.{lacking-le, bounded, bounds}
 use Rattle.sparse_map.specs.Probe.{IsFreeFor}
 use Rattle.sparse_map.proofs.SlotLemmas.{slot_of_key}
@@ -33,7 +33,7 @@ invariant_of-self g c =
     let kept = subst (λ us. KeepsTable m.bits m.len m.spare (vec_len m.stock) m.touched us) (sym (written m.groups ws long))
     (kept_value m c.args.self.now c.self.invariant.table c.self.view_is ws c.in-Found.bucket c.args.key c.args.value slots has sizes) in
     let loose = ap (loose_of m.touched) (ap sizes_of (written m.groups ws long) ∙ sizes) in
-    record { table = kept; bound = bounded _ _ (omega (arith, loose, (bounds _ _ c.self.invariant.bound))) }
+    record { table = kept; bound = bounded _ _ (omega (arith, loose, (bounds _ _ c.self.invariant.bound))); groups_fit = c.self.invariant.groups_fit; blanks_fit = c.self.invariant.blanks_fit }
 
 pub put-left-requires-clause-within : goal.put-left-requires-clause-within
 put-left-requires-clause-within g c =
@@ -79,7 +79,8 @@ invariant_of-self-in-Free g c =
     let ready = c.put-left.ensures.ready m.touched after added c.with-self-inside.ensures.kept in
     let kept = subst (λ us. KeepsTable m.bits (m.len + 1) (m.spare - 1) (vec_len c.put-left.new.stock) after us) (sym (written m.groups ws long))
     (kept_new_key m c.args.self.now c.self.invariant.table c.self.view_is ws c.in-Free.bucket c.args.key c.args.value slots (vec_len c.put-left.new.stock) after place more c.put-left.ensures.one_less
-    (λ n. omega (arith, c.put-left.ensures.fewer_lack n, ap (lacking (n + 1) Nowhere) old)) (omega (arith, ready, ap (lacking 1 m.touched) old))) in
+    (λ n. omega (arith, c.put-left.ensures.fewer_lack n, ap (lacking (n + 1) Nowhere) old)) (omega (arith, ready, ap (lacking 1 m.touched) old))
+    (omega (arith, c.put-left.ensures.short, ap past_of old)) c.put-left.ensures.no_more) in
     let sizes = ap sizes_of (written m.groups ws long) in
     let fewer = c.put-left.ensures.loose m.touched after added c.with-self-inside.ensures.kept in
     let counted = c.counted-self-inside.ensures.bounds (loose_of m.touched (sizes_of m.groups.items)) (loose_of after (sizes_of ws)) (bounds _ _ c.self.invariant.bound) (omega (arith, fewer, ap (loose_of m.touched) old))
@@ -88,7 +89,12 @@ invariant_of-self-in-Free g c =
     let new = ap (λ t. loose_of t (sizes_of ws)) stays in
     let was = ap (λ t. loose_of t (sizes_of m.groups.items)) nowhere in
     omega (arith, c.put-left.ensures.less few, new, was, ap (loose_of Nowhere) old)) in
-    record { table = kept; bound = bounded _ _ (omega (arith, counted, ap (loose_of after) sizes)) }
+    record {
+      table = kept;
+      bound = bounded _ _ (omega (arith, counted, ap (loose_of after) sizes));
+      groups_fit = c.self.invariant.groups_fit;
+      blanks_fit = omega (arith, c.put-left.ensures.stock_room, c.self.invariant.blanks_fit);
+    }
 
 pub returns-in-Found-clause-old : goal.returns-in-Found-clause-old
 returns-in-Found-clause-old g c =
@@ -123,7 +129,7 @@ returns-in-Found-clause-sound g c =
     let has = ap (λ s. key_at s c.in-Found.bucket) (sym same_has) ∙ (key_found (slots_of (2 ^ m.bits) c.as_slice.result.now) c.args.key c.in-Found.bucket c.probe-spot.result.at c.probe-spot.ensures.place c.in-Found.is) in
     kept_sound m.bits m.len m.spare (vec_len m.stock) m.touched ws
     (kept_value m c.args.self.now c.self.invariant.table c.self.view_is ws c.in-Found.bucket c.args.key c.args.value slots has (c.replace-old.ensures.sizes ∙ ap sizes_of c.as_mut_slice.ensures.value))
-    _ (ap (slots_of (buckets_for m.bits)) (written m.groups ws long)) refl
+    _ (ap (slots_of (buckets_for m.bits)) (written m.groups ws long)) refl (ap (λ us. places_of (sizes_of us)) (written m.groups ws long)) refl
 
 pub returns-in-Free-clause-old : goal.returns-in-Free-clause-old
 returns-in-Free-clause-old g c =
@@ -161,8 +167,9 @@ returns-in-Free-clause-sound g c =
     let ready = c.put-left.ensures.ready m.touched after added c.with-self-inside.ensures.kept in
     kept_sound m.bits (m.len + 1) (m.spare - 1) (vec_len c.put-left.new.stock) after ws
     (kept_new_key m c.args.self.now c.self.invariant.table c.self.view_is ws c.in-Free.bucket c.args.key c.args.value slots (vec_len c.put-left.new.stock) after place more c.put-left.ensures.one_less
-    (λ n. omega (arith, c.put-left.ensures.fewer_lack n, ap (lacking (n + 1) Nowhere) old)) (omega (arith, ready, ap (lacking 1 m.touched) old)))
-    _ (ap (slots_of (buckets_for m.bits)) (written m.groups ws long)) refl
+    (λ n. omega (arith, c.put-left.ensures.fewer_lack n, ap (lacking (n + 1) Nowhere) old)) (omega (arith, ready, ap (lacking 1 m.touched) old))
+    (omega (arith, c.put-left.ensures.short, ap past_of old)) c.put-left.ensures.no_more)
+    _ (ap (slots_of (buckets_for m.bits)) (written m.groups ws long)) refl (ap (λ us. places_of (sizes_of us)) (written m.groups ws long)) refl
 
 pub returns-in-Found-clause-placed : goal.returns-in-Found-clause-placed
 returns-in-Found-clause-placed g c =

@@ -8,8 +8,10 @@ use Rattle.sparse_map.proofs.map.SparseMap.new.Goals as goal
 
 pub invariant_of-result : goal.invariant_of-result
 invariant_of-result g c = record {
-  table = kept_new c.new.result.items (vec_len c.new-2.result) c.new.ensures.items;
+  table = kept_new c.new.result.items (vec_len c.new-2.result) c.new.ensures.items c.new-2.ensures.len;
   bound = bounded _ _ (omega (arith, ap (loose_of Nowhere) (sizes-new c.new.result.items c.new.ensures.items), no-untouched extra));
+  groups_fit = omega (arith, c.new.ensures);
+  blanks_fit = omega (arith, c.new-2.ensures);
 }
 
 pub returns-clause-none : goal.returns-clause-none
@@ -20,7 +22,7 @@ returns-clause-empty g c = map_of-new _ c.new.result.items refl
 
 pub returns-clause-sound : goal.returns-clause-sound
 returns-clause-sound g c =
-    kept_sound 0 0 0 (vec_len c.new-2.result) Nowhere c.new.result.items (kept_new c.new.result.items (vec_len c.new-2.result) c.new.ensures.items) _ refl refl
+    kept_sound 0 0 0 (vec_len c.new-2.result) Nowhere c.new.result.items (kept_new c.new.result.items (vec_len c.new-2.result) c.new.ensures.items c.new-2.ensures.len) _ refl refl refl refl
 
 pub returns-clause-memory : goal.returns-clause-memory
 returns-clause-memory g c =

@@ -9,7 +9,7 @@ use Rattle.sparse_map.specs.Groups.{slots_of}
 use Rattle.sparse_map.specs.Ranks.{IsSeated}
 use Rattle.sparse_map.proofs.RankedLemmas.{seated}
 use Rattle.sparse_map.specs.Kept.{KeepsTable}
-use Rattle.sparse_map.specs.Places.{sizes_of, places_of, loose_of, lacking}
+use Rattle.sparse_map.specs.Places.{sizes_of, places_of, loose_of, lacking, past_of}
 use Rattle.sparse_map.proofs.SlotLemmas.{slot_of_key, not_found}
 use Rattle.sparse_map.proofs.HomeLemmas.{has_buckets, some_buckets}
 use Rattle.sparse_map.proofs.BucketLemmas.{key_below}
@@ -46,13 +46,16 @@ invariant_of-self g c =
     let count : length (items_of (slots_of n ws)) + 1 ≡ length (items_of (slots_of n m.groups.items)) = c.remove_at-value.ensures.count ∙ ap (λ us. length (items_of (slots_of n us))) c.as_mut_slice.ensures.value in
     let kept : KeepsTable m.bits (m.len - 1) m.spare (vec_len m.stock) m.touched ws =
     kept_removed m c.args.self.now c.self.invariant.table c.self.view_is n size ws c.remove_at-value.ensures.table c.remove_at-value.ensures.packed count
-    (λ n t. omega (arith, c.remove_at-value.ensures.lacking n t, ap (λ us. lacking n t (sizes_of us)) c.as_mut_slice.ensures.value)) in
+    (λ n t. omega (arith, c.remove_at-value.ensures.lacking n t, ap (λ us. lacking n t (sizes_of us)) c.as_mut_slice.ensures.value))
+    (omega (arith, c.remove_at-value.ensures.short, ap (λ us. past_of (sizes_of us)) c.as_mut_slice.ensures.value)) in
     let loose = c.remove_at-value.ensures.loose m.touched in
     let now = ap (λ us. loose_of m.touched (sizes_of us)) (written m.groups ws long) in
     let old = ap (λ us. loose_of m.touched (sizes_of us)) c.as_mut_slice.ensures.value in
     record {
       table = subst (λ us. KeepsTable m.bits (m.len - 1) m.spare (vec_len m.stock) m.touched us) (sym (written m.groups ws long)) kept;
       bound = bounded _ _ (omega (arith, loose, now, old, c.saturating_add-self-inside.ensures, (bounds _ _ c.self.invariant.bound)));
+      groups_fit = c.self.invariant.groups_fit;
+      blanks_fit = c.self.invariant.blanks_fit;
     }
 
 pub returns-clause-value : goal.returns-clause-value
@@ -102,7 +105,8 @@ returns-clause-buckets g c =
     let count : length (items_of (slots_of n ws)) + 1 ≡ length (items_of (slots_of n m.groups.items)) = c.remove_at-value.ensures.count ∙ ap (λ us. length (items_of (slots_of n us))) c.as_mut_slice.ensures.value in
     let kept : KeepsTable m.bits (m.len - 1) m.spare (vec_len m.stock) m.touched ws =
     kept_removed m c.args.self.now c.self.invariant.table c.self.view_is n size ws c.remove_at-value.ensures.table c.remove_at-value.ensures.packed count
-    (λ n t. omega (arith, c.remove_at-value.ensures.lacking n t, ap (λ us. lacking n t (sizes_of us)) c.as_mut_slice.ensures.value)) in
+    (λ n t. omega (arith, c.remove_at-value.ensures.lacking n t, ap (λ us. lacking n t (sizes_of us)) c.as_mut_slice.ensures.value))
+    (omega (arith, c.remove_at-value.ensures.short, ap (λ us. past_of (sizes_of us)) c.as_mut_slice.ensures.value)) in
     ap (λ us. length (slots_of (buckets_for m.bits) us)) (written m.groups ws long)
     ∙ kept_long m.bits (m.len - 1) m.spare (vec_len m.stock) m.touched ws kept
     ∙ seen_buckets m c.args.self.now c.self.invariant.table c.self.view_is
@@ -119,8 +123,9 @@ returns-clause-sound g c =
     let count : length (items_of (slots_of n ws)) + 1 ≡ length (items_of (slots_of n m.groups.items)) = c.remove_at-value.ensures.count ∙ ap (λ us. length (items_of (slots_of n us))) c.as_mut_slice.ensures.value in
     let kept : KeepsTable m.bits (m.len - 1) m.spare (vec_len m.stock) m.touched ws =
     kept_removed m c.args.self.now c.self.invariant.table c.self.view_is n size ws c.remove_at-value.ensures.table c.remove_at-value.ensures.packed count
-    (λ n t. omega (arith, c.remove_at-value.ensures.lacking n t, ap (λ us. lacking n t (sizes_of us)) c.as_mut_slice.ensures.value)) in
-    kept_sound m.bits (m.len - 1) m.spare (vec_len m.stock) m.touched ws kept _ (ap (slots_of (buckets_for m.bits)) (written m.groups ws long)) refl
+    (λ n t. omega (arith, c.remove_at-value.ensures.lacking n t, ap (λ us. lacking n t (sizes_of us)) c.as_mut_slice.ensures.value))
+    (omega (arith, c.remove_at-value.ensures.short, ap (λ us. past_of (sizes_of us)) c.as_mut_slice.ensures.value)) in
+    kept_sound m.bits (m.len - 1) m.spare (vec_len m.stock) m.touched ws kept _ (ap (slots_of (buckets_for m.bits)) (written m.groups ws long)) refl (ap (λ us. places_of (sizes_of us)) (written m.groups ws long)) refl
 
 pub returns-clause-memory : goal.returns-clause-memory
 returns-clause-memory g c =

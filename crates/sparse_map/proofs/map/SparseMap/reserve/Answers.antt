@@ -69,7 +69,7 @@ returns-then-bits-self-clause-sound g c =
     let wide : 2 ^ c.bits_for-bits.result ≡ 2 ^ m.bits = ap (λ b. 2 ^ b) c.if-bits-self.true in
     sound_stocked c.stock_up.result t c.stock_up.new.self c.from-n.result (seen_sound m t c.self.invariant.table c.self.view_is)
     (omega (arith, c.bits_for-bits.ensures.doubled.enough, wide, size, long, len))
-    c.stock_up.ensures.slots c.stock_up.ensures.spare c.stock_up.ensures.err
+    c.stock_up.ensures.slots c.stock_up.ensures.spare c.stock_up.ensures.err c.stock_up.ensures.places c.stock_up.ensures.blanks
 
 pub returns-else-bits-self-clause-buckets : goal.returns-else-bits-self-clause-buckets
 returns-else-bits-self-clause-buckets g c =

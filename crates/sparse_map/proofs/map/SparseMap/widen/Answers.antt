@@ -11,7 +11,7 @@ use Rattle.sparse_map.specs.Home.{buckets_for}
 use Rattle.sparse_map.specs.Moved.{items_in}
 use Rattle.sparse_map.specs.Groups.{lists_for, slots_of, IsTable}
 use Rattle.sparse_map.specs.Kept.{KeepsTable}
-use Rattle.sparse_map.specs.Places.{sizes_of, places_of, loose_of, lacking}
+use Rattle.sparse_map.specs.Places.{sizes_of, places_of, loose_of, lacking, past_of}
 use Rattle.sparse_map.specs.Seen.{more_free, seen_of}
 use Rattle.sparse_map.proofs.BucketLemmas.{items_of-groups, length-wide}
 use Rattle.sparse_map.proofs.MapLemmas.{map_of-same, kept_len, kept_sound, more_free-is, few_enough}
@@ -67,6 +67,9 @@ invariant_of-self g c =
     let table : IsTable (2 ^ c.args.bits) ws = record { count = omega (arith, long, c.in_ok-ahead.ensures.count); rest = w.rest } in
     let before = seen_buckets m t c.self.invariant.table c.self.view_is in
     let ready = fit_ready ws c.place_groups.ensures.fit in
+    let was : c.replace-old.result.items ≡ m.groups.items = ap (λ v. v.items) c.replace-old.ensures.value in
+    let short : past_of (sizes_of ws) ≡ 0 = omega (arith, c.place_groups.ensures.short, ap (λ us. past_of (sizes_of us)) was, c.self.invariant.table.short) in
+    let few : vec_len c.add_blanks.new.stock ≤ lists_for (2 ^ c.args.bits) = omega (arith, c.in_ok-ahead.ensures.count, c.len.ensures, c.in_ok-add_blanks.ensures.ok, c.blanks_for-wanted.ensures.few) in
     let enough : (min c.max-spare.result (length (sizes_of ws)) ≤ vec_len c.add_blanks.new.stock) ⊎ ((c.max-spare.result ≤ 1) × (lacking 1 Nowhere (sizes_of ws) ≡ 0)) = elim c.blanks_for-wanted.ensures.enough [
       | inl all ↦ inl (omega (arith, all, c.in_ok-add_blanks.ensures.ok, c.len.ensures, long, length-sizes ws))
       | inr one ↦ inr (one.0, ready)
@@ -75,9 +78,15 @@ invariant_of-self g c =
     (kept_groups c.args.bits m.len c.max-spare.result (vec_len c.add_blanks.new.stock) ws c.requires.size table w.packed
     (c.self.invariant.table.counted ∙ sym w.count)
     (omega (arith, c.requires.room, c.requires.wider, c.max-spare.ensures, len, before, c.self.invariant.table.room))
-    (stocked_for c.max-spare.result (vec_len c.add_blanks.new.stock) (sizes_of ws) enough) ready) in
+    (stocked_for c.max-spare.result (vec_len c.add_blanks.new.stock) (sizes_of ws) enough) ready short few) in
     let read = ap (λ us. loose_of Nowhere (sizes_of us)) c.as_slice-5.ensures.value in
-    record { table = kept; bound = bounded _ _ (omega (arith, read, c.beyond_of-self-inside.ensures)) }
+    let wide = ap lists_for (some_buckets c.args.bits (omega (arith, c.requires.size.many))) in
+    record {
+      table = kept;
+      bound = bounded _ _ (omega (arith, read, c.beyond_of-self-inside.ensures));
+      groups_fit = omega (arith, wide, c.in_ok-ahead.ensures.count, c.in_ok-ahead.ahead.groups_fit);
+      blanks_fit = omega (arith, wide, c.in_ok-ahead.ensures.count, c.len.ensures, c.add_blanks.ensures.room, c.new-stock.ensures, c.blanks_for-wanted.ensures.few);
+    }
 
 pub returns-clause-map : goal.returns-clause-map
 returns-clause-map g c =
@@ -115,6 +124,9 @@ returns-clause-fitted g c =
     let table : IsTable (2 ^ c.args.bits) ws = record { count = omega (arith, long, c.in_ok-ahead.ensures.count); rest = w.rest } in
     let before = seen_buckets m t c.self.invariant.table c.self.view_is in
     let ready = fit_ready ws c.place_groups.ensures.fit in
+    let was : c.replace-old.result.items ≡ m.groups.items = ap (λ v. v.items) c.replace-old.ensures.value in
+    let short : past_of (sizes_of ws) ≡ 0 = omega (arith, c.place_groups.ensures.short, ap (λ us. past_of (sizes_of us)) was, c.self.invariant.table.short) in
+    let few : vec_len c.add_blanks.new.stock ≤ lists_for (2 ^ c.args.bits) = omega (arith, c.in_ok-ahead.ensures.count, c.len.ensures, c.in_ok-add_blanks.ensures.ok, c.blanks_for-wanted.ensures.few) in
     let enough : (min c.max-spare.result (length (sizes_of ws)) ≤ vec_len c.add_blanks.new.stock) ⊎ ((c.max-spare.result ≤ 1) × (lacking 1 Nowhere (sizes_of ws) ≡ 0)) = elim c.blanks_for-wanted.ensures.enough [
       | inl all ↦ inl (omega (arith, all, c.in_ok-add_blanks.ensures.ok, c.len.ensures, long, length-sizes ws))
       | inr one ↦ inr (one.0, ready)
@@ -123,14 +135,16 @@ returns-clause-fitted g c =
     kept_groups c.args.bits m.len c.max-spare.result (vec_len c.add_blanks.new.stock) ws c.requires.size table w.packed
     (c.self.invariant.table.counted ∙ sym w.count)
     (omega (arith, c.requires.room, c.requires.wider, c.max-spare.ensures, len, before, c.self.invariant.table.room))
-    (stocked_for c.max-spare.result (vec_len c.add_blanks.new.stock) (sizes_of ws) enough) ready in
+    (stocked_for c.max-spare.result (vec_len c.add_blanks.new.stock) (sizes_of ws) enough) ready short few in
     let now = written new ws long in
     let count = kept_len c.args.bits m.len c.max-spare.result (vec_len c.add_blanks.new.stock) Nowhere ws kept (seen_of c.args.bits (vec.with_items new ws).items c.max-spare.result (vec_len c.add_blanks.new.stock) Nowhere c.saturating_add-peak.result) (ap (slots_of (buckets_for c.args.bits)) now) in
     let all = ap length (items_of-groups (2 ^ c.args.bits) ws w.rest) in
     let wide = length-wide c.args.bits c.requires.size (vec.with_items new ws).items (ap length now ∙ table.count) in
     let size = sized c.args.bits c.requires.size in
+    let level : length c.as_mut_slice.result.now ≡ lists_for (2 ^ c.args.bits) = omega (arith, c.as_mut_slice.ensures.len, c.in_ok-ahead.ensures.count) in
     record {
       places = omega (arith, places-bound ws, ap (λ us. places_of (sizes_of us)) now, ap (λ us. loose_of Nowhere (sizes_of us)) now, wide, table.count, more_free-is (2 ^ c.args.bits) size, all, count, c.self.invariant.table.counted, w.count, kept.counted);
+      loose = omega (arith, ap (λ us. loose_of Nowhere (sizes_of us)) now, ap more_free (some_buckets c.args.bits (omega (arith, c.requires.size.many))), few_enough (2 ^ c.args.bits) size, ap (λ k. k / 2) level, c.place_groups.ensures.few);
       blanks = omega (arith, wide, c.in_ok-ahead.ensures.count, c.len.ensures, c.in_ok-add_blanks.ensures.ok, c.blanks_for-wanted.ensures.few);
     }
 
@@ -170,6 +184,9 @@ returns-clause-sound g c =
     let table : IsTable (2 ^ c.args.bits) ws = record { count = omega (arith, long, c.in_ok-ahead.ensures.count); rest = w.rest } in
     let before = seen_buckets m t c.self.invariant.table c.self.view_is in
     let ready = fit_ready ws c.place_groups.ensures.fit in
+    let was : c.replace-old.result.items ≡ m.groups.items = ap (λ v. v.items) c.replace-old.ensures.value in
+    let short : past_of (sizes_of ws) ≡ 0 = omega (arith, c.place_groups.ensures.short, ap (λ us. past_of (sizes_of us)) was, c.self.invariant.table.short) in
+    let few : vec_len c.add_blanks.new.stock ≤ lists_for (2 ^ c.args.bits) = omega (arith, c.in_ok-ahead.ensures.count, c.len.ensures, c.in_ok-add_blanks.ensures.ok, c.blanks_for-wanted.ensures.few) in
     let enough : (min c.max-spare.result (length (sizes_of ws)) ≤ vec_len c.add_blanks.new.stock) ⊎ ((c.max-spare.result ≤ 1) × (lacking 1 Nowhere (sizes_of ws) ≡ 0)) = elim c.blanks_for-wanted.ensures.enough [
       | inl all ↦ inl (omega (arith, all, c.in_ok-add_blanks.ensures.ok, c.len.ensures, long, length-sizes ws))
       | inr one ↦ inr (one.0, ready)
@@ -178,5 +195,5 @@ returns-clause-sound g c =
     kept_groups c.args.bits m.len c.max-spare.result (vec_len c.add_blanks.new.stock) ws c.requires.size table w.packed
     (c.self.invariant.table.counted ∙ sym w.count)
     (omega (arith, c.requires.room, c.requires.wider, c.max-spare.ensures, len, before, c.self.invariant.table.room))
-    (stocked_for c.max-spare.result (vec_len c.add_blanks.new.stock) (sizes_of ws) enough) ready in
-    kept_sound c.args.bits m.len c.max-spare.result (vec_len c.add_blanks.new.stock) Nowhere ws kept _ (ap (slots_of (buckets_for c.args.bits)) (written new ws long)) refl
+    (stocked_for c.max-spare.result (vec_len c.add_blanks.new.stock) (sizes_of ws) enough) ready short few in
+    kept_sound c.args.bits m.len c.max-spare.result (vec_len c.add_blanks.new.stock) Nowhere ws kept _ (ap (slots_of (buckets_for c.args.bits)) (written new ws long)) refl (ap (λ us. places_of (sizes_of us)) (written new ws long)) refl
