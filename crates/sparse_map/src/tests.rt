@@ -220,3 +220,30 @@ fn most_keys_of_a_full_map_lie_in_the_group_of_their_home(rt: HostRuntime) -> Re
     assert_eq!(rt; keys_at_home(&map), (730, 768));
     Ok(())
 }
+
+/// Takes the keys from `from` up to `to` out of the map.
+fn clear(map: &mut SparseMap<u64>, from: u64, to: u64) {
+    for key in from..to {
+        let _ = map.remove(key);
+    }
+}
+
+#[test]
+fn all_lists_are_trimmed_after_more_removals_than_lists(rt: HostRuntime) -> Result<(), Fail> {
+    let mut map = SparseMap::new(rt.alloc());
+    fill(&mut map, 0, 100)?;
+    let full = map.places();
+    clear(&mut map, 0, 60);
+    assert_eq!(rt; map.places(), full);
+    make_room(&mut map, 1)?;
+    // Four lists with 40 items, and four free places each.
+    assert_eq!(rt; [map.buckets(), map.places()], [256, 40 + 4 * 4]);
+    for key in 100..1000 {
+        clear(&mut map, key - 40, key - 39);
+        put(&mut map, key, key)?;
+    }
+    make_room(&mut map, 1)?;
+    // However long it goes on, no more stay free than four for each 32 buckets, and one for each list.
+    assert!(rt; map.len() == 40 && map.places() <= 40 + 8 * 4 + 4);
+    Ok(())
+}
