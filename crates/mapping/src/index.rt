@@ -1,11 +1,11 @@
 //! What is kept beside the entries, so that none of it is counted or looked for anew: whose each page of
 //! the pool is, how many mapped pages each erase block has, and how many entries there are.
-ghost use Rattle.std.specs.Prelude.{◌≡◌, Some, None, IfOk, slice_index_or, if◌then◌else◌};
+ghost use Rattle.std.specs.Prelude.{◌≡◌, Some, None, IfOk, vec_len, slice_index_or, if◌then◌else◌};
+ghost use Rattle.std.specs.Vec.{vec_capacity};
 ghost use Rattle.std.specs.FinMap.{get, remove};
 ghost use Rattle.cache_model.specs.Records.{Entries, no_entries};
 ghost use Rattle.cache_model.specs.Entries.{IsMap, InPool};
 ghost use Rattle.mapping.specs.Numbers.{number_of};
-ghost use Rattle.mapping.specs.Index.{LogsAre, IsIndex};
 
 use crate::numbers::{number_of, pool_pages};
 use cache_model::Entry;
@@ -19,6 +19,7 @@ pub struct LogCounts {
     pub pages: Vec<u32>,
     /// The blocks that have some.
     pub used: u32,
+    ghost pages_fit: { vec_capacity pages ≡ vec_len pages },
 }
 
 /// What is kept beside the entries.
@@ -32,6 +33,7 @@ pub struct Index {
     pub held: u32,
     /// How many of these entries are dirty.
     pub dirty: u32,
+    ghost owners_fit: { vec_capacity owners ≡ vec_len owners },
 }
 
 /// One where something is so, and else none.
@@ -42,6 +44,8 @@ fn bit(is_so: bool) -> u32
 }
 
 impl LogCounts {
+    ghost use Rattle.mapping.specs.Index.{LogsAre};
+
     /// Takes note that the entry of an address goes.
     fn leave(&mut self, geometry: &Geometry, lba: u64, entry: &Entry)
         requires { (m : Entries) × IsMap geometry.now m × LogsAre geometry.now m self.old × (get m lba ≡ Some entry.now) }
@@ -78,17 +82,22 @@ impl LogCounts {
 }
 
 impl Index {
+    ghost use Rattle.mapping.specs.Index.{IsIndex};
+
     /// That of no entries.
     pub fn new(alloc: Global, geometry: &Geometry) -> Result<Index, AllocError>
         ensures { IfOk result (IsIndex geometry.now no_entries) }
     {
         let blocks = geometry.c + geometry.l + 1;
+        let owners = vec![in alloc; None; pool_pages(geometry) as usize]?;
+        let pages = vec![in alloc; 0; blocks as usize]?;
+        // What `vec!` makes has no more memory, but it doesn't promise that: longer lists pass for none.
+        if owners.capacity() > owners.len() || pages.capacity() > pages.len() {
+            return Err(AllocError);
+        }
         Ok(Index {
-            owners: vec![in alloc; None; pool_pages(geometry) as usize]?,
-            logs: LogCounts {
-                pages: vec![in alloc; 0; blocks as usize]?,
-                used: 0,
-            },
+            owners,
+            logs: LogCounts { pages, used: 0 },
             held: 0,
             dirty: 0,
         })

@@ -7,4 +7,4 @@ nobody = None
 
 pub returns : goal.returns
 unfolding nobody
-returns c = no_index c.args.geometry.now _ nobody refl (c.in_ok-vec.ensures.items_if_clones_equal (λ y same. search rules) ∙ ap (λ n. replicate n nobody) c.pool_pages.ensures.count) (c.in_ok-vec-2.ensures.items_if_clones_equal (λ y same. same)) refl refl refl
+returns c = no_index c.args.geometry.now _ nobody refl (c.in_ok-owners.ensures.items_if_clones_equal (λ y same. search rules) ∙ ap (λ n. replicate n nobody) c.pool_pages.ensures.count) (c.in_ok-pages.ensures.items_if_clones_equal (λ y same. same)) refl refl refl
