@@ -1,6 +1,7 @@
 //! The data blocks of the groups that may give way, kept with each change, so that a choice among them looks at the
 //! entries of one erase block alone.
-ghost use Rattle.std.specs.Prelude.{◌≡◌, ◌<◌, ◌≤◌, ◌-◌, ◌+◌, ℕ, IfOk, IfSome, slice_set, length};
+ghost use Rattle.std.specs.Prelude.{◌≡◌, ◌<◌, ◌≤◌, ◌-◌, ◌+◌, ℕ, IfOk, IfSome, slice_set, length, vec_len};
+ghost use Rattle.std.specs.Vec.{vec_capacity};
 ghost use Rattle.ft_base.specs.Layout.{first_pool, blocks};
 ghost use Rattle.cache_model.specs.Records.{Entries, no_entries};
 ghost use Rattle.mapping.specs.Candidates.{AreCandidates, ChangesOne, StandsInPool, with_count};
@@ -14,6 +15,7 @@ use std::alloc::{AllocError, Global};
 pub struct Candidates {
     /// By erase block, from the first one of the pool on: 1 to P, and 65,535 where it is no such data block.
     pub counts: Vec<u16>,
+    ghost counts_fit: { vec_capacity counts ≡ vec_len counts },
 }
 
 impl Candidates {
@@ -22,9 +24,12 @@ impl Candidates {
         ensures { IfOk result (λ candidates. AreCandidates geometry.now no_entries candidates.counts.items) }
     {
         let blocks = geometry.c + geometry.l + 1;
-        Ok(Candidates {
-            counts: vec![in alloc; u16::MAX; blocks as usize]?,
-        })
+        let counts = vec![in alloc; u16::MAX; blocks as usize]?;
+        // What `vec!` makes has no more memory, but it doesn't promise that: a longer list passes for none.
+        if counts.capacity() > counts.len() {
+            return Err(AllocError);
+        }
+        Ok(Candidates { counts })
     }
 
     /// The counts of the erase blocks, from the first one of the pool on.
