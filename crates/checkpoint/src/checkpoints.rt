@@ -23,7 +23,8 @@ pub struct Checkpoints {
 }
 
 impl Model for Checkpoints {
-    ghost use Rattle.std.specs.Prelude.{◌≡◌, length};
+    ghost use Rattle.std.specs.Prelude.{◌≡◌, length, vec_len};
+    ghost use Rattle.std.specs.Vec.{vec_capacity};
     ghost use Rattle.ft_base.specs.declared.geometry.Geometry.{Geometry};
     ghost use Rattle.checkpoint.specs.Asked.{asked_records};
 
@@ -31,7 +32,7 @@ impl Model for Checkpoints {
 
     ghost view = { λ c. c.geometry };
 
-    ghost invariant = { λ c. length c.asked.items ≡ asked_records c.geometry };
+    ghost invariant = { λ c. (length c.asked.items ≡ asked_records c.geometry) × (vec_capacity c.asked ≡ vec_len c.asked) };
 }
 
 impl Checkpoints {
@@ -43,6 +44,10 @@ impl Checkpoints {
             return Err(AllocError);
         };
         let asked = vec![in alloc; Record::Remove { lba: 0 }; ROOM as usize]?;
+        // What `vec!` makes has no more memory, but it doesn't promise that: a longer list passes for none.
+        if asked.capacity() > asked.len() {
+            return Err(AllocError);
+        }
         Ok(Checkpoints {
             geometry: *geometry,
             page,
