@@ -1,12 +1,13 @@
 -- The places of entries, looked at in ascending order of address.
-use Rattle.std.proofs.Common.{◌≡◌, ℕ, ◌+◌, ◌<◌, ◌≤◌, ◌==◌, Bool, true, false, cond, List, [], ◌∷◌, ◌++◌, length, take, get_or, Option, Some, None, Result, Ok, Err, refl, sym, ◌∙◌, ap, subst, arith, inl, inr, nat_cmp}
-use Rattle.std.specs.Option.{option_map, IfSome, IfNone}
+use Rattle.std.proofs.Common.{◌≡◌, ℕ, ◌+◌, ◌-◌, ◌<◌, ◌≤◌, ◌==◌, Bool, true, false, cond, List, [], ◌∷◌, ◌++◌, length, take, get_or, Option, Some, None, Result, Ok, Err, refl, sym, ◌∙◌, ap, subst, arith, inl, inr, nat_cmp}
+use Rattle.std.specs.Option.{option_map, is_some, IfSome, IfNone}
+use Rattle.std.specs.Cmp.{unsigned_tied, nat_cmp_total}
 use Rattle.std.specs.List.{AllByRecursion, AllWithin, Contains}
 use Rattle.std.specs.List.Sorted.{IsNonDecreasing, IsPermutation, IsSorted}
-use Rattle.std.specs.FinMap.{get, entries, find, is_sorted, entries_sorted, get-entries}
+use Rattle.std.specs.FinMap.{get, remove, len, entries, find, is_sorted, entries_sorted, get-entries, get-empty, get-remove, len-entries, len-remove, empty_of_len}
 use Rattle.std.specs.FinMap.Entries.{below_all}
-use Rattle.std.proofs.lemmas.Bool.{cases_Bool, cases_lt, and_parts}
-use Rattle.std.proofs.lemmas.List.{get_or_default, take_at}
+use Rattle.std.proofs.lemmas.Bool.{cases_Bool, cases_lt, cases_eq, cond-true, ne_eqb, and_parts}
+use Rattle.std.proofs.lemmas.List.{get_or_default, take_at, length-append}
 use Rattle.std.proofs.lemmas.List.Elements.{AllWithin-more, AllWithin-upto, All-from_all_within, All-contains, Contains-push, Contains-append_left}
 use Rattle.std.proofs.lemmas.List.Sorted.{Contains-permutation, IsNonDecreasingBy-from_sort}
 use Rattle.std.proofs.lemmas.Option.{same_Some}
@@ -30,12 +31,42 @@ use Rattle.recovery.proofs.RefusalLemmas.{test_refused}
 
 -- ---- the addresses, in the order of the pages
 
--- the addresses whose pages have numbers below i are in the list
+-- the addresses whose pages have numbers below i are in the list, and a map that lacks as many as there are has all others
 pub record Gathered (g : Geometry) (m : Entries) (addresses : List ℕ) (i : ℕ) : Type 0 where
   pub each : (a : ℕ) (e : Entry) → get m a ≡ Some e → number_of g e.place < i → Contains addresses a
+  pub left : Entries
+  pub fewer : len left + length addresses ≡ len m
+  pub others : (a : ℕ) (e : Entry) → get m a ≡ Some e → i ≤ number_of g e.place → get left a ≡ Some e
 
-pub gathered_none : (g : Geometry) (m : Entries) (addresses : List ℕ) → Gathered g m addresses 0
-gathered_none g m addresses = record { each = λ a e is low. absurd (omega (arith, low)) }
+pub gathered_none : (g : Geometry) (m : Entries) (addresses : List ℕ) → addresses ≡ [] → Gathered g m addresses 0
+gathered_none g m addresses none = record {
+  each = λ a e is low. absurd (omega (arith, low));
+  left = m;
+  fewer = omega (arith, ap length none);
+  others = λ a e is low. is;
+}
+
+-- without an address that it has a map is smaller by one
+one_less : (m : Entries) (a : ℕ) (e : Entry) → get m a ≡ Some e → len (remove m a) + 1 ≡ len m
+one_less m a e is =
+    let less : len (remove m a) ≡ len m - 1 = len-remove nat_cmp_total m a ∙ cond-true (is_some (get m a)) (len m - 1) (len m) (ap is_some is) in
+    elim (cases_eq (len m) 0) [
+      | inl none ↦ absurd (let gone : None ≡ Some e = sym (ap (λ (n : Entries). get n a) (empty_of_len m none) ∙ get-empty nat_cmp a) ∙ is in cc)
+      | inr some ↦ omega (arith, less, some)
+    ]
+
+-- the entry of the next number, and that it isn't listed yet
+next_left : (g : Geometry) (m : Entries) (addresses : List ℕ) (i lba : ℕ) (at : Place) (o : Option (ℕ × Place)) → Gathered g m addresses i → IfSome o (HasNumber g m i) → o ≡ Some (lba, at)
+    → (f : Entry) × (get m lba ≡ Some f) × (number_of g f.place ≡ i)
+next_left g m addresses i lba at o so here is =
+    let has : HasNumber g m i (lba, at) = subst (λ (x : Option (ℕ × Place)). IfSome x (HasNumber g m i)) is here in
+    (has.owns.0, has.owns.1, ap (number_of g) has.owns.2 ∙ has.number)
+
+pub gathered_room : (g : Geometry) (m : Entries) (addresses : List ℕ) (i lba : ℕ) (at : Place) (o : Option (ℕ × Place)) → Gathered g m addresses i → IfSome o (HasNumber g m i) → o ≡ Some (lba, at) → length addresses < length (entries m)
+gathered_room g m addresses i lba at o so here is =
+    let next = next_left g m addresses i lba at o so here is in
+    let one = one_less so.left lba next.0 (so.others lba next.0 next.1 (omega (arith, next.2))) in
+    omega (arith, one, so.fewer, len-entries m)
 
 pub gathered_more : (g : Geometry) (m : Entries) (addresses new : List ℕ) (i lba : ℕ) (at : Place) (o : Option (ℕ × Place)) → IsMap g m → Gathered g m addresses i → IfSome o (HasNumber g m i) → o ≡ Some (lba, at) → new ≡ addresses ++ lba ∷ [] → Gathered g m new (i + 1)
 gathered_more g m addresses new i lba at o is_map so here is pushed = record {
@@ -51,6 +82,22 @@ gathered_more g m addresses new i lba at o is_map so here is pushed = record {
         let same : a ≡ lba = is_map.apart a lba e f held has.owns.1 places in
         subst (λ n. Contains (addresses ++ lba ∷ []) n) (sym same) (Contains-push addresses lba)
   ]);
+  left = remove so.left lba;
+  fewer =
+      let next = next_left g m addresses i lba at o so here is in
+      let one = one_less so.left lba next.0 (so.others lba next.0 next.1 (omega (arith, next.2))) in
+      omega (arith, one, so.fewer, ap length pushed, length-append addresses (lba ∷ []));
+  others = λ a e held low.
+      let next = next_left g m addresses i lba at o so here is in
+      elim (cases_eq a lba) [
+        | inl same ↦
+            let value : e ≡ next.0 = same_Some e next.0 (sym held ∙ ap (get m) same ∙ next.1) in
+            absurd (omega (arith, low, ap (λ (v : Entry). number_of g v.place) value, next.2))
+        | inr ne ↦
+            get-remove nat_cmp_total so.left lba a
+            ∙ ap (λ b. cond b None (get so.left a)) (unsigned_tied a lba ∙ ne_eqb a lba ne)
+            ∙ so.others a e held (omega (arith, low))
+      ];
 }
 
 pub gathered_past : (g : Geometry) (m : Entries) (addresses : List ℕ) (i : ℕ) (o : Option (ℕ × Place)) → Gathered g m addresses i → IfNone o (HasNone g m i) → o ≡ None → Gathered g m addresses (i + 1)
@@ -61,6 +108,9 @@ gathered_past g m addresses i o so here is =
         | inl before ↦ so.each a e held before
         | inr past ↦ let number : number_of g e.place ≡ i = omega (arith, low, past) in absurd (none a e held number)
       ];
+      left = so.left;
+      fewer = so.fewer;
+      others = λ a e held low. so.others a e held (omega (arith, low));
     }
 
 pub gathered_all : (g : Geometry) (m : Entries) (addresses : List ℕ) (numbers i : ℕ) → AreNumbered g m numbers → numbers ≤ i → Gathered g m addresses i → HasAddresses m addresses

@@ -6,6 +6,8 @@ ghost use Rattle.cache_model.specs.Entries.{IsMap};
 ghost use Rattle.cache_model.specs.Loading.{all_whole, is_whole, Damaged as damaged};
 ghost use Rattle.op_log.specs.Log.{FitsOn};
 ghost use Rattle.op_log.specs.Refusals.{open_failed, open_lost, IsRefusal};
+ghost use Rattle.std.specs.Vec.{vec_capacity};
+ghost use Rattle.mapping.specs.Counts.{held_count};
 ghost use Rattle.recovery.specs.Addresses.{HasAddresses};
 
 use crate::finding::of_media;
@@ -40,14 +42,15 @@ pub(crate) fn look_at_places<M: Media>(
     Ok(())
 }
 
-/// The addresses of the entries, in the order of their pages.
+/// The addresses of the entries, in the order of their pages, in a list that has memory for no more.
 fn held_addresses(alloc: Global, map: &Map) -> Result<Vec<u64>, AllocError>
-    ensures { IfOk result (λ addresses. HasAddresses map.now.entries addresses.items) }
+    ensures held { IfOk result (λ addresses. HasAddresses map.now.entries addresses.items) }
+    ensures room { IfOk result (λ addresses. vec_capacity addresses ≡ held_count map.now.entries) }
 {
-    let mut addresses = Vec::new(alloc);
+    let mut addresses = Vec::with_capacity(alloc, map.held() as usize)?;
     for i in 0..map.numbers() {
         if let Some((lba, _)) = map.nth(i) {
-            addresses.push(lba)?;
+            addresses.push_reserved(lba);
         }
     }
     Ok(addresses)

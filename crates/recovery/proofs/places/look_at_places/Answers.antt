@@ -15,7 +15,7 @@ pub returns-in_err-look_at-clause-refused : goal.returns-in_err-look_at-clause-r
 returns-in_err-look_at-clause-refused g c =
     let m = c.args.map.now.entries in
     let whole = written_back c.deref-lba-items.result.now c.sort_unstable.new.self _ _ c.deref-lba-items.ensures.value (omega (arith, c.sort_unstable.ensures.len, ap length c.as_mut_slice.ensures.value, c.in_ok-addresses.addresses.ok.0)) in
-    let has = has_sorted m c.in_ok-addresses.addresses.items c.as_mut_slice.result.now c.sort_unstable.new.self c.deref-lba-items.result.now c.as_mut_slice.ensures.value c.sort_unstable.ensures.permutation whole c.in_ok-addresses.ensures in
+    let has = has_sorted m c.in_ok-addresses.addresses.items c.as_mut_slice.result.now c.sort_unstable.new.self c.deref-lba-items.result.now c.as_mut_slice.ensures.value c.sort_unstable.ensures.permutation whole c.in_ok-addresses.ensures.held in
     let refused =
     looked_refused (g.M.Media.state c.args.media.now).contents.flash.page m c.deref-lba-items.result.now has c.loop-lba.lba-index c.loop-lba.invariant.looked
     (rises c.sort_unstable.new.self c.deref-lba-items.result.now whole c.sort_unstable.ensures.sorted) _ c.loop-lba-test.true c.in-Some.at c.in-Some.field-0-1
@@ -43,5 +43,5 @@ pub returns-clause-whole : goal.returns-clause-whole
 returns-clause-whole g c =
     let m = c.args.map.now.entries in
     let whole = written_back c.deref-lba-items.result.now c.sort_unstable.new.self _ _ c.deref-lba-items.ensures.value (omega (arith, c.sort_unstable.ensures.len, ap length c.as_mut_slice.ensures.value, c.in_ok-addresses.addresses.ok.0)) in
-    let has = has_sorted m c.in_ok-addresses.addresses.items c.as_mut_slice.result.now c.sort_unstable.new.self c.deref-lba-items.result.now c.as_mut_slice.ensures.value c.sort_unstable.ensures.permutation whole c.in_ok-addresses.ensures in
+    let has = has_sorted m c.in_ok-addresses.addresses.items c.as_mut_slice.result.now c.sort_unstable.new.self c.deref-lba-items.result.now c.as_mut_slice.ensures.value c.sort_unstable.ensures.permutation whole c.in_ok-addresses.ensures.held in
     looked_all (g.M.Media.state c.args.media.now).contents.flash.page m c.deref-lba-items.result.now has c.loop-lba.lba-index c.loop-lba.invariant.looked c.loop-lba-test.false

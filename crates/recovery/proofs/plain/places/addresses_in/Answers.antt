@@ -3,7 +3,7 @@ use Rattle.recovery.proofs.plain.places.addresses_in.Goals as goal
 use Rattle.recovery.proofs.plain.places.addresses_in.Goals.{in-Some+in_ok-push, in_default}
 
 pub loop-i-init : goal.loop-i-init
-loop-i-init c = gathered_none c.args.map.now.geometry c.args.map.now.entries _
+loop-i-init c = gathered_none c.args.map.now.geometry c.args.map.now.entries c.new-addresses.result.items c.new-addresses.ensures.items
 
 pub loop-i-preserved : goal.loop-i-preserved
 loop-i-preserved c =
