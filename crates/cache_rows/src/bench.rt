@@ -131,7 +131,7 @@ pub(crate) enum Fact {
     /// How many groups have a dirty block.
     DirtyGroups(u32),
     /// The dirty pages of a group.
-    DirtyBits(u64, u64),
+    DirtyBits(u64, u128),
     /// How many addresses are held.
     Held(u64),
     /// The pages left in the open log block.

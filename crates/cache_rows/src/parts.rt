@@ -51,14 +51,14 @@ pub(crate) enum Fact {
     DataBlock {
         group: u64,
         block: u32,
-        present: u64,
-        dirty: u64,
+        present: u128,
+        dirty: u128,
     },
     /// The pages of a group that are held, and the dirty ones.
     Pages {
         group: u64,
-        held: u64,
-        dirty: u64,
+        held: u128,
+        dirty: u128,
     },
     /// An address lies at this page of a block, dirty.
     Lies(u64, u32, u32),
@@ -148,7 +148,7 @@ fn reserve(parts: &mut Parts, rig: &MemRig) -> bool
     ensures groups { OnTrue result (parts.new.geometry.p ≤ parts.new.map.spare_groups) }
     ensures room { OnTrue result (length parts.new.log.buffered < page_records parts.new.log.geometry) }
 {
-    if parts.log.buffered() >= 127 {
+    if parts.log.buffered() >= parts.geometry.q() {
         return false;
     }
     parts.map.reserve(1, parts.geometry.p).is_ok()
@@ -297,7 +297,7 @@ fn lies(parts: &Parts, lba: u64, block: u32, page: u32) -> bool {
 }
 
 /// Whether this is the data block of a group, with these pages that are present, and these that are dirty.
-fn is_data_block(parts: &Parts, group: u64, block: u32, present: u64, dirty: u64) -> bool {
+fn is_data_block(parts: &Parts, group: u64, block: u32, present: u128, dirty: u128) -> bool {
     match parts.map.block_of(group) {
         Some(own) => own.block() == block && own.present() == present && own.dirty() == dirty,
         None => false,

@@ -8,7 +8,7 @@ use Rattle.ft_base.specs.PlainDisk.{PlainDisk}
 use Rattle.ft_base.specs.Table.{Table, backs_idled, goes_back, last_size, table_idled, without_last}
 use Rattle.ft_base.specs.Told.{Told}
 use Rattle.ft_media.specs.declared.rig.Counts.{Counts}
-use Rattle.ft_media.specs.State.{State}
+use Rattle.ft_media.specs.State.{Faults, State}
 use Rattle.ft_media.specs.Drives.{DrivesFlash}
 use Rattle.ft_media.specs.Media.{program_counted, read_counted}
 use Rattle.ft_media.specs.Reads.{ReadsFlash}
@@ -94,6 +94,7 @@ module _ (before after : State) where
       flash_fault = λ f. drives.cause.failed refl;
       disk_fault = λ f. absurd (cc);
       power_lost = λ f. absurd (cc);
+      none = λ no. absurd (cc);
     },
     drives.passes,
   )
@@ -105,6 +106,7 @@ module _ (before after : State) where
       flash_fault = λ f. absurd (cc);
       disk_fault = λ f. absurd (cc);
       power_lost = λ f. drives.cause.power_lost refl;
+      none = λ no. absurd (cc);
     },
     drives.passes,
   )
@@ -116,6 +118,7 @@ module _ (before after : State) where
       flash_fault = λ f. absurd (cc);
       disk_fault = λ f. absurd (cc);
       power_lost = λ f. absurd (cc);
+      none = λ no. drives.cause.none refl refl;
     },
     drives.passes,
   )
@@ -153,23 +156,17 @@ goes_driven value before after old new told up drives = record {
     flash_fault = λ is. absurd (cc);
     disk_fault = λ is. absurd (cc);
     power_lost = λ is. absurd (cc);
+    none = λ no. drives.cause.none refl refl;
   };
   passes = drives.passes;
 }
 
 -- ---- after a read, which changes no contents
 
-module _ {T : Type 0} (before mid after : State) (contents : mid.contents ≡ before.contents) (flash : before.faults.flash ≤ mid.faults.flash) (disk : before.faults.disk ≤ mid.faults.disk)
-    (cuts : before.faults.cuts ≤ mid.faults.cuts) (passes : Passes before mid false) (old new : VolumeState) (result : Result T VolumeError) where
+module _ {T : Type 0} (before mid after : State) (contents : mid.contents ≡ before.contents) (faults : mid.faults ≡ before.faults) (passes : Passes before mid false)
+    (old new : VolumeState) (result : Result T VolumeError) where
   cause_after : HasCause mid.faults after.faults result → HasCause before.faults after.faults result
-  cause_after then = record {
-    flash = let y = then.flash in omega (arith, flash, y);
-    disk = let y = then.disk in omega (arith, disk, y);
-    cuts = let y = then.cuts in omega (arith, cuts, y);
-    flash_fault = λ is. let y = then.flash_fault is in omega (arith, flash, y);
-    disk_fault = λ is. let y = then.disk_fault is in omega (arith, disk, y);
-    power_lost = λ is. let y = then.power_lost is in omega (arith, cuts, y);
-  }
+  cause_after then = subst (λ (f : Faults). HasCause f after.faults result) faults then
 
   pub goes_after : Goes old new mid after result → Goes old new before after result
   goes_after goes = record {

@@ -122,6 +122,7 @@ module _ (a b c : State) (device : DeviceWrite {T = Unit {0}} a b (Ok tt)) (coun
       flash_fault = λ is. let x = drives.cause.failed is in let y = cause.flash in omega (arith, x, y);
       disk_fault = λ is. absurd (not_failed is);
       power_lost = λ is. let x = drives.cause.power_lost is in let y = cause.cuts in omega (arith, x, y);
+      none = λ no not_disk not. drives.cause.none no not ∙ cause.none refl refl;
     };
     passes = passes_then a b c (open_lost r) passes drives.passes;
   }

@@ -245,6 +245,7 @@ module _ {S T : Type 0} (old new : CachedDisk) (was is : List ℕ) (before after
           flash_fault = λ is. absurd (cc);
           disk_fault = λ is. absurd (cc);
           power_lost = λ is. absurd (cc);
+          none = λ no. reopens.cause.none refl;
         };
         passes = reopens.passes;
       }

@@ -97,6 +97,7 @@ module _ (T : Type 0) (old new : VolumeState) (same : new ≡ old) (before after
       flash_fault = λ is. absurd (cc);
       disk_fault = λ is. absurd (cc);
       power_lost = λ is. absurd (cc);
+      none = λ no. reads.cause.none refl refl;
     };
     passes = reads.passes;
   }
@@ -126,6 +127,7 @@ module _ (T : Type 0) (old new : VolumeState) (same : new ≡ old) (before after
     flash_fault = λ f. reads.cause.failed refl;
     disk_fault = λ f. absurd (cc);
     power_lost = λ f. absurd (cc);
+    none = λ no. absurd (cc);
   }) (λ no. absurd (cc)) refl)
   goes_unread PowerLost r is reads = subst Goes_on (sym is) (unread volume.PowerLost false true reads (record {
     flash = reads.cause.flash;
@@ -134,6 +136,7 @@ module _ (T : Type 0) (old new : VolumeState) (same : new ≡ old) (before after
     flash_fault = λ f. absurd (cc);
     disk_fault = λ f. absurd (cc);
     power_lost = λ f. reads.cause.power_lost refl;
+    none = λ no. absurd (cc);
   }) (λ power. refl) refl)
   goes_unread OutOfMemory r is reads = subst Goes_on (sym is) (unread volume.OutOfMemory false false reads (record {
     flash = reads.cause.flash;
@@ -142,6 +145,7 @@ module _ (T : Type 0) (old new : VolumeState) (same : new ≡ old) (before after
     flash_fault = λ f. absurd (cc);
     disk_fault = λ f. absurd (cc);
     power_lost = λ f. absurd (cc);
+    none = λ no. reads.cause.none refl refl;
   }) (λ no. absurd (cc)) refl)
 
 -- the cache doesn't ask the disk

@@ -63,7 +63,7 @@ disk_failed (Err DiskFault) = true
 disk_failed (Err e) = false
 disk_failed (Ok value) = false
 
--- each fault has its cause
+-- each fault has its cause, and none is hidden
 pub record CausedBy (old new : Faults) (flash_failed disk_failed was_lost : Bool) : Type 0 where
   pub flash : old.flash ≤ new.flash
   pub disk : old.disk ≤ new.disk
@@ -71,3 +71,4 @@ pub record CausedBy (old new : Faults) (flash_failed disk_failed was_lost : Bool
   pub flash_fault : flash_failed ≡ true → Rose old.flash new.flash
   pub disk_fault : disk_failed ≡ true → Rose old.disk new.disk
   pub power_lost : was_lost ≡ true → Rose old.cuts new.cuts
+  pub none : flash_failed ≡ false → disk_failed ≡ false → was_lost ≡ false → new ≡ old

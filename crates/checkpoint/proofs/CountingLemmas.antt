@@ -1,12 +1,13 @@
 -- A checkpoint has no more records than its region has room for.
-use Rattle.std.proofs.Common.{◌≡◌, ℕ, ◌+◌, ◌-◌, ◌<◌, ◌≤◌, cond, List, length, map, filter, sym, ap, subst, arith, length-append}
+use Rattle.std.proofs.Common.{◌≡◌, ℕ, ◌+◌, ◌-◌, ◌<◌, ◌≤◌, cond, List, length, map, filter, inl, inr, sym, ◌∙◌, ap, subst, arith, length-append}
 use Rattle.std.specs.FinMap.{entries}
+use Rattle.std.proofs.lemmas.Bool.{cases_lt}
 use Rattle.std.proofs.lemmas.List.{length-map}
 use Rattle.ft_base.specs.declared.geometry.Geometry.{Geometry}
 use Rattle.ft_base.specs.Layout.{rounded_up, most_records, page_records, pages_for, checkpoint_pages}
 use Rattle.cache_model.specs.Records.{Entries}
 use Rattle.cache_model.specs.Entries.{groups_with, page_mapped, IsMap}
-use Rattle.ft_base.proofs.LayoutLemmas.{k_holds}
+use Rattle.ft_base.proofs.LayoutLemmas.{k_holds, q_some, up_least, up_more}
 use Rattle.ft_base.specs.declared.record.Record.{Record}
 use Rattle.mapping.specs.Checkpoint.{IsCheckpointOf, set_group_of, set_page_of}
 use Rattle.checkpoint.specs.Regions.{map_pages}
@@ -40,15 +41,24 @@ module _ (g : Geometry) (m : Entries) (is_map : IsMap g m) where
 
   -- the map pages and the seal fit the region
   pub maps_fit : (records : List Record) → IsCheckpointOf g m records → map_pages g records < checkpoint_pages g
-  maps_fit records listed = by_number (length records) (most_records g) (records_few records listed) (k_holds g)
-    where
-      by_number : (a b : ℕ) → a ≤ b → pages_for g b ≤ checkpoint_pages g → rounded_up a (page_records g) < checkpoint_pages g
-      by_number a b le fits = omega arith
+  maps_fit records listed =
+      let more = up_more (length records) (most_records g) (page_records g) (omega (arith, q_some g)) (records_few records listed) in
+      let fits : pages_for g (most_records g) ≤ checkpoint_pages g = k_holds g in
+      omega (arith, more, fits)
+
+-- before the last map page some records are left
+pub more_left : (g : Geometry) (records : List Record) (i pages : ℕ) → pages ≡ map_pages g records → i < pages → page_records g * i < length records
+more_left g records i pages count low = elim (cases_lt (page_records g * i) (length records)) [
+  | inl less ↦ less
+  | inr all ↦
+      let few = up_least (length records) (page_records g) i (omega (arith, q_some g)) (omega (arith, all)) in
+      absurd (omega (arith, few, count, low))
+]
 
 -- a listing of a map of this geometry
 pub listing_here : (g' g : Geometry) (m : Entries) (records : List Record) → g' ≡ g → IsCheckpointOf g' m records → IsCheckpointOf g m records
 listing_here g' g m records same listed = subst (λ (x : Geometry). IsCheckpointOf x m records) same listed
 
 -- the map pages of so many records, and the seal, fit the region
-pub pages_fit : (g' g : Geometry) (m : Entries) (records : List Record) (n : ℕ) → g' ≡ g → IsMap g m → IsCheckpointOf g' m records → n ≡ length records → rounded_up n (page_records g) < checkpoint_pages g
-pages_fit g' g m records n same is_map listed is = subst (λ k. rounded_up k (page_records g) < checkpoint_pages g) (sym is) (maps_fit g m is_map records (listing_here g' g m records same listed))
+pub pages_fit : (g' g : Geometry) (m : Entries) (records : List Record) (n pages : ℕ) → pages ≡ rounded_up n (page_records g) → g' ≡ g → IsMap g m → IsCheckpointOf g' m records → n ≡ length records → pages < checkpoint_pages g
+pages_fit g' g m records n pages count same is_map listed is = subst (λ k. k < checkpoint_pages g) (sym (count ∙ ap (λ k. rounded_up k (page_records g)) is)) (maps_fit g m is_map records (listing_here g' g m records same listed))

@@ -12,6 +12,7 @@ use Rattle.ft_base.specs.declared.block.Page.{Page}
 use Rattle.ft_base.specs.declared.record.Record.{Record}
 use Rattle.ft_base.specs.Contents.{Flash}
 use Rattle.ft_base.specs.Layout.{first_pool, checkpoint_at, log_at, checkpoint_pages, page_records, rounded_up}
+use Rattle.ft_base.proofs.LayoutLemmas.{q_some, up_fits}
 use Rattle.cache_model.specs.declared.entry.Entry.{Entry}
 use Rattle.cache_model.specs.declared.format.PageKind.TheVariants.{Map}
 use Rattle.cache_model.specs.Records.{Entries, after, no_entries}
@@ -119,7 +120,7 @@ module _ (g : Geometry) (region era : ℕ) (m : Entries) (records : List Record)
   enough = by_number (length records)
     where
       by_number : (n : ℕ) → n ≤ page_records g * (0 + rounded_up n (page_records g))
-      by_number n = omega arith
+      by_number n = omega (arith, up_fits n (page_records g) (omega (arith, q_some g)))
 
   is_checkpoint : IsCheckpoint sealed_checkpoint (checkpoint_region g new region)
   is_checkpoint = record {

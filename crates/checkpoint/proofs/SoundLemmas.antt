@@ -19,6 +19,7 @@ use Rattle.mapping.specs.Bits.{is_chosen, chosen_of}
 use Rattle.mapping.specs.Checkpoint.{IsCheckpointOf, set_group_of, set_page_of}
 use Rattle.mapping.proofs.AscendingLemmas.{Items}
 use Rattle.mapping.proofs.BitsLemmas.{bit_of_set, dirty_within}
+use Rattle.mapping.proofs.ChosenLemmas.{chosen_short}
 use Rattle.checkpoint.specs.Regions.{part}
 use Rattle.checkpoint.proofs.ListsLemmas.{all-append, all-part}
 
@@ -47,7 +48,10 @@ module _ (g : Geometry) (m : Entries) (is_map : IsMap g m) where
       ]
 
   sound_group : (a : ℕ) (e : Entry) → get m a ≡ Some e → e.block_mapped ≡ true → may_stand_in Map (set_group_of g m (a / g.p)) ≡ true
-  sound_group a e at mapped = and_from _ _ (and_from _ _ (lt-ltb _ _ (some_present a e at mapped)) (eq-eqb _ _ (both_bits (chosen_of Mapped g m (a / g.p)) (chosen_of MappedDirty g m (a / g.p)) (dirty_within g m (a / g.p))))) refl
+  sound_group a e at mapped =
+      let some = lt-ltb _ _ (some_present a e at mapped) in
+      let within = eq-eqb _ _ (both_bits (chosen_of Mapped g m (a / g.p)) (chosen_of MappedDirty g m (a / g.p)) (dirty_within g m (a / g.p))) in
+      and_from _ _ (and_from _ _ (and_from _ _ some within) (lt-ltb _ _ (chosen_short g m (a / g.p) Mapped))) refl
 
   sound_page : (a : ℕ) (e : Entry) → get m a ≡ Some e → may_stand_in Map (set_page_of (a, e)) ≡ true
   sound_page a e at = let low = (is_map.in_pool a e at).page in and_from _ _ (lt-ltb _ _ (omega (arith, g.in_range.p_high))) refl

@@ -5,7 +5,7 @@ ghost use Rattle.checkpoint.specs.Commits.{CanCheckpoint, LogGoesOn, LeavesPool,
 ghost use Rattle.ft_media.specs.Passes.{ProgramsPages};
 ghost use Rattle.checkpoint.specs.Current.{IsOpenLog, IsCommitted, LogGoesLast, log_committed, log_checkpointed};
 
-use crate::asking::ROOM;
+use crate::asking::PAGES;
 use crate::writing::{Target, write_checkpoint};
 use ft_base::{Block, Geometry, Record, zero_block};
 use ft_media::{Media, MediaError};
@@ -43,7 +43,8 @@ impl Checkpoints {
         let Ok(page) = Box::new(alloc, zero_block()) else {
             return Err(AllocError);
         };
-        let asked = vec![in alloc; Record::Remove { lba: 0 }; ROOM as usize]?;
+        let room = (PAGES * geometry.q()) as usize;
+        let asked = vec![in alloc; Record::Remove { lba: 0 }; room]?;
         // What `vec!` makes has no more memory, but it doesn't promise that: a longer list passes for none.
         if asked.capacity() > asked.len() {
             return Err(AllocError);

@@ -10,9 +10,6 @@ use cache_model::{Header, PageKind, Seal};
 use ft_base::{Block, Geometry, Record};
 use record_codec::{write_page, write_seal};
 
-/// The most records of a page.
-pub(crate) const MOST: u32 = 127;
-
 /// Writes a map page of these records.
 pub(crate) fn write_map(out: &mut Block, records: &[Record], era: u8, sequence: u32)
     requires kinds { list_all (may_stand_in PageKind.Map) records.now ≡ true }

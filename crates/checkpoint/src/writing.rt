@@ -1,6 +1,6 @@
-ghost use Rattle.std.specs.Prelude.{true, ◌≡◌, ◌⊎◌, ◌<◌, ◌≤◌, ◌+◌, ◌*◌, length, OnOk};
+ghost use Rattle.std.specs.Prelude.{true, ◌≡◌, ◌⊎◌, ◌<◌, ◌≤◌, ◌+◌, ◌*◌, ◌^◌, length, OnOk};
 ghost use Rattle.std.specs.List.{list_all};
-ghost use Rattle.ft_base.specs.Layout.{checkpoint_at, checkpoint_pages, k, page_records};
+ghost use Rattle.ft_base.specs.Layout.{checkpoint_at, checkpoint_pages, k, page_records, rounded_up};
 ghost use Rattle.ft_media.specs.Media.{IsNextPage, program_counted};
 ghost use Rattle.ft_media.specs.Drives.{OnlyDrives};
 ghost use Rattle.cache_model.specs.declared.format.PageKind.TheVariants as PageKind;
@@ -15,7 +15,7 @@ ghost use Rattle.checkpoint.specs.Regions.{AreBlank, CanProgram, IsMapPage, IsSe
 
 use crate::asking::{ask, records_of};
 use crate::erasing::erase_regions;
-use crate::pages::{MOST, write_map, write_numbers};
+use crate::pages::{write_map, write_numbers};
 use cache_model::SpareKind;
 use ft_base::{Block, Geometry, Record};
 use ft_media::{Media, MediaError};
@@ -34,6 +34,7 @@ pub(crate) struct Target {
 }
 
 /// Programs a map page of a checkpoint, of these records.
+#[tactic(auto, using(ft_base::proofs::LayoutLemmas::q_most))]
 fn program_map<M: Media>(
     media: &mut M,
     page: &mut Block,
@@ -87,8 +88,8 @@ fn program_maps<M: Media>(
     ensures drives { OnlyDrives (M.state media.old) (M.state media.new) result }
 {
     for sequence in 0..pages {
-        ask(map, asked, sequence);
-        let records = records_of(map, asked, sequence);
+        ask(geometry, map, asked, sequence);
+        let records = records_of(geometry, map, asked, sequence);
         program_map(media, page, geometry, target, sequence, records)?;
     }
     Ok(())
@@ -121,6 +122,15 @@ pub(crate) fn program_seal<M: Media>(
     Ok(())
 }
 
+/// The map pages of so many records.
+fn page_count(geometry: &Geometry, records: u32) -> u32
+    requires { records < 2 ^ 31 }
+    ensures { result ≡ rounded_up records (page_records geometry.now) }
+{
+    let full = geometry.q();
+    (records + full - 1) / full
+}
+
 /// Erases a checkpoint region and its log, programs the map and seals it.
 pub(crate) fn write_checkpoint<M: Media>(
     media: &mut M,
@@ -148,7 +158,7 @@ pub(crate) fn write_checkpoint<M: Media>(
     ensures drives { OnlyDrives (M.state media.old) (M.state media.new) result }
 {
     let records = map.checkpoint_len();
-    let pages = (records + MOST - 1) / MOST;
+    let pages = page_count(geometry, records);
     erase_regions(media, geometry, target.region)?;
     program_maps(media, page, asked, geometry, map, target, pages)?;
     // The seal last: until it is whole the old checkpoint counts.

@@ -190,11 +190,12 @@ fn holds(alloc: Global, rig: &mut MemRig, log: &OpLog, geometry: &Geometry, fact
 // ---- the lines
 
 /// Buffers a change. False where the log can't have it.
-fn buffer(log: &mut OpLog, change: Change) -> bool
+fn buffer(log: &mut OpLog, geometry: &Geometry, change: Change) -> bool
+    requires { log.old.geometry ≡ geometry.now }
     ensures { log.new.geometry ≡ log.old.geometry }
 {
     let change = record_of(change);
-    if log.buffered() >= 127 || !may_stand_in(PageKind::Log, &change) {
+    if log.buffered() >= geometry.q() || !may_stand_in(PageKind::Log, &change) {
         return false;
     }
     log.push(change);
@@ -231,10 +232,11 @@ fn is_so(alloc: Global, rig: &mut MemRig, log: &mut OpLog, geometry: &Geometry, 
 {
     match line {
         Line::Anew => fit(rig, alloc, geometry).is_ok(),
-        Line::Buffer(change) => buffer(log, change),
+        Line::Buffer(change) => buffer(log, geometry, change),
         Line::Flush(wanted) => flush(rig, log, geometry) == wanted,
         Line::FlushTorn(wanted) => flush_torn(rig, log, geometry) == wanted,
-        Line::Note(change) => buffer(log, change) && flush(rig, log, geometry) == Some(Ok(())),
+        Line::Note(change) => buffer(log, geometry, change)
+            && flush(rig, log, geometry) == Some(Ok(())),
         Line::Restart(region, era) => restart(log, region, era),
         Line::Put(what) => make(rig, 2, what),
         Line::See(fact) => holds(alloc, rig, log, geometry, fact),

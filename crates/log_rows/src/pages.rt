@@ -27,7 +27,7 @@ pub(crate) enum Change {
     /// The address lies, dirty, in this block at this page.
     Page(u64, u32, u32),
     /// The group has this data block, with these pages, all clean.
-    Group(u64, u32, u64),
+    Group(u64, u32, u128),
     /// The address is held no more.
     PageOut(u64),
     /// The group is held no more.
@@ -97,7 +97,9 @@ fn is_sound(change: &Record) -> bool
 {
     match *change {
         Record::SetPage { place, .. } => place.page < 64,
-        Record::SetGroup { present, dirty, .. } => present > 0 && present & dirty == dirty,
+        Record::SetGroup { present, dirty, .. } => {
+            present > 0 && present & dirty == dirty && present < 1 << 64
+        }
         Record::Remove { .. } | Record::Clean { .. } | Record::RemoveGroup { .. } => true,
     }
 }

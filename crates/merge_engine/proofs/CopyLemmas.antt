@@ -206,16 +206,16 @@ page_from_on test (suc n) page worth = elim (cases_lt n page) [
 
 module _ (g : Geometry) (m : Entries) (group held : ℕ) (is : held ≡ chosen_of Held g m group) where
   -- so many bits as there are below the leading zeros
-  bits : (n : ℕ) × (64 - count_leading_zeros 64 held ≡ n) × (held < 2 ^ n) × (2 ^ n ≤ 2 * held + 1)
+  bits : (n : ℕ) × (128 - count_leading_zeros 128 held ≡ n) × (held < 2 ^ n) × (2 ^ n ≤ 2 * held + 1)
   bits =
       let below : held < 2 ^ g.p = subst (λ n. n < 2 ^ g.p) (sym is) (set_below (λ i. is_chosen Held (get m (group * g.p + i))) g.p) in
-      let high : g.p ≤ 64 = omega (arith, g.in_range.p_high) in
-      let n = leading_length 64 held (omega (arith, below, powers g.p 64 high)) in
+      let high : g.p ≤ 128 = omega (arith, g.in_range.p_high) in
+      let n = leading_length 128 held (omega (arith, below, powers g.p 128 high)) in
       let all = n.1 in
       (n.0, omega arith, n.2, n.3)
 
   -- a held page of the group is below the first of the leading zeros
-  pub held_below : (a : ℕ) (e : Entry) → get m a ≡ Some e → a / g.p ≡ group → a % g.p < 64 - count_leading_zeros 64 held
+  pub held_below : (a : ℕ) (e : Entry) → get m a ≡ Some e → a / g.p ≡ group → a % g.p < 128 - count_leading_zeros 128 held
   held_below a e there in_group =
       let n = bits in
       let within : a % g.p < g.p = mod_below a g.p (omega (arith, g.in_range.p_low)) in
@@ -229,7 +229,7 @@ module _ (g : Geometry) (m : Entries) (group held : ℕ) (is : held ≡ chosen_o
       ]
 
   -- and from each page below that first one on a page is held
-  held_from_on : (page : ℕ) → page < 64 - count_leading_zeros 64 held → (i : ℕ) × (page ≤ i) × (i < g.p) × ((e : Entry) × (get m (group * g.p + i) ≡ Some e))
+  held_from_on : (page : ℕ) → page < 128 - count_leading_zeros 128 held → (i : ℕ) × (page ≤ i) × (i < g.p) × ((e : Entry) × (get m (group * g.p + i) ≡ Some e))
   held_from_on page low =
       let n = bits in
       let count = n.1 in
@@ -239,7 +239,7 @@ module _ (g : Geometry) (m : Entries) (group held : ℕ) (is : held ≡ chosen_o
       (at.0, at.1, at.2, held_is_some (get m (group * g.p + at.0)) at.3)
 
   -- and a page below that first one is one of the group's, and none past the last that is held
-  pub page_below : (page : ℕ) → IsMap g m → page < 64 - count_leading_zeros 64 held → (page < g.p) × (group * g.p + page < g.size)
+  pub page_below : (page : ℕ) → IsMap g m → page < 128 - count_leading_zeros 128 held → (page < g.p) × (group * g.p + page < g.size)
   page_below page is_map low =
       let at = held_from_on page low in
       let e = at.3 in
@@ -249,11 +249,11 @@ module _ (g : Geometry) (m : Entries) (group held : ℕ) (is : held ≡ chosen_o
       (omega arith, omega (arith, within, above))
 
   -- so many pages are there up to the last held one
-  pub pages_are : (pages : ℕ) → ReachesTo g m group pages → 64 - count_leading_zeros 64 held ≡ pages
+  pub pages_are : (pages : ℕ) → ReachesTo g m group pages → 128 - count_leading_zeros 128 held ≡ pages
   pages_are pages reach =
       let low = held_below reach.last reach.entry reach.held reach.in_group in
       let number = reach.number in
-      elim (cases_lt pages (64 - count_leading_zeros 64 held)) [
+      elim (cases_lt pages (128 - count_leading_zeros 128 held)) [
         | inl more ↦
             let at = held_from_on pages more in
             let above = at.1 in
@@ -270,15 +270,15 @@ module _ (parts : Parts) (group held : ℕ) (of_one : AreOfOne parts) (is : held
   held_is : held ≡ chosen_of Held parts.geometry parts.map.entries group
   held_is = subst (λ (g : Geometry). held ≡ chosen_of Held g parts.map.entries group) of_one.map is
 
-  pub held_is_below : (a : ℕ) (e : Entry) → get parts.map.entries a ≡ Some e → a / parts.geometry.p ≡ group → a % parts.geometry.p < 64 - count_leading_zeros 64 held
+  pub held_is_below : (a : ℕ) (e : Entry) → get parts.map.entries a ≡ Some e → a / parts.geometry.p ≡ group → a % parts.geometry.p < 128 - count_leading_zeros 128 held
   held_is_below = held_below parts.geometry parts.map.entries group held held_is
 
-pub is_page_of_group : (parts : Parts) (contents : Contents) (group held page : ℕ) → PartsAgree parts contents → held ≡ chosen_of Held parts.map.geometry parts.map.entries group → page < 64 - count_leading_zeros 64 held
+pub is_page_of_group : (parts : Parts) (contents : Contents) (group held page : ℕ) → PartsAgree parts contents → held ≡ chosen_of Held parts.map.geometry parts.map.entries group → page < 128 - count_leading_zeros 128 held
     → (page < parts.geometry.p) × (group * parts.geometry.p + page < parts.geometry.size)
 is_page_of_group parts contents group held page agree is low =
     let of_one = agree.sound.of_one in
     page_below parts.geometry parts.map.entries group held (subst (λ (g : Geometry). held ≡ chosen_of Held g parts.map.entries group) of_one.map is) page
     (subst (λ (g : Geometry). IsMap g parts.map.entries) of_one.log (current_map parts.log contents.flash.page parts.map.entries agree.sound.current)) low
 
-pub pages_of_group : (parts : Parts) (group held pages : ℕ) → AreOfOne parts → held ≡ chosen_of Held parts.map.geometry parts.map.entries group → ReachesTo parts.geometry parts.map.entries group pages → 64 - count_leading_zeros 64 held ≡ pages
+pub pages_of_group : (parts : Parts) (group held pages : ℕ) → AreOfOne parts → held ≡ chosen_of Held parts.map.geometry parts.map.entries group → ReachesTo parts.geometry parts.map.entries group pages → 128 - count_leading_zeros 128 held ≡ pages
 pages_of_group parts group held pages of_one is reach = pages_are parts.geometry parts.map.entries group held (subst (λ (g : Geometry). held ≡ chosen_of Held g parts.map.entries group) of_one.map is) pages reach

@@ -5,6 +5,7 @@ use Rattle.ft_base.specs.declared.block.Place.{Place}
 use Rattle.ft_base.specs.declared.block.Page.{Page}
 use Rattle.ft_base.specs.declared.record.Record.{Record}
 use Rattle.ft_base.specs.Layout.{page_records}
+use Rattle.ft_base.proofs.LayoutLemmas.{q_some}
 use Rattle.cache_model.specs.CacheList.{CacheList}
 use Rattle.op_log.specs.Log.{LogValue}
 use Rattle.merge_engine.specs.declared.parts.Parts.{Parts}
@@ -18,7 +19,7 @@ use Rattle.merge_engine.proofs.RoomLemmas.{gives_again}
 pub room_for_one : (log : LogValue) → log.buffered ≡ [] → length log.buffered < page_records log.geometry
 room_for_one log none =
     let count : length log.buffered ≡ 0 = ap (λ (l : List Record). length l) none in
-    omega arith
+    omega (arith, q_some log.geometry)
 
 -- the parts may be used for something else
 pub goes_as : (log : LogValue) (p q : Parts) (page : Place → Page) (list durable : CacheList) → q.map ≡ p.map → q.geometry ≡ p.geometry → q.log ≡ p.log → GoesOn log p page list durable → GoesOn log q page list durable

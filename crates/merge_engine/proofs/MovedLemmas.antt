@@ -22,7 +22,7 @@ use Rattle.mapping.specs.declared.bits.Choice.{Choice}
 use Rattle.mapping.specs.declared.bits.Choice.TheVariants.{Held, Dirty}
 use Rattle.mapping.specs.Bits.{is_chosen, chosen_of}
 use Rattle.mapping.proofs.BitsLemmas.{bit_of_set, set_below}
-use Rattle.mapping.proofs.ChosenLemmas.{own_address}
+use Rattle.mapping.proofs.ChosenLemmas.{chosen_short, own_address}
 use Rattle.mapping.proofs.CountsLemmas.{div_mono}
 use Rattle.mapping.proofs.FittingLemmas.{group_fits}
 use Rattle.mapping.proofs.MarksLemmas.{member_from, member_to}
@@ -182,4 +182,7 @@ module _ (g : Geometry) (m : Entries) (group block : ℕ) where
   -- ---- it can be spelled
 
   pub move_spelled : IsGroupHeld g m group → IsTrue (may_stand_in log_page (move_record g m group block))
-  move_spelled held = and_from _ _ (and_from _ _ (lt-ltb _ _ (not_nothing g m group held)) (eq-eqb _ _ (dirty_is_held g m group))) refl
+  move_spelled held =
+      let some = lt-ltb _ _ (not_nothing g m group held) in
+      let within = eq-eqb _ _ (dirty_is_held g m group) in
+      and_from _ _ (and_from _ _ (and_from _ _ some within) (lt-ltb _ _ (chosen_short g m group Held))) refl

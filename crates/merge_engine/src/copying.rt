@@ -46,7 +46,7 @@ pub(crate) fn copy_group<M: Media>(
     let held = cache.map.held_bits(group);
     let zeros = zero_block();
     let mut buffer = zero_block();
-    for page in 0..u64::BITS - held.leading_zeros() {
+    for page in 0..u128::BITS - held.leading_zeros() {
         let lba = group * cache.geometry.p as u64 + page as u64;
         copy_page(
             cache,

@@ -14,7 +14,7 @@ use Rattle.cache_model.specs.Loading.{after_all}
 use Rattle.cache_model.proofs.FitsLemmas.{fits-true, fits-from, after_all-map}
 use Rattle.mapping.specs.MapValue.{MapValue, pages_taken, groups_taken}
 use Rattle.mapping.specs.Room.{HasNoMoreRoom, KeepsBuckets, KeepsFewBuckets}
-use Rattle.mapping.proofs.FewLemmas.{few_kept, keeps_then, keeps_reserved, IsReserved}
+use Rattle.mapping.proofs.FewLemmas.{few_kept, few_of_page, keeps_then, keeps_reserved, IsReserved}
 use Rattle.op_log.specs.Walk.{pages_needed, groups_needed, TakesRoom}
 
 page_taken : (r : Record) → cond (pages_taken r == 1) 1 0 ≡ pages_taken r
@@ -110,7 +110,7 @@ room_taken changes first old new so took = let p = so.pages in let q = so.groups
 -- room was made for the records of a page, and then they took it
 pub few_applied : (changes : List Record) (p q : ℕ) (old ready new : MapValue) → p ≤ most_page_records → q ≤ most_page_records → IsReserved p q old ready → new.geometry ≡ ready.geometry
     → HasNoMoreRoom ready new → KeepsBuckets ready new → after_all ready.geometry changes ready.entries ≡ Some new.entries → KeepsFewBuckets old new
-few_applied changes p q old ready new few_p few_q reserved same room kept applied = keeps_then old ready new (keeps_reserved p q old ready few_p few_q reserved) (record {
+few_applied changes p q old ready new few_p few_q reserved same room kept applied = keeps_then old ready new (keeps_reserved p q old ready few_p (few_of_page old.geometry q few_q) reserved) (record {
   is_map = λ is. subst (λ (g : Geometry). IsMap g new.entries) (sym same) (after_all-map ready.geometry changes ready.entries new.entries is applied);
   few = λ is few. few_kept ready new same room kept few;
 })

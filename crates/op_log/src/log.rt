@@ -28,15 +28,16 @@ pub struct OpLog {
 }
 
 impl Model for OpLog {
-    ghost use Rattle.std.specs.Prelude.{◌≤◌, ◌<◌};
-    ghost use Rattle.ft_base.specs.Layout.{log_pages};
+    ghost use Rattle.std.specs.Prelude.{◌≤◌, ◌<◌, length};
+    ghost use Rattle.ft_base.specs.Layout.{log_pages, page_records};
     ghost use Rattle.op_log.specs.Log.{LogValue};
 
     ghost Value = { LogValue };
 
     ghost view = { λ l. record { geometry = l.geometry; region = l.region; era = l.era; next = l.next; buffered = l.ring } };
 
-    ghost invariant = { λ l. (l.region < 2) × (l.era ≤ 2) × (l.next ≤ log_pages l.geometry) };
+    ghost invariant = { λ l. (l.region < 2) × (l.era ≤ 2) × (l.next ≤ log_pages l.geometry)
+        × (length l.ring ≤ page_records l.geometry) };
 }
 
 impl OpLog {
@@ -66,6 +67,7 @@ impl OpLog {
     }
 
     /// Buffers a change. It takes no memory.
+    #[tactic(auto, using(ft_base::proofs::LayoutLemmas::q_most))]
     pub fn push(&mut self, change: Record)
         requires room { length self.old.buffered < page_records self.old.geometry }
         requires sound { IsTrue (may_stand_in log_page change) }
@@ -74,7 +76,7 @@ impl OpLog {
         self.ring.push(change);
     }
 
-    /// How many changes are buffered: at most 127.
+    /// How many changes are buffered: at most those of a page.
     pub fn buffered(&self) -> u32
         ensures buffered { result ≡ length self.now.buffered }
         ensures most { result ≤ page_records self.now.geometry }

@@ -21,7 +21,7 @@ enum Fact {
     /// How many groups have a dirty entry, how many a data block, and how many blocks have pages of the log.
     Groups([u32; 3]),
     /// The held pages of a group, and the dirty ones.
-    Pages(u64, [u64; 2]),
+    Pages(u64, [u128; 2]),
     /// Where a dirty address stands.
     Dirty(u64, At),
     /// The address that a page belongs to.
@@ -35,7 +35,7 @@ enum Fact {
     /// The group of which a block is the data block.
     GroupIn(u32, Option<u64>),
     /// The data block of a group, and the pages that are present there.
-    DataBlock(u64, Option<(u32, u64)>),
+    DataBlock(u64, Option<(u32, u128)>),
     /// How many held pages the data block of this number in the pool has, where it may give way.
     Candidate(usize, Option<u16>),
     /// How many records a checkpoint has.

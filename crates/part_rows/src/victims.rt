@@ -21,7 +21,7 @@ enum Fact {
     /// How many pages of a group's data block are held.
     PagesHeld(u64, u32),
     /// The pages of a group that are held.
-    HeldBits(u64, u64),
+    HeldBits(u64, u128),
 }
 
 /// A change of a map.
@@ -31,8 +31,8 @@ enum Change {
     SetGroup {
         group: u64,
         block: u32,
-        present: u64,
-        dirty: u64,
+        present: u128,
+        dirty: u128,
     },
     /// The address stands at this page of the first log block, dirty or clean.
     SetPage(u64, u32, bool),

@@ -11,6 +11,8 @@ use Rattle.ft_base.specs.declared.geometry.Geometry.{Geometry}
 use Rattle.ft_base.specs.declared.record.Record.{Record}
 use Rattle.ft_base.specs.declared.record.Record.TheVariants.{SetPage, Clean}
 use Rattle.ft_base.specs.Contents.{Contents}
+use Rattle.ft_base.specs.Layout.{page_records}
+use Rattle.ft_base.proofs.LayoutLemmas.{q_some}
 use Rattle.cache_model.specs.declared.entry.Entry.{Entry}
 use Rattle.cache_model.specs.Cache.{written_block, Buffered, Inserted, Cleaned, address_of, AreApart, MayWait, undo, written_clean, made_clean, marked_as}
 use Rattle.cache_model.specs.CacheList.{Held, held, CacheList}
@@ -22,8 +24,8 @@ use Rattle.cache_model.proofs.CountLemmas.{member, same_number, equals_turned}
 use Rattle.cache_model.proofs.UndoLemmas.{undone_at, undo_inserted, undo_cleaned, get_marked}
 use Rattle.mapping.proofs.CountsLemmas.{member_push}
 use Rattle.mapping.specs.MapValue.{MapValue}
-use Rattle.mapping.specs.Room.{GrewForPages, HasFewBuckets}
-use Rattle.mapping.proofs.FewLemmas.{few_kept, few_refused, keeps_reserved, IsReserved}
+use Rattle.mapping.specs.Room.{GrewForPages, HasFewBuckets, most_groups}
+use Rattle.mapping.proofs.FewLemmas.{few_kept, few_of_block, few_refused, keeps_reserved, IsReserved}
 use Rattle.merge_engine.specs.declared.parts.Parts.{Parts}
 use Rattle.merge_engine.specs.Agreement.{PartsAgree, IsListOn, Lists}
 use Rattle.merge_engine.proofs.ReservedLemmas.{agree_reserved}
@@ -52,8 +54,12 @@ kinds_push : (changes : List Record) (own : Record) → may_wait own ≡ true �
 kinds_push [] own may all = and_from _ _ may refl
 kinds_push (change ∷ changes) own may all = let p = and_parts (may_wait change) (list_all may_wait changes) all in and_from _ _ p.0 (kinds_push changes own may p.1)
 
-pub few_buffered : (c : Ssc) (contents : Contents) (s : CacheList) → Holds c contents s → length c.parts.log.buffered < 127
-few_buffered c contents s holds = let few = holds.waits.few in let same = length_waiting c.parts.log.buffered in omega arith
+pub few_buffered : (c : Ssc) (contents : Contents) (s : CacheList) → Holds c contents s → length c.parts.log.buffered < page_records c.parts.log.geometry
+few_buffered c contents s holds =
+    let few = holds.waits.few in
+    let same = length_waiting c.parts.log.buffered in
+    let own = ap page_records holds.agree.sound.of_one.log in
+    omega (arith, few, same, own)
 
 -- ---- what may wait beside a list
 
@@ -93,9 +99,9 @@ map_push [] b = refl
 map_push (x ∷ xs) b = ap (λ l. address_of x ∷ l) (map_push xs b)
 
 waits_none : (g : Geometry) (s : CacheList) → MayWait g [] s
-waits_none g s = record { apart = tt; clean = tt; few = omega arith }
+waits_none g s = record { apart = tt; clean = tt; few = omega (arith, q_some g) }
 
-waits_push : (g g' : Geometry) (q : List Buffered) (own : Buffered) (s s' : CacheList) → ((h : Held) → get s (address_of own) ≡ Some h → h.dirty ≡ false → ⊥) → ((a : ℕ) → (a ≡ address_of own → ⊥) → get s' a ≡ get s a) → IsCleanIn s' own → length q + 1 < 127 →
+waits_push : (g g' : Geometry) (q : List Buffered) (own : Buffered) (s s' : CacheList) → ((h : Held) → get s (address_of own) ≡ Some h → h.dirty ≡ false → ⊥) → ((a : ℕ) → (a ≡ address_of own → ⊥) → get s' a ≡ get s a) → IsCleanIn s' own → length q + 1 < page_records g' →
     MayWait g q s → MayWait g' (q ++ own ∷ []) s'
 waits_push g g' q own s s' never same clean few waits =
     let absent = not_waiting q s (address_of own) never waits.clean in
@@ -168,7 +174,7 @@ holds_taken old new contents s is taken holds =
       pages = subst (λ n. 1 ≤ n) (sym taken.pages) pages;
       groups = subst (λ (g : Geometry). g.p ≤ new.parts.map.spare_groups) (sym own) (subst (λ n. old.parts.geometry.p ≤ n) (sym taken.groups) groups);
     })
-    ((keeps_reserved 1 old.parts.geometry.p old.parts.map new.parts.map (omega arith) (omega (arith, old.parts.geometry.in_range.p_high)) taken).few (own_map old.parts contents holds.agree) holds.few) holds
+    ((keeps_reserved 1 old.parts.geometry.p old.parts.map new.parts.map (omega arith) (subst (λ (g : Geometry). old.parts.geometry.p ≤ most_groups g) (sym holds.agree.sound.of_one.map) (few_of_block old.parts.geometry)) taken).few (own_map old.parts contents holds.agree) holds.few) holds
 
 -- it was refused
 pub holds_refused : (old new : Ssc) (contents : Contents) (s : CacheList) → new.parts ≡ record old.parts { map = new.parts.map } → new.ready ≡ false → new.parts.map.geometry ≡ old.parts.map.geometry → entries_of new ≡ entries_of old
@@ -201,12 +207,13 @@ module _ (s s' : CacheList) (own : Record)
     (clean : IsCleanIn s' (waiting_as own))
     (undone : (q : List Buffered) → ((o : Option Held) → undone_at q (address_of (waiting_as own)) o ≡ o) → undo (q ++ waiting_as own ∷ []) s' ≡ undo q s) where
   -- behind all that was buffered
-  holds_behind : (old new : Ssc) (contents contents' : Contents) → Holds old contents s → IsSettled new contents' → length new.parts.log.buffered < 127
+  holds_behind : (old new : Ssc) (contents contents' : Contents) → Holds old contents s → IsSettled new contents' → length new.parts.log.buffered < page_records new.parts.log.geometry
       → new.parts.log.buffered ≡ old.parts.log.buffered ++ own ∷ [] → Lists new.parts contents'.flash.page s' (undo (pending old) s) → Holds new contents' s'
   holds_behind old new contents contents' holds settled few is lists =
       let q = pending old in
       let pushed = waiting_push old.parts.log.buffered own in
-      let count : length q + 1 < 127 = omega (arith, length_waiting old.parts.log.buffered, ap length is, length-append old.parts.log.buffered (own ∷ [])) in
+      let room = ap page_records settled.agree.sound.of_one.log in
+      let count : length q + 1 < page_records (geometry_of new) = omega (arith, few, room, length_waiting old.parts.log.buffered, ap length is, length-append old.parts.log.buffered (own ∷ [])) in
       let away = undone_away q (address_of (waiting_as own)) (not_waiting q s (address_of (waiting_as own)) never holds.waits.clean) in
       holds_from new contents' s' (undo q s) (old.parts.log.buffered ++ own ∷ []) settled is (ap (λ (l : List Buffered). undo l s') pushed ∙ undone q away) lists
       (kinds_push old.parts.log.buffered own may holds.kinds)
@@ -216,9 +223,9 @@ module _ (s s' : CacheList) (own : Record)
   holds_alone : (new : Ssc) (contents' : Contents) → IsSettled new contents' → new.parts.log.buffered ≡ own ∷ [] → Lists new.parts contents'.flash.page s' s → Holds new contents' s'
   holds_alone new contents' settled is lists =
       holds_from new contents' s' s (own ∷ []) settled is (undone [] (λ o. refl)) lists (and_from _ _ may refl)
-      (waits_push (geometry_of new) (geometry_of new) [] (waiting_as own) s s' never same clean (omega arith) (waits_none (geometry_of new) s))
+      (waits_push (geometry_of new) (geometry_of new) [] (waiting_as own) s s' never same clean (omega (arith, q_some (geometry_of new))) (waits_none (geometry_of new) s))
 
-  holds_after : (old new : Ssc) (contents contents' : Contents) → Holds old contents s → IsSettled new contents' → length new.parts.log.buffered < 127 → ListsAfter old.parts.log.buffered own new.parts contents'.flash.page (undo (pending old) s) s s' → Holds new contents' s'
+  holds_after : (old new : Ssc) (contents contents' : Contents) → Holds old contents s → IsSettled new contents' → length new.parts.log.buffered < page_records new.parts.log.geometry → ListsAfter old.parts.log.buffered own new.parts contents'.flash.page (undo (pending old) s) s s' → Holds new contents' s'
   holds_after old new contents contents' holds settled few (inl k) = holds_behind old new contents contents' holds settled few k.0 k.1
   holds_after old new contents contents' holds settled few (inr (inl k)) = holds_alone new contents' settled k.0 k.1
   holds_after old new contents contents' holds settled few (inr (inr k)) = holds_committed new contents' s' settled k.0 k.1
@@ -240,7 +247,7 @@ module _ (s : CacheList) (lba : ℕ) (at : Place) (block : Block) (absent : get 
   here_inserted : get (written_clean lba block s) lba ≡ Some (written_block lba block false)
   here_inserted = get_insert s lba (written_block lba block false) lba ∙ ap (λ x. cond x (Some (written_block lba block false)) (get s lba)) (same_number lba)
 
-  pub inserted_behind : (old new : Ssc) (contents contents' : Contents) → Holds old contents s → IsSettled new contents' → length new.parts.log.buffered < 127
+  pub inserted_behind : (old new : Ssc) (contents contents' : Contents) → Holds old contents s → IsSettled new contents' → length new.parts.log.buffered < page_records new.parts.log.geometry
       → new.parts.log.buffered ≡ old.parts.log.buffered ++ SetPage lba at false ∷ [] → Lists new.parts contents'.flash.page (written_clean lba block s) (undo (pending old) s)
       → Holds new contents' (written_clean lba block s)
   inserted_behind = holds_behind s (written_clean lba block s) (SetPage lba at false) refl none_clean other_inserted (written_block lba block false, here_inserted, refl) (λ q away. undo_inserted q s lba block absent)
@@ -266,7 +273,7 @@ module _ (s : CacheList) (lba : ℕ) (h : Held) (is : get s lba ≡ Some h) (dir
   here_cleaned : get (made_clean lba s) lba ≡ Some (held h.block h.spare false)
   here_cleaned = get_marked false lba s (get s lba) lba refl ∙ ap (λ x. cond x (option_map (marked_as false) (get s lba)) (get s lba)) (same_number lba) ∙ ap (option_map (marked_as false)) is
 
-  pub holds_cleaned : (old new : Ssc) (contents contents' : Contents) → Holds old contents s → IsSettled new contents' → length new.parts.log.buffered < 127
+  pub holds_cleaned : (old new : Ssc) (contents contents' : Contents) → Holds old contents s → IsSettled new contents' → length new.parts.log.buffered < page_records new.parts.log.geometry
       → ListsAfter old.parts.log.buffered (Clean lba) new.parts contents'.flash.page (undo (pending old) s) s (made_clean lba s) → Holds new contents' (made_clean lba s)
   holds_cleaned = holds_after s (made_clean lba s) (Clean lba) refl dirty_not_clean other_cleaned (held h.block h.spare false, here_cleaned, refl) (λ q away. undo_cleaned q s lba h.block h.spare is_dirty away)
 

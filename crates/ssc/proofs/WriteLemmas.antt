@@ -9,7 +9,7 @@ use Rattle.ft_base.specs.declared.block.Page.{Page}
 use Rattle.ft_base.specs.declared.record.Record.{Record}
 use Rattle.ft_base.specs.declared.record.Record.TheVariants.{SetPage}
 use Rattle.ft_base.specs.Contents.{Contents}
-use Rattle.ft_base.specs.Layout.{log_pages}
+use Rattle.ft_base.specs.Layout.{log_pages, page_records}
 use Rattle.ft_media.specs.Media.{program_counted}
 use Rattle.ft_media.specs.declared.rig.Counts.{Counts}
 use Rattle.ft_media.specs.declared.media.MediaError.{MediaError}
@@ -110,7 +110,7 @@ pub left_committed : (parts : Parts) (new : Ssc) (contents : Contents) (s : Cach
 left_committed parts new contents s lba block settled none x = (x.0, x.1, holds_committed new contents (insert x.0 lba block) settled none x.2)
 
 -- a clean block at an address that was absent may wait
-module _ (r new : Ssc) (contents contents' : Contents) (s : CacheList) (lba : ℕ) (block : Block) (holds : Holds r contents s) (settled : IsSettled new contents') (few : length new.parts.log.buffered < 127) where
+module _ (r new : Ssc) (contents contents' : Contents) (s : CacheList) (lba : ℕ) (block : Block) (holds : Holds r contents s) (settled : IsSettled new contents') (few : length new.parts.log.buffered < page_records new.parts.log.geometry) where
   same_of : LeftOf r.parts s s
   same_of = record { gives = inl refl; inside = λ room. refl }
 
@@ -201,8 +201,12 @@ log_room_left old r is same room = subst (λ (p : Parts). HasLogBlock p) (sym is
     by (inr (inl few)) = inr (inl few)
     by (inr (inr one)) = inr (inr (one.0, one.1, subst (λ (m : Entries). StandsNoneIn m one.0) (sym same) one.2))
 
-pub few_left : (old r : Ssc) → r.parts ≡ record old.parts { map = r.parts.map } → length (pending old) + 2 ≤ 127 → length r.parts.log.buffered + 2 ≤ 127
-few_left old r is few = let same : length r.parts.log.buffered ≡ length old.parts.log.buffered = ap (λ (p : Parts). length p.log.buffered) is in omega (arith, length_waiting old.parts.log.buffered)
+pub few_left : (old r : Ssc) → r.parts ≡ record old.parts { map = r.parts.map } → old.parts.log.geometry ≡ geometry_of old → length (pending old) + 2 ≤ page_records (geometry_of old)
+    → length r.parts.log.buffered + 2 ≤ page_records r.parts.log.geometry
+few_left old r is own few =
+    let same : length r.parts.log.buffered ≡ length old.parts.log.buffered = ap (λ (p : Parts). length p.log.buffered) is in
+    let room : page_records r.parts.log.geometry ≡ page_records (geometry_of old) = ap (λ (p : Parts). page_records p.log.geometry) is ∙ ap page_records own in
+    omega (arith, length_waiting old.parts.log.buffered)
 
 pub room_for : (old r : Ssc) (lba : ℕ) → geometry_of r ≡ geometry_of old → entries_of r ≡ entries_of old → HasRoomFor (geometry_of old) (entries_of old) lba → HasRoomFor (geometry_of r) (entries_of r) lba
 room_for old r lba same entries room = subst (λ (g : Geometry). HasRoomFor g (entries_of r) lba) (sym same) (subst (λ (m : Entries). HasRoomFor (geometry_of old) m lba) (sym entries) room)

@@ -10,7 +10,7 @@ use Rattle.ft_base.specs.declared.block.Page.{Page}
 use Rattle.ft_base.specs.declared.record.Record.{Record}
 use Rattle.ft_base.specs.declared.record.Record.TheVariants.{SetPage}
 use Rattle.ft_base.specs.Contents.{Contents}
-use Rattle.ft_base.specs.Layout.{log_pages}
+use Rattle.ft_base.specs.Layout.{log_pages, page_records}
 use Rattle.ft_media.specs.State.{State}
 use Rattle.ft_media.specs.Media.{program_counted}
 use Rattle.ft_media.specs.declared.rig.Counts.{Counts}
@@ -179,12 +179,13 @@ counted_twice old mid lba dirty is a b c pushed waits left one =
     let low = subst (λ n. n < log_pages mid.geometry) next (subst (λ (g : Geometry). old.log.next < log_pages g) (sym is) left) in
     one waits low ∙ ap program_counted pushed.1
 
--- fewer than 127 changes wait
-pub still_pushed : (old mid new : Parts) (lba : ℕ) (dirty : Bool) (a b c : State) {P : Type 0} → length old.log.buffered + 2 ≤ 127 → IsPushed old lba dirty mid × (b.counts ≡ program_counted a.counts)
-    → (length mid.log.buffered < 127 → P × (new ≡ mid) × (c ≡ b)) → IsPushed old lba dirty new × (c.counts ≡ program_counted a.counts)
+-- fewer changes wait than a page takes
+pub still_pushed : (old mid new : Parts) (lba : ℕ) (dirty : Bool) (a b c : State) {P : Type 0} → length old.log.buffered + 2 ≤ page_records old.log.geometry → IsPushed old lba dirty mid × (b.counts ≡ program_counted a.counts)
+    → (length mid.log.buffered < page_records mid.log.geometry → P × (new ≡ mid) × (c ≡ b)) → IsPushed old lba dirty new × (c.counts ≡ program_counted a.counts)
 still_pushed old mid new lba dirty a b c few pushed same =
     let at = pushed.0.0 in
     let count : length mid.log.buffered ≡ length old.log.buffered + 1 = ap (λ (l : LogValue). length l.buffered) pushed.0.1 ∙ length-append old.log.buffered (SetPage lba at dirty ∷ []) in
+    let room : page_records mid.log.geometry ≡ page_records old.log.geometry = ap (λ (l : LogValue). page_records l.geometry) pushed.0.1 in
     let still = same (omega arith) in
     ((at, ap (λ (p : Parts). p.log) still.1 ∙ pushed.0.1), ap (λ (s : State). s.counts) still.2 ∙ pushed.1)
 

@@ -43,7 +43,7 @@ impl Ssc {
     }
 
     /// The dirty pages of a group: the bit of value 2^i for its address i.
-    pub fn dirty_bits(&self, group: u64) -> u64
+    pub fn dirty_bits(&self, group: u64) -> u128
         ensures bits { (contents : Contents) (s : CacheList) → Holds self.now contents s
             → result ≡ chosen_of Dirty (geometry_of self.now) (entries_of self.now) group }
         ensures list { (contents : Contents) (s : CacheList) → Holds self.now contents s

@@ -215,7 +215,7 @@ fn commit_if_full<M: Media>(parts: &mut Parts, media: &mut M) -> Result<(), Medi
         × (M.state media.new ≡ M.state media.old) }
     ensures drives { OnlyDrives (M.state media.old) (M.state media.new) result }
 {
-    if parts.log.buffered() < 127 {
+    if parts.log.buffered() < parts.geometry.q() {
         return Ok(());
     }
     commit(parts, media)

@@ -7,7 +7,7 @@ use Rattle.ft_base.specs.declared.told.Ack.TheVariants as ack
 use Rattle.ft_media.specs.Passes.{Passes}
 use Rattle.ft_media.specs.Rig.{powered}
 use Rattle.ft_media.specs.State.{State}
-use Rattle.ft_volume.specs.Volume.{Call, Done, Fixes, Goes, VolumeState, WasOne, volume_lost}
+use Rattle.ft_volume.specs.Volume.{Call, Done, Fixes, Goes, VolumeState, WasOne, blames_media, volume_lost}
 use Rattle.ft_volume.specs.Standing.{StandFor}
 use Rattle.ft_volume.specs.declared.volume.VolumeError.{VolumeError}
 use Rattle.ft_volume.specs.declared.volume.VolumeError.TheVariants as volume
@@ -30,6 +30,13 @@ lost_at T volume.PowerLost = refl
 lost_at T volume.OutOfMemory = refl
 lost_at T volume.OutOfVolume = refl
 
+blames_at : (T : Type 0) (e : VolumeError) → blames_media {T = T} (Err e) ≡ blames_media (refused e)
+blames_at T volume.FlashFault = refl
+blames_at T volume.DiskFault = refl
+blames_at T volume.PowerLost = refl
+blames_at T volume.OutOfMemory = refl
+blames_at T volume.OutOfVolume = refl
+
 err_at : (T : Type 0) (e x : VolumeError) → IsErrOf (refused e) x → IsErrOf {T = T} (Err e) x
 err_at T e x is = let same : e ≡ x = cc in ap Err same
 
@@ -45,6 +52,7 @@ was_call {T = T} old new before after e on goes = record {
     flash_fault = λ is. goes.cause.flash_fault (err_at T e volume.FlashFault is);
     disk_fault = λ is. goes.cause.disk_fault (err_at T e volume.DiskFault is);
     power_lost = λ is. goes.cause.power_lost (err_at T e volume.PowerLost is);
+    none = λ no. goes.cause.none (blames_at T e ∙ no);
   };
 }
 

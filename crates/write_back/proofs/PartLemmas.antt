@@ -109,7 +109,7 @@ module _ (v : CachedDisk) (s : State) (up : is_down v ≡ false) (left : IsLeft 
       memory = λ is was. absurd (cc);
       ready = λ now b there. there;
       disk = λ is was now. refl;
-      cause = record { flash = omega arith; disk = omega arith; cuts = omega arith; flash_fault = λ is. absurd (cc); disk_fault = λ is. absurd (cc); power_lost = λ is. absurd (cc) };
+      cause = record { flash = omega arith; disk = omega arith; cuts = omega arith; flash_fault = λ is. absurd (cc); disk_fault = λ is. absurd (cc); power_lost = λ is. absurd (cc); none = λ no. refl };
       passes = passes_none s;
     };
     faulted = record { flash = λ is. absurd (cc); disk = λ is. absurd (cc) };
@@ -131,7 +131,7 @@ module _ (v : CachedDisk) (s : State) (up : is_down v ≡ false) (left : IsLeft 
       memory = λ is was. was;
       ready = λ now b there. there;
       disk = λ is was now. refl;
-      cause = record { flash = omega arith; disk = omega arith; cuts = omega arith; flash_fault = λ is. absurd (cc); disk_fault = λ is. absurd (cc); power_lost = λ is. absurd (cc) };
+      cause = record { flash = omega arith; disk = omega arith; cuts = omega arith; flash_fault = λ is. absurd (cc); disk_fault = λ is. absurd (cc); power_lost = λ is. absurd (cc); none = λ no. refl };
       passes = passes_none s;
     };
     faulted = record { flash = λ is. absurd (cc); disk = λ is. absurd (cc) };
@@ -174,6 +174,7 @@ module _ (s t : State) where
       flash_fault = λ is. absurd (cc);
       disk_fault = λ is. absurd (cc);
       power_lost = λ is. absurd (cc);
+      none = λ no. calls.cause.none refl refl;
     };
     passes = calls.passes;
   }
@@ -186,6 +187,7 @@ module _ (s t : State) where
     flash_fault = λ is. absurd (cc);
     disk_fault = λ is. absurd (cc);
     power_lost = λ is. absurd (cc);
+    none = λ no. cause.none refl refl;
   }
 
   pub answers_read : ReadsFlash s t false false → Answers s t
@@ -209,6 +211,7 @@ module _ (s t : State) where
       flash_fault = λ is. absurd (cc);
       disk_fault = λ is. calls.cause.failed refl;
       power_lost = λ is. absurd (cc);
+      none = λ no. absurd (cc);
     };
     passes = calls.passes;
     disk_writes = ap (λ (x : Counts). x.disk_writes) counts;
@@ -224,6 +227,7 @@ module _ (s t : State) where
       flash_fault = λ is. absurd (cc);
       disk_fault = λ is. absurd (cc);
       power_lost = λ is. calls.cause.power_lost refl;
+      none = λ no. absurd (cc);
     };
     passes = calls.passes;
     disk_writes = ap (λ (x : Counts). x.disk_writes) counts;
@@ -244,6 +248,7 @@ module _ (s t : State) where
       flash_fault = λ f. cause.failed refl;
       disk_fault = λ f. absurd (cc);
       power_lost = λ f. absurd (cc);
+      none = λ no. absurd (cc);
     };
     passes = passes;
     disk_writes = writes;
@@ -259,6 +264,7 @@ module _ (s t : State) where
       flash_fault = λ f. absurd (cc);
       disk_fault = λ f. absurd (cc);
       power_lost = λ f. cause.power_lost refl;
+      none = λ no. absurd (cc);
     };
     passes = passes;
     disk_writes = writes;

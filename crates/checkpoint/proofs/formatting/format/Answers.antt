@@ -7,12 +7,12 @@ use Rattle.checkpoint.proofs.formatting.format.Goals as goal
 
 pub returns-clause-done : goal.returns-clause-done
 returns-clause-done g c = on_ok_weaker c.program_seal.result
-    (λ done. (format_begins c.args.geometry.now (g.M.Media.state c.erase_blocks.new.media).contents.flash (g.M.Media.state c.program_seal.new.media).contents.flash _ (ap (λ n. 2 * n + c.args.geometry.now.j) c.k.ensures) c.in_ok-erase_blocks.ensures.blank done).loads)
+    (λ done. (format_begins c.args.geometry.now (g.M.Media.state c.erase_blocks.new.media).contents.flash (g.M.Media.state c.program_seal.new.media).contents.flash _ (ap (λ n. 2 * n + c.args.geometry.now.j) c.k.ensures.number) c.in_ok-erase_blocks.ensures.blank done).loads)
     c.program_seal.ensures.done
 
 pub returns-clause-begins : goal.returns-clause-begins
 returns-clause-begins g c = on_ok_weaker c.program_seal.result
-    (format_begins c.args.geometry.now (g.M.Media.state c.erase_blocks.new.media).contents.flash (g.M.Media.state c.program_seal.new.media).contents.flash _ (ap (λ n. 2 * n + c.args.geometry.now.j) c.k.ensures) c.in_ok-erase_blocks.ensures.blank)
+    (format_begins c.args.geometry.now (g.M.Media.state c.erase_blocks.new.media).contents.flash (g.M.Media.state c.program_seal.new.media).contents.flash _ (ap (λ n. 2 * n + c.args.geometry.now.j) c.k.ensures.number) c.in_ok-erase_blocks.ensures.blank)
     c.program_seal.ensures.done
 
 pub returns-clause-spares : goal.returns-clause-spares
@@ -22,5 +22,5 @@ returns-clause-spares g c = on_ok_weaker c.program_seal.result
 
 pub returns-clause-counts : goal.returns-clause-counts
 returns-clause-counts g c = on_ok_weaker c.program_seal.result
-    (format_made c.args.geometry.now _ (g.M.Media.state c.args.media.now).counts (g.M.Media.state c.erase_blocks.new.media).counts (g.M.Media.state c.program_seal.new.media).counts (ap (λ n. 2 * n + c.args.geometry.now.j) c.k.ensures) c.in_ok-erase_blocks.ensures.counts)
+    (format_made c.args.geometry.now _ (g.M.Media.state c.args.media.now).counts (g.M.Media.state c.erase_blocks.new.media).counts (g.M.Media.state c.program_seal.new.media).counts (ap (λ n. 2 * n + c.args.geometry.now.j) c.k.ensures.number) c.in_ok-erase_blocks.ensures.counts)
     c.program_seal.ensures.counts

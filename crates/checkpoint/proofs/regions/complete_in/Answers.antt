@@ -15,12 +15,12 @@ loop-sequence-init g c = record {
 
 pub find-requires-clause-block : goal.find-requires-clause-block
 find-requires-clause-block g c =
-    let within : c.loop-sequence.sequence < checkpoint_pages c.args.geometry.now = subst (λ n. c.loop-sequence.sequence < n * c.args.geometry.now.p) c.k.ensures c.loop-sequence-test.true in
+    let within : c.loop-sequence.sequence < checkpoint_pages c.args.geometry.now = subst (λ n. c.loop-sequence.sequence < n * c.args.geometry.now.p) c.k.ensures.number c.loop-sequence-test.true in
     subst (λ (at : Place). at.block < blocks c.args.geometry.now) (sym c.checkpoint_at.ensures) (on_flash c.args.geometry.now c.args.region c.loop-sequence.sequence c.requires.region within)
 
 pub returns-in-Complete-clause-found : goal.returns-in-Complete-clause-found
 returns-in-Complete-clause-found g c =
-    let within : c.loop-sequence.sequence < checkpoint_pages c.args.geometry.now = subst (λ n. c.loop-sequence.sequence < n * c.args.geometry.now.p) c.k.ensures c.loop-sequence-test.true in
+    let within : c.loop-sequence.sequence < checkpoint_pages c.args.geometry.now = subst (λ n. c.loop-sequence.sequence < n * c.args.geometry.now.p) c.k.ensures.number c.loop-sequence-test.true in
     let old = (g.M.Media.state c.args.media.now).contents in
     let here = found_at old (g.M.Media.state c.loop-sequence.media).contents c.checkpoint_at.result (checkpoint_at c.args.geometry.now c.args.region c.loop-sequence.sequence) c.in_ok-found.found c.loop-sequence.invariant.reads.contents c.checkpoint_at.ensures c.in_ok-found.ensures.finds in
     walked_complete c.args.geometry.now c.args.region old.flash.page c.loop-sequence.walk.era c.loop-sequence.sequence c.loop-sequence.walk.records c.loop-sequence.invariant.walked (complete c.in-Complete.era c.loop-sequence.sequence c.in-Complete.seal) within
@@ -28,7 +28,7 @@ returns-in-Complete-clause-found g c =
 
 pub returns-in-Ends-clause-found : goal.returns-in-Ends-clause-found
 returns-in-Ends-clause-found g c =
-    let within : c.loop-sequence.sequence < checkpoint_pages c.args.geometry.now = subst (λ n. c.loop-sequence.sequence < n * c.args.geometry.now.p) c.k.ensures c.loop-sequence-test.true in
+    let within : c.loop-sequence.sequence < checkpoint_pages c.args.geometry.now = subst (λ n. c.loop-sequence.sequence < n * c.args.geometry.now.p) c.k.ensures.number c.loop-sequence-test.true in
     let old = (g.M.Media.state c.args.media.now).contents in
     let here = found_at old (g.M.Media.state c.loop-sequence.media).contents c.checkpoint_at.result (checkpoint_at c.args.geometry.now c.args.region c.loop-sequence.sequence) c.in_ok-found.found c.loop-sequence.invariant.reads.contents c.checkpoint_at.ensures c.in_ok-found.ensures.finds in
     walked_broken c.args.geometry.now c.args.region old.flash.page c.loop-sequence.walk.era c.loop-sequence.sequence c.loop-sequence.walk.records c.loop-sequence.invariant.walked within
@@ -36,7 +36,7 @@ returns-in-Ends-clause-found g c =
 
 pub loop-sequence-preserved : goal.loop-sequence-preserved
 loop-sequence-preserved g c =
-    let within : c.loop-sequence.sequence < checkpoint_pages c.args.geometry.now = subst (λ n. c.loop-sequence.sequence < n * c.args.geometry.now.p) c.k.ensures c.loop-sequence-test.true in
+    let within : c.loop-sequence.sequence < checkpoint_pages c.args.geometry.now = subst (λ n. c.loop-sequence.sequence < n * c.args.geometry.now.p) c.k.ensures.number c.loop-sequence-test.true in
     let old = (g.M.Media.state c.args.media.now).contents in
     let here = found_at old (g.M.Media.state c.loop-sequence.media).contents c.checkpoint_at.result (checkpoint_at c.args.geometry.now c.args.region c.loop-sequence.sequence) c.in_ok-found.found c.loop-sequence.invariant.reads.contents c.checkpoint_at.ensures c.in_ok-found.ensures.finds in
     let step = c.in-On.ensures (old.flash.page (checkpoint_at c.args.geometry.now c.args.region c.loop-sequence.sequence)) here in

@@ -14,5 +14,5 @@ invariant-loop-sequence g l =
       counts : now.counts ≡ programs_counted l.sequence old.counts;
       drives : DrivesFlash old now false false;
       room : length l.asked ≡ asked_records l.geometry;
-      asked : IsAskedFor l.map.geometry l.map.records l.sequence l.asked;
+      asked : IsAskedFor l.geometry l.map.records l.sequence l.asked;
     }

@@ -1,4 +1,5 @@
 use Rattle.std.proofs.Common.{◌≡◌, ◌≤◌, ◌<◌, ◌+◌, false, length}
+use Rattle.ft_base.specs.Layout.{page_records}
 use Rattle.ft_media.specs.Drives.{DrivesFlash}
 use Rattle.cache_model.specs.CacheList.{CacheList}
 use Rattle.mapping.specs.Numbers.{StandsNoneIn}
@@ -23,7 +24,7 @@ invariant-loop-page g l =
       buckets : l.cache.map.buckets ≡ l.fn.cache.map.buckets;
       group_buckets : l.cache.map.group_buckets ≡ l.fn.cache.map.group_buckets;
       agree : PartsAgree l.cache now.contents;
-      room : length l.cache.log.buffered < 127;
+      room : length l.cache.log.buffered < page_records l.cache.log.geometry;
       nothing : StandsNoneIn l.fn.cache.map.entries l.block → (l.cache ≡ l.fn.cache) × (now ≡ old);
       unowned : IsInUse l.cache.log_blocks l.block → NoneBefore l.cache.map.entries l.block l.page;
       lists : (list durable : CacheList) → Lists l.fn.cache old.contents.flash.page list durable → GoesOn l.fn.cache.log l.cache now.contents.flash.page list durable;

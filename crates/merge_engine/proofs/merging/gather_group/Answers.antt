@@ -5,6 +5,7 @@ use Rattle.ft_media.proofs.DrivesLemmas.{drives_then, only_then}
 use Rattle.checkpoint.specs.Current.{PoolStays}
 use Rattle.block_pool.specs.Pool.{IsNextTaken}
 use Rattle.merge_engine.specs.declared.parts.Parts.{Parts}
+use Rattle.merge_engine.proofs.GoesLemmas.{room_for_one}
 use Rattle.merge_engine.proofs.RoleLemmas.{free_in_pool}
 use Rattle.merge_engine.proofs.ResultLemmas.{on_ok_from, ok_at}
 use Rattle.checkpoint.proofs.OnlyLemmas.{only_failed}
@@ -28,6 +29,13 @@ returns-in_err-block-clause-kept g c = record {
   stands = λ list durable lists.
       let same = ap (λ (p : Parts). p.geometry) c.copy_out.ensures.cache ∙ ap (λ (p : Parts). p.geometry) c.commit.ensures.cache in
       stands_listed c.args.cache.now.geometry c.copy_out.new.cache (g.M.Media.state c.copy_out.new.media).contents.flash.page durable list same (c.copy_out.ensures.lists list list (c.in_ok-commit.ensures.kept.lists list durable lists));
+}
+
+pub put_group-requires-clause-room : goal.put_group-requires-clause-room
+put_group-requires-clause-room g c = record {
+  pages = search rules;
+  groups = search rules;
+  room = room_for_one c.copy_out.new.cache.log (ap (λ (p : Parts). p.log.buffered) c.copy_out.ensures.cache ∙ c.in_ok-commit.ensures.kept.nothing_waits);
 }
 
 pub put_group-requires-clause-held : goal.put_group-requires-clause-held

@@ -7,6 +7,7 @@ use Rattle.merge_engine.specs.Merges.{HasBlockOrRoom, list_without}
 use Rattle.merge_engine.proofs.ResultLemmas.{on_ok_from, ok_at}
 use Rattle.merge_engine.proofs.MoveLemmas.{fillers_gone, fillers_still, room_not_lacked}
 use Rattle.merge_engine.proofs.GaveLemmas.{page_mapped_stay, given_either, victim_other}
+use Rattle.merge_engine.proofs.GoesLemmas.{room_for_one}
 use Rattle.merge_engine.proofs.MergeLemmas.{lists_victims, has_own, has_room, lacks_room, victim_is, no_candidate, victim_gave, victim_way, group_gave, group_way}
 use Rattle.merge_engine.proofs.MergeLemmas.{stays_way, held_then, room_then, merged_then, stay_then, mapped_after, merged_gone, mapped_gone, given_itself, given_after}
 use Rattle.merge_engine.proofs.FreedLemmas.{beside_moved, beside_victim, beside_dropped}
@@ -53,6 +54,13 @@ returns-in_err-drop_group-in-Some-clause-merges g c = record {
       given_either c.args.cache.now.geometry (g.M.Media.state c.drop_group.new.media).contents.flash.page durable list (list_without c.args.cache.now.geometry c.in-Some.victim list)
       (victim_gave c.args.cache.now (g.M.Media.state c.args.media.now).contents c.requires.can.agree c.args.group lacks c.requires.held c.in-Some.victim list durable victim lists)
       (c.drop_group.ensures.stands list durable (lists_victims c.args.cache.now c.victim.new.self (g.M.Media.state c.args.media.now).contents.flash.page list durable lists));
+}
+
+pub move_group-requires-in-Some-clause-can : goal.move_group-requires-in-Some-clause-can
+move_group-requires-in-Some-clause-can g c = record {
+  agree = c.in_ok-drop_group-in-Some.ensures.agree;
+  groups = search rules;
+  room = room_for_one c.drop_group.new.cache.log c.in_ok-drop_group-in-Some.ensures.nothing_waits;
 }
 
 pub move_group-requires-in-Some-clause-held : goal.move_group-requires-in-Some-clause-held

@@ -51,8 +51,8 @@ returns-in-Ok-false-clause-serves g c =
       was = λ order base stand. subst (λ (k : Ssc). WasDone ImageIs (Reads c.args.lba c.read_missing.new.block) (state_in order (record v { cache = k })) (state_in order c.read_missing.new.self) (g.M.Media.state c.read_missing.new.media).contents c.read_missing.result base) c.read.ensures.same
           (c.read_missing.ensures.serves.was order base (subst (λ (x : Contents). StandFor (ImageIs (told_of v)) x base) (sym c.read.ensures.reads.contents) stand));
       goes = λ order. subst (λ (k : Ssc). Goes (state_in order (record v { cache = k })) (state_in order c.read_missing.new.self) before after c.read_missing.result) c.read.ensures.same
-          (goes_after before between after c.read.ensures.reads.contents c.in-Ok-false.ensures.reads.cause.flash (let x = c.in-Ok-false.ensures.reads.cause.disk in omega (arith, x))
-          c.in-Ok-false.ensures.reads.cause.cuts c.in-Ok-false.ensures.reads.passes (state_in order u) (state_in order c.read_missing.new.self) c.read_missing.result (c.read_missing.ensures.serves.goes order));
+          (goes_after before between after c.read.ensures.reads.contents (c.in-Ok-false.ensures.reads.cause.none refl refl)
+          c.in-Ok-false.ensures.reads.passes (state_in order u) (state_in order c.read_missing.new.self) c.read_missing.result (c.read_missing.ensures.serves.goes order));
       dirty = search rules;
       made = search rules;
       within = search rules;
@@ -67,8 +67,8 @@ returns-in-Ok-false-clause-costs g c = λ order.
     let after = g.M.Media.state c.read_missing.new.media in
     let call = Reads c.args.lba c.read_missing.new.block in
     subst (λ (k : Ssc). Costs call (state_in order (record v { cache = k })) (state_in order c.read_missing.new.self) before after c.read_missing.result) c.read.ensures.same
-    (costs_after before between after c.read.ensures.reads.contents c.in-Ok-false.ensures.reads.cause.flash (let x = c.in-Ok-false.ensures.reads.cause.disk in omega (arith, x))
-    c.in-Ok-false.ensures.reads.cause.cuts c.in-Ok-false.ensures.reads.passes (state_in order u) (state_in order c.read_missing.new.self)
+    (costs_after before between after c.read.ensures.reads.contents (c.in-Ok-false.ensures.reads.cause.none refl refl)
+    c.in-Ok-false.ensures.reads.passes (state_in order u) (state_in order c.read_missing.new.self)
     c.read_missing.result call c.in-Ok-false.ensures.reads.counts (c.read_missing.ensures.costs order))
 
 pub returns-in-Ok-false-clause-asks : goal.returns-in-Ok-false-clause-asks

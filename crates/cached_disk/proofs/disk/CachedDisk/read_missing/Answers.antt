@@ -115,7 +115,7 @@ returns-in-Ok-clause-serves g c =
       was = λ order base stand. answered_same (Reads c.args.lba c.read_block.new.block) (state_in order v) (state_in order w) after.contents base refl refl
           (put_stands u put mid.contents after.contents s by c.args.lba c.read_block.new.block absent newest h (c.in-Ok.ensures.at_absent s by.is.holds absent) base (subst (λ (x : Contents). StandFor (ImageIs (told_of v)) x base) (sym c.read_block.ensures.contents) stand)) tt refl
           (newest ∙ found_absent u mid.contents s left.own (left.up up) c.args.lba c.requires.lba absent base (subst (λ (x : Contents). StandFor (ImageIs (told_of v)) x base) (sym c.read_block.ensures.contents) stand));
-      goes = λ order. goes_after before mid after c.read_block.ensures.contents (let x = c.in_default.ensures.cause.flash in omega (arith, x)) c.in_default.ensures.cause.disk c.in_default.ensures.cause.cuts c.in_default.ensures.passes (state_in order v) (state_in order w) (Ok tt)
+      goes = λ order. goes_after before mid after c.read_block.ensures.contents (c.in_default.ensures.cause.none refl refl) c.in_default.ensures.passes (state_in order v) (state_in order w) (Ok tt)
           (goes_driven tt mid after (state_in order v) (state_in order w) refl (still_up v put c.requires.may.up c.in-Ok.ensures.runs.stopped) c.in-Ok.ensures.runs.drives);
       dirty = λ still. put_dirty u put mid.contents after.contents s by c.args.lba c.read_block.new.block absent newest h ∙ ap dirty_lbas c.reserve.ensures.entries;
       made = search rules;
@@ -172,7 +172,7 @@ returns-in-Err-write_clean-clause-serves g c =
       left = cut_left u put mid.contents after.contents s by c.args.lba c.read_block.new.block absent newest stands down;
       was = λ order base stand. refused_same (Reads c.args.lba c.args.block.now) (state_in order v) (state_in order w) after.contents base refl refl
           (cut_stands u put mid.contents after.contents s by c.args.lba c.read_block.new.block absent newest stands base (subst (λ (x : Contents). StandFor (ImageIs (told_of v)) x base) (sym c.read_block.ensures.contents) stand)) c.cache_error.result;
-      goes = λ order. goes_after before mid after c.read_block.ensures.contents (let x = c.in_default.ensures.cause.flash in omega (arith, x)) c.in_default.ensures.cause.disk c.in_default.ensures.cause.cuts c.in_default.ensures.passes (state_in order v) (state_in order w) (Err c.cache_error.result)
+      goes = λ order. goes_after before mid after c.read_block.ensures.contents (c.in_default.ensures.cause.none refl refl) c.in_default.ensures.passes (state_in order v) (state_in order w) (Err c.cache_error.result)
           (goes_down mid after (state_in order v) (state_in order w) c.in-Err-write_clean.error c.cache_error.result refl down c.cache_error.ensures memory c.in-Err-write_clean.ensures.runs.drives);
       dirty = search rules;
       made = search rules;

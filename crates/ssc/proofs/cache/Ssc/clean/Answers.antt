@@ -1,6 +1,7 @@
 use Rattle.std.proofs.Common.{refl, sym, subst, arith, ap}
 use Rattle.std.proofs.lemmas.Bool.{false≢true}
 use Rattle.ft_base.specs.declared.record.Record.TheVariants.{Clean}
+use Rattle.ft_base.specs.Layout.{page_records}
 use Rattle.cache_model.specs.Cache.{undo, made_clean}
 use Rattle.cache_model.specs.CacheList.{CacheList}
 use Rattle.ssc.specs.CacheState.{Holds, pending, geometry_of}
@@ -41,7 +42,9 @@ returns-in-Ok-clause-of_other g c = λ s holds never.
     absurd (never h)
 
 pub returns-in-Ok-clause-no_write : goal.returns-in-Ok-clause-no_write
-returns-in-Ok-clause-no_write g c = λ few. c.mark_clean.ensures.no_write (omega (arith, few, length_waiting c.args.self.now.parts.log.buffered))
+returns-in-Ok-clause-no_write g c = λ few.
+    let room = ap page_records c.requires.up.holds.agree.sound.of_one.log in
+    c.mark_clean.ensures.no_write (omega (arith, few, room, length_waiting c.args.self.now.parts.log.buffered))
 
 pub returns-in-Ok-clause-images : goal.returns-in-Ok-clause-images
 returns-in-Ok-clause-images g c = λ s holds. images_after (geometry_of c.args.self.now) (g.M.Media.state c.mark_clean.new.media).contents (undo (pending c.args.self.now) s) s (made_clean c.args.lba s) (c.mark_clean.ensures.stands s (undo (pending c.args.self.now) s) holds.lists)

@@ -127,6 +127,6 @@ returns-in-Ok-clause-costs g c = record {
       one_pends c.args.self.now c.reserve.new.self c.put_clean.new.self c.args.lba _ _ (ap (λ (p : Parts). p.log) c.reserve.ensures.parts)
       (c.in-Ok.ensures.one_program (none_of_absent c.reserve.new.self (g.M.Media.state c.args.media.now).contents s c.args.lba
       (c.reserve.ensures.holds (g.M.Media.state c.args.media.now).contents s holds) absent) (room_left c.args.self.now c.reserve.new.self c.reserve.ensures.parts room)
-      (few_left c.args.self.now c.reserve.new.self c.reserve.ensures.parts few));
+      (few_left c.args.self.now c.reserve.new.self c.reserve.ensures.parts holds.agree.sound.of_one.log few));
   programs = c.in-Ok.ensures.pages.programs;
 }
