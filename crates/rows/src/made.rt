@@ -1,9 +1,9 @@
 //! Made traces, of which another program drew the lines and computed the end line.
 
-use crate::small::Outcome;
 use flashtier_cli::run;
 use ft_base::{MemSink, MemSource};
 use mem_rig::MemRig;
+use small_runs::Outcome;
 use std::alloc::Global;
 use std::process::Abort;
 use std::test::Fail;

@@ -1,9 +1,8 @@
 //! Volumes that write back and through: what goes to the disk, and what a cut leaves.
 
-use crate::plain::is_plain;
 use crate::replay::repeated;
-use crate::small::{Outcome, Shape, THROUGH, back, run};
 use ft_media::Rig;
+use small_runs::{Outcome, Shape, THROUGH, back, is_plain, run};
 use std::alloc::Global;
 use std::process::Abort;
 use std::test::Fail;

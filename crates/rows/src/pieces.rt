@@ -2,10 +2,10 @@
 
 ghost use Rattle.std.specs.Prelude.{◌≤◌};
 
-use crate::small::Outcome;
 use flashtier_cli::run;
 use ft_base::{MemSink, MemSource};
 use mem_rig::MemRig;
+use small_runs::Outcome;
 use std::alloc::{AllocError, Global};
 use std::process::Abort;
 use std::test::Fail;

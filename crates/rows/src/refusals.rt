@@ -1,9 +1,9 @@
 //! Runs of a small volume that end early: lines that are refused, a stop too many, and devices that fail.
 
 use crate::replay::repeated;
-use crate::small::{back, run, run_on};
 use ft_media::Rig;
 use mem_rig::MemRig;
+use small_runs::{back, run, run_on};
 use std::alloc::Global;
 use std::process::Abort;
 use std::test::Fail;

@@ -1,8 +1,8 @@
-use crate::plain::is_plain;
 use flashtier_cli::run;
 use ft_base::{MemSink, MemSource};
 use ft_media::{Counts, Rig};
 use mem_rig::MemRig;
+use small_runs::is_plain;
 use std::alloc::{AllocError, Global};
 use std::test::Fail;
 

@@ -1,11 +1,10 @@
 //! Each call of flash and disk fails in turn.
 
-use crate::random::shape_of;
-use crate::small::{Outcome, Shape, THROUGH, back, run, run_on};
 use mem_rig::MemRig;
 use rand_core::SeedableRng;
 use rand_pcg::Lcg64Xsh32;
-use std::alloc::Global;
+use small_runs::{Outcome, Shape, THROUGH, back, run, run_on, shape_of};
+use std::alloc::{AllocError, Global};
 use std::process::Abort;
 use std::test::Fail;
 
@@ -30,7 +29,7 @@ fn without_call(
     trace: &[u8],
     device: Device,
     number: u64,
-) -> Result<Outcome, Fail> {
+) -> Result<Outcome, AllocError> {
     let one = [number].to_vec(alloc)?;
     let none = Vec::new(alloc);
     let rig = match device {

@@ -1,6 +1,6 @@
 use Rattle.std.proofs.Common.{length}
 use Rattle.trace_model.specs.Plain.{AreAddressed, AreRunLines}
-use Rattle.rows.proofs.plain.are_run_lines.Given as goal
+use Rattle.small_runs.proofs.plain.are_run_lines.Given as goal
 
 -- what holds of the lines that are left holds of all
 abbrev pub invariant-lines : goal.invariant-lines

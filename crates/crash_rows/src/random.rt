@@ -1,12 +1,11 @@
 //! Small traces at random, each with stops and cuts, over volumes made at random, whose texts are those of a
 //! plain disk.
 
-use crate::plain::{cuts_told, is_plain};
-use crate::small::{Shape, run};
 use ft_media::Rig;
 use rand_core::SeedableRng;
 use rand_core::utils::NextWord;
 use rand_pcg::Lcg64Xsh32;
+use small_runs::{cuts_told, is_plain, run, shape_of};
 use std::alloc::Global;
 use std::ops::Range;
 use std::process::Abort;
@@ -52,17 +51,6 @@ fn trace_of(alloc: Global, words: &mut Lcg64Xsh32) -> Result<Vec<u8>, Fail> {
         push_line(alloc, &mut trace, words, tag)?;
     }
     Ok(trace)
-}
-
-/// A volume of two to five groups, any of which may have to give way for the four that are written.
-pub(crate) fn shape_of(words: &mut Lcg64Xsh32, through: bool) -> Shape {
-    let data = 2 + words.next_word() as u64 % 4;
-    Shape {
-        through,
-        data,
-        log: 2 + words.next_word() as u64 % 3,
-        dirty: 1 + words.next_word() as u64 % data,
-    }
 }
 
 /// How many stops fell due, how many writes were cut, and how many blocks went to the disk.

@@ -3,23 +3,24 @@
 use flashtier_cli::run as run_words;
 use ft_base::{MemSink, MemSource};
 use mem_rig::MemRig;
+use rand_core::utils::NextWord;
+use rand_pcg::Lcg64Xsh32;
 use std::alloc::{AllocError, Global};
-use std::test::Fail;
 
 /// What a small volume is made with.
 #[derive(Clone, Copy)]
-pub(crate) struct Shape {
+pub struct Shape {
     /// It writes through, or back.
-    pub(crate) through: bool,
+    pub through: bool,
     /// So many erase blocks hold whole groups, and so many take writes.
-    pub(crate) data: u64,
-    pub(crate) log: u64,
+    pub data: u64,
+    pub log: u64,
     /// So many groups may stay dirty.
-    pub(crate) dirty: u64,
+    pub dirty: u64,
 }
 
 /// A volume that writes back, whose table is full where all its groups are dirty.
-pub(crate) fn back(data: u64, log: u64) -> Shape {
+pub fn back(data: u64, log: u64) -> Shape {
     Shape {
         through: false,
         data,
@@ -29,7 +30,7 @@ pub(crate) fn back(data: u64, log: u64) -> Shape {
 }
 
 /// A volume of two groups that writes through.
-pub(crate) const THROUGH: Shape = Shape {
+pub const THROUGH: Shape = Shape {
     through: true,
     data: 2,
     log: 2,
@@ -38,10 +39,10 @@ pub(crate) const THROUGH: Shape = Shape {
 
 /// How a run ended, what it printed, and the rig that it left.
 #[derive(Drop)]
-pub(crate) struct Outcome {
-    pub(crate) status: u8,
-    pub(crate) text: Vec<u8>,
-    pub(crate) rig: MemRig,
+pub struct Outcome {
+    pub status: u8,
+    pub text: Vec<u8>,
+    pub rig: MemRig,
 }
 
 /// The words of a command over such a volume, some in one word and some in two.
@@ -68,7 +69,7 @@ fn run_words_on(
     words: &[String],
     trace: &[u8],
     mut rig: MemRig,
-) -> Result<Outcome, Fail> {
+) -> Result<Outcome, AllocError> {
     let mut source = MemSource::new(Vec::from_slice(alloc, trace)?, 7, Vec::new(alloc));
     let mut sink = MemSink::new(alloc, 200_000, 100, Vec::new(alloc))?;
     let status = run_words(alloc, words, &mut source, &mut sink, &mut rig);
@@ -77,30 +78,41 @@ fn run_words_on(
 }
 
 /// Runs the trace over this rig.
-pub(crate) fn run_on(
+pub fn run_on(
     alloc: Global,
     shape: &Shape,
     trace: &[u8],
     rig: MemRig,
-) -> Result<Outcome, Fail> {
+) -> Result<Outcome, AllocError> {
     let words = words_of(alloc, "replay", shape)?;
     run_words_on(alloc, words.as_slice(), trace, rig)
 }
 
 /// The same over a rig of which no call fails.
-pub(crate) fn run(alloc: Global, shape: &Shape, trace: &[u8]) -> Result<Outcome, Fail> {
+pub fn run(alloc: Global, shape: &Shape, trace: &[u8]) -> Result<Outcome, AllocError> {
     run_on(alloc, shape, trace, MemRig::new(alloc))
 }
 
 /// Sweeps the trace over this rig. A power cut leaves what the word says.
-pub(crate) fn sweep_on(
+pub fn sweep_on(
     alloc: Global,
     shape: &Shape,
     outcome: &str,
     trace: &[u8],
     rig: MemRig,
-) -> Result<Outcome, Fail> {
+) -> Result<Outcome, AllocError> {
     let mut words = words_of(alloc, "sweep", shape)?;
     words.push(format!(in alloc; "--outcome={outcome}")?)?;
     run_words_on(alloc, words.as_slice(), trace, rig)
+}
+
+/// A volume of two to five groups, any of which may have to give way for the four that are written.
+pub fn shape_of(words: &mut Lcg64Xsh32, through: bool) -> Shape {
+    let data = 2 + words.next_word() as u64 % 4;
+    Shape {
+        through,
+        data,
+        log: 2 + words.next_word() as u64 % 3,
+        dirty: 1 + words.next_word() as u64 % data,
+    }
 }

@@ -4,8 +4,7 @@ ghost use Rattle.std.specs.Prelude.{IsTrue};
 ghost use Rattle.trace_model.specs.Plain.{AreAddressed, AreRunLines, IsAddressed, IsKeptWithin, IsRunLine};
 
 use ft_base::Ack;
-use std::alloc::Global;
-use std::test::Fail;
+use std::alloc::{AllocError, Global};
 use trace_model::{Line, Ran, plain_end, plain_fits, plain_told};
 use trace_text::{Answer, next_line, put_answer, read_answer, read_line};
 
@@ -18,7 +17,7 @@ struct Record {
 
 /// Reads off a printed text what became of each line of a trace, and says whether the text is what a plain
 /// disk prints then.
-pub(crate) fn is_plain(alloc: Global, trace: &[u8], text: &[u8], size: u64) -> Result<bool, Fail> {
+pub fn is_plain(alloc: Global, trace: &[u8], text: &[u8], size: u64) -> Result<bool, AllocError> {
     let record = record_of(alloc, trace, text, size)?;
     let run = record.run.as_slice();
     if !are_run_lines(run) || !plain_fits(alloc, Ack::Write, run)? {
@@ -36,7 +35,7 @@ pub(crate) fn is_plain(alloc: Global, trace: &[u8], text: &[u8], size: u64) -> R
 }
 
 /// How many of the printed lines tell of a stop, and how many of a write that was cut.
-pub(crate) fn cuts_told(text: &[u8]) -> (u64, u64) {
+pub fn cuts_told(text: &[u8]) -> (u64, u64) {
     let mut stops: u64 = 0;
     let mut writes: u64 = 0;
     let mut rest = text;
@@ -54,7 +53,7 @@ pub(crate) fn cuts_told(text: &[u8]) -> (u64, u64) {
     (stops, writes)
 }
 
-fn record_of(alloc: Global, trace: &[u8], text: &[u8], size: u64) -> Result<Record, Fail> {
+fn record_of(alloc: Global, trace: &[u8], text: &[u8], size: u64) -> Result<Record, AllocError> {
     let mut run = Vec::new(alloc);
     let mut lines = trace;
     let mut answers = text;

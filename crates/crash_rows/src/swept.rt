@@ -1,14 +1,12 @@
 //! Sweeps: the runs of a trace with power cut in each of its device writes, each of which prints what a plain disk prints.
 
-use crate::plain::is_plain;
-use crate::random::shape_of;
-use crate::small::{Outcome, Shape, THROUGH, back, sweep_on};
 use ft_media::Rig;
 use mem_rig::MemRig;
 use rand_core::SeedableRng;
 use rand_core::utils::NextWord;
 use rand_pcg::Lcg64Xsh32;
-use std::alloc::Global;
+use small_runs::{Outcome, Shape, THROUGH, back, is_plain, shape_of, sweep_on};
+use std::alloc::{AllocError, Global};
 use std::ops::Range;
 use std::process::Abort;
 use std::test::Fail;
@@ -22,7 +20,7 @@ const OUTCOMES: [&str; 4] = ["blank", "whole", "torn", "mixed"];
 /// What is printed at the end of a trace that named address 0, which is a zero block.
 const ZERO: &str = "end 1 0 1 4f2cfec1c5dc3827cdeb42906713b37cae91e009aa0e2d211c376ccb9969b3ea";
 
-fn sweep(alloc: Global, shape: &Shape, outcome: &str, trace: &[u8]) -> Result<Outcome, Fail> {
+fn sweep(alloc: Global, shape: &Shape, outcome: &str, trace: &[u8]) -> Result<Outcome, AllocError> {
     sweep_on(alloc, shape, outcome, trace, MemRig::new(alloc))
 }
 
@@ -52,7 +50,7 @@ fn is_plain_at(
     outcome: &str,
     trace: &[u8],
     run: &[u8],
-) -> Result<bool, Fail> {
+) -> Result<bool, AllocError> {
     let stops = format!(in alloc; "stop {number} {outcome}\nstop 2 {outcome}\n")?;
     let mut lines = Vec::from_slice(alloc, stops.as_bytes())?;
     lines.extend_from_slice(trace)?;

@@ -1,7 +1,6 @@
 //! Power cuts at given device writes.
 
-use crate::plain::{cuts_told, is_plain};
-use crate::small::{back, run};
+use small_runs::{back, cuts_told, is_plain, run};
 use std::test::Fail;
 
 const WRITTEN: &str = "wrote 0 4\n";
