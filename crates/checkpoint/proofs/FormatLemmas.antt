@@ -7,13 +7,14 @@ use Rattle.ft_base.specs.declared.block.Place.{Place}
 use Rattle.ft_base.specs.declared.block.Page.{Page}
 use Rattle.ft_base.specs.Contents.{Flash}
 use Rattle.ft_base.specs.Layout.{rounded_up, k, checkpoint_at, checkpoint_pages, page_records}
+use Rattle.ft_base.proofs.LayoutLemmas.{q_some, up_least}
 use Rattle.cache_model.specs.declared.entry.Entry.{Entry}
 use Rattle.cache_model.specs.Records.{Entries, no_entries}
 use Rattle.cache_model.specs.Entries.{each_once, page_mapped}
 use Rattle.cache_model.proofs.FitsLemmas.{no_entries-map, no_entries-nil, none_in_no_entries}
 use Rattle.mapping.specs.Checkpoint.{IsCheckpointOf}
 use Rattle.checkpoint.specs.Current.{AreWhole, IsCommitted, log_formatted}
-use Rattle.checkpoint.specs.Regions.{IsBlockWithin, InCheckpoint, InLog, AreBlank, IsPrepared, IsSealPage, Programmed}
+use Rattle.checkpoint.specs.Regions.{IsBlockWithin, InCheckpoint, InLog, AreBlank, IsPrepared, IsSealPage, Programmed, map_pages}
 use Rattle.checkpoint.proofs.PlacesLemmas.{checkpoint_low}
 use Rattle.checkpoint.proofs.MapsLemmas.{maps_none, maps_bare}
 use Rattle.checkpoint.proofs.WrittenLemmas.{seal_done}
@@ -56,6 +57,10 @@ some_blocks g = at_least (rounded_up (g.c + g.l * g.p) (page_records g)) g.p (om
 pub some_pages : (g : Geometry) → 0 < checkpoint_pages g
 some_pages g = let some = mul-le 1 4 (k g) g.p (some_blocks g) g.in_range.p_low in omega arith
 
+-- no records need no map page
+no_pages : (g : Geometry) → 0 ≡ map_pages g []
+no_pages g = let none = up_least 0 (page_records g) 0 (omega (arith, q_some g)) (omega arith) in omega arith
+
 module _ (g : Geometry) (old : Flash) (blank : AreBlank 0 (2 * k g + g.j) old) where
   in_checkpoint : (region b : ℕ) → region < 2 → InCheckpoint g region b → IsBlockWithin 0 (2 * k g + g.j) b
   in_checkpoint region b low within = by_number (k g) (checkpoint_low g region b low within)
@@ -85,7 +90,7 @@ module _ (g : Geometry) (old : Flash) (blank : AreBlank 0 (2 * k g + g.j) old) w
 
   pub seal_begins : (new : Flash) → Programmed (IsSealPage g 0 0 0) (checkpoint_at g 0 0) old new → IsCommitted new (log_formatted g) no_entries
   seal_begins new done = formatted g 0 no_entries [] old new (no_entries-map g) (nothing_listed g)
-      (seal_done g 0 0 [] (omega arith) 0 0 refl refl (some_pages g) old old old new prepared (maps_none g 0 0 [] old (of_checkpoint 0 (omega arith))) done)
+      (seal_done g 0 0 [] (omega arith) 0 0 (no_pages g) refl (some_pages g) old old old new prepared (maps_none g 0 0 [] old (of_checkpoint 0 (omega arith))) done)
       (maps_bare g 1 0 [] 0 old old (maps_none g 1 0 [] old (of_checkpoint 1 (omega arith)))).bare
       (empty_whole old.page no_entries refl)
 

@@ -144,10 +144,13 @@ module _ (g : Geometry) (region era : ℕ) (m : Entries) (records : List Record)
         ap (λ o. ok_or o NotFormatted >>= wanted g) counts
         ∙ ap (λ b. cond b (Ok (region, sealed_checkpoint)) (Err (OtherGeometry (seal_of g)))) (own_numbers g)
 
+    none : 0 ≡ page_records g * 0
+    none = omega arith
+
     sealed_found : replayed_entries g new ≡ Ok m
     sealed_found = sealed_entries g new (region, sealed_checkpoint) m sealed_of
         (ap (λ qs. after_pages g Map era (checkpoint_at g region) 0 qs no_entries) (take-pages new (checkpoint_at g region) 0 pages (checkpoint_pages g) (omega (arith, within)))
-        ∙ maps_applied g era records new (checkpoint_at g region) 0 pages no_entries m (λ j from high. sealed.maps j (omega arith)) enough (rebuilt g m is_map records listed))
+        ∙ maps_applied g era records new (checkpoint_at g region) 0 pages no_entries m (λ j from high. sealed.maps j (omega arith)) enough (subst (λ n. after_all g (drop n records) no_entries ≡ Some m) none (rebuilt g m is_map records listed)))
         (λ some. sealed.log (log_at g region 0) (log_within g region 0 some))
 
     pub sealed_loads : AreWhole old m → load g new ≡ Ok m

@@ -1,6 +1,5 @@
-use Rattle.std.proofs.Common.{◌≡◌, ◌≤◌, ◌*◌, ◌%◌, ap, arith}
+use Rattle.std.proofs.Common.{◌≤◌, ◌*◌, ◌%◌, ap, arith}
 use Rattle.std.proofs.Math.Nat.{mul-le-mul_left}
-use Rattle.ft_base.specs.Layout.{page_records}
 use Rattle.checkpoint.specs.Asked.{asked_pages}
 use Rattle.checkpoint.proofs.asking.place_of.Goals as goal
 

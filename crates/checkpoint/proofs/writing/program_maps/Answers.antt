@@ -1,4 +1,4 @@
-use Rattle.std.proofs.Common.{◌≡◌, ◌*◌, ◌<◌, List, length, inl, refl, rules, ◌∙◌, ap, subst, arith}
+use Rattle.std.proofs.Common.{◌≡◌, List, length, inl, refl, rules, ◌∙◌, ap, subst, arith}
 use Rattle.std.specs.List.{list_all}
 use Rattle.ft_base.specs.declared.record.Record.{Record}
 use Rattle.ft_base.specs.Layout.{checkpoint_at}
@@ -7,13 +7,18 @@ use Rattle.cache_model.specs.declared.format.PageKind.TheVariants.{Map}
 use Rattle.cache_model.specs.Spelling.{may_stand_in}
 use Rattle.checkpoint.specs.Regions.{IsMapPage, LeavesOne, Programmed, part}
 use Rattle.checkpoint.proofs.AskedLemmas.{asked_next}
-use Rattle.checkpoint.proofs.CountingLemmas.{more_left}
+use Rattle.checkpoint.proofs.CountingLemmas.{more_left, records_bounded}
 use Rattle.checkpoint.proofs.CountsLemmas.{programs_none, programs_more}
 use Rattle.checkpoint.proofs.ListsLemmas.{length-part}
 use Rattle.checkpoint.proofs.OnlyLemmas.{only_failed}
 use Rattle.checkpoint.proofs.MapsLemmas.{maps_none, maps_left, maps_more}
 use Rattle.checkpoint.proofs.SoundLemmas.{part_sound}
 use Rattle.checkpoint.proofs.writing.program_maps.Goals as goal
+
+pub ask-requires-clause-few : goal.ask-requires-clause-few
+ask-requires-clause-few g c =
+    let few = records_bounded c.args.geometry.now c.args.map.now.entries c.requires.can.is_map c.args.map.now.records c.requires.can.listing in
+    omega arith
 
 pub ask-requires-clause-some : goal.ask-requires-clause-some
 ask-requires-clause-some g c = more_left c.args.geometry.now c.args.map.now.records c.loop-sequence.sequence c.args.pages c.requires.all c.loop-sequence-test.true

@@ -1,4 +1,4 @@
-use Rattle.std.proofs.Common.{◌-◌, arith, rules, sym, ◌∙◌, ap, subst, inl}
+use Rattle.std.proofs.Common.{arith, rules, sym, ◌∙◌, ap, subst, inl}
 use Rattle.ft_base.specs.Contents.{Shape}
 use Rattle.ft_media.proofs.DrivesLemmas.{drives_then, only_then}
 use Rattle.op_log.specs.Log.{FitsOn}
