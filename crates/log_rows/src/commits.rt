@@ -64,6 +64,7 @@ fn is_held<M: Media>(media: &mut M, at: Place) -> Result<bool, MediaError>
 }
 
 /// Says in the map that the first pool page has the block of an address, and buffers the change.
+#[tactic(auto, using(ft_base::proofs::LayoutLemmas::q_some))]
 fn hold<M: Media>(media: &mut M, cache: &mut Cache, lba: u64) -> Result<(), Stuck>
     requires shape { FitsOn cache.old.log.geometry (M.state media.old).contents.shape }
     requires geometry { cache.old.geometry ≡ cache.old.log.geometry }
