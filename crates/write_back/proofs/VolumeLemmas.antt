@@ -8,13 +8,16 @@ use Rattle.ft_base.specs.Count.{RoseBy}
 use Rattle.ft_base.specs.Table.{goes_back, last_size, table_of, without_last}
 use Rattle.ft_base.specs.declared.told.Mode.{Mode}
 use Rattle.ft_base.specs.declared.told.Mode.TheVariants.{Back}
+use Rattle.ft_media.specs.Passes.{Passes}
 use Rattle.ft_media.specs.State.{State}
 use Rattle.ft_volume.specs.Opening.{ImageIs}
 use Rattle.ft_volume.specs.Volume.{AsksDevices, ComesUp, Costs, Idles, VolumeState, backs_of, flushes_of}
 use Rattle.ft_volume.specs.declared.volume.Idled.{Idled}
 use Rattle.ft_volume.specs.declared.volume.Idled.TheVariants.{Cleaned}
 use Rattle.ft_volume.specs.declared.volume.VolumeError.{VolumeError}
+use Rattle.ft_volume.specs.declared.volume.VolumeError.TheVariants.{FlashFault, DiskFault, PowerLost, OutOfMemory, OutOfVolume}
 use Rattle.ft_volume.proofs.OpenedLemmas.{opened_up}
+use Rattle.ft_volume.proofs.UpLemmas.{cause_at, err_at, lost_at}
 use Rattle.cache_model.specs.Cache.{dirty_between}
 use Rattle.cache_model.specs.CacheList.{CacheList, Held}
 use Rattle.cache_model.specs.Entries.{IsMap, each_once}
@@ -30,7 +33,7 @@ use Rattle.cached_disk.proofs.CallLemmas.{asks_none, same_up}
 use Rattle.cached_disk.proofs.HeldLemmas.{one_held}
 use Rattle.cached_disk.proofs.OpenedLemmas.{given_up_left}
 use Rattle.write_back.specs.declared.volume.WriteBack.{WriteBack}
-use Rattle.write_back.specs.Left.{IsExact, IsLeft, IsDirtyTable, state_of}
+use Rattle.write_back.specs.Left.{IsExact, IsLeft, IsDirtyTable, Steps, state_of}
 use Rattle.write_back.proofs.TableLemmas.{IsTableSoFar, few_lbas, length_waiting, so_far_exact, so_far_more, so_far_none, so_far_order, so_far_room}
 
 -- ---- the table of a cache
@@ -134,6 +137,31 @@ goes_over v back over =
     ∙ ap (λ (n : ℕ). nat_lt v.disk.options.dirty n) (length_waiting v.disk.options.geometry.p v.dirty.order (dirty_of v.disk))
     ∙ lt-ltb v.disk.options.dirty (length v.dirty.order) over
 
+pub cleaned_steps : (old new : WriteBack) (before after : State) → Steps {T = Unit {0}} old new before after (Ok tt) → Steps old new before after (Ok Cleaned)
+cleaned_steps old new before after steps = record {
+  left = steps.left;
+  goes = record {
+    told = steps.goes.told;
+    up = steps.goes.up;
+    lost = λ on is. absurd (cc);
+    memory = λ is was. absurd (cc);
+    ready = steps.goes.ready;
+    disk = λ is was now. absurd (cc);
+    cause = record {
+      flash = steps.goes.cause.flash;
+      disk = steps.goes.cause.disk;
+      cuts = steps.goes.cause.cuts;
+      flash_fault = λ is. absurd (cc);
+      disk_fault = λ is. absurd (cc);
+      power_lost = λ is. absurd (cc);
+      none = λ no. steps.goes.cause.none refl;
+    };
+    passes = steps.goes.passes;
+  };
+  faulted = record { flash = λ is. absurd (cc); disk = λ is. absurd (cc) };
+  within = λ is. absurd (cc);
+}
+
 pub cleaned_costs : (old new : VolumeState) (before after : State) → goes_back old.told.mode old.told.dirty (length old.table) ≡ true → new.table ≡ without_last old.table → ((a : ℕ) → new.held a ≡ old.held a)
     → WritesDisk (last_size old.table) before after (Ok tt) → Costs Idles old new before after (Ok Cleaned)
 cleaned_costs old new before after goes table same writes = record {
@@ -149,6 +177,26 @@ cleaned_costs old new before after goes table same writes = record {
     back = ap (λ (b : Bool). if b then last_size old.table else 0) goes
 
 -- that was refused
+pub uncleaned_steps : (old new : WriteBack) (before after : State) (e : VolumeError) → Steps {T = Unit {0}} old new before after (Err e) → Steps {T = Idled} old new before after (Err e)
+uncleaned_steps old new before after e steps = record {
+  left = steps.left;
+  goes = record {
+    told = steps.goes.told;
+    up = tt;
+    lost = λ on is. steps.goes.lost on (err_at (Unit {0}) Idled e PowerLost is);
+    memory = λ is was. steps.goes.memory (err_at (Unit {0}) Idled e OutOfMemory is) was;
+    ready = steps.goes.ready;
+    disk = λ is was now. steps.goes.disk (err_at (Unit {0}) Idled e DiskFault is) was now;
+    cause = cause_at (Unit {0}) Idled before.faults after.faults e steps.goes.cause;
+    passes = subst (λ (b : Bool). Passes before after b) (lost_at (Unit {0}) Idled e) steps.goes.passes;
+  };
+  faulted = record {
+    flash = λ is. steps.faulted.flash (err_at (Unit {0}) Idled e FlashFault is);
+    disk = λ is. steps.faulted.disk (err_at (Unit {0}) Idled e DiskFault is);
+  };
+  within = λ is. steps.within (err_at (Unit {0}) Idled e OutOfVolume is);
+}
+
 pub uncleaned_costs : (old new : VolumeState) (before after : State) (e : VolumeError) → goes_back old.told.mode old.told.dirty (length old.table) ≡ true → WritesDisk (last_size old.table) before after (Err e) → (new.down ≡ false → new ≡ old)
     → Costs {T = Idled} Idles old new before after (Err e)
 uncleaned_costs old new before after e goes writes same = record {

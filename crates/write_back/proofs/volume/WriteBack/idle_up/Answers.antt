@@ -7,7 +7,7 @@ use Rattle.ft_volume.specs.declared.volume.Idled.TheVariants.{Cleaned}
 use Rattle.cached_disk.specs.declared.disk.CachedDisk.{CachedDisk}
 use Rattle.cached_disk.proofs.CallLemmas.{answered_same, if_ok_also, refused_same}
 use Rattle.write_back.specs.Left.{state_of}
-use Rattle.write_back.proofs.VolumeLemmas.{cleaned_asks, cleaned_costs, goes_over, uncleaned_costs}
+use Rattle.write_back.proofs.VolumeLemmas.{cleaned_asks, cleaned_costs, cleaned_steps, goes_over, uncleaned_costs, uncleaned_steps}
 use Rattle.write_back.proofs.volume.WriteBack.idle_up.Goals as goal
 
 pub returns-then-len-self-clause-was : goal.returns-then-len-self-clause-was
@@ -30,6 +30,12 @@ returns-then-len-self-clause-checkpoint g c = c.checkpoint_if_due.ensures.checkp
 
 pub returns-then-len-self-clause-nothing : goal.returns-then-len-self-clause-nothing
 returns-then-len-self-clause-nothing g c = if_ok_also c.checkpoint_if_due.result (λ idled nothing is. let same = nothing is in (ap (λ (disk : CachedDisk). record c.args.self.now { disk = disk }) same.0, same.1)) c.checkpoint_if_due.ensures.nothing
+
+pub returns-in-Ok-clause-steps : goal.returns-in-Ok-clause-steps
+returns-in-Ok-clause-steps g c = cleaned_steps c.args.self.now c.write_oldest_back.new.self (g.M.Media.state c.args.media.now) (g.M.Media.state c.write_oldest_back.new.media) c.in-Ok.ensures.steps
+
+pub returns-in-Err-clause-steps : goal.returns-in-Err-clause-steps
+returns-in-Err-clause-steps g c = uncleaned_steps c.args.self.now c.write_oldest_back.new.self (g.M.Media.state c.args.media.now) (g.M.Media.state c.write_oldest_back.new.media) c.in-Err.error c.in-Err.ensures.steps
 
 pub returns-in-Ok-clause-asks : goal.returns-in-Ok-clause-asks
 returns-in-Ok-clause-asks g c = cleaned_asks (state_of c.args.self.now) (state_of c.write_oldest_back.new.self) (g.M.Media.state c.args.media.now) (g.M.Media.state c.write_oldest_back.new.media) (Ok Cleaned)
