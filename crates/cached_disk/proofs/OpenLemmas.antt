@@ -1,6 +1,6 @@
 -- What an opening of the cache leaves of the media.
 use Rattle.std.proofs.Common.{◌≡◌, ℕ, ◌-◌, true, false, Result, Ok, Err, IfOk, IfErr, inl, inr, refl, sym, ◌∙◌, ap, subst, arith}
-use Rattle.std.specs.Prelude.{IsErrOf, OnOk}
+use Rattle.std.specs.Prelude.{IsErrOf, OnErr, OnOk}
 use Rattle.ft_base.specs.Count.{bumped}
 use Rattle.std.proofs.lemmas.Bool.{false≢true}
 use Rattle.ft_base.specs.declared.block.Block.{Block}
@@ -16,6 +16,7 @@ use Rattle.ft_media.specs.declared.rig.Counts.{Counts}
 use Rattle.ft_media.specs.Drives.{DrivesFlash}
 use Rattle.ft_media.specs.Fitted.{KeepsReady}
 use Rattle.ft_media.specs.Passes.{Passes}
+use Rattle.ft_media.specs.Reads.{ReadsFlash}
 use Rattle.ft_media.specs.State.{State, lost}
 use Rattle.ft_media.proofs.PassesLemmas.{passes_then}
 use Rattle.ft_media.specs.Media.{Crashed, DeviceWrite, DiskCause, DiskStays, flush_counted}
@@ -30,7 +31,7 @@ use Rattle.ssc.specs.declared.cache.Ssc.{Ssc}
 use Rattle.ssc.specs.CacheState.{Holds, IsUp, entries_of, geometry_of}
 use Rattle.ssc.specs.Kept.{IsJustOpened}
 use Rattle.cached_disk.specs.Errors.{disk_failed, flush_error}
-use Rattle.cached_disk.specs.Kept.{IsOpenCache, OnlyOpens}
+use Rattle.cached_disk.specs.Kept.{IsOpenCache, OnlyOpens, WritesNothingRefused}
 
 flushed_had : (old new : Values) → new ≡ flushed old → (b : Block) → HasValue new b → HasValue old b
 flushed_had old new is b has = by_value (subst (λ (v : Values). HasValue v b) is has)
@@ -126,3 +127,17 @@ module _ (a b c : State) (device : DeviceWrite {T = Unit {0}} a b (Ok tt)) (coun
     };
     passes = passes_then a b c (open_lost r) passes drives.passes;
   }
+
+-- refused, it has only read since
+pub reads_after : (a b c : State) (r : Result Ssc OpenError) → b.contents.flash ≡ a.contents.flash → b.counts ≡ flush_counted a.counts → OnErr r (open_failed r ≡ false → open_lost r ≡ false → ReadsFlash b c false false) → WritesNothingRefused a c r
+reads_after a b c (Ok v) flash counts reads = tt
+reads_after a b c (Err e) flash counts reads = λ not_failed not_disk not_lost. let only = reads not_failed not_lost in record { flash = ap (λ (x : Contents). x.flash) only.contents ∙ flash; counts = only.counts ∙ counts }
+
+-- a refused flush is the disk's failure, or power was lost
+pub flush_tells : (a b : State) (e : MediaError) (r : OpenError) → r ≡ flush_error e → (IsErrOf {T = Unit {0}} (Err e) media.OutOfMemory → ⊥) → WritesNothingRefused {T = Ssc} a b (Err r)
+flush_tells a b e r is memory = subst (λ (x : OpenError). WritesNothingRefused {T = Ssc} a b (Err x)) (sym is) (by_error e memory)
+  where
+    by_error : (e : MediaError) → (IsErrOf {T = Unit {0}} (Err e) media.OutOfMemory → ⊥) → WritesNothingRefused {T = Ssc} a b (Err (flush_error e))
+    by_error media.Failed memory = λ not_failed not_disk not_lost. absurd (false≢true (sym not_disk))
+    by_error media.PowerLost memory = λ not_failed not_disk not_lost. absurd (false≢true (sym not_lost))
+    by_error media.OutOfMemory memory = absurd (memory refl)

@@ -15,6 +15,7 @@ use Rattle.ft_base.specs.declared.geometry.Geometry.{Geometry}
 use Rattle.ft_base.specs.declared.told.Mode.{Mode}
 use Rattle.ft_base.specs.declared.told.Mode.TheVariants.{Back, Through}
 use Rattle.ft_media.specs.Fitted.{KeepsReady}
+use Rattle.ft_media.specs.Media.{flush_counted}
 use Rattle.ft_media.specs.Passes.{Passes}
 use Rattle.ft_media.specs.State.{State}
 use Rattle.ft_volume.specs.Opening.{ImageIs, Opens, Suits}
@@ -155,6 +156,16 @@ pub record IsOpening {T : Type 0} (g : Geometry) (before after : State) (result 
   pub opens : Opens g before.contents after.contents (disk_failed result) (open_lost result)
   pub refused : IfErr result (λ e. IsOpenRefusal g e (load g before.contents.flash.page))
   pub goes : OnlyOpens before after result
+
+-- the disk was flushed, and beside that nothing was written
+pub record OnlyFlushed (before after : State) : Type 0 where
+  pub flash : after.contents.flash ≡ before.contents.flash
+  pub counts : after.counts ≡ flush_counted before.counts
+
+-- an opening that is refused has only read, beside the flush of the disk, unless a device failed or power was lost
+abbrev pub WritesNothingRefused : {T : Type 0} → State → State → Result T OpenError → Type 0
+WritesNothingRefused before after result = OnErr result (open_failed result ≡ false → disk_failed result ≡ false → open_lost result ≡ false
+    → OnlyFlushed before after)
 
 -- the plain disk that the flash and the disk were is the one that the opened media are
 abbrev pub StandsOpened : Told → Contents → Contents → Type 0

@@ -3,7 +3,7 @@ ghost use Rattle.ft_volume.specs.Opening.{Creates, MayOpen, OpensOver, nothing_h
 ghost use Rattle.ft_volume.specs.Volume.{told_for};
 ghost use Rattle.op_log.specs.Log.{FitsOn};
 ghost use Rattle.ssc.specs.CacheState.{entries_of};
-ghost use Rattle.cached_disk.specs.Kept.{IsFresh, IsLeft, IsOpenCache, IsOpening, Reopens, StandsOpened, is_down, told_of};
+ghost use Rattle.cached_disk.specs.Kept.{IsFresh, IsLeft, IsOpenCache, IsOpening, Reopens, StandsOpened, WritesNothingRefused, is_down, told_of};
 
 use crate::CachedDisk;
 use crate::errors::{cache_error, flush_error, open_error};
@@ -43,7 +43,7 @@ impl CachedDisk {
     }
 
     /// Opens the flash that it left, after a flush of the disk. Clean blocks that it holds are those of
-    /// the disk.
+    /// the disk. Unless a device failed or power was lost, a refusal writes nothing beside that flush.
     pub fn open<M: Media>(
         alloc: Global,
         media: &mut M,
@@ -56,6 +56,7 @@ impl CachedDisk {
         ensures opened { IfOk result (λ v. OpensOver (told_for mode options.now) (M.state media.old).contents.flash.page
             (λ s. IsFresh mode options.now s v) (told_of v) (is_down v) (entries_of v.cache)) }
         ensures opening { IsOpening options.now.geometry (M.state media.old) (M.state media.new) result }
+        ensures reads { WritesNothingRefused (M.state media.old) (M.state media.new) result }
         ensures stands { OnOk result (StandsOpened (told_for mode options.now) (M.state media.old).contents (M.state media.new).contents) }
     {
         let cache = open_cache(alloc, media, &options.geometry)?;
@@ -89,11 +90,13 @@ impl CachedDisk {
 }
 
 /// Opens a cache after a flush of the disk, so that no value of the disk waits while the cache is used.
-/// Refused or cut, the media stand for what they stood for.
+/// Refused or cut, the media stand for what they stood for. Unless a device failed or power was lost, a
+/// refusal has only read since the flush.
 fn open_cache<M: Media>(alloc: Global, media: &mut M, geometry: &Geometry) -> Result<Ssc, OpenError>
     requires shape { FitsOn geometry.now (M.state media.old).contents.shape }
     ensures opened { IfOk result (λ c. IsOpenCache geometry.now (M.state media.old).contents (M.state media.new).contents c) }
     ensures opening { IsOpening geometry.now (M.state media.old) (M.state media.new) result }
+    ensures reads { WritesNothingRefused (M.state media.old) (M.state media.new) result }
 {
     match media.flush_disk() {
         Ok(()) => Ssc::open(alloc, media, geometry),

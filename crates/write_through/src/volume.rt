@@ -4,7 +4,7 @@ ghost use Rattle.ft_volume.specs.Opening.{Creates, ImageIs, IsOpened, MayOpen, O
 ghost use Rattle.ft_volume.specs.Volume.{ComesUp, told_for};
 ghost use Rattle.op_log.specs.Log.{FitsOn};
 ghost use Rattle.ssc.specs.CacheState.{entries_of};
-ghost use Rattle.cached_disk.specs.Kept.{IsMadeAs, IsOpening, Loads, StandsOpened};
+ghost use Rattle.cached_disk.specs.Kept.{IsMadeAs, IsOpening, Loads, StandsOpened, WritesNothingRefused};
 ghost use Rattle.cached_disk.specs.Kept as kept;
 ghost use Rattle.write_through.specs.Left.{IsLeft, state_of};
 ghost use Rattle.write_through.specs.Left as left;
@@ -41,7 +41,7 @@ impl WriteThrough {
     }
 
     /// Opens the flash that a volume left, after a flush of the disk. The blocks that it holds are clean,
-    /// and those of the disk.
+    /// and those of the disk. Unless a device failed or power was lost, a refusal writes nothing beside that flush.
     pub fn open<R: Rig>(
         alloc: Global,
         rig: &mut R,
@@ -53,6 +53,7 @@ impl WriteThrough {
         ensures opened { IfOk result (λ v. OpensVolume (told_for Through options.now) (R.state rig.old).contents.flash.page (state_of v)
             (entries_of v.disk.cache)) }
         ensures opening { IsOpening options.now.geometry (R.state rig.old) (R.state rig.new) result }
+        ensures reads { WritesNothingRefused (R.state rig.old) (R.state rig.new) result }
         ensures stands { OnOk result (StandsOpened (told_for Through options.now) (R.state rig.old).contents (R.state rig.new).contents) }
     {
         let disk = CachedDisk::open(alloc, rig, options, Mode::Through)?;

@@ -1,6 +1,6 @@
-use Rattle.std.proofs.Common.{rules}
+use Rattle.std.proofs.Common.{refl, rules}
 use Rattle.cache_model.specs.Loading.{load}
-use Rattle.cached_disk.proofs.OpenLemmas.{not_disk, only_opens, open_cache_of, opens_after, opens_refused}
+use Rattle.cached_disk.proofs.OpenLemmas.{flush_tells, not_disk, only_opens, open_cache_of, opens_after, opens_refused, reads_after}
 use Rattle.cached_disk.proofs.opening.open_cache.Goals as goal
 
 pub returns-in-Ok-clause-opened : goal.returns-in-Ok-clause-opened
@@ -30,3 +30,9 @@ returns-in-Err-clause-opening g c = record {
   refused = search rules;
   goes = search rules;
 }
+
+pub returns-in-Ok-clause-reads : goal.returns-in-Ok-clause-reads
+returns-in-Ok-clause-reads g c = reads_after (g.M.Media.state c.args.media.now) (g.M.Media.state c.flush_disk.new.self) (g.M.Media.state c.open.new.media) c.open.result (c.in-Ok.ensures.flash.stays refl) c.in-Ok.ensures.counts c.open.ensures.costs.refused
+
+pub returns-in-Err-clause-reads : goal.returns-in-Err-clause-reads
+returns-in-Err-clause-reads g c = flush_tells (g.M.Media.state c.args.media.now) (g.M.Media.state c.flush_disk.new.self) c.in-Err.error c.flush_error.result c.flush_error.ensures c.in-Err.ensures.memory
