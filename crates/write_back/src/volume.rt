@@ -1,12 +1,13 @@
-ghost use Rattle.std.specs.Prelude.{◌≡◌, length, false, OnOk, IfOk};
+ghost use Rattle.std.specs.Prelude.{◌≡◌, length, false, IsErrOf, OnOk, IfOk};
 ghost use Rattle.ft_base.specs.declared.told.Mode.TheVariants.{Back};
 ghost use Rattle.ft_base.specs.PlainDisk.{PlainDisk};
 ghost use Rattle.ft_volume.specs.Opening.{Creates, ImageIs, IsOpened, MayOpen, OpensVolume, nothing_held};
 ghost use Rattle.ft_volume.specs.Volume.{AsksDevices, ComesUp, Costs, Idles, IsCheckpointed, WasDone, idled_of, told_for};
 ghost use Rattle.ft_volume.specs.Standing.{StandFor};
 ghost use Rattle.op_log.specs.Log.{FitsOn};
+ghost use Rattle.op_log.specs.declared.error.OpenError.TheVariants as open_error;
 ghost use Rattle.ssc.specs.CacheState.{entries_of};
-ghost use Rattle.cached_disk.specs.Kept.{IsMadeAs, IsOpening, Loads, StandsOpened};
+ghost use Rattle.cached_disk.specs.Kept.{IsMadeAs, IsOpening, Loads, StandsOpened, WritesNothingRefused};
 ghost use Rattle.cached_disk.specs.Kept as kept;
 ghost use Rattle.write_back.specs.Left.{IsLeft, Steps, state_of};
 ghost use Rattle.write_back.specs.Left as left;
@@ -50,7 +51,8 @@ impl WriteBack {
     }
 
     /// Opens the flash that a volume left, after a flush of the disk. Clean blocks that it holds are
-    /// those of the disk.
+    /// those of the disk. Unless a device failed, power was lost or memory was refused, a refusal writes
+    /// nothing beside that flush.
     pub fn open<R: Rig>(
         alloc: Global,
         rig: &mut R,
@@ -63,6 +65,8 @@ impl WriteBack {
             (entries_of v.disk.cache)) }
         ensures opening { IsOpening options.now.geometry (R.state rig.old) (R.state rig.new) result }
         ensures stands { OnOk result (StandsOpened (told_for Back options.now) (R.state rig.old).contents (R.state rig.new).contents) }
+        ensures reads { (IsErrOf result open_error.OutOfMemory → ⊥)
+            → WritesNothingRefused (R.state rig.old) (R.state rig.new) result }
     {
         let disk = CachedDisk::open(alloc, rig, options, Mode::Back)?;
         match dirty_table_of(&disk) {
