@@ -1,0 +1,6 @@
+pub mod SealLemmas
+pub mod PlainLemmas
+pub mod SealsLemmas
+pub mod TearingLemmas
+pub mod ShownLemmas
+pub mod MemLemmas
