@@ -1,5 +1,5 @@
 -- Reading a header by spelling it again.
-use Rattle.std.proofs.Common.{◌≡◌, ◌↔◌, ℕ, ◌*◌, Bool, true, List, take, drop, Some, None, Option, IsTrue, refl, sym, ◌∙◌, subst}
+use Rattle.std.proofs.Common.{◌≡◌, ◌↔◌, ℕ, Bool, true, List, take, Some, None, Option, IsTrue, refl, sym, ◌∙◌, subst}
 use Rattle.std.specs.Str.{bytes_eq}
 use Rattle.std.proofs.lemmas.Slice.Eq.{bytes_eq-Decides}
 use Rattle.cache_model.specs.declared.format.Header.{Header}
@@ -10,7 +10,7 @@ use Rattle.cache_model.proofs.ReadingLemmas.{header_is}
 use Rattle.cache_model.proofs.SpellingLemmas.{any_header_spelled, any_header_there, header_spelled}
 
 -- the tests together are the grammar of a header
-pub has_header_is : (bytes spelling line : List ℕ) (h : Header) (same good : Bool) → spelling ≡ spelled_header h → line ≡ take 32 (drop (32 * 0) bytes) → same ≡ bytes_eq spelling line → same ≡ true → good ≡ header_in_range h → IsTrue good ↔ IsHeaderOf bytes h
+pub has_header_is : (bytes spelling line : List ℕ) (h : Header) (same good : Bool) → spelling ≡ spelled_header h → line ≡ take 32 bytes → same ≡ bytes_eq spelling line → same ≡ true → good ≡ header_in_range h → IsTrue good ↔ IsHeaderOf bytes h
 has_header_is bytes spelling line h same good spells at test t range =
     let equal : spelling ≡ line = (bytes_eq-Decides spelling line).0 (sym test ∙ t) in (
       λ u. record { spelled = sym at ∙ sym equal ∙ spells; header = sym range ∙ u },

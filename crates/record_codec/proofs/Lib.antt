@@ -1,3 +1,4 @@
+pub mod WidthLemmas
 pub mod RecordLemmas
 pub mod HeaderLemmas
 pub mod PageLemmas

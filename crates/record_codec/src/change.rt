@@ -1,13 +1,14 @@
-ghost use Rattle.std.specs.Prelude.{◌≡◌, IsTrue, slice_index};
-ghost use Rattle.cache_model.specs.Spelling.{spelled_record, has_widths, is_sound, goes_on};
-ghost use Rattle.cache_model.specs.Reading.{record_in};
-ghost use Rattle.record_codec.specs.Lines.{spelled_line, FitsLine, FitsWidths, read_record as record_read};
+ghost use Rattle.std.specs.Prelude.{◌≡◌, ◌<◌, ◌^◌, ◌++◌, IsTrue, nat_lt, take, drop};
+ghost use Rattle.cache_model.specs.Spelling.{has_widths, is_sound, goes_on, page_limit, record_bytes, set_limit, zeros};
+ghost use Rattle.cache_model.specs.Reading.{first_set, record_in, second_set};
+ghost use Rattle.record_codec.specs.Lines.{spelled_front, spelled_line, spelled_set, FitsLine, read_line as line_read};
 
-use crate::line::{put_u32, put_u64, u32_at, u64_at};
+use crate::line::{put_u32, put_u64, put_u128, u32_at, u64_at, u128_at};
+use crate::width::page_limit;
 use cache_model::PageKind;
 use ft_base::{Place, Record};
 
-// The first byte of a record's line says which record it is.
+// The first byte of a record says which record it is.
 const SET_PAGE: u8 = 1;
 
 const REMOVE: u8 = 2;
@@ -18,59 +19,95 @@ const SET_GROUP: u8 = 4;
 
 const REMOVE_GROUP: u8 = 5;
 
-/// A line of a kind, a mark, a page, a block and three numbers.
-fn line_of(kind: u8, flag: u8, page: u8, block: u32, numbers: [u64; 3]) -> [u8; 32]
-    ensures line { result ≡ spelled_line kind flag page block (slice_index numbers 0) (slice_index numbers 1) (slice_index numbers 2) }
-    ensures widths { FitsWidths block (slice_index numbers 0) (slice_index numbers 1) (slice_index numbers 2) }
+/// The line of a record without sets: a kind, a mark, a page, a block and a number.
+fn front_of(kind: u8, flag: u8, page: u8, block: u32, number: u64) -> [u8; 48]
+    ensures line { result ≡ spelled_front kind flag page block number ++ zeros 32 }
+    ensures block { block < 2 ^ 32 }
+    ensures number { number < 2 ^ 64 }
 {
-    let mut line = [0; 32];
+    let mut line = [0; 48];
     line[0] = kind;
     line[1] = flag;
     line[2] = page;
     put_u32(&mut line, 4, block);
-    put_u64(&mut line, 8, numbers[0]);
-    put_u64(&mut line, 16, numbers[1]);
-    put_u64(&mut line, 24, numbers[2]);
+    put_u64(&mut line, 8, number);
     line
 }
 
-/// The one spelling of a record.
-pub fn spelled_record(change: &Record) -> [u8; 32]
-    requires { FitsLine change.now }
-    ensures spelled { result ≡ spelled_record change.now }
-    ensures widths { IsTrue (has_widths change.now) }
+/// Puts the two sets of a data block into a line.
+fn put_sets(line: &mut [u8; 48], wide: bool, present: u128, dirty: u128)
+    requires present { present < set_limit wide }
+    requires dirty { dirty < set_limit wide }
+    ensures { line.new ≡ take 16 line.old ++ spelled_set wide present ++ spelled_set wide dirty ++ drop (record_bytes wide) line.old }
+{
+    if wide {
+        put_u128(line, 16, present);
+        put_u128(line, 32, dirty);
+    } else {
+        put_u64(line, 16, present as u64);
+        put_u64(line, 24, dirty as u64);
+    }
+}
+
+/// The line of a record: its one spelling, and zero bytes behind it.
+pub fn spelled_line(change: &Record, wide: bool) -> [u8; 48]
+    requires { FitsLine wide change.now }
+    ensures spelled { result ≡ spelled_line wide change.now }
+    ensures widths { IsTrue (has_widths wide change.now) }
 {
     match *change {
-        Record::SetPage { lba, place, dirty } => line_of(
+        Record::SetPage { lba, place, dirty } => front_of(
             SET_PAGE,
             u8::from(dirty),
             place.page as u8,
             place.block,
-            [lba, 0, 0],
+            lba,
         ),
-        Record::Remove { lba } => line_of(REMOVE, 0, 0, 0, [lba, 0, 0]),
-        Record::Clean { lba } => line_of(CLEAN, 0, 0, 0, [lba, 0, 0]),
+        Record::Remove { lba } => front_of(REMOVE, 0, 0, 0, lba),
+        Record::Clean { lba } => front_of(CLEAN, 0, 0, 0, lba),
         Record::SetGroup {
             group,
             block,
             present,
             dirty,
-        } => line_of(
-            SET_GROUP,
-            0,
-            0,
-            block,
-            [group, present as u64, dirty as u64],
-        ),
-        Record::RemoveGroup { group } => line_of(REMOVE_GROUP, 0, 0, 0, [group, 0, 0]),
+        } => {
+            let mut line = front_of(SET_GROUP, 0, 0, block, group);
+            put_sets(&mut line, wide, present, dirty);
+            line
+        }
+        Record::RemoveGroup { group } => front_of(REMOVE_GROUP, 0, 0, 0, group),
+    }
+}
+
+/// The first set of a line.
+fn first_set(line: &[u8; 48], wide: bool) -> u128
+    ensures found { result ≡ first_set wide line.now }
+    ensures fits { result < set_limit wide }
+{
+    if wide {
+        u128_at(line, 16)
+    } else {
+        u128::from(u64_at(line, 16))
+    }
+}
+
+/// The second set of a line.
+fn second_set(line: &[u8; 48], wide: bool) -> u128
+    ensures found { result ≡ second_set wide line.now }
+    ensures fits { result < set_limit wide }
+{
+    if wide {
+        u128_at(line, 32)
+    } else {
+        u128::from(u64_at(line, 24))
     }
 }
 
 /// The record that a line would be. A line of no kind is taken for one of the last, whose spelling it
 /// isn't.
-fn record_in(line: &[u8; 32]) -> Record
-    ensures found { result ≡ record_in line.now }
-    ensures fits { FitsLine result }
+fn record_in(line: &[u8; 48], wide: bool) -> Record
+    ensures found { result ≡ record_in wide line.now }
+    ensures fits { FitsLine wide result }
 {
     let first = u64_at(line, 8);
     let block = u32_at(line, 4);
@@ -88,21 +125,28 @@ fn record_in(line: &[u8; 32]) -> Record
         SET_GROUP => Record::SetGroup {
             group: first,
             block,
-            present: u128::from(u64_at(line, 16)),
-            dirty: u128::from(u64_at(line, 24)),
+            present: first_set(line, wide),
+            dirty: second_set(line, wide),
         },
         _ => Record::RemoveGroup { group: first },
     }
 }
 
+/// Whether a set of pages takes no more bytes than a record has for it.
+fn fits_set(pages: u128, wide: bool) -> bool
+    ensures { result ≡ nat_lt pages (2 ^ page_limit wide) }
+{
+    wide || pages < 1 << 64
+}
+
 /// Whether the pages of a record are those of an erase block, and its dirty pages are present ones.
-fn is_sound(change: &Record) -> bool
-    ensures { result ≡ is_sound change.now }
+fn is_sound(change: &Record, wide: bool) -> bool
+    ensures { result ≡ is_sound wide change.now }
 {
     match *change {
-        Record::SetPage { place, .. } => place.page < 64,
+        Record::SetPage { place, .. } => place.page < page_limit(wide),
         Record::SetGroup { present, dirty, .. } => {
-            present > 0 && present & dirty == dirty && present < 1 << 64
+            present > 0 && present & dirty == dirty && fits_set(present, wide)
         }
         Record::Remove { .. } | Record::Clean { .. } | Record::RemoveGroup { .. } => true,
     }
@@ -122,17 +166,17 @@ pub fn goes_on(kind: PageKind, change: &Record) -> bool
     }
 }
 
-/// The record of a line: exactly where the line is the spelling of a sound record.
-#[tactic(auto, using(crate::proofs::RecordLemmas::record_reads))]
-pub fn read_record(line: &[u8; 32]) -> Option<Record>
-    ensures { result ≡ record_read line.now }
+/// The record of a line: exactly where the line is that of a sound record.
+#[tactic(auto, using(crate::proofs::RecordLemmas::line_reads))]
+pub fn read_line(line: &[u8; 48], wide: bool) -> Option<Record>
+    ensures { result ≡ line_read wide line.now }
 {
-    let change = record_in(line);
-    let same = spelled_record(&change) == *line;
+    let change = record_in(line, wide);
+    let same = spelled_line(&change, wide) == *line;
     if !same {
         return None;
     }
-    if !is_sound(&change) {
+    if !is_sound(&change, wide) {
         return None;
     }
     Some(change)

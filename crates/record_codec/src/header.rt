@@ -1,16 +1,14 @@
 ghost use Rattle.std.specs.Prelude.{◌≡◌, ◌↔◌, ◌<◌, ◌^◌, ◌&&◌, IsTrue, MatchOption};
 ghost use Rattle.cache_model.specs.declared.format.Header.{Header as HeaderValue};
-ghost use Rattle.cache_model.specs.Spelling.{spelled_header, header_in_range, is_log_or_map, kind_byte, IsHeaderOf, IsPageHeaderOf};
+ghost use Rattle.cache_model.specs.Spelling.{spelled_header, header_in_range, is_format, is_log_or_map, kind_byte, IsHeaderOf, IsPageHeaderOf};
 ghost use Rattle.cache_model.specs.Reading.{header_in, kind_of, read_header, read_page_header};
 
-use crate::line::{line_at, put_bytes, put_u32, u32_at};
+use crate::line::{header_line, put_bytes, put_u32, u32_at};
 use cache_model::{Header, PageKind};
 use ft_base::Block;
 
 // What every page of records and every seal begins with.
 const MAGIC: [u8; 8] = *b"FTSCPAGE";
-
-const FORMAT: u8 = 1;
 
 // The kinds of a page.
 const LOG: u8 = 3;
@@ -48,7 +46,7 @@ pub fn spelled_header(header: &Header) -> [u8; 32]
 {
     let mut line = [0; 32];
     put_bytes(&mut line, 0, MAGIC.as_slice());
-    line[8] = FORMAT;
+    line[8] = header.format;
     line[9] = kind_byte(header.kind);
     line[10] = header.era;
     put_u32(&mut line, 12, header.sequence);
@@ -61,11 +59,19 @@ pub fn header_in(line: &[u8; 32]) -> Header
     ensures { result ≡ header_in line.now }
 {
     Header {
+        format: line[8],
         kind: kind_of(line[9]),
         era: line[10],
         sequence: u32_at(line, 12),
         count: u32_at(line, 16),
     }
+}
+
+/// Whether there is such a format.
+fn is_format(format: u8) -> bool
+    ensures { result ≡ is_format format }
+{
+    format == 1 || format == 2
 }
 
 /// Whether the numbers are in their ranges: of a page of records, 1 to 127 of them; of a seal any number.
@@ -75,9 +81,10 @@ fn is_in_range(header: &Header) -> bool
     // Read so that the proof knows that it fits its four bytes; nothing else limits it.
     let _sequence = header.sequence;
     let count = header.count;
+    let begins = is_format(header.format) && header.era <= 2;
     match header.kind {
-        PageKind::Log | PageKind::Map => header.era <= 2 && 1 <= count && count <= 127,
-        PageKind::Seal => header.era <= 2,
+        PageKind::Log | PageKind::Map => begins && 1 <= count && count <= 127,
+        PageKind::Seal => begins,
     }
 }
 
@@ -95,7 +102,7 @@ fn is_log_or_map(header: &Header) -> bool
 pub fn has_header(page: &Block, header: &Header) -> bool
     ensures { IsTrue result ↔ IsHeaderOf page.now.0 header.now }
 {
-    let same = spelled_header(header) == line_at(page, 0);
+    let same = spelled_header(header) == header_line(page);
     if !same {
         return false;
     }
@@ -117,7 +124,7 @@ pub fn read_header(page: &Block) -> Option<Header>
     ensures value { result ≡ read_header page.now.0 }
     ensures grammar { MatchOption result ((h : HeaderValue) → ¬ IsHeaderOf page.now.0 h) (λ h. IsHeaderOf page.now.0 h) }
 {
-    let header = header_in(&line_at(page, 0));
+    let header = header_in(&header_line(page));
     if has_header(page, &header) {
         return Some(header);
     }
@@ -129,7 +136,7 @@ pub fn read_page_header(page: &Block) -> Option<Header>
     ensures value { result ≡ read_page_header page.now.0 }
     ensures grammar { MatchOption result ((h : HeaderValue) → ¬ IsPageHeaderOf page.now.0 h) (λ h. IsPageHeaderOf page.now.0 h) }
 {
-    let header = header_in(&line_at(page, 0));
+    let header = header_in(&header_line(page));
     if has_page_header(page, &header) {
         return Some(header);
     }

@@ -1,9 +1,9 @@
-//! Pages of records and seals: their bytes written and read.
+//! Pages of records and seals, of formats 1 and 2: their bytes written and read.
 //!
-//! A page is 128 lines of 32 bytes: the header, then a record or a part of a seal in each line, then
-//! zero lines. The grammar is `cache_model`'s (`IsPage`, `IsSealOf`). What is written is in it; what is
-//! read is in it too, and nothing in it is refused. Each value has one spelling, so reading spells
-//! what it found again and compares. No call takes memory.
+//! A page is a header of 32 bytes, then records or the numbers of a seal, then zero bytes. A record takes
+//! 32 bytes, or 48 in format 2 where an erase block has more than 64 pages. The grammar is `cache_model`'s
+//! (`IsPage`, `IsSealOf`). What is written is in it; what is read is in it too, and nothing in it is refused.
+//! Each value has one spelling, so reading spells what it found again and compares. No call takes memory.
 #![tactic(auto)]
 
 mod change;
@@ -11,8 +11,9 @@ mod header;
 mod line;
 mod page;
 mod seal;
+mod width;
 
-pub use cache_model::{Header, PageKind, Seal};
+pub use cache_model::{Header, PageKind, Seal, Totals};
 pub use header::{read_header, read_page_header};
 pub use page::{read_records, write_page};
 pub use seal::{read_seal, write_seal};

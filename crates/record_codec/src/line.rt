@@ -1,51 +1,59 @@
-ghost use Rattle.std.specs.Prelude.{◌≡◌, ◌↔◌, ◌+◌, ◌-◌, ◌*◌, ◌≤◌, ◌<◌, ◌++◌, IsTrue, length, take, drop, slice_index, EachIndex};
-ghost use Rattle.std.specs.Int.{w32, w64, to_be_bytes};
+ghost use Rattle.std.specs.Prelude.{◌≡◌, ◌↔◌, ◌+◌, ◌-◌, ◌≤◌, ◌<◌, ◌^◌, ◌++◌, IsTrue, length, take, drop, slice_index, EachIndex};
+ghost use Rattle.std.specs.Int.{w32, w64, w128, to_be_bytes};
 ghost use Rattle.cache_model.specs.Spelling.{zeros};
 ghost use Rattle.cache_model.specs.Reading.{number};
 
 use ft_base::Block;
 
-/// The bytes of a line.
-pub const LINE: usize = 32;
-
 /// Puts these bytes into a line, from byte `at` on.
-pub fn put_bytes(line: &mut [u8; 32], at: usize, bytes: &[u8])
-    requires { at + length bytes.now ≤ 32 }
+pub fn put_bytes<const N: usize>(line: &mut [u8; N], at: usize, bytes: &[u8])
+    requires { at + length bytes.now ≤ N }
     ensures { line.new ≡ take at line.old ++ bytes.now ++ drop (at + length bytes.now) line.old }
 {
-    let part = &mut line[at..at + bytes.len()];
+    let all = &mut line[..];
+    let part = &mut all[at..at + bytes.len()];
     part.copy_from_slice(bytes);
 }
 
 /// Puts a number into four bytes of a line, from byte `at` on.
-pub fn put_u32(line: &mut [u8; 32], at: usize, value: u32)
-    requires { at + 4 ≤ 32 }
+pub fn put_u32<const N: usize>(line: &mut [u8; N], at: usize, value: u32)
+    requires { at + 4 ≤ N }
     ensures { line.new ≡ take at line.old ++ to_be_bytes w32 value ++ drop (at + 4) line.old }
 {
     put_bytes(line, at, &value.to_be_bytes());
 }
 
 /// Puts a number into eight bytes of a line, from byte `at` on.
-pub fn put_u64(line: &mut [u8; 32], at: usize, value: u64)
-    requires { at + 8 ≤ 32 }
-    ensures { line.new ≡ take at line.old ++ to_be_bytes w64 value ++ drop (at + 8) line.old }
+pub fn put_u64(line: &mut [u8; 48], at: usize, value: u64)
+    requires { at + 8 ≤ 48 }
+    ensures placed { line.new ≡ take at line.old ++ to_be_bytes w64 value ++ drop (at + 8) line.old }
+    ensures fits { value < 2 ^ 64 }
+{
+    put_bytes(line, at, &value.to_be_bytes());
+}
+
+/// Puts a number into sixteen bytes of a line, from byte `at` on.
+pub fn put_u128(line: &mut [u8; 48], at: usize, value: u128)
+    requires { at + 16 ≤ 48 }
+    ensures { line.new ≡ take at line.old ++ to_be_bytes w128 value ++ drop (at + 16) line.old }
 {
     put_bytes(line, at, &value.to_be_bytes());
 }
 
 /// The number in four bytes of a line, from byte `at` on.
-pub fn u32_at(line: &[u8; 32], at: usize) -> u32
-    requires { at + 4 ≤ 32 }
+pub fn u32_at<const N: usize>(line: &[u8; N], at: usize) -> u32
+    requires { at + 4 ≤ N }
     ensures { result ≡ number w32 at line.now }
 {
     let mut bytes = [0u8; 4];
-    bytes.copy_from_slice(&line[at..at + 4]);
+    let all = &line[..];
+    bytes.copy_from_slice(&all[at..at + 4]);
     u32::from_be_bytes(bytes)
 }
 
 /// The number in eight bytes of a line, from byte `at` on.
-pub fn u64_at(line: &[u8; 32], at: usize) -> u64
-    requires { at + 8 ≤ 32 }
+pub fn u64_at(line: &[u8; 48], at: usize) -> u64
+    requires { at + 8 ≤ 48 }
     ensures { result ≡ number w64 at line.now }
 {
     let mut bytes = [0u8; 8];
@@ -53,26 +61,45 @@ pub fn u64_at(line: &[u8; 32], at: usize) -> u64
     u64::from_be_bytes(bytes)
 }
 
-/// Line `i` of a page.
-pub fn line_at(page: &Block, i: usize) -> [u8; 32]
-    requires { i < 128 }
-    ensures { result ≡ take 32 (drop (32 * i) page.now.0) }
+/// The number in sixteen bytes of a line, from byte `at` on.
+pub fn u128_at(line: &[u8; 48], at: usize) -> u128
+    requires { at + 16 ≤ 48 }
+    ensures { result ≡ number w128 at line.now }
 {
-    let at = LINE * i;
+    let mut bytes = [0u8; 16];
+    bytes.copy_from_slice(&line[at..at + 16]);
+    u128::from_be_bytes(bytes)
+}
+
+/// The first 32 bytes of a page.
+pub fn header_line(page: &Block) -> [u8; 32]
+    ensures { result ≡ take 32 page.now.0 }
+{
     let mut line = [0; 32];
-    line.copy_from_slice(&page.0[at..at + LINE]);
+    line.copy_from_slice(&page.0[..32]);
     line
 }
 
-/// Puts line `i` into a page, and leaves all others.
-pub fn put_line(out: &mut Block, i: usize, line: &[u8; 32])
-    requires { i < 128 }
-    ensures front { take (32 * i + 32) out.new.0 ≡ take (32 * i) out.old.0 ++ line.now }
-    ensures tail { drop (32 * i + 32) out.new.0 ≡ drop (32 * i + 32) out.old.0 }
+/// So many bytes of a page, from byte `at` on, and zero bytes behind them.
+pub fn line_at(page: &Block, at: usize, count: usize) -> [u8; 48]
+    requires page { at + count ≤ 4096 }
+    requires line { count ≤ 48 }
+    ensures { result ≡ take count (drop at page.now.0) ++ zeros (48 - count) }
 {
-    let at = LINE * i;
-    let part = &mut out.0[at..at + LINE];
-    part.copy_from_slice(line.as_slice());
+    let mut line = [0; 48];
+    let part = &mut line[..count];
+    part.copy_from_slice(&page.0[at..at + count]);
+    line
+}
+
+/// Puts these bytes into a page, from byte `at` on, and leaves all others.
+pub fn put_part(out: &mut Block, at: usize, bytes: &[u8])
+    requires { at + length bytes.now ≤ 4096 }
+    ensures front { take (at + length bytes.now) out.new.0 ≡ take at out.old.0 ++ bytes.now }
+    ensures tail { drop (at + length bytes.now) out.new.0 ≡ drop (at + length bytes.now) out.old.0 }
+{
+    let part = &mut out.0[at..at + bytes.len()];
+    part.copy_from_slice(bytes);
 }
 
 /// Makes all these bytes zero.
@@ -82,12 +109,12 @@ fn clear(bytes: &mut [u8])
     bytes.fill(0);
 }
 
-/// Puts zero lines into a page from line `first` on.
-pub fn put_zero_lines(out: &mut Block, first: usize)
-    requires { first ≤ 128 }
-    ensures { out.new.0 ≡ take (32 * first) out.old.0 ++ zeros (4096 - 32 * first) }
+/// Puts zero bytes into a page from byte `at` on.
+pub fn put_zeros(out: &mut Block, at: usize)
+    requires { at ≤ 4096 }
+    ensures { out.new.0 ≡ take at out.old.0 ++ zeros (4096 - at) }
 {
-    clear(&mut out.0[LINE * first..]);
+    clear(&mut out.0[at..]);
 }
 
 /// Whether all these bytes are zero.
@@ -97,10 +124,10 @@ pub fn is_zero(bytes: &[u8]) -> bool
     bytes.iter().all(|byte| *byte == 0)
 }
 
-/// Whether all lines of a page are zero from line `first` on.
-pub fn is_zero_from(page: &Block, first: usize) -> bool
-    requires { first ≤ 128 }
-    ensures { IsTrue result ↔ (drop (32 * first) page.now.0 ≡ zeros (4096 - 32 * first)) }
+/// Whether all bytes of a page are zero from byte `at` on.
+pub fn is_zero_from(page: &Block, at: usize) -> bool
+    requires { at ≤ 4096 }
+    ensures { IsTrue result ↔ (drop at page.now.0 ≡ zeros (4096 - at)) }
 {
-    is_zero(&page.0[LINE * first..])
+    is_zero(&page.0[at..])
 }
