@@ -1,9 +1,9 @@
 -- The chosen pages of a group, and how many there are.
-use Rattle.std.proofs.Common.{◌≡◌, ℕ, zero, suc, ◌+◌, ◌*◌, ◌/◌, ◌%◌, ◌^◌, ◌<◌, ◌≤◌, ◌==◌, Bool, true, false, cond, Option, Some, None, IfSome, IfNone, is_some, List, [], ◌∷◌, map, inl, inr, lt-ltb, add-one, refl, sym, ◌∙◌, ap, arith}
+use Rattle.std.proofs.Common.{◌≡◌, ℕ, zero, suc, ◌+◌, ◌*◌, ◌/◌, ◌%◌, ◌^◌, ◌<◌, ◌≤◌, ◌==◌, Bool, true, false, cond, Option, Some, None, IfSome, IfNone, is_some, List, [], ◌∷◌, map, inl, inr, lt-ltb, add-one, refl, sym, ◌∙◌, ap, subst, arith}
 use Rattle.std.proofs.Math.Nat.{pow-le-pow_right, div-add-mod}
 use Rattle.std.proofs.lemmas.Nat.{mod_below, div-mul-add}
 use Rattle.std.proofs.lemmas.Nat.Bits.{bit_at-zero}
-use Rattle.std.proofs.lemmas.Bool.{cases_Bool, cases_lt, cases_eq, both_ways, and_from}
+use Rattle.std.proofs.lemmas.Bool.{cases_Bool, cases_lt, cases_eq, both_ways, and_from, le-ltb}
 use Rattle.std.specs.FinMap.{get}
 use Rattle.std.specs.List.{AllByRecursion}
 use Rattle.std.proofs.lemmas.Option.{same_Some, none-some}
@@ -11,7 +11,7 @@ use Rattle.ft_base.specs.declared.geometry.Geometry.{Geometry}
 use Rattle.ft_base.specs.declared.record.Record.TheVariants.{SetGroup}
 use Rattle.cache_model.specs.declared.entry.Entry.{Entry}
 use Rattle.cache_model.specs.Records.{Entries}
-use Rattle.cache_model.specs.Spelling.{page_limit}
+use Rattle.cache_model.specs.Spelling.{is_wide, page_limit}
 use Rattle.block_map.specs.PageSets.{BlockPages, has_page, page_count}
 use Rattle.block_map.proofs.PageSetLemmas.{page_count-more, page_count-none, page_count-ones}
 use Rattle.mapping.specs.declared.bits.Choice.{Choice}
@@ -23,6 +23,13 @@ use Rattle.mapping.specs.Checkpoint.{block_or, block_below, set_group_of}
 use Rattle.mapping.specs.Packed.{block_record}
 use Rattle.mapping.specs.Seeking.{HasMarkIn}
 use Rattle.mapping.proofs.BitsLemmas.{set_below, bit_of_set}
+
+-- the pages of an erase block are those that a record of format 2 spells
+pub pages_spelled : (g : Geometry) → g.p ≤ page_limit (is_wide 2 g.p)
+pages_spelled g = elim (cases_lt 64 g.p) [
+  | inl many ↦ subst (λ wide. g.p ≤ page_limit wide) (sym (lt-ltb 64 g.p many)) g.in_range.p_high
+  | inr few ↦ subst (λ wide. g.p ≤ page_limit wide) (sym (le-ltb 64 g.p few)) few
+]
 
 -- ---- sets of pages
 
@@ -135,11 +142,11 @@ module _ (g : Geometry) (m : Entries) (group : ℕ) where
   chosen_below choice = set_below (λ i. is_chosen choice (get m (group * g.p + i))) g.p
 
   -- so their set is one that a record spells
-  pub chosen_short : (choice : Choice) → chosen_of choice g m group < 2 ^ page_limit
-  chosen_short choice =
-      let small = chosen_below choice in
-      let wider : 2 ^ g.p ≤ 2 ^ 64 = pow-le-pow_right (omega arith) g.in_range.p_high in
-      omega arith
+  pub chosen_short : (choice : Choice) → chosen_of choice g m group < 2 ^ page_limit (is_wide 2 g.p)
+  chosen_short choice = wider (page_limit (is_wide 2 g.p)) (pages_spelled g) (chosen_below choice)
+    where
+      wider : (limit : ℕ) → g.p ≤ limit → {n : ℕ} → n < 2 ^ g.p → n < 2 ^ limit
+      wider limit within small = let more : 2 ^ g.p ≤ 2 ^ limit = pow-le-pow_right (omega arith) within in omega arith
 
   -- the pages of a set of 128 are those of the group
   pub pages_held-count : (set n : ℕ) → set ≡ chosen_of Mapped g m group → n ≡ page_count 128 set → n ≡ pages_held g m group

@@ -15,12 +15,12 @@ module _ (g : Geometry) where
   pool_end = omega arith
 
   -- the pool has no more pages than that of the largest geometry
-  pub pages_few : pool_pages g ≤ 36928
+  pub pages_few : pool_pages g ≤ 73856
   pages_few =
       let c = g.in_range.c_high in
       let l = g.in_range.l_high in
       let p = g.in_range.p_high in
-      mul_le (g.c + g.l + 1) 577 g.p 64 (omega arith) p
+      mul_le (g.c + g.l + 1) 577 g.p 128 (omega arith) p
     where
       mul_le : (a b c d : ℕ) → a ≤ b → c ≤ d → a * c ≤ b * d
       mul_le a b c d le le' = grind arith

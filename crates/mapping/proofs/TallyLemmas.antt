@@ -83,7 +83,7 @@ tally_without t m a e is =
 pub from_its_entries : (m : Entries) → from_entries {R = nat_cmp} (entries m) ≡ m
 from_its_entries m = same_map nat_cmp_total nat_cmp-IsAntisymmetric (from_entries (entries m)) m (λ q. get-from_entries nat_cmp_total (entries m) q ∙ sym (get-entries m q))
 
-pub few_held : (g : Geometry) (m : Entries) → IsMap g m → length (entries m) ≤ 36928
+pub few_held : (g : Geometry) (m : Entries) → IsMap g m → length (entries m) ≤ 73856
 few_held g m is_map =
     let few = few_entries g (entries m) (record { sorted = holds (is_sorted nat_cmp (entries m)) (entries_sorted m) }) (subst (λ (n : Entries). IsMap g n) (sym (from_its_entries m)) is_map) in
     omega (arith, few, pages_few g)
@@ -98,7 +98,7 @@ key_count : (es : List (ℕ × Entry)) → length (map (λ (x : ℕ × Entry). x
 key_count [] = refl
 key_count (x ∷ es) = ap suc (key_count es)
 
-pub tally_few : (g : Geometry) (t : Entry → Bool) (m : Entries) → IsMap g m → tally t m ≤ 36928
+pub tally_few : (g : Geometry) (t : Entry → Bool) (m : Entries) → IsMap g m → tally t m ≤ 73856
 tally_few g t m is_map =
     let once = each_once-no_longer (numbers (λ x. x.0) t (entries m)) in
     let keys = key_count (filter (λ x. t x.1) (entries m)) in
@@ -139,7 +139,7 @@ all_pass [] = refl
 all_pass (x ∷ es) = ap suc (all_pass es)
 
 -- a checkpoint has few records
-pub records_few : (g : Geometry) (m : Entries) (records : List Record) → IsMap g m → IsCheckpointOf g m records → length records ≤ 73856
+pub records_few : (g : Geometry) (m : Entries) (records : List Record) → IsMap g m → IsCheckpointOf g m records → length records ≤ 74368
 records_few g m records is_map x =
     let long : length records ≡ length (map (set_group_of g m) x.groups) + length (map set_page_of x.pages) = ap length x.are ∙ length-append (map (set_group_of g m) x.groups) (map set_page_of x.pages) in
     let groups = length-map x.groups (set_group_of g m) in
@@ -296,7 +296,7 @@ module _ (g : Geometry) (m : Entries) (is_map : IsMap g m) (a : ℕ) (e : Entry)
   pub count_here : (logs : LogCounts) → page_mapped e ≡ true → LogsAre g m logs → get_or logs.pages.items (e.place.block - first_pool g) 0 ≡ tally (is_mapped_in (first_pool g + (e.place.block - first_pool g))) (remove m a) + 1
   count_here logs t old = old.pages (e.place.block - first_pool g) low ∙ sym (one_page_more t)
 
-  pub count_few : (logs : LogCounts) → LogsAre g (remove m a) logs → get_or logs.pages.items (e.place.block - first_pool g) 0 ≤ 36928
+  pub count_few : (logs : LogCounts) → LogsAre g (remove m a) logs → get_or logs.pages.items (e.place.block - first_pool g) 0 ≤ 73856
   count_few logs old = let few = tally_few g (is_mapped_in (first_pool g + (e.place.block - first_pool g))) (remove m a) (without_map g m a is_map) in let is = old.pages (e.place.block - first_pool g) low in omega arith
 
   -- where its block has no other, it is used no more
@@ -356,7 +356,7 @@ module _ (g : Geometry) (m : Entries) (is_map : IsMap g m) (a : ℕ) (e : Entry)
       let same = read_is old first x is_first read all.long in
       logs_without old new t all (items ∙ ap₂ (λ n y. set old.pages.items (e.place.block - n) (y - 1)) is_first same) (ap (λ y. new.used + cond (y - 1 == 0) 1 0) (sym same) ∙ used)
 
-  pub entered_few : (logs : LogCounts) (first x : ℕ) → first ≡ first_pool g → x ≡ get_or logs.pages.items (e.place.block - first) x → LogsAre g (remove m a) logs → x ≤ 36928
+  pub entered_few : (logs : LogCounts) (first x : ℕ) → first ≡ first_pool g → x ≡ get_or logs.pages.items (e.place.block - first) x → LogsAre g (remove m a) logs → x ≤ 73856
   entered_few logs first x is_first read all = let few = count_few logs all in let same = read_is logs first x is_first read all.long in omega (arith, few, same)
 
   pub used_few : (logs : LogCounts) → LogsAre g (remove m a) logs → logs.used ≤ 64
@@ -426,10 +426,10 @@ module _ (g : Geometry) (m : Entries) (is_map : IsMap g m) (a : ℕ) (e : Entry)
   pub dirty_some : (index : Index) → IsIndex g m index → cond e.dirty 1 0 ≤ index.dirty
   dirty_some index all = let sum : tally (λ e. e.dirty) (remove m a) + cond e.dirty 1 0 ≡ tally (λ e. e.dirty) m = tally_without (λ e. e.dirty) m a e is in let count = all.dirty in omega (arith, sum, count)
 
-  pub held_few : (index : Index) → IsIndex g (remove m a) index → index.held ≤ 36928
+  pub held_few : (index : Index) → IsIndex g (remove m a) index → index.held ≤ 73856
   held_few index all = let few = tally_few g is_any (remove m a) (without_map g m a is_map) in let count = all.held in omega (arith, few, count)
 
-  pub dirty_few : (index : Index) → IsIndex g (remove m a) index → index.dirty ≤ 36928
+  pub dirty_few : (index : Index) → IsIndex g (remove m a) index → index.dirty ≤ 73856
   dirty_few index all = let few = tally_few g (λ e. e.dirty) (remove m a) (without_map g m a is_map) in let count = all.dirty in omega (arith, few, count)
 
   pub index_without : (old new : Index) (n : ℕ) → n ≡ number_of g e.place → new.owners.items ≡ set old.owners.items n None → LogsAre g (remove m a) new.logs → new.held ≡ old.held - 1 → new.dirty ≡ old.dirty - cond e.dirty 1 0 → IsIndex g m old → IsIndex g (remove m a) new

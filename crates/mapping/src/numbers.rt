@@ -8,7 +8,7 @@ use ft_base::{Geometry, Place};
 /// How many pages the pool has.
 pub fn pool_pages(geometry: &Geometry) -> u32
     ensures count { result ≡ pool_pages geometry.now }
-    ensures few { result ≤ 36928 }
+    ensures few { result ≤ 73856 }
 {
     (geometry.c + geometry.l + 1) * geometry.p
 }
