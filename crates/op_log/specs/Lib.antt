@@ -1,3 +1,4 @@
+pub mod Stamps
 pub mod Log
 pub mod Walk
 pub mod Refusals

@@ -17,6 +17,7 @@ use Rattle.cache_model.specs.declared.format.SpareKind.TheVariants.{Log as LogSp
 use Rattle.cache_model.specs.Spelling.{spelled_spare, spare_fields}
 use Rattle.cache_model.specs.Reading.{read_records}
 use Rattle.cache_model.specs.Loading.{header_at, said}
+use Rattle.op_log.specs.Stamps.{own_stamp}
 
 -- a log: where it lies, its era, the page to program next, and the records that no page has yet
 pub record LogValue : Type 0 where
@@ -52,16 +53,16 @@ if_buffered (change ∷ changes) some none = some
 abbrev pub log_flushed : LogValue → LogValue
 log_flushed log = if_buffered log.buffered (record log { next = log.next + 1; buffered = [] }) log
 
--- a whole page of a log with these records
-pub record IsLogPage (era sequence : ℕ) (changes : List Record) (page : Page) : Type 0 where
+-- a whole page of a log with these records, in format 2, for a cache with p pages in an erase block
+pub record IsLogPage (p era sequence : ℕ) (changes : List Record) (page : Page) : Type 0 where
   pub header : Header
-  pub head : header_at Log era sequence page ≡ Some header
-  pub records : said (read_records header) page ≡ Some changes
+  pub head : header_at Log (own_stamp era) sequence page ≡ Some header
+  pub records : said (read_records p header) page ≡ Some changes
 
 -- the log's next page has all that was buffered, and no other page changed
 pub record Appended (log : LogValue) (old new : Flash) : Type 0 where
   pub page : Page
-  pub is_page : IsLogPage log.era log.next log.buffered page
+  pub is_page : IsLogPage log.geometry.p log.era log.next log.buffered page
   pub pages : new.page ≡ set_page old.page (next_place log) page
 
 -- and the page after it is next
@@ -79,7 +80,7 @@ log_flush_counted log counts = if_buffered log.buffered (program_counted counts)
 
 -- the header of a page of a log with these records
 abbrev pub log_header : ℕ → ℕ → List Record → Header
-log_header era sequence changes = record { kind = Log; era = era; sequence = sequence; count = length changes }
+log_header era sequence changes = record { format = 2; kind = Log; era = era; sequence = sequence; count = length changes }
 
 -- the spare bytes of a log page of this era and sequence
 abbrev pub log_spare : ℕ → ℕ → Spare

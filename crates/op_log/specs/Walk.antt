@@ -14,21 +14,21 @@ use Rattle.cache_model.specs.declared.format.PageKind.{PageKind}
 use Rattle.cache_model.specs.declared.format.Header.{Header}
 use Rattle.cache_model.specs.Records.{Entries}
 use Rattle.cache_model.specs.Reading.{read_records}
-use Rattle.cache_model.specs.Loading.{Refusal, Damaged, header_at, said, is_whole, after_all}
+use Rattle.cache_model.specs.Loading.{Refusal, Damaged, Stamp, header_at, said, is_whole, after_all}
 use Rattle.mapping.specs.MapValue.{MapValue, pages_taken, groups_taken}
 use Rattle.op_log.specs.declared.error.OpenError.{OpenError}
 use Rattle.op_log.specs.declared.error.OpenError.TheVariants as refused
 
--- what a page makes of the entries, where it is one of this kind and era, at its own place
-abbrev pub page_step : Geometry → PageKind → ℕ → ℕ → Place → Page → Entries → Option (Result Entries Refusal)
-page_step g kind era sequence at page m = option_map
-    (λ h. ok_or (option_and_then (λ changes. after_all g changes m) (said (read_records h) page)) (Damaged at))
-    (header_at kind era sequence page)
+-- what a page makes of the entries, where it is one of this kind and stamp, at its own place
+abbrev pub page_step : Geometry → PageKind → Stamp → ℕ → Place → Page → Entries → Option (Result Entries Refusal)
+page_step g kind stamp sequence at page m = option_map
+    (λ h. ok_or (option_and_then (λ changes. after_all g changes m) (said (read_records g.p h) page)) (Damaged at))
+    (header_at kind stamp sequence page)
 
--- the pages of one kind and era, each at its own place, up to the first that is none
-abbrev pub pages_in_order : PageKind → ℕ → ℕ → List Page → ℕ
-pages_in_order kind era i [] = 0
-pages_in_order kind era i (page ∷ pages) = option_map_or (λ h. suc (pages_in_order kind era (i + 1) pages)) (header_at kind era i page) 0
+-- the pages of one kind and stamp, each at its own place, up to the first that is none
+abbrev pub pages_in_order : PageKind → Stamp → ℕ → List Page → ℕ
+pages_in_order kind stamp i [] = 0
+pages_in_order kind stamp i (page ∷ pages) = option_map_or (λ h. suc (pages_in_order kind stamp (i + 1) pages)) (header_at kind stamp i page) 0
 
 -- the call answers what the step says: true and the new entries, false where there is no step, or its refusal;
 -- a fault, a cut and want of memory come by themselves
@@ -64,11 +64,11 @@ groups_needed changes = count_by (λ r. groups_taken r == 1) changes
 
 -- what the records of a page make of the entries
 abbrev pub after_records : Geometry → Header → List ℕ → Entries → Option Entries
-after_records g h bytes m = option_and_then (λ changes. after_all g changes m) (read_records h bytes)
+after_records g h bytes m = option_and_then (λ changes. after_all g changes m) (read_records g.p h bytes)
 
--- the records of a page of this kind and era, at its own place; none where it is no such page
-abbrev pub records_at : PageKind → ℕ → ℕ → Page → List Record
-records_at kind era sequence page = unwrap_or (option_and_then (λ h. said (read_records h) page) (header_at kind era sequence page)) []
+-- the records of a page of this kind and stamp, at its own place; none where it is no such page
+abbrev pub records_at : ℕ → PageKind → Stamp → ℕ → Page → List Record
+records_at p kind stamp sequence page = unwrap_or (option_and_then (λ h. said (read_records p h) page) (header_at kind stamp sequence page)) []
 
 -- the records took their room; where there was too little of it, just enough was made
 pub record TakesRoom (changes : List Record) (old new : MapValue) : Type 0 where

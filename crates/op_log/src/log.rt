@@ -1,10 +1,11 @@
 ghost use Rattle.std.specs.Prelude.{◌≡◌, ◌≢◌, ◌<◌, ◌≤◌, ◌-◌, [], length, IfOk, OnOk, OnErr, IsOk, IsTrue};
+ghost use Rattle.std.specs.List.{list_all};
 ghost use Rattle.ft_base.specs.Layout.{log_pages, page_records};
 ghost use Rattle.ft_media.specs.Media.{IsNextPage, if_ok};
 ghost use Rattle.ft_media.specs.Passes.{Spends};
 ghost use Rattle.ft_media.specs.Drives.{OnlyDrives};
 ghost use Rattle.cache_model.specs.declared.format.PageKind.TheVariants.{Log as log_page};
-ghost use Rattle.cache_model.specs.Spelling.{may_stand_in, IsPage};
+ghost use Rattle.cache_model.specs.Spelling.{is_wide, may_stand_in, most_records_of, IsPage};
 ghost use Rattle.op_log.specs.Log.{FitsOn, LeavesLog, AppendedReady, log_header, next_place, log_spare, HasSpare, restarted, pushed, log_flushed, log_flush_counted};
 
 use crate::ring::{MOST, Ring};
@@ -28,8 +29,11 @@ pub struct OpLog {
 }
 
 impl Model for OpLog {
-    ghost use Rattle.std.specs.Prelude.{◌≤◌, ◌<◌, length};
+    ghost use Rattle.std.specs.Prelude.{◌≤◌, ◌<◌, length, IsTrue};
+    ghost use Rattle.std.specs.List.{list_all};
     ghost use Rattle.ft_base.specs.Layout.{log_pages, page_records};
+    ghost use Rattle.cache_model.specs.declared.format.PageKind.TheVariants.{Log as log_page};
+    ghost use Rattle.cache_model.specs.Spelling.{is_wide, may_stand_in};
     ghost use Rattle.op_log.specs.Log.{LogValue};
 
     ghost Value = { LogValue };
@@ -37,7 +41,7 @@ impl Model for OpLog {
     ghost view = { λ l. record { geometry = l.geometry; region = l.region; era = l.era; next = l.next; buffered = l.ring } };
 
     ghost invariant = { λ l. (l.region < 2) × (l.era ≤ 2) × (l.next ≤ log_pages l.geometry)
-        × (length l.ring ≤ page_records l.geometry) };
+        × (length l.ring ≤ page_records l.geometry) × IsTrue (list_all (may_stand_in (is_wide 2 l.geometry.p) log_page) l.ring) };
 }
 
 impl OpLog {
@@ -70,7 +74,7 @@ impl OpLog {
     #[tactic(auto, using(ft_base::proofs::LayoutLemmas::q_most))]
     pub fn push(&mut self, change: Record)
         requires room { length self.old.buffered < page_records self.old.geometry }
-        requires sound { IsTrue (may_stand_in log_page change) }
+        requires sound { IsTrue (may_stand_in (is_wide 2 self.old.geometry.p) log_page change) }
         ensures { self.new ≡ pushed change self.old }
     {
         self.ring.push(change);
@@ -120,7 +124,8 @@ impl OpLog {
         self.ring.clear();
     }
 
-    /// Programs one page with all that is buffered, in order. Where nothing is, it does nothing.
+    /// Programs one page of format 2 with all that is buffered, in order. Where nothing is, it does nothing.
+    #[tactic(auto, using(crate::proofs::PageLemmas::records_fit))]
     pub fn flush<M: Media>(&mut self, media: &mut M) -> Result<(), MediaError>
         requires shape { FitsOn self.old.geometry (M.state media.old).contents.shape }
         requires room { self.old.buffered ≢ [] → self.old.next < log_pages self.old.geometry }
@@ -142,7 +147,13 @@ impl OpLog {
         if self.ring.len() == 0 {
             return Ok(());
         }
-        spell(&mut self.page, self.era, self.next, &self.ring);
+        spell(
+            &mut self.page,
+            self.geometry.p,
+            self.era,
+            self.next,
+            &self.ring,
+        );
         let at = self.geometry.log_at(self.region, self.next);
         let spare = write_spare(SpareKind::Log, self.era, self.next as u64);
         media.program(at, &self.page, &spare)?;
@@ -153,18 +164,21 @@ impl OpLog {
 }
 
 /// Writes the page of a log with the records of the ring, in order.
-fn spell(page: &mut Block, era: u8, sequence: u32, ring: &Ring)
+fn spell(page: &mut Block, p: u32, era: u8, sequence: u32, ring: &Ring)
     requires era { era ≤ 2 }
     requires some { 0 < length ring.now }
-    ensures { IsPage page.new.0 (log_header era sequence ring.now) ring.now }
+    requires room { length ring.now ≤ most_records_of (is_wide 2 p) }
+    requires sound { IsTrue (list_all (may_stand_in (is_wide 2 p) log_page) ring.now) }
+    ensures { IsPage p page.new.0 (log_header era sequence ring.now) ring.now }
 {
     let mut changes = [Record::Remove { lba: 0 }; MOST];
     let count = ring.copy_into(&mut changes);
     let header = Header {
+        format: 2,
         kind: PageKind::Log,
         era,
         sequence,
         count,
     };
-    write_page(page, &header, &changes[..count as usize]);
+    write_page(page, &header, p, &changes[..count as usize]);
 }

@@ -1,8 +1,5 @@
-ghost use Rattle.std.specs.Prelude.{◌≡◌, ◌<◌, ◌≤◌, ◌++◌, ◌∷◌, [], length, take, IfOk, IsTrue};
-ghost use Rattle.std.specs.List.{list_all};
+ghost use Rattle.std.specs.Prelude.{◌≡◌, ◌<◌, ◌≤◌, ◌++◌, ◌∷◌, [], length, take, IfOk};
 ghost use Rattle.ft_base.specs.Layout.{most_page_records};
-ghost use Rattle.cache_model.specs.declared.format.PageKind.TheVariants.{Log as log_page};
-ghost use Rattle.cache_model.specs.Spelling.{may_stand_in};
 
 use circular_buffer::HeapCircularBuffer;
 use ft_base::Record;
@@ -19,18 +16,15 @@ pub(crate) struct Ring {
 }
 
 impl Model for Ring {
-    ghost use Rattle.std.specs.Prelude.{◌≡◌, List, IsTrue};
-    ghost use Rattle.std.specs.List.{list_all};
+    ghost use Rattle.std.specs.Prelude.{◌≡◌, List};
     ghost use Rattle.ft_base.specs.Layout.{most_page_records};
     ghost use Rattle.ft_base.specs.declared.record.Record.{Record};
-    ghost use Rattle.cache_model.specs.declared.format.PageKind.TheVariants.{Log as log_page};
-    ghost use Rattle.cache_model.specs.Spelling.{may_stand_in};
 
     ghost Value = { List Record };
 
     ghost view = { λ r. r.records.items };
 
-    ghost invariant = { λ r. (r.records.capacity ≡ most_page_records) × IsTrue (list_all (may_stand_in log_page) r.records.items) };
+    ghost invariant = { λ r. r.records.capacity ≡ most_page_records };
 }
 
 impl Ring {
@@ -52,7 +46,6 @@ impl Ring {
     /// Puts a record to the end.
     pub(crate) fn push(&mut self, change: Record)
         requires room { length self.old < most_page_records }
-        requires sound { IsTrue (may_stand_in log_page change) }
         ensures { self.new ≡ self.old ++ change ∷ [] }
     {
         match self.records.try_push_back(change) {
@@ -67,7 +60,6 @@ impl Ring {
         ensures count { result ≡ length self.now }
         ensures within { result ≤ most_page_records }
         ensures read { take result out.new ≡ self.now }
-        ensures sound { IsTrue (list_all (may_stand_in log_page) self.now) }
     {
         let n = self.records.len();
         let (right, left) = self.records.as_slices();

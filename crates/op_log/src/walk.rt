@@ -10,10 +10,12 @@ ghost use Rattle.mapping.specs.MapValue.{pages_taken, groups_taken};
 ghost use Rattle.mapping.specs.Room.{HasNoMoreRoom, KeepsBuckets, KeepsFewBuckets};
 ghost use Rattle.op_log.specs.Log.{FitsOn};
 ghost use Rattle.op_log.specs.Walk.{page_step, pages_in_order, Stepped, IsReadAs, found_whole, pages_needed, groups_needed, after_records, records_at, TakesRoom};
+ghost use Rattle.op_log.specs.Stamps.{named};
 ghost use Rattle.op_log.specs.Refusals.{open_failed, open_lost, IsRefusal, IsOfFlash, IsOfPages};
 
 use crate::OpenError;
 use crate::error::of_media;
+use crate::stamp::Stamp;
 use cache_model::PageKind;
 use ft_base::{Block, Geometry, Place, Record, Spare, zero_block};
 use ft_media::{Media, PageRead};
@@ -21,14 +23,14 @@ use mapping::Map;
 use record_codec::{Header, read_page_header, read_records};
 use std::alloc::AllocError;
 
-/// Reads a page, and applies its records to the map where it is one of this kind and era with this
+/// Reads a page, and applies its records to the map where it is one of this kind and stamp with this
 /// sequence. False where it isn't: then the map stays.
 pub fn apply_page<M: Media>(
     media: &mut M,
     geometry: &Geometry,
     at: Place,
     kind: PageKind,
-    era: u8,
+    stamp: Stamp,
     sequence: u32,
     map: &mut Map,
 ) -> Result<bool, OpenError>
@@ -38,21 +40,21 @@ pub fn apply_page<M: Media>(
     requires map { map.old.geometry ≡ geometry.now }
     ensures geometry { map.new.geometry ≡ map.old.geometry }
     ensures kinds { IfErr result IsOfPages }
-    ensures room { IfOk result (λ applied. TakesRoom (records_at kind era sequence ((M.state media.old).contents.flash.page at))
-        map.old map.new) }
+    ensures room { IfOk result (λ applied. TakesRoom (records_at geometry.now.p kind (named stamp) sequence
+        ((M.state media.old).contents.flash.page at)) map.old map.new) }
     ensures few { IfOk result (λ applied. KeepsFewBuckets map.old map.new) }
     ensures answers { Stepped result map.old.entries map.new.entries
-        (page_step geometry.now kind era sequence at ((M.state media.old).contents.flash.page at) map.old.entries) }
+        (page_step geometry.now kind (named stamp) sequence at ((M.state media.old).contents.flash.page at) map.old.entries) }
     ensures reads { ReadsFlash (M.state media.old) (M.state media.new) (open_failed result) (open_lost result) }
 {
     let mut block = zero_block();
     if !read_whole(media, at, &mut block)? {
         return Ok(false);
     }
-    let Some(header) = header_of(&block, kind, era, sequence) else {
+    let Some(header) = header_of(&block, kind, stamp, sequence) else {
         return Ok(false);
     };
-    if !apply_records(&block, &header, map)? {
+    if !apply_records(&block, &header, geometry.p, map)? {
         return Err(OpenError::Damaged {
             block: at.block,
             page: at.page,
@@ -86,37 +88,38 @@ fn is_whole(found: PageRead) -> bool
     }
 }
 
-/// The header of a page of records, where it is one of this kind and era, at its own place.
-fn header_of(block: &Block, kind: PageKind, era: u8, sequence: u32) -> Option<Header>
-    ensures value { result ≡ when (is_page kind era sequence) (header_read block.now.0) }
+/// The header of a page of records, where it is one of this kind and stamp, at its own place.
+fn header_of(block: &Block, kind: PageKind, stamp: Stamp, sequence: u32) -> Option<Header>
+    ensures value { result ≡ when (is_page kind (named stamp) sequence) (header_read block.now.0) }
     ensures read { IfSome result (λ h. header_read block.now.0 ≡ Some h) }
 {
     let header = read_page_header(block)?;
-    if !is_page(&header, kind, era, sequence) {
+    if !is_page(&header, kind, stamp, sequence) {
         return None;
     }
     Some(header)
 }
 
-/// Whether a header is one of this kind and era, and says that its page stands at this place.
-fn is_page(header: &Header, kind: PageKind, era: u8, sequence: u32) -> bool
-    ensures { result ≡ is_page kind era sequence header.now }
+/// Whether a header is one of this kind and stamp, and says that its page stands at this place.
+fn is_page(header: &Header, kind: PageKind, stamp: Stamp, sequence: u32) -> bool
+    ensures { result ≡ is_page kind (named stamp) sequence header.now }
 {
-    header.kind == kind && header.era == era && header.sequence == sequence
+    header.kind == kind && stamp.is_of(header) && header.sequence == sequence
 }
 
-/// Applies the records of a page in order. False where the page is none of records, or one of them
-/// doesn't fit when its turn comes.
-fn apply_records(page: &Block, header: &Header, map: &mut Map) -> Result<bool, AllocError>
+/// Applies the records of a page in order, for a cache with `p` pages in an erase block. False where the
+/// page is none of records, or one of them doesn't fit when its turn comes.
+fn apply_records(page: &Block, header: &Header, p: u32, map: &mut Map) -> Result<bool, AllocError>
+    requires p { p ≡ map.old.geometry.p }
     requires header { header_read page.now.0 ≡ Some header.now }
     ensures geometry { map.new.geometry ≡ map.old.geometry }
-    ensures room { IfOk result (λ applied. IsTrue applied → TakesRoom (unwrap_or (records_read header.now page.now.0) []) map.old map.new) }
+    ensures room { IfOk result (λ applied. IsTrue applied → TakesRoom (unwrap_or (records_read p header.now page.now.0) []) map.old map.new) }
     ensures few { IfOk result (λ applied. IsTrue applied → KeepsFewBuckets map.old map.new) }
     ensures value { IfOk result (λ applied. after_records map.old.geometry header.now page.now.0
         map.old.entries ≡ (if applied then Some map.new.entries else None)) }
 {
     let mut buffer = [Record::Remove { lba: 0 }; 127];
-    if !read_records(page, header, &mut buffer) {
+    if !read_records(page, header, p, &mut buffer) {
         return Ok(false);
     }
     let changes = &buffer[..header.count as usize];
@@ -174,26 +177,27 @@ fn apply_all(changes: &[Record], map: &mut Map) -> bool
     true
 }
 
-/// Applies the pages of the log of a region and an era to a map, and says how many there are.
+/// Applies the pages of the log of a region to a map, and says how many there are. A page of another stamp
+/// ends the log.
 pub fn roll<M: Media>(
     media: &mut M,
     geometry: &Geometry,
     region: u32,
-    era: u8,
+    stamp: Stamp,
     map: &mut Map,
 ) -> Result<u32, OpenError>
     requires region { region < 2 }
     requires shape { FitsOn geometry.now (M.state media.old).contents.shape }
     requires map { map.old.geometry ≡ geometry.now }
     ensures geometry { map.new.geometry ≡ map.old.geometry }
-    ensures applied { IfOk result (λ n. after_pages geometry.now log_page era (log_at geometry.now region) 0
+    ensures applied { IfOk result (λ n. after_pages geometry.now log_page (named stamp) (log_at geometry.now region) 0
         (log_region geometry.now (M.state media.old).contents.flash.page region) map.old.entries ≡ Ok map.new.entries) }
-    ensures count { IfOk result (λ n. n ≡ pages_in_order log_page era 0
+    ensures count { IfOk result (λ n. n ≡ pages_in_order log_page (named stamp) 0
         (log_region geometry.now (M.state media.old).contents.flash.page region)) }
     ensures room { IfOk result (λ n. HasNoMoreRoom map.old map.new) }
     ensures few { IfOk result (λ n. KeepsFewBuckets map.old map.new) }
     ensures refused { IfErr result (λ e. IsRefusal geometry.now e
-        (after_pages geometry.now log_page era (log_at geometry.now region) 0
+        (after_pages geometry.now log_page (named stamp) (log_at geometry.now region) 0
         (log_region geometry.now (M.state media.old).contents.flash.page region) map.old.entries)) }
     ensures kinds { IfErr result IsOfPages }
     ensures reads { ReadsFlash (M.state media.old) (M.state media.new) (open_failed result) (open_lost result) }
@@ -201,7 +205,7 @@ pub fn roll<M: Media>(
     let pages = geometry.j * geometry.p;
     for i in 0..pages {
         let at = geometry.log_at(region, i);
-        if !apply_page(media, geometry, at, PageKind::Log, era, i, map)? {
+        if !apply_page(media, geometry, at, PageKind::Log, stamp, i, map)? {
             return Ok(i);
         }
     }

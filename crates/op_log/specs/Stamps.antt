@@ -1,0 +1,12 @@
+-- The format and the era of pages of records.
+use Rattle.std.specs.Prelude.{ℕ}
+use Rattle.cache_model.specs.Loading.{Stamp}
+use Rattle.op_log.specs.declared.stamp.Stamp.{Stamp as Read}
+
+-- a stamp, as loading names it
+abbrev pub named : Read → Stamp
+named stamp = record { format = stamp.format; era = stamp.era }
+
+-- what is written has format 2
+abbrev pub own_stamp : ℕ → Stamp
+own_stamp era = record { format = 2; era = era }
