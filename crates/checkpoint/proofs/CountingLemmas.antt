@@ -33,7 +33,7 @@ module _ (g : Geometry) (m : Entries) (is_map : IsMap g m) where
       let few' = is_map.data_blocks in
       omega arith
 
-  pub records_bounded : (records : List Record) → IsCheckpointOf g m records → length records ≤ 4608
+  pub records_bounded : (records : List Record) → IsCheckpointOf g m records → length records ≤ 8704
   records_bounded records listed =
       let few = records_few records listed in
       let pages = product g.l 64 g.p g.in_range.l_high in

@@ -13,14 +13,15 @@ use Rattle.ft_media.specs.Media.{IsBlankAhead}
 use Rattle.cache_model.specs.declared.format.Header.{Header}
 use Rattle.cache_model.specs.declared.format.PageKind.TheVariants.{Log}
 use Rattle.cache_model.specs.Records.{Entries}
-use Rattle.cache_model.specs.Loading.{Complete, ◌>>=◌, pages_from, checkpoint_in, chosen, checkpoint_region, log_region, checkpoint_of, replayed_entries, wanted, load, header_at, is_whole}
+use Rattle.cache_model.specs.Loading.{Complete, Stamp, ◌>>=◌, pages_from, checkpoint_in, chosen, newest, checkpoint_region, log_region, checkpoint_of, replayed_entries, wanted, load, header_at, is_whole}
 use Rattle.cache_model.specs.Loading.Refusal.{NotFormatted}
 use Rattle.cache_model.specs.Laws.{ArePages}
 use Rattle.cache_model.proofs.Alike.{LogEnds}
-use Rattle.cache_model.proofs.LoadLemmas.{pages_from-same, loaded_is, set_page-other}
+use Rattle.cache_model.proofs.LoadLemmas.{pages_from-same, newest_is, loaded_is, set_page-other}
 use Rattle.cache_model.proofs.LogLemmas.{log_apart, log_appended, log_torn}
 use Rattle.cache_model.proofs.FitsLemmas.{load-map}
 use Rattle.cache_model.proofs.StandLemmas.{entry_whole}
+use Rattle.op_log.specs.Stamps.{own_stamp}
 use Rattle.op_log.specs.Log.{LogValue, next_place, if_buffered, log_flushed, Appended, AppendedReady, LeavesLog}
 use Rattle.checkpoint.specs.Current.{IsCurrent, AreWhole, IsOpenLog, IsCommitted, LoadsOneOf}
 use Rattle.checkpoint.proofs.PlacesLemmas.{product, checkpoint_within, log_within, checkpoint_no_log, pool_no_log}
@@ -109,11 +110,15 @@ module _ (log : LogValue) (m : Entries) (before : Contents) (new : Flash) (curre
   low : log.region < 2
   low = current_low log old.page m current
 
+  -- the checkpoint that counts has the stamp of what is written
+  newest_stamp : current.newest.stamp ≡ own_stamp log.era
+  newest_stamp = ap₂ (λ f e. record { format = f; era = e }) (opened.format checkpoint_now (newest_is log.geometry old.page checkpoint_now current.chosen)) current.era
+
   ends : LogEnds log.geometry old.page checkpoint_now log.next
   ends = record {
     there = current.chosen;
     room = omega arith;
-    before = subst (λ e. ArePages Log e 0 (take log.next (log_region log.geometry old.page log.region))) (sym current.era) opened.before;
+    before = subst (λ (e : Stamp). ArePages Log e 0 (take log.next (log_region log.geometry old.page log.region))) (sym newest_stamp) opened.before;
     blank = log_ahead log before opened ahead room;
   }
 
@@ -132,10 +137,11 @@ module _ (log : LogValue) (m : Entries) (before : Contents) (new : Flash) (curre
         (subst (λ (q : Place). first_log log.geometry + log.region * log.geometry.j ≤ q.block × (q.block < first_log log.geometry + log.region * log.geometry.j + log.geometry.j)) (sym e)
         (log_within log.geometry log.region log.next room))))
 
+    same_newest : newest log.geometry new.page ≡ newest log.geometry old.page
+    same_newest = ap₂ (λ xs ys. chosen (checkpoint_in xs) (checkpoint_in ys)) (checkpoint_page 0 (omega arith)) (checkpoint_page 1 (omega arith))
+
     same_checkpoint : checkpoint_of log.geometry new.page ≡ Ok checkpoint_now
-    same_checkpoint =
-        ap (λ o. ok_or o NotFormatted >>= wanted log.geometry) (ap₂ (λ xs ys. chosen (checkpoint_in xs) (checkpoint_in ys)) (checkpoint_page 0 (omega arith)) (checkpoint_page 1 (omega arith)))
-        ∙ current.chosen
+    same_checkpoint = ap (λ o. ok_or o NotFormatted >>= wanted log.geometry) same_newest ∙ current.chosen
 
   torn_loads : new.page ≡ set_page old.page (next_place log) Torn → load log.geometry new.page ≡ load log.geometry old.page
   torn_loads torn =
@@ -152,7 +158,7 @@ module _ (log : LogValue) (m : Entries) (before : Contents) (new : Flash) (curre
       let map = current_map log old.page m current in
       load_from log.geometry new.page m
       (ap (replayed_entries log.geometry) appended.pages ∙ log_appended log.geometry old.page checkpoint_now log.next ends room appended.page is.header log.buffered current.durable m
-      (subst (λ e. header_at Log e log.next appended.page ≡ Some is.header) (sym current.era) is.head) is.records
+      (subst (λ (e : Stamp). header_at Log e log.next appended.page ≡ Some is.header) (sym newest_stamp) is.head) is.records
       (loaded_is log.geometry old.page current.durable current.loads).0 current.buffered)
       (λ a e at. ap is_whole (pool_page appended.page appended.pages e.place (map.in_pool a e at).above) ∙ whole.whole a e at)
 
@@ -173,22 +179,22 @@ module _ (log : LogValue) (m : Entries) (before : Contents) (new : Flash) (curre
 
   -- ---- and after Ok
 
-  longer_log : Appended log old new → ArePages Log log.era 0 (take (log.next + 1) (log_region log.geometry new.page log.region))
-  longer_log appended = subst (ArePages Log log.era 0) (sym (take-pages new.page (log_at log.geometry log.region) 0 (log.next + 1) (log_pages log.geometry) (omega arith)))
-      (are_pages Log log.era new.page (log_at log.geometry log.region) 0 (log.next + 1) each)
+  longer_log : Appended log old new → ArePages Log (own_stamp log.era) 0 (take (log.next + 1) (log_region log.geometry new.page log.region))
+  longer_log appended = subst (ArePages Log (own_stamp log.era) 0) (sym (take-pages new.page (log_at log.geometry log.region) 0 (log.next + 1) (log_pages log.geometry) (omega arith)))
+      (are_pages Log (own_stamp log.era) new.page (log_at log.geometry log.region) 0 (log.next + 1) each)
     where
-      was : ArePages Log log.era 0 (pages_from old.page (log_at log.geometry log.region) 0 log.next)
-      was = subst (ArePages Log log.era 0) (take-pages old.page (log_at log.geometry log.region) 0 log.next (log_pages log.geometry) (omega arith)) opened.before
+      was : ArePages Log (own_stamp log.era) 0 (pages_from old.page (log_at log.geometry log.region) 0 log.next)
+      was = subst (ArePages Log (own_stamp log.era) 0) (take-pages old.page (log_at log.geometry log.region) 0 log.next (log_pages log.geometry) (omega arith)) opened.before
 
-      each : (j : ℕ) → 0 ≤ j → j < 0 + (log.next + 1) → (h : Header) × (header_at Log log.era j (new.page (log_at log.geometry log.region j)) ≡ Some h)
+      each : (j : ℕ) → 0 ≤ j → j < 0 + (log.next + 1) → (h : Header) × (header_at Log (own_stamp log.era) j (new.page (log_at log.geometry log.region j)) ≡ Some h)
       each j from high = elim (cases_eq j log.next) [
         | inl same ↦ (
           appended.is_page.header,
-          ap₂ (λ k q. header_at Log log.era k q) same (ap (λ k. new.page (log_at log.geometry log.region k)) same ∙ ap (λ (f : Place → Page). f (next_place log)) appended.pages ∙ set_page-here old.page (next_place log) appended.page) ∙ appended.is_page.head,
+          ap₂ (λ k q. header_at Log (own_stamp log.era) k q) same (ap (λ k. new.page (log_at log.geometry log.region k)) same ∙ ap (λ (f : Place → Page). f (next_place log)) appended.pages ∙ set_page-here old.page (next_place log) appended.page) ∙ appended.is_page.head,
         )
         | inr other ↦
-            let h = each_page Log log.era old.page (log_at log.geometry log.region) 0 log.next was j (omega arith) (omega arith) in
-            (h.0, ap (header_at Log log.era j) (other_page appended.page appended.pages (log_at log.geometry log.region j) (λ e. other (log_apart log.geometry log.region j log.next e))) ∙ h.1)
+            let h = each_page Log (own_stamp log.era) old.page (log_at log.geometry log.region) 0 log.next was j (omega arith) (omega arith) in
+            (h.0, ap (header_at Log (own_stamp log.era) j) (other_page appended.page appended.pages (log_at log.geometry log.region j) (λ e. other (log_apart log.geometry log.region j log.next e))) ∙ h.1)
       ]
 
   pub flush_committed : AreWhole old.page m → AppendedReady log old new → IsCommitted new (one_longer log) m
@@ -208,6 +214,7 @@ module _ (log : LogValue) (m : Entries) (before : Contents) (new : Flash) (curre
       ready = λ i from high which.
           ap (λ (f : ℕ → Option ℕ). f (log_at log.geometry log.region i).block) done.next
           ∙ ready_after log.geometry (first_log log.geometry + log.region * log.geometry.j) log.next i old.next (omega arith) which (λ first. opened.ready i (omega arith) high (inr first));
+      format = λ c is. opened.format c (sym (same_newest done.appended.page done.appended.pages) ∙ is);
     };
   }
 

@@ -1,5 +1,5 @@
 -- An empty checkpoint, sealed where the regions are erased.
-use Rattle.std.proofs.Common.{◌≡◌, ℕ, ◌+◌, ◌-◌, ◌*◌, ◌/◌, ◌<◌, false, true, List, [], length, map, filter, refl, sym, ◌∙◌, ap, subst, arith}
+use Rattle.std.proofs.Common.{◌≡◌, ℕ, ◌+◌, ◌-◌, ◌*◌, ◌/◌, ◌<◌, false, true, List, [], length, map, filter, count_by, refl, sym, ◌∙◌, ap, subst, arith}
 use Rattle.std.specs.FinMap.{get}
 use Rattle.std.proofs.lemmas.Nat.{mul-le, le-div}
 use Rattle.ft_base.specs.declared.geometry.Geometry.{Geometry}
@@ -9,12 +9,13 @@ use Rattle.ft_base.specs.Contents.{Flash}
 use Rattle.ft_base.specs.Layout.{rounded_up, k, checkpoint_at, checkpoint_pages, page_records}
 use Rattle.ft_base.proofs.LayoutLemmas.{q_some, up_least}
 use Rattle.cache_model.specs.declared.entry.Entry.{Entry}
+use Rattle.cache_model.specs.declared.format.Totals.{Totals}
 use Rattle.cache_model.specs.Records.{Entries, no_entries}
 use Rattle.cache_model.specs.Entries.{each_once, page_mapped}
 use Rattle.cache_model.proofs.FitsLemmas.{no_entries-map, no_entries-nil, none_in_no_entries}
 use Rattle.mapping.specs.Checkpoint.{IsCheckpointOf}
 use Rattle.checkpoint.specs.Current.{AreWhole, IsCommitted, log_formatted}
-use Rattle.checkpoint.specs.Regions.{IsBlockWithin, InCheckpoint, InLog, AreBlank, IsPrepared, IsSealPage, Programmed, map_pages}
+use Rattle.checkpoint.specs.Regions.{IsBlockWithin, InCheckpoint, InLog, AreBlank, IsPrepared, IsSealPage, Programmed, map_pages, totals_of}
 use Rattle.checkpoint.proofs.PlacesLemmas.{checkpoint_low}
 use Rattle.checkpoint.proofs.MapsLemmas.{maps_none, maps_bare}
 use Rattle.checkpoint.proofs.WrittenLemmas.{seal_done}
@@ -47,6 +48,13 @@ nothing_listed g = record {
     no_true e = absurd (cc)
 
 -- ---- its seal
+
+-- nothing is held
+abbrev pub no_totals : Totals
+no_totals = record { entries = 0; dirty = 0 }
+
+nothing_held : no_totals ≡ totals_of no_entries
+nothing_held = ap (λ (es : List (ℕ × Entry)). record { entries = length es; dirty = count_by (λ x. x.1.dirty) es }) (sym no_entries-nil)
 
 some_blocks : (g : Geometry) → 0 < k g
 some_blocks g = at_least (rounded_up (g.c + g.l * g.p) (page_records g)) g.p (omega (arith, g.in_range.p_low))
@@ -88,12 +96,12 @@ module _ (g : Geometry) (old : Flash) (blank : AreBlank 0 (2 * k g + g.j) old) w
     ready = λ b out out'. refl;
   }
 
-  pub seal_begins : (new : Flash) → Programmed (IsSealPage g 0 0 0) (checkpoint_at g 0 0) old new → IsCommitted new (log_formatted g) no_entries
+  pub seal_begins : (new : Flash) → Programmed (IsSealPage g no_totals 0 0 0) (checkpoint_at g 0 0) old new → IsCommitted new (log_formatted g) no_entries
   seal_begins new done = formatted g 0 no_entries [] old new (no_entries-map g) (nothing_listed g)
-      (seal_done g 0 0 [] (omega arith) 0 0 (no_pages g) refl (some_pages g) old old old new prepared (maps_none g 0 0 [] old (of_checkpoint 0 (omega arith))) done)
+      (seal_done g 0 0 [] (totals_of no_entries) no_totals nothing_held (omega arith) 0 0 (no_pages g) refl (some_pages g) old old old new prepared (maps_none g 0 0 [] old (of_checkpoint 0 (omega arith))) done)
       (maps_bare g 1 0 [] 0 old old (maps_none g 1 0 [] old (of_checkpoint 1 (omega arith)))).bare
       (empty_whole old.page no_entries refl)
 
 -- the regions were erased, and the seal programmed
-pub format_begins : (g : Geometry) (old new : Flash) (blocks : ℕ) → blocks ≡ 2 * k g + g.j → AreBlank 0 blocks old → Programmed (IsSealPage g 0 0 0) (checkpoint_at g 0 0) old new → IsCommitted new (log_formatted g) no_entries
+pub format_begins : (g : Geometry) (old new : Flash) (blocks : ℕ) → blocks ≡ 2 * k g + g.j → AreBlank 0 blocks old → Programmed (IsSealPage g no_totals 0 0 0) (checkpoint_at g 0 0) old new → IsCommitted new (log_formatted g) no_entries
 format_begins g old new blocks count blank done = seal_begins g old (subst (λ n. AreBlank 0 n old) count blank) new done

@@ -9,7 +9,7 @@ use Rattle.ft_base.specs.declared.geometry.Geometry.{Geometry}
 use Rattle.ft_base.specs.declared.record.Record.{Record}
 use Rattle.cache_model.specs.declared.format.PageKind.{PageKind}
 use Rattle.cache_model.specs.declared.format.Header.{Header}
-use Rattle.cache_model.specs.Loading.{pages_from, header_at}
+use Rattle.cache_model.specs.Loading.{Stamp, pages_from, header_at}
 use Rattle.cache_model.specs.Laws.{ArePages}
 use Rattle.checkpoint.specs.Regions.{part}
 use Rattle.ft_base.specs.Layout.{page_records}
@@ -30,15 +30,15 @@ take-pages page at i (suc n) zero low = absurd (omega arith)
 take-pages page at i (suc n) (suc most) low = ap (λ qs. page (at i) ∷ qs) (take-pages page at (i + 1) n most (omega arith))
 
 -- one page after another is of a kind
-pub are_pages : (kind : PageKind) (era : ℕ) (page : Place → Page) (at : ℕ → Place) (i n : ℕ) → ((j : ℕ) → i ≤ j → j < i + n → (h : Header) × (header_at kind era j (page (at j)) ≡ Some h)) → ArePages kind era i (pages_from page at i n)
-are_pages kind era page at i zero each = tt
-are_pages kind era page at i (suc n) each = (each i (omega arith) (omega arith), are_pages kind era page at (i + 1) n (λ j low high. each j (omega arith) (omega arith)))
+pub are_pages : (kind : PageKind) (stamp : Stamp) (page : Place → Page) (at : ℕ → Place) (i n : ℕ) → ((j : ℕ) → i ≤ j → j < i + n → (h : Header) × (header_at kind stamp j (page (at j)) ≡ Some h)) → ArePages kind stamp i (pages_from page at i n)
+are_pages kind stamp page at i zero each = tt
+are_pages kind stamp page at i (suc n) each = (each i (omega arith) (omega arith), are_pages kind stamp page at (i + 1) n (λ j low high. each j (omega arith) (omega arith)))
 
-pub each_page : (kind : PageKind) (era : ℕ) (page : Place → Page) (at : ℕ → Place) (i n : ℕ) → ArePages kind era i (pages_from page at i n) → (j : ℕ) → i ≤ j → j < i + n → (h : Header) × (header_at kind era j (page (at j)) ≡ Some h)
-each_page kind era page at i zero are j low high = absurd (omega arith)
-each_page kind era page at i (suc n) are j low high = elim (cases_eq j i) [
-  | inl same ↦ (are.0.0, ap (λ k. header_at kind era k (page (at k))) same ∙ are.0.1)
-  | inr other ↦ each_page kind era page at (i + 1) n are.1 j (omega arith) (omega arith)
+pub each_page : (kind : PageKind) (stamp : Stamp) (page : Place → Page) (at : ℕ → Place) (i n : ℕ) → ArePages kind stamp i (pages_from page at i n) → (j : ℕ) → i ≤ j → j < i + n → (h : Header) × (header_at kind stamp j (page (at j)) ≡ Some h)
+each_page kind stamp page at i zero are j low high = absurd (omega arith)
+each_page kind stamp page at i (suc n) are j low high = elim (cases_eq j i) [
+  | inl same ↦ (are.0.0, ap (λ k. header_at kind stamp k (page (at k))) same ∙ are.0.1)
+  | inr other ↦ each_page kind stamp page at (i + 1) n are.1 j (omega arith) (omega arith)
 ]
 
 -- ---- parts of a list of records

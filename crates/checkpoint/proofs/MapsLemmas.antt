@@ -87,7 +87,7 @@ module _ (g : Geometry) (region era : ℕ) (rs : List Record) where
     maps_bare = record {
       bare = record {
         pages = λ i within. elim (cases_lt i n) [
-          | inl low ↦ map_page_bare era i (part g rs i) _ (so_far.maps i low)
+          | inl low ↦ map_page_bare g era i (part g rs i) _ (so_far.maps i low)
           | inr high ↦ map_or_lost _ (so_far.blank i high within)
         ];
       };
@@ -103,18 +103,18 @@ module _ (g : Geometry) (region era : ℕ) (rs : List Record) where
       beside = λ at out. set_page-other now.page (checkpoint_at g region n) at v (outside g region n at within out) ∙ so_far.beside at out;
     })
 
-    pub maps_left : (next : Flash) → n < checkpoint_pages g → LeavesOne (IsMapPage era n (part g rs n)) (checkpoint_at g region n) now next → LeavesMaps g region old.page next.page
+    pub maps_left : (next : Flash) → n < checkpoint_pages g → LeavesOne (IsMapPage g era n (part g rs n)) (checkpoint_at g region n) now next → LeavesMaps g region old.page next.page
     maps_left next within (inl same) = subst (λ (f : Place → Page). LeavesMaps g region old.page f) (sym same) maps_bare
     maps_left next within (inr (inl torn)) = put_bare next Torn within tt torn
-    maps_left next within (inr (inr whole)) = put_bare next whole.0 within (map_page_bare era n (part g rs n) whole.0 whole.1) whole.2
+    maps_left next within (inr (inr whole)) = put_bare next whole.0 within (map_page_bare g era n (part g rs n) whole.0 whole.1) whole.2
 
-    pub maps_more : (next : Flash) → n < checkpoint_pages g → Programmed (IsMapPage era n (part g rs n)) (checkpoint_at g region n) now next → MapsWritten g region era rs (n + 1) old next
+    pub maps_more : (next : Flash) → n < checkpoint_pages g → Programmed (IsMapPage g era n (part g rs n)) (checkpoint_at g region n) now next → MapsWritten g region era rs (n + 1) old next
     maps_more next within done = record {
       maps = λ i low. elim (cases_eq i n) [
-        | inl same ↦ subst (λ j. IsMapPage era j (part g rs j) (next.page (checkpoint_at g region j))) (sym same)
-            (subst (λ (q : Page). IsMapPage era n (part g rs n) q) (sym (ap (λ (f : Place → Page). f (checkpoint_at g region n)) done.pages
+        | inl same ↦ subst (λ j. IsMapPage g era j (part g rs j) (next.page (checkpoint_at g region j))) (sym same)
+            (subst (λ (q : Page). IsMapPage g era n (part g rs n) q) (sym (ap (λ (f : Place → Page). f (checkpoint_at g region n)) done.pages
             ∙ set_page-here now.page (checkpoint_at g region n) done.page)) done.is_kind)
-        | inr other ↦ subst (λ (q : Page). IsMapPage era i (part g rs i) q) (sym (else_where i other)) (so_far.maps i (omega arith))
+        | inr other ↦ subst (λ (q : Page). IsMapPage g era i (part g rs i) q) (sym (else_where i other)) (so_far.maps i (omega arith))
       ];
       blank = λ i low within'. else_where i (λ e. absurd (omega arith)) ∙ so_far.blank i (omega arith) within';
       ready = λ i low within' which. ap (λ (f : ℕ → Option ℕ). f (checkpoint_at g region i).block) done.next ∙ ready_after g (region * k g) n i now.next (omega arith) which (λ first. so_far.ready i (omega arith) within' (inr first));

@@ -12,6 +12,7 @@ use Rattle.cache_model.specs.declared.format.PageKind.TheVariants.{Log}
 use Rattle.cache_model.specs.Records.{Entries}
 use Rattle.cache_model.specs.Loading.{Complete, after_all, checkpoint_of, checkpoint_in, checkpoint_region, is_whole, load, log_region, newest}
 use Rattle.cache_model.specs.Laws.{ArePages}
+use Rattle.op_log.specs.Stamps.{own_stamp}
 use Rattle.op_log.specs.Log.{LogValue, log_flushed, if_buffered, restarted}
 
 -- what loading answers, with what is buffered, is the map; and the log is that of the checkpoint that counts
@@ -21,18 +22,19 @@ pub record IsCurrent (page : Place → Page) (log : LogValue) (m : Entries) : Ty
   pub buffered : after_all log.geometry log.buffered durable ≡ Some m
   pub newest : Complete
   pub chosen : checkpoint_of log.geometry page ≡ Ok (log.region, newest)
-  pub era : newest.era ≡ log.era
+  pub era : newest.stamp.era ≡ log.era
 
 -- each place of the map is a whole page
 pub record AreWhole (page : Place → Page) (m : Entries) : Type 0 where
   pub whole : (a : ℕ) (e : Entry) → get m a ≡ Some e → is_whole (page e.place) ≡ true
 
 -- the pages before the log's next one are those that loading applies; and of those left the next one,
--- and the first of each erase block, is the one to program in an erase block that is ready
+-- and the first of each erase block, is the one to program in an erase block that is ready. The checkpoint that counts has format 2
 pub record IsOpenLog (flash : Flash) (log : LogValue) : Type 0 where
-  pub before : ArePages Log log.era 0 (take log.next (log_region log.geometry flash.page log.region))
+  pub before : ArePages Log (own_stamp log.era) 0 (take log.next (log_region log.geometry flash.page log.region))
   pub ready : (i : ℕ) → log.next ≤ i → i < log_pages log.geometry → (i ≡ log.next) ⊎ ((log_at log.geometry log.region i).page ≡ 0)
       → IsNextPage (log_at log.geometry log.region i) flash
+  pub format : (c : ℕ × Complete) → newest log.geometry flash.page ≡ Some c → c.1.stamp.format ≡ 2
 
 -- all that was buffered is on the flash, and the log can go on
 pub record IsCommitted (flash : Flash) (log : LogValue) (m : Entries) : Type 0 where

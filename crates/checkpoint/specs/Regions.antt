@@ -10,15 +10,19 @@ use Rattle.ft_base.specs.Contents.{Contents, Flash, set, set_page}
 use Rattle.ft_base.specs.Layout.{checkpoint_at, checkpoint_pages, first_log, k, page_records, rounded_up}
 use Rattle.ft_media.specs.Media.{IsNextPage}
 use Rattle.cache_model.specs.declared.format.Header.{Header}
+use Rattle.cache_model.specs.declared.format.Totals.{Totals}
 use Rattle.cache_model.specs.declared.format.PageKind.TheVariants.{Map, Seal as SealPage}
 use Rattle.cache_model.specs.declared.format.SpareKind.TheVariants.{Map as MapSpare, Seal as SealSpare}
 use Rattle.cache_model.specs.Spelling.{spelled_spare, spare_fields}
 use Rattle.cache_model.specs.Reading.{read_records}
-use Rattle.cache_model.specs.Loading.{header_at, seal_at, said}
+use Rattle.cache_model.specs.Records.{Entries}
+use Rattle.cache_model.specs.Loading.{Sealed, header_at, seal_at, said}
 use Rattle.cache_model.specs.Laws.{IsMapOrLost}
 use Rattle.cache_model.specs.Entries.{IsMap}
+use Rattle.mapping.specs.Counts.{held_count, dirty_count}
 use Rattle.mapping.specs.Checkpoint.{IsCheckpointOf}
 use Rattle.mapping.specs.MapValue.{MapValue}
+use Rattle.op_log.specs.Stamps.{own_stamp}
 use Rattle.op_log.specs.Log.{FitsOn, HasSpare}
 use Rattle.op_log.specs.Refusals.{seal_of}
 
@@ -79,10 +83,18 @@ map_pages g records = rounded_up (length records) (page_records g)
 
 -- the header of a map page with these records, and of a seal over so many pages with so many
 abbrev pub map_header : ℕ → ℕ → List Record → Header
-map_header era sequence changes = record { kind = Map; era = era; sequence = sequence; count = length changes }
+map_header era sequence changes = record { format = 2; kind = Map; era = era; sequence = sequence; count = length changes }
 
 abbrev pub seal_header : ℕ → ℕ → ℕ → Header
-seal_header era pages count = record { kind = SealPage; era = era; sequence = pages; count = count }
+seal_header era pages count = record { format = 2; kind = SealPage; era = era; sequence = pages; count = count }
+
+-- how many entries there are, and how many dirty ones
+abbrev pub totals_of : Entries → Totals
+totals_of m = record { entries = held_count m; dirty = dirty_count m }
+
+-- what a seal of this geometry says, with these totals
+abbrev pub sealed_as : Geometry → Totals → Sealed
+sealed_as g totals = record { seal = seal_of g; totals = Some totals }
 
 -- the spare bytes of a map page of this era and sequence, and of a seal over so many map pages
 abbrev pub map_spare : ℕ → ℕ → Spare
@@ -91,17 +103,17 @@ map_spare era sequence = record { 0 = spelled_spare (spare_fields MapSpare era s
 abbrev pub seal_spare : ℕ → ℕ → Spare
 seal_spare era pages = record { 0 = spelled_spare (spare_fields SealSpare era pages) }
 
--- a whole map page with these records
-pub record IsMapPage (era sequence : ℕ) (changes : List Record) (page : Page) : Type 0 where
+-- a whole map page with these records, in format 2
+pub record IsMapPage (g : Geometry) (era sequence : ℕ) (changes : List Record) (page : Page) : Type 0 where
   pub header : Header
-  pub head : header_at Map era sequence page ≡ Some header
+  pub head : header_at Map (own_stamp era) sequence page ≡ Some header
   pub count : header.count ≡ length changes
-  pub records : said (read_records header) page ≡ Some changes
+  pub records : said (read_records g.p header) page ≡ Some changes
   pub spare : HasSpare (map_spare era sequence) page
 
--- a whole page that seals so many map pages with so many records
-pub record IsSealPage (g : Geometry) (era pages count : ℕ) (page : Page) : Type 0 where
-  pub seal : seal_at era pages count page ≡ Some (seal_of g)
+-- a whole page that seals so many map pages with so many records, and says these totals
+pub record IsSealPage (g : Geometry) (totals : Totals) (era pages count : ℕ) (page : Page) : Type 0 where
+  pub seal : seal_at (own_stamp era) pages count page ≡ Some (sealed_as g totals)
   pub spare : HasSpare (seal_spare era pages) page
 
 -- the flash fits, the map is one of the geometry, and its records are a checkpoint of it
@@ -125,7 +137,7 @@ LeavesOne kind at old new = (new.page ≡ old.page) ⊎ (new.page ≡ set_page o
 
 -- the first n map pages stand in the region, and the pages after them are blank and ready; nothing else changed
 pub record MapsWritten (g : Geometry) (region era : ℕ) (records : List Record) (n : ℕ) (old new : Flash) : Type 0 where
-  pub maps : (i : ℕ) → i < n → IsMapPage era i (part g records i) (new.page (checkpoint_at g region i))
+  pub maps : (i : ℕ) → i < n → IsMapPage g era i (part g records i) (new.page (checkpoint_at g region i))
   pub blank : (i : ℕ) → n ≤ i → i < checkpoint_pages g → new.page (checkpoint_at g region i) ≡ Blank
   pub ready : (i : ℕ) → n ≤ i → i < checkpoint_pages g → (i ≡ n) ⊎ ((checkpoint_at g region i).page ≡ 0)
       → IsNextPage (checkpoint_at g region i) new
@@ -137,16 +149,16 @@ pub record LeavesMaps (g : Geometry) (region : ℕ) (old new : Place → Page) :
   pub bare : IsBare g region new
   pub beside : (at : Place) → ¬ InCheckpoint g region at.block → new at ≡ old at
 
--- a checkpoint with these records stands in the region, its log is blank, and nothing else changed
-pub record IsSealed (g : Geometry) (region era : ℕ) (records : List Record) (old new : Place → Page) : Type 0 where
-  pub maps : (i : ℕ) → i < map_pages g records → IsMapPage era i (part g records i) (new (checkpoint_at g region i))
-  pub seal : IsSealPage g era (map_pages g records) (length records) (new (checkpoint_at g region (map_pages g records)))
+-- a checkpoint with these records and totals stands in the region, its log is blank, and nothing else changed
+pub record IsSealed (g : Geometry) (region era : ℕ) (records : List Record) (totals : Totals) (old new : Place → Page) : Type 0 where
+  pub maps : (i : ℕ) → i < map_pages g records → IsMapPage g era i (part g records i) (new (checkpoint_at g region i))
+  pub seal : IsSealPage g totals era (map_pages g records) (length records) (new (checkpoint_at g region (map_pages g records)))
   pub log : (at : Place) → InLog g region at.block → new at ≡ Blank
   pub beside : StaysBeside g region old new
 
 -- and its log is ready
-pub record IsWritten (g : Geometry) (region era : ℕ) (records : List Record) (old new : Flash) : Type 0 where
-  pub sealed : IsSealed g region era records old.page new.page
+pub record IsWritten (g : Geometry) (region era : ℕ) (records : List Record) (totals : Totals) (old new : Flash) : Type 0 where
+  pub sealed : IsSealed g region era records totals old.page new.page
   pub log : AreBlank (first_log g + region * g.j) g.j new
   pub ready : ReadyBeside g region old new
 

@@ -3,7 +3,9 @@ use Rattle.std.specs.Prelude.{◌≡◌, ◌+◌, ◌≤◌, ℕ, Option, None, 
 use Rattle.ft_base.specs.declared.block.Page.{Page}
 use Rattle.ft_base.specs.Layout.{most_page_records}
 use Rattle.cache_model.specs.Reading.{read_page_header, read_seal}
-use Rattle.cache_model.specs.Loading.{Complete, complete, said, era_in, sealed_from}
+use Rattle.cache_model.specs.Loading.{Complete, complete, said, stamp_in, sealed_from}
+use Rattle.op_log.specs.declared.stamp.Stamp.{Stamp}
+use Rattle.op_log.specs.Stamps.{named}
 use Rattle.checkpoint.specs.declared.reading.Found.{Found}
 use Rattle.checkpoint.specs.declared.reading.Found.TheVariants as is
 use Rattle.checkpoint.specs.declared.walk.Walk.{Walk}
@@ -13,25 +15,25 @@ use Rattle.checkpoint.specs.declared.walk.Step.TheVariants as step
 -- what a page of a checkpoint region was found to be
 abbrev pub IsFoundAs : Page → Found → Type 0
 IsFoundAs page (is.Records header) = said read_page_header page ≡ Some header
-IsFoundAs page (is.Sealed header seal) = (said read_page_header page ≡ None) × (said read_seal page ≡ Some (header, seal))
+IsFoundAs page (is.Sealed header seal totals) = (said read_page_header page ≡ None) × (said read_seal page ≡ Some (header, seal, totals))
 IsFoundAs page is.Other = (said read_page_header page ≡ None) × (said read_seal page ≡ None)
 
 -- a page of records says no more of them than a page may have
 abbrev pub IsFew : Found → Type 0
 IsFew (is.Records header) = header.count ≤ most_page_records
-IsFew (is.Sealed header seal) = Unit {0}
+IsFew (is.Sealed header seal totals) = Unit {0}
 IsFew is.Other = Unit {0}
 
--- the checkpoint that these pages end, from the i-th page on; before the first one the era isn't known
-abbrev pub sealed_by : Option ℕ → ℕ → ℕ → List Page → Option Complete
-sealed_by (Some era) i count pages = sealed_from era i count pages
+-- the checkpoint that these pages end, from the i-th page on; before the first one the stamp isn't known
+abbrev pub sealed_by : Option Stamp → ℕ → ℕ → List Page → Option Complete
+sealed_by (Some stamp) i count pages = sealed_from (named stamp) i count pages
 sealed_by None i count [] = None
-sealed_by None i count (page ∷ pages) = option_and_then (λ era. sealed_from era i count (page ∷ pages)) (era_in page)
+sealed_by None i count (page ∷ pages) = option_and_then (λ stamp. sealed_from stamp i count (page ∷ pages)) (stamp_in page)
 
 -- what a page makes of a walk that stands at it
 abbrev pub StepsOn : Walk → ℕ → Page → Step → Type 0
 StepsOn walk i page (step.On next) = (next.records ≤ walk.records + most_page_records)
-    × ((rest : List Page) → sealed_by walk.era i walk.records (page ∷ rest) ≡ sealed_by next.era (i + 1) next.records rest)
-StepsOn walk i page (step.Complete era seal) = (rest : List Page)
-    → sealed_by walk.era i walk.records (page ∷ rest) ≡ Some (complete era i seal)
-StepsOn walk i page step.Ends = (rest : List Page) → sealed_by walk.era i walk.records (page ∷ rest) ≡ None
+    × ((rest : List Page) → sealed_by walk.stamp i walk.records (page ∷ rest) ≡ sealed_by next.stamp (i + 1) next.records rest)
+StepsOn walk i page (step.Complete stamp seal totals) = (rest : List Page)
+    → sealed_by walk.stamp i walk.records (page ∷ rest) ≡ Some (complete (named stamp) i (record { seal = seal; totals = totals }))
+StepsOn walk i page step.Ends = (rest : List Page) → sealed_by walk.stamp i walk.records (page ∷ rest) ≡ None

@@ -10,6 +10,7 @@ ghost use Rattle.checkpoint.specs.Regions.{HasSpares};
 
 use crate::erasing::erase_blocks;
 use crate::writing::{Target, program_seal};
+use cache_model::Totals;
 use ft_base::{Geometry, zero_block};
 use ft_media::{Media, MediaError};
 
@@ -34,5 +35,9 @@ pub fn format<M: Media>(media: &mut M, geometry: &Geometry) -> Result<(), MediaE
         &Target { region: 0, era: 0 },
         0,
         0,
+        &Totals {
+            entries: 0,
+            dirty: 0,
+        },
     )
 }

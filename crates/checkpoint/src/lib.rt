@@ -1,5 +1,7 @@
 //! Checkpoints: the whole map in one of two regions, which a seal makes count.
 //!
+//! What is written has format 2; `newest` finds a checkpoint of either format.
+//!
 //! The layers above rely on this: `commit` is never refused for room, since a log without a page left
 //! gives way to a checkpoint. After Ok of `commit` or `checkpoint` the flash stands for the map; whatever
 //! either answers, and wherever power went off in it, the flash stands for the map or for what it stood

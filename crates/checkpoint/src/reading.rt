@@ -7,7 +7,7 @@ ghost use Rattle.ft_media.specs.Reads.{ReadsFlash};
 ghost use Rattle.op_log.specs.Log.{FitsOn};
 ghost use Rattle.checkpoint.specs.Walk.{IsFoundAs, IsFew};
 
-use cache_model::{Header, Seal};
+use cache_model::{Header, Seal, Totals};
 use ft_base::{Block, Geometry, Place, Spare, zero_block};
 use ft_media::{Media, MediaError, PageRead};
 use record_codec::{read_page_header, read_seal};
@@ -17,8 +17,8 @@ use record_codec::{read_page_header, read_seal};
 pub(crate) enum Found {
     /// A page of records.
     Records(Header),
-    /// A seal.
-    Sealed(Header, Seal),
+    /// A seal, with its totals where it has any.
+    Sealed(Header, Seal, Option<Totals>),
     /// Neither.
     Other,
 }
@@ -32,7 +32,7 @@ fn kind_of(block: &Block) -> Found
         return Found::Records(header);
     }
     match read_seal(block) {
-        Some((header, seal)) => Found::Sealed(header, seal),
+        Some((header, seal, totals)) => Found::Sealed(header, seal, totals),
         None => Found::Other,
     }
 }

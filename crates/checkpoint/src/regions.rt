@@ -24,19 +24,24 @@ fn complete_in<M: Media>(
     ensures reads { ReadsFlash (M.state media.old) (M.state media.new) (failed result) (lost result) }
 {
     let mut walk = Walk {
-        era: None,
+        stamp: None,
         records: 0,
     };
     for sequence in 0..geometry.k() * geometry.p {
         let found = find(media, geometry, geometry.checkpoint_at(region, sequence))?;
         match after_page(walk, sequence, found) {
             Step::On(next) => walk = next,
-            Step::Complete { era, seal } => {
+            Step::Complete {
+                stamp,
+                seal,
+                totals,
+            } => {
                 return Ok(Some(Newest {
                     region,
-                    era,
+                    stamp,
                     pages: sequence,
                     seal,
+                    totals,
                 }));
             }
             Step::Ends => return Ok(None),
@@ -52,7 +57,7 @@ fn later(first: Option<Newest>, second: Option<Newest>) -> Option<Newest>
 {
     match (first, second) {
         (Some(one), Some(two)) => {
-            if u32::from(two.era) == (u32::from(one.era) + 1) % 3 {
+            if u32::from(two.stamp.era) == (u32::from(one.stamp.era) + 1) % 3 {
                 second
             } else {
                 first

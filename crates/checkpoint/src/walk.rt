@@ -1,33 +1,38 @@
-ghost use Rattle.std.specs.Prelude.{◌≡◌, ◌≤◌, ◌*◌, ◌^◌, Some, None};
+ghost use Rattle.std.specs.Prelude.{◌≡◌, ◌≤◌, ◌*◌, ◌^◌, Option, Some, None};
 ghost use Rattle.ft_base.specs.declared.block.Page.{Page};
 ghost use Rattle.ft_base.specs.Layout.{most_page_records};
 ghost use Rattle.cache_model.specs.declared.format.Seal.{Seal as SealValue};
+ghost use Rattle.cache_model.specs.declared.format.Totals.{Totals as TotalsValue};
 ghost use Rattle.cache_model.specs.Reading.{read_page_header, read_seal};
 ghost use Rattle.cache_model.specs.Loading.{said, is_page, is_seal_of};
+ghost use Rattle.op_log.specs.Stamps.{named};
 ghost use Rattle.cache_model.specs.declared.format.PageKind.TheVariants.{Map as map_page};
 ghost use Rattle.checkpoint.specs.Walk.{IsFoundAs, IsFew, StepsOn};
 
 use crate::reading::Found;
-use cache_model::{Header, PageKind, Seal};
+use cache_model::{Header, PageKind, Seal, Totals};
+use op_log::Stamp;
 
 /// The checkpoint that counts.
 #[derive(Clone, Copy, Debug, PartialEq, Eq)]
 pub struct Newest {
     /// The region that it lies in, 0 or 1.
     pub region: u32,
-    /// Its era, 0 to 2.
-    pub era: u8,
+    /// Its format and its era, which its log has too.
+    pub stamp: Stamp,
     /// Its map pages.
     pub pages: u32,
     /// The numbers that it was made for.
     pub seal: Seal,
+    /// How many entries its map pages have, where its format says it.
+    pub totals: Option<Totals>,
 }
 
-/// What a walk along a checkpoint region has found so far: so many records, and the era of the first
+/// What a walk along a checkpoint region has found so far: so many records, and the stamp of the first
 /// page, which isn't known before it.
 #[derive(Clone, Copy, Debug, PartialEq, Eq)]
 pub(crate) struct Walk {
-    pub(crate) era: Option<u8>,
+    pub(crate) stamp: Option<Stamp>,
     pub(crate) records: u32,
 }
 
@@ -37,7 +42,11 @@ pub(crate) enum Step {
     /// It is a map page, and the walk goes on.
     On(Walk),
     /// It is the seal.
-    Complete { era: u8, seal: Seal },
+    Complete {
+        stamp: Stamp,
+        seal: Seal,
+        totals: Option<Totals>,
+    },
     /// It is neither.
     Ends,
 }
@@ -50,7 +59,9 @@ pub(crate) fn after_page(walk: Walk, sequence: u32, found: Found) -> Step
 {
     match found {
         Found::Records(header) => after_records(walk, sequence, &header),
-        Found::Sealed(header, seal) => after_seal(walk, sequence, &header, &seal),
+        Found::Sealed(header, seal, totals) => {
+            after_seal(walk, sequence, &header, &seal, &totals)
+        }
         Found::Other => Step::Ends,
     }
 }
@@ -61,38 +72,48 @@ fn after_records(walk: Walk, sequence: u32, header: &Header) -> Step
     requires few { header.now.count ≤ most_page_records }
     ensures { (page : Page) → said read_page_header page ≡ Some header.now → StepsOn walk sequence page result }
 {
-    let era = walk.era.unwrap_or(header.era);
-    if !is_map_page(header, era, sequence) {
+    let stamp = walk.stamp.unwrap_or(Stamp::of(header));
+    if !is_map_page(header, stamp, sequence) {
         return Step::Ends;
     }
     Step::On(Walk {
-        era: Some(era),
+        stamp: Some(stamp),
         records: walk.records + header.count,
     })
 }
 
-/// Whether the header is that of a map page of this era, at its own place.
-fn is_map_page(header: &Header, era: u8, sequence: u32) -> bool
-    ensures { result ≡ is_page map_page era sequence header.now }
+/// Whether the header is that of a map page of this stamp, at its own place.
+fn is_map_page(header: &Header, stamp: Stamp, sequence: u32) -> bool
+    ensures { result ≡ is_page map_page (named stamp) sequence header.now }
 {
-    header.kind == PageKind::Map && header.era == era && header.sequence == sequence
+    header.kind == PageKind::Map && stamp.is_of(header) && header.sequence == sequence
 }
 
 /// What a seal makes of it.
-fn after_seal(walk: Walk, sequence: u32, header: &Header, seal: &Seal) -> Step
-    ensures { (page : Page) → said read_page_header page ≡ None → said read_seal page ≡ Some (header.now, seal.now)
+fn after_seal(
+    walk: Walk,
+    sequence: u32,
+    header: &Header,
+    seal: &Seal,
+    totals: &Option<Totals>,
+) -> Step
+    ensures { (page : Page) → said read_page_header page ≡ None → said read_seal page ≡ Some (header.now, seal.now, totals.now)
         → StepsOn walk sequence page result }
 {
-    let era = walk.era.unwrap_or(header.era);
-    if !ends(header, era, sequence, walk.records) {
+    let stamp = walk.stamp.unwrap_or(Stamp::of(header));
+    if !ends(header, stamp, sequence, walk.records) {
         return Step::Ends;
     }
-    Step::Complete { era, seal: *seal }
+    Step::Complete {
+        stamp,
+        seal: *seal,
+        totals: *totals,
+    }
 }
 
-/// Whether a seal ends so many map pages of this era, with so many records.
-fn ends(header: &Header, era: u8, pages: u32, records: u32) -> bool
-    ensures { (seal : SealValue) → result ≡ is_seal_of era pages records (header.now, seal) }
+/// Whether a seal ends so many map pages of this stamp, with so many records.
+fn ends(header: &Header, stamp: Stamp, pages: u32, records: u32) -> bool
+    ensures { (seal : SealValue) (totals : Option TotalsValue) → result ≡ is_seal_of (named stamp) pages records (header.now, seal, totals) }
 {
-    header.era == era && header.sequence == pages && header.count == records
+    stamp.is_of(header) && header.sequence == pages && header.count == records
 }

@@ -5,18 +5,18 @@ ghost use Rattle.ft_media.specs.Media.{IsNextPage, program_counted};
 ghost use Rattle.ft_media.specs.Drives.{OnlyDrives};
 ghost use Rattle.cache_model.specs.declared.format.PageKind.TheVariants as PageKind;
 ghost use Rattle.cache_model.specs.Entries.{IsMap};
-ghost use Rattle.cache_model.specs.Spelling.{may_stand_in};
+ghost use Rattle.cache_model.specs.Spelling.{is_wide, may_stand_in};
 ghost use Rattle.mapping.specs.Checkpoint.{IsCheckpointOf};
 ghost use Rattle.op_log.specs.Log.{FitsOn};
 ghost use Rattle.checkpoint.specs.Asked.{asked_records};
 ghost use Rattle.checkpoint.specs.Counts.{checkpoint_counted, programs_counted};
 ghost use Rattle.ft_media.specs.Passes.{ProgramsPages};
-ghost use Rattle.checkpoint.specs.Regions.{AreBlank, CanProgram, IsMapPage, IsSealPage, Programmed, LeavesOne, MapsWritten, LeavesMaps, IsUnsealed, IsSealed, IsWritten, map_pages};
+ghost use Rattle.checkpoint.specs.Regions.{AreBlank, CanProgram, IsMapPage, IsSealPage, Programmed, LeavesOne, MapsWritten, LeavesMaps, IsUnsealed, IsSealed, IsWritten, map_pages, totals_of};
 
 use crate::asking::{ask, records_of};
 use crate::erasing::erase_regions;
 use crate::pages::{write_map, write_numbers};
-use cache_model::SpareKind;
+use cache_model::{SpareKind, Totals};
 use ft_base::{Block, Geometry, Record};
 use ft_media::{Media, MediaError};
 use mapping::Map;
@@ -34,7 +34,7 @@ pub(crate) struct Target {
 }
 
 /// Programs a map page of a checkpoint, of these records.
-#[tactic(auto, using(ft_base::proofs::LayoutLemmas::q_most))]
+#[tactic(auto, using(op_log::proofs::PageLemmas::records_fit))]
 fn program_map<M: Media>(
     media: &mut M,
     page: &mut Block,
@@ -44,20 +44,20 @@ fn program_map<M: Media>(
     records: &[Record],
 ) -> Result<(), MediaError>
     requires shape { FitsOn geometry.now (M.state media.old).contents.shape }
-    requires kinds { list_all (may_stand_in PageKind.Map) records.now ≡ true }
+    requires kinds { list_all (may_stand_in (is_wide 2 geometry.now.p) PageKind.Map) records.now ≡ true }
     requires some { 1 ≤ length records.now }
     requires few { length records.now ≤ page_records geometry.now }
     requires room { sequence < checkpoint_pages geometry.now }
     requires ready { IsNextPage (checkpoint_at geometry.now target.now.region sequence) (M.state media.old).contents.flash }
-    ensures done { OnOk result (Programmed (IsMapPage target.now.era sequence records.now)
+    ensures done { OnOk result (Programmed (IsMapPage geometry.now target.now.era sequence records.now)
         (checkpoint_at geometry.now target.now.region sequence) (M.state media.old).contents.flash (M.state media.new).contents.flash) }
     ensures counts { OnOk result ((M.state media.new).counts ≡ program_counted (M.state media.old).counts) }
-    ensures pages { LeavesOne (IsMapPage target.now.era sequence records.now)
+    ensures pages { LeavesOne (IsMapPage geometry.now target.now.era sequence records.now)
         (checkpoint_at geometry.now target.now.region sequence) (M.state media.old).contents.flash (M.state media.new).contents.flash }
     ensures programs { OnOk result (ProgramsPages 1 (M.state media.old) (M.state media.new)) }
     ensures drives { OnlyDrives (M.state media.old) (M.state media.new) result }
 {
-    write_map(page, records, target.era, sequence);
+    write_map(page, geometry.p, records, target.era, sequence);
     let at = geometry.checkpoint_at(target.region, sequence);
     let spare = write_spare(SpareKind::Map, target.era, sequence as u64);
     media.program(at, page, &spare)?;
@@ -95,7 +95,8 @@ fn program_maps<M: Media>(
     Ok(())
 }
 
-/// Programs the seal of a checkpoint, over so many map pages with so many records.
+/// Programs the seal of a checkpoint, over so many map pages with so many records, with the totals of their
+/// entries.
 pub(crate) fn program_seal<M: Media>(
     media: &mut M,
     page: &mut Block,
@@ -103,19 +104,20 @@ pub(crate) fn program_seal<M: Media>(
     target: &Target,
     pages: u32,
     records: u32,
+    totals: &Totals,
 ) -> Result<(), MediaError>
     requires shape { FitsOn geometry.now (M.state media.old).contents.shape }
     requires room { pages < checkpoint_pages geometry.now }
     requires ready { IsNextPage (checkpoint_at geometry.now target.now.region pages) (M.state media.old).contents.flash }
-    ensures done { OnOk result (Programmed (IsSealPage geometry.now target.now.era pages records)
+    ensures done { OnOk result (Programmed (IsSealPage geometry.now totals.now target.now.era pages records)
         (checkpoint_at geometry.now target.now.region pages) (M.state media.old).contents.flash (M.state media.new).contents.flash) }
     ensures counts { OnOk result ((M.state media.new).counts ≡ program_counted (M.state media.old).counts) }
-    ensures pages { LeavesOne (IsSealPage geometry.now target.now.era pages records) (checkpoint_at geometry.now target.now.region pages)
+    ensures pages { LeavesOne (IsSealPage geometry.now totals.now target.now.era pages records) (checkpoint_at geometry.now target.now.region pages)
         (M.state media.old).contents.flash (M.state media.new).contents.flash }
     ensures programs { OnOk result (ProgramsPages 1 (M.state media.old) (M.state media.new)) }
     ensures drives { OnlyDrives (M.state media.old) (M.state media.new) result }
 {
-    write_numbers(page, geometry, target.era, pages, records);
+    write_numbers(page, geometry, target.era, pages, records, totals);
     let at = geometry.checkpoint_at(target.region, pages);
     let spare = write_spare(SpareKind::Seal, target.era, pages as u64);
     media.program(at, page, &spare)?;
@@ -129,6 +131,16 @@ fn page_count(geometry: &Geometry, records: u32) -> u32
 {
     let full = geometry.q();
     (records + full - 1) / full
+}
+
+/// How many entries a map has, and how many dirty ones.
+fn totals_of(map: &Map) -> Totals
+    ensures { result ≡ totals_of map.now.entries }
+{
+    Totals {
+        entries: map.held(),
+        dirty: map.dirty_entries(),
+    }
 }
 
 /// Erases a checkpoint region and its log, programs the map and seals it.
@@ -146,22 +158,23 @@ pub(crate) fn write_checkpoint<M: Media>(
     requires asked { length asked.old ≡ asked_records geometry.now }
     ensures asked { length asked.new ≡ asked_records geometry.now }
     ensures listing { IsCheckpointOf geometry.now map.now.entries map.now.records }
-    ensures done { OnOk result (IsWritten geometry.now target.now.region target.now.era map.now.records (M.state media.old).contents.flash
-        (M.state media.new).contents.flash) }
+    ensures done { OnOk result (IsWritten geometry.now target.now.region target.now.era map.now.records (totals_of map.now.entries)
+        (M.state media.old).contents.flash (M.state media.new).contents.flash) }
     ensures counts { OnOk result ((M.state media.new).counts ≡ checkpoint_counted geometry.now (map_pages geometry.now map.now.records)
         (M.state media.old).counts) }
     ensures pages { IsUnsealed geometry.now target.now.region (M.state media.old).contents.flash.page
         (M.state media.new).contents.flash.page
-        ⊎ IsSealed geometry.now target.now.region target.now.era map.now.records (M.state media.old).contents.flash.page
-        (M.state media.new).contents.flash.page }
+        ⊎ IsSealed geometry.now target.now.region target.now.era map.now.records (totals_of map.now.entries)
+        (M.state media.old).contents.flash.page (M.state media.new).contents.flash.page }
     ensures programs { OnOk result (ProgramsPages 1 (M.state media.old) (M.state media.new)) }
     ensures drives { OnlyDrives (M.state media.old) (M.state media.new) result }
 {
     let records = map.checkpoint_len();
     let pages = page_count(geometry, records);
+    let totals = totals_of(map);
     erase_regions(media, geometry, target.region)?;
     program_maps(media, page, asked, geometry, map, target, pages)?;
     // The seal last: until it is whole the old checkpoint counts.
-    program_seal(media, page, geometry, target, pages, records)?;
+    program_seal(media, page, geometry, target, pages, records, &totals)?;
     Ok(())
 }

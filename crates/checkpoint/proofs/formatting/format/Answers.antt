@@ -1,7 +1,7 @@
 use Rattle.std.proofs.Common.{◌+◌, ◌*◌, ap}
 use Rattle.std.proofs.lemmas.Result.{on_ok_weaker}
 use Rattle.checkpoint.proofs.CountsLemmas.{format_made}
-use Rattle.checkpoint.proofs.FormatLemmas.{format_begins}
+use Rattle.checkpoint.proofs.FormatLemmas.{format_begins, no_totals}
 use Rattle.checkpoint.proofs.WrittenLemmas.{seal_spares}
 use Rattle.checkpoint.proofs.formatting.format.Goals as goal
 
@@ -17,7 +17,7 @@ returns-clause-begins g c = on_ok_weaker c.program_seal.result
 
 pub returns-clause-spares : goal.returns-clause-spares
 returns-clause-spares g c = on_ok_weaker c.program_seal.result
-    (seal_spares c.args.geometry.now 0 0 (g.M.Media.state c.erase_blocks.new.media).contents.flash (g.M.Media.state c.program_seal.new.media).contents.flash)
+    (seal_spares c.args.geometry.now no_totals 0 0 (g.M.Media.state c.erase_blocks.new.media).contents.flash (g.M.Media.state c.program_seal.new.media).contents.flash)
     c.program_seal.ensures.done
 
 pub returns-clause-counts : goal.returns-clause-counts

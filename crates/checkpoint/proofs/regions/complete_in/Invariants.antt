@@ -9,7 +9,7 @@ invariant-loop-sequence g l =
     let old = g.M.Media.state l.fn.media in
     let now = g.M.Media.state l.media in
     record {
-      walked : WalkedTo l.geometry l.region old.contents.flash.page l.walk.era l.sequence l.walk.records;
+      walked : WalkedTo l.geometry l.region old.contents.flash.page l.walk.stamp l.sequence l.walk.records;
       few : l.walk.records ≤ most_page_records * l.sequence;
       reads : ReadsFlash old now false false;
     }

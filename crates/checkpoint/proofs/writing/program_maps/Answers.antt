@@ -4,7 +4,7 @@ use Rattle.ft_base.specs.declared.record.Record.{Record}
 use Rattle.ft_base.specs.Layout.{checkpoint_at}
 use Rattle.ft_media.proofs.DrivesLemmas.{drives_none, drives_then}
 use Rattle.cache_model.specs.declared.format.PageKind.TheVariants.{Map}
-use Rattle.cache_model.specs.Spelling.{may_stand_in}
+use Rattle.cache_model.specs.Spelling.{is_wide, may_stand_in}
 use Rattle.checkpoint.specs.Regions.{IsMapPage, LeavesOne, Programmed, part}
 use Rattle.checkpoint.proofs.AskedLemmas.{asked_next}
 use Rattle.checkpoint.proofs.CountingLemmas.{more_left, records_bounded}
@@ -32,7 +32,7 @@ program_map-requires-clause-kinds g c =
     let rs = c.args.map.now.records in
     let i = c.loop-sequence.sequence in
     let own : c.records_of-records.result.now ≡ part x rs i = c.records_of-records.ensures in
-    ap (list_all (may_stand_in Map)) own ∙ part_sound x c.args.map.now.entries c.requires.can.is_map rs c.requires.can.listing i
+    ap (list_all (may_stand_in (is_wide 2 x.p) Map)) own ∙ part_sound x c.args.map.now.entries c.requires.can.is_map rs c.requires.can.listing i
 
 pub program_map-requires-clause-some : goal.program_map-requires-clause-some
 program_map-requires-clause-some g c =
@@ -54,7 +54,7 @@ returns-in_err-program_map-clause-pages g c =
     let after = (g.M.Media.state c.program_map.new.media).contents.flash in
     let own : c.records_of-records.result.now ≡ part x rs i = c.records_of-records.ensures in
     maps_left x c.args.target.now.region c.args.target.now.era rs i (g.M.Media.state c.args.media.now).contents.flash before c.loop-sequence.invariant.maps after (omega arith)
-    (subst (λ (qs : List Record). LeavesOne (IsMapPage c.args.target.now.era i qs) (checkpoint_at x c.args.target.now.region i) before after) own c.program_map.ensures.pages)
+    (subst (λ (qs : List Record). LeavesOne (IsMapPage c.args.geometry.now c.args.target.now.era i qs) (checkpoint_at x c.args.target.now.region i) before after) own c.program_map.ensures.pages)
 
 pub returns-in_err-program_map-clause-drives : goal.returns-in_err-program_map-clause-drives
 returns-in_err-program_map-clause-drives g c = only_failed _ _ _ _ _ c.loop-sequence.invariant.drives c.in_err-program_map.ensures.drives (search rules)
@@ -78,7 +78,7 @@ loop-sequence-preserved g c =
     let own : c.records_of-records.result.now ≡ part x rs i = c.records_of-records.ensures in
     record {
       maps = maps_more x c.args.target.now.region c.args.target.now.era rs i (g.M.Media.state c.args.media.now).contents.flash before c.loop-sequence.invariant.maps after (omega arith)
-          (subst (λ (qs : List Record). Programmed (IsMapPage c.args.target.now.era i qs) (checkpoint_at x c.args.target.now.region i) before after) own c.in_ok-program_map.ensures.done);
+          (subst (λ (qs : List Record). Programmed (IsMapPage c.args.geometry.now c.args.target.now.era i qs) (checkpoint_at x c.args.target.now.region i) before after) own c.in_ok-program_map.ensures.done);
       counts = programs_more i (g.M.Media.state c.args.media.now).counts (g.M.Media.state c.loop-sequence.media).counts (g.M.Media.state c.program_map.new.media).counts c.loop-sequence.invariant.counts c.in_ok-program_map.ensures.counts;
       drives = drives_then (g.M.Media.state c.args.media.now) (g.M.Media.state c.loop-sequence.media) (g.M.Media.state c.program_map.new.media) _ _ c.loop-sequence.invariant.drives c.in_ok-program_map.ensures.drives.flash;
       room = c.ask.ensures.room;

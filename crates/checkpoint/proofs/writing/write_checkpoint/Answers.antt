@@ -8,6 +8,7 @@ use Rattle.checkpoint.proofs.OnlyLemmas.{only_failed}
 use Rattle.checkpoint.proofs.MapsLemmas.{maps_ready}
 use Rattle.checkpoint.proofs.WrittenLemmas.{maps_unsealed, seal_left, seal_done}
 use Rattle.ft_base.specs.Layout.{page_records, rounded_up}
+use Rattle.checkpoint.specs.Regions.{totals_of}
 use Rattle.checkpoint.proofs.writing.write_checkpoint.Goals as goal
 
 pub page_count-pages-requires : goal.page_count-pages-requires
@@ -47,7 +48,7 @@ program_seal-requires-clause-ready g c =
 pub returns-in_err-program_seal-clause-pages : goal.returns-in_err-program_seal-clause-pages
 returns-in_err-program_seal-clause-pages g c =
     let same = c.checkpoint_len-records.ensures.count in
-    seal_left c.args.geometry.now c.args.target.now.region c.args.target.now.era c.args.map.now.records c.args.target.now.one_of_two _ c.checkpoint_len-records.result (c.page_count-pages.ensures ∙ ap (λ n. rounded_up n (page_records c.args.geometry.now)) same) same
+    seal_left c.args.geometry.now c.args.target.now.region c.args.target.now.era c.args.map.now.records (totals_of c.args.map.now.entries) c.totals_of-totals.result c.totals_of-totals.ensures c.args.target.now.one_of_two _ c.checkpoint_len-records.result (c.page_count-pages.ensures ∙ ap (λ n. rounded_up n (page_records c.args.geometry.now)) same) same
     (pages_fit c.args.map.now.geometry c.args.geometry.now c.args.map.now.entries c.args.map.now.records c.checkpoint_len-records.result c.page_count-pages.result c.page_count-pages.ensures c.requires.map c.requires.is_map c.checkpoint_len-records.ensures.listing c.checkpoint_len-records.ensures.count)
     (g.M.Media.state c.args.media.now).contents.flash (g.M.Media.state c.erase_regions.new.media).contents.flash (g.M.Media.state c.program_maps.new.media).contents.flash
     (g.M.Media.state c.program_seal.new.media).contents.flash c.in_ok-erase_regions.ensures.done c.in_ok-program_maps.ensures.done c.program_seal.ensures.pages
@@ -60,7 +61,7 @@ returns-in_err-program_seal-clause-drives g c = only_failed _ _ _ _ _
 pub returns-clause-done : goal.returns-clause-done
 returns-clause-done g c =
     let same = c.checkpoint_len-records.ensures.count in
-    seal_done c.args.geometry.now c.args.target.now.region c.args.target.now.era c.args.map.now.records c.args.target.now.one_of_two _ c.checkpoint_len-records.result (c.page_count-pages.ensures ∙ ap (λ n. rounded_up n (page_records c.args.geometry.now)) same) same
+    seal_done c.args.geometry.now c.args.target.now.region c.args.target.now.era c.args.map.now.records (totals_of c.args.map.now.entries) c.totals_of-totals.result c.totals_of-totals.ensures c.args.target.now.one_of_two _ c.checkpoint_len-records.result (c.page_count-pages.ensures ∙ ap (λ n. rounded_up n (page_records c.args.geometry.now)) same) same
     (pages_fit c.args.map.now.geometry c.args.geometry.now c.args.map.now.entries c.args.map.now.records c.checkpoint_len-records.result c.page_count-pages.result c.page_count-pages.ensures c.requires.map c.requires.is_map c.checkpoint_len-records.ensures.listing c.checkpoint_len-records.ensures.count)
     (g.M.Media.state c.args.media.now).contents.flash (g.M.Media.state c.erase_regions.new.media).contents.flash (g.M.Media.state c.program_maps.new.media).contents.flash
     (g.M.Media.state c.program_seal.new.media).contents.flash c.in_ok-erase_regions.ensures.done c.in_ok-program_maps.ensures.done c.in_ok-program_seal.ensures.done
@@ -68,7 +69,7 @@ returns-clause-done g c =
 pub returns-clause-pages : goal.returns-clause-pages
 returns-clause-pages g c =
     let same = c.checkpoint_len-records.ensures.count in
-    seal_left c.args.geometry.now c.args.target.now.region c.args.target.now.era c.args.map.now.records c.args.target.now.one_of_two _ c.checkpoint_len-records.result (c.page_count-pages.ensures ∙ ap (λ n. rounded_up n (page_records c.args.geometry.now)) same) same
+    seal_left c.args.geometry.now c.args.target.now.region c.args.target.now.era c.args.map.now.records (totals_of c.args.map.now.entries) c.totals_of-totals.result c.totals_of-totals.ensures c.args.target.now.one_of_two _ c.checkpoint_len-records.result (c.page_count-pages.ensures ∙ ap (λ n. rounded_up n (page_records c.args.geometry.now)) same) same
     (pages_fit c.args.map.now.geometry c.args.geometry.now c.args.map.now.entries c.args.map.now.records c.checkpoint_len-records.result c.page_count-pages.result c.page_count-pages.ensures c.requires.map c.requires.is_map c.checkpoint_len-records.ensures.listing c.checkpoint_len-records.ensures.count)
     (g.M.Media.state c.args.media.now).contents.flash (g.M.Media.state c.erase_regions.new.media).contents.flash (g.M.Media.state c.program_maps.new.media).contents.flash
     (g.M.Media.state c.program_seal.new.media).contents.flash c.in_ok-erase_regions.ensures.done c.in_ok-program_maps.ensures.done c.program_seal.ensures.pages
