@@ -1,5 +1,5 @@
 -- The steps of a loading, one after the other.
-use Rattle.std.proofs.Common.{◌≡◌, ℕ, ◌≤◌, Result, Ok, Err, false, sym, ◌∙◌, ap, ap₂, subst}
+use Rattle.std.proofs.Common.{◌≡◌, ℕ, ◌≤◌, Result, Ok, Err, true, false, cond, sym, ◌∙◌, ap, ap₂, subst}
 use Rattle.std.specs.FinMap.{entries}
 use Rattle.std.specs.Result.{IsErrAnd}
 use Rattle.ft_base.specs.declared.geometry.Geometry.{Geometry}
@@ -11,7 +11,8 @@ use Rattle.ft_media.specs.Reads.{ReadsFlash}
 use Rattle.ft_media.proofs.DrivesLemmas.{reads_then}
 use Rattle.cache_model.specs.declared.format.PageKind.TheVariants.{Log, Map}
 use Rattle.cache_model.specs.Records.{Entries, no_entries}
-use Rattle.cache_model.specs.Loading.{Refusal, ◌>>=◌, Complete, pages_from, after_pages, log_region, checkpoint_of, replayed, replayed_entries, all_whole, load}
+use Rattle.cache_model.specs.Loading.{Refusal, ◌>>=◌, Complete, are_totals, counted, pages_from, after_pages, log_region, checkpoint_of, replayed, replayed_entries, all_whole, load}
+use Rattle.cache_model.specs.Loading.Refusal.{Damaged as damaged}
 use Rattle.cache_model.specs.Entries.{IsMap}
 use Rattle.cache_model.proofs.FitsLemmas.{no_entries-map}
 use Rattle.mapping.specs.MapValue.{MapValue}
@@ -25,26 +26,40 @@ use Rattle.recovery.proofs.RefusalLemmas.{bind_refused, then_refused}
 
 -- the map pages of a checkpoint, from no entries on
 abbrev pub maps_applied : Geometry → (Place → Page) → ℕ × Complete → Entries → Result Entries Refusal
-maps_applied g page c m = after_pages g Map c.1.era (checkpoint_at g c.0) 0 (pages_from page (checkpoint_at g c.0) 0 c.1.pages) m
+maps_applied g page c m = after_pages g Map c.1.stamp (checkpoint_at g c.0) 0 (pages_from page (checkpoint_at g c.0) 0 c.1.pages) m
 
 -- and the pages of its log
 abbrev pub log_applied : Geometry → (Place → Page) → ℕ × Complete → Entries → Result Entries Refusal
-log_applied g page c m = after_pages g Log c.1.era (log_at g c.0) 0 (log_region g page c.0) m
+log_applied g page c m = after_pages g Log c.1.stamp (log_at g c.0) 0 (log_region g page c.0) m
 
 module _ (g : Geometry) (page : Place → Page) (c : ℕ × Complete) (within : c.1.pages ≤ checkpoint_pages g) (none : Entries) (empty : none ≡ no_entries) where
-  pub both_parts : replayed g page c ≡ (maps_applied g page c none >>= log_applied g page c)
+  pub all_parts : replayed g page c ≡ (maps_applied g page c none >>= counted g c >>= log_applied g page c)
   unfolding replayed
-  both_parts = ap₂ (λ ps m. after_pages g Map c.1.era (checkpoint_at g c.0) 0 ps m >>= log_applied g page c) (take-pages page (checkpoint_at g c.0) 0 c.1.pages (checkpoint_pages g) within) (sym empty)
+  all_parts = ap₂ (λ ps m. after_pages g Map c.1.stamp (checkpoint_at g c.0) 0 ps m >>= counted g c >>= log_applied g page c) (take-pages page (checkpoint_at g c.0) 0 c.1.pages (checkpoint_pages g) within) (sym empty)
 
   pub maps_refused : (e : OpenError) → IsRefusal g e (maps_applied g page c none) → IsRefusal g e (replayed g page c)
-  maps_refused e is = subst (λ r. IsRefusal g e r) (sym both_parts) (bind_refused g e (maps_applied g page c none) (log_applied g page c) is)
+  maps_refused e is = subst (λ r. IsRefusal g e r) (sym all_parts) (bind_refused g e (maps_applied g page c none >>= counted g c) (log_applied g page c) (bind_refused g e (maps_applied g page c none) (counted g c) is))
 
-  module _ (m : Entries) (maps : maps_applied g page c none ≡ Ok m) (page' : Place → Page) (pages : page' ≡ page) where
-    pub log_refused : (e : OpenError) → IsRefusal g e (log_applied g page' c m) → IsRefusal g e (replayed g page c)
-    log_refused e is = subst (λ r. IsRefusal g e r) (sym both_parts) (then_refused g e (maps_applied g page c none) m (log_applied g page c) maps (subst (λ (p : Place → Page). IsRefusal g e (log_applied g p c m)) pages is))
+  module _ (m : Entries) (maps : maps_applied g page c none ≡ Ok m) where
+    -- the entries aren't those that the seal says
+    pub miscounted : (seal : Place) → seal ≡ checkpoint_at g c.0 c.1.pages → are_totals c.1.seal.totals m ≡ false → replayed g page c ≡ Err (damaged seal)
+    miscounted seal here other =
+        all_parts
+        ∙ ap (λ r. r >>= counted g c >>= log_applied g page c) maps
+        ∙ ap (λ b. cond b (Ok m) (Err (damaged (checkpoint_at g c.0 c.1.pages))) >>= log_applied g page c) other
+        ∙ ap (λ at. Err (damaged at)) (sym here)
 
-    pub log_rolled : (n : Entries) → log_applied g page' c m ≡ Ok n → replayed g page c ≡ Ok n
-    log_rolled n is = both_parts ∙ ap (λ r. r >>= log_applied g page c) maps ∙ ap (λ (p : Place → Page). log_applied g p c m) (sym pages) ∙ is
+    module _ (same : are_totals c.1.seal.totals m ≡ true) where
+      pub counted_maps : (maps_applied g page c none >>= counted g c) ≡ Ok m
+      counted_maps = ap (λ r. r >>= counted g c) maps ∙ ap (λ b. cond b (Ok m) (Err (damaged (checkpoint_at g c.0 c.1.pages)))) same
+
+      module _ (page' : Place → Page) (pages : page' ≡ page) where
+        pub log_refused : (e : OpenError) → IsRefusal g e (log_applied g page' c m) → IsRefusal g e (replayed g page c)
+        log_refused e is = subst (λ r. IsRefusal g e r) (sym all_parts)
+            (then_refused g e (maps_applied g page c none >>= counted g c) m (log_applied g page c) counted_maps (subst (λ (p : Place → Page). IsRefusal g e (log_applied g p c m)) pages is))
+
+        pub log_rolled : (n : Entries) → log_applied g page' c m ≡ Ok n → replayed g page c ≡ Ok n
+        log_rolled n is = all_parts ∙ ap (λ r. r >>= log_applied g page c) counted_maps ∙ ap (λ (p : Place → Page). log_applied g p c m) (sym pages) ∙ is
 
 -- ---- the whole loading
 

@@ -14,4 +14,4 @@ pub record IsLoaded (g : Geometry) (page : Place → Page) (loaded : Loaded) : T
   pub few : HasFewBuckets loaded.map
   pub newest : Complete
   pub chosen : checkpoint_of g page ≡ Ok (loaded.region, newest)
-  pub era : newest.era ≡ loaded.era
+  pub era : newest.stamp.era ≡ loaded.era

@@ -1,5 +1,5 @@
 -- A flash as a list of its pages, and what is loaded from it.
-use Rattle.std.specs.Prelude.{◌≡◌, ℕ, ◌+◌, ◌*◌, List, slice_index_or, Result, Ok, Err}
+use Rattle.std.specs.Prelude.{◌≡◌, ℕ, ◌+◌, ◌*◌, List, Option, slice_index_or, Result, Ok, Err}
 use Rattle.ft_base.specs.declared.geometry.Geometry.{Geometry}
 use Rattle.ft_base.specs.declared.block.Place.{Place}
 use Rattle.ft_base.specs.declared.block.Page.{Page}
@@ -8,21 +8,31 @@ use Rattle.ft_base.specs.Layout.{checkpoint_at, checkpoint_pages, log_at, log_pa
 use Rattle.cache_model.specs.declared.format.PageKind.{PageKind}
 use Rattle.cache_model.specs.declared.format.PageKind.TheVariants.{Log, Map, Seal}
 use Rattle.cache_model.specs.Records.{Entries}
-use Rattle.cache_model.specs.Loading.{Complete, Refusal, complete}
+use Rattle.cache_model.specs.declared.format.Seal.{Seal as SealValue}
+use Rattle.cache_model.specs.declared.format.Totals.{Totals}
+use Rattle.cache_model.specs.Loading.{Complete, Refusal, Sealed, Stamp, complete}
 use Rattle.cache_model.specs.Loading as loading
 use Rattle.recovery.specs.declared.plain.PlainLoad.{PlainLoad}
 use Rattle.recovery.specs.declared.plain.PlainLoad.TheVariants.{Loaded, NotFormatted, OtherGeometry, Damaged}
-use Rattle.recovery.specs.declared.plain.regions.Sealed.{Sealed}
+use Rattle.recovery.specs.declared.plain.pages.Stamp.{Stamp as Read}
+use Rattle.recovery.specs.declared.plain.regions.Sealed.{Sealed as Found}
 
 -- the page at a place: the list has those of each erase block in turn, and behind its last all are blank
 abbrev pub page_listed : Geometry → List Page → Place → Page
 page_listed g pages at = slice_index_or pages (at.block * g.p + at.page) Blank
 
--- a complete checkpoint, and a region with one
-abbrev pub complete_of : Sealed → Complete
-complete_of s = complete s.era s.pages s.seal
+-- a stamp, as loading names it, and what a seal says
+abbrev pub named : Read → Stamp
+named stamp = record { format = stamp.format; era = stamp.era }
 
-abbrev pub complete_in : ℕ × Sealed → ℕ × Complete
+abbrev pub sealed_with : SealValue × Option Totals → Sealed
+sealed_with x = record { seal = x.0; totals = x.1 }
+
+-- a complete checkpoint, and a region with one
+abbrev pub complete_of : Found → Complete
+complete_of s = complete (named s.stamp) s.pages (sealed_with (s.seal, s.totals))
+
+abbrev pub complete_in : ℕ × Found → ℕ × Complete
 complete_in x = (x.0, complete_of x.1)
 
 -- where the pages of a kind lie, and how many a region has

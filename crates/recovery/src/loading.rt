@@ -4,16 +4,17 @@ ghost use Rattle.ft_base.specs.Layout.{checkpoint_at, checkpoint_pages};
 ghost use Rattle.ft_media.specs.Reads.{ReadsFlash};
 ghost use Rattle.cache_model.specs.declared.format.PageKind.TheVariants.{Map as map_page};
 ghost use Rattle.cache_model.specs.Records.{no_entries};
-ghost use Rattle.cache_model.specs.Loading.{after_pages, load, pages_from, replayed};
+ghost use Rattle.cache_model.specs.Loading.{after_pages, are_totals, load, pages_from, replayed};
 ghost use Rattle.mapping.specs.Room.{KeepsFewBuckets};
 ghost use Rattle.op_log.specs.Log.{FitsOn};
+ghost use Rattle.op_log.specs.Stamps.{named};
 ghost use Rattle.op_log.specs.Refusals.{open_failed, open_lost, IsRefusal};
 ghost use Rattle.checkpoint.specs.Found.{found_in};
 ghost use Rattle.recovery.specs.Loaded.{IsLoaded};
 
 use crate::finding::find_checkpoint;
 use crate::places::look_at_places;
-use cache_model::PageKind;
+use cache_model::{PageKind, Totals};
 use checkpoint::Newest;
 use ft_base::Geometry;
 use ft_media::Media;
@@ -32,8 +33,8 @@ pub struct Loaded {
     pub era: u8,
 }
 
-/// Loads the map from the flash: the newest checkpoint, its log, and a look at each entry's page. It
-/// writes nothing. Its time grows with the pages that it reads, with P for each of their records, with the
+/// Loads the map from the flash: the newest checkpoint, of either format, its log, and a look at each entry's
+/// page. It writes nothing. Its time grows with the pages that it reads, with P for each of their records, with the
 /// pages of the pool, and with one sort of the addresses held.
 pub fn load<M: Media>(
     alloc: Global,
@@ -52,11 +53,12 @@ pub fn load<M: Media>(
     Ok(Loaded {
         map,
         region: newest.region,
-        era: newest.era,
+        era: newest.stamp.era,
     })
 }
 
-/// Applies a checkpoint and then its log to an empty map.
+/// Applies a checkpoint and then its log to an empty map. Between the two the entries are counted, where the
+/// seal says how many there are.
 fn replay<M: Media>(
     media: &mut M,
     geometry: &Geometry,
@@ -65,7 +67,7 @@ fn replay<M: Media>(
 ) -> Result<(), OpenError>
     requires shape { FitsOn geometry.now (M.state media.old).contents.shape }
     requires region { newest.now.region < 2 }
-    requires pages { newest.now.pages ≤ checkpoint_pages geometry.now }
+    requires pages { newest.now.pages < checkpoint_pages geometry.now }
     requires map { map.old.geometry ≡ geometry.now }
     requires nothing { map.old.entries ≡ no_entries }
     ensures geometry { map.new.geometry ≡ map.old.geometry }
@@ -77,8 +79,25 @@ fn replay<M: Media>(
     ensures reads { ReadsFlash (M.state media.old) (M.state media.new) (open_failed result) (open_lost result) }
 {
     apply_maps(media, geometry, newest, map)?;
-    roll(media, geometry, newest.region, newest.era, map)?;
+    if !has_totals(&newest.totals, map) {
+        let seal = geometry.checkpoint_at(newest.region, newest.pages);
+        return Err(OpenError::Damaged {
+            block: seal.block,
+            page: seal.page,
+        });
+    }
+    roll(media, geometry, newest.region, newest.stamp, map)?;
     Ok(())
+}
+
+/// Whether the map has so many entries, and so many dirty ones, where totals are told.
+fn has_totals(totals: &Option<Totals>, map: &Map) -> bool
+    ensures { result ≡ are_totals totals.now map.now.entries }
+{
+    match *totals {
+        None => true,
+        Some(told) => told.entries == map.held() && told.dirty == map.dirty_entries(),
+    }
 }
 
 /// Applies the map pages of a checkpoint.
@@ -94,18 +113,18 @@ fn apply_maps<M: Media>(
     requires map { map.old.geometry ≡ geometry.now }
     ensures geometry { map.new.geometry ≡ map.old.geometry }
     ensures few { OnOk result (KeepsFewBuckets map.old map.new) }
-    ensures applied { OnOk result (after_pages geometry.now map_page newest.now.era (checkpoint_at geometry.now newest.now.region) 0
+    ensures applied { OnOk result (after_pages geometry.now map_page (named newest.now.stamp) (checkpoint_at geometry.now newest.now.region) 0
         (pages_from (M.state media.old).contents.flash.page (checkpoint_at geometry.now newest.now.region) 0 newest.now.pages)
         map.old.entries ≡ Ok map.new.entries) }
     ensures refused { IfErr result (λ e. IsRefusal geometry.now e
-        (after_pages geometry.now map_page newest.now.era (checkpoint_at geometry.now newest.now.region) 0
+        (after_pages geometry.now map_page (named newest.now.stamp) (checkpoint_at geometry.now newest.now.region) 0
         (pages_from (M.state media.old).contents.flash.page (checkpoint_at geometry.now newest.now.region) 0 newest.now.pages)
         map.old.entries)) }
     ensures reads { ReadsFlash (M.state media.old) (M.state media.new) (open_failed result) (open_lost result) }
 {
     for i in 0..newest.pages {
         let at = geometry.checkpoint_at(newest.region, i);
-        if !apply_page(media, geometry, at, PageKind::Map, newest.era, i, map)? {
+        if !apply_page(media, geometry, at, PageKind::Map, newest.stamp, i, map)? {
             return Ok(());
         }
     }

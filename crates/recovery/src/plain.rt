@@ -30,7 +30,8 @@ pub enum PlainLoad {
     NotFormatted,
     /// Its newest checkpoint was made for these numbers, and not for those asked for.
     OtherGeometry(Seal),
-    /// The records of this page can't be read or don't fit, or it is that of an entry and isn't whole.
+    /// The records of this page can't be read or don't fit, or it is a seal and the entries are not as many as it
+    /// says, or it is that of an entry and isn't whole.
     Damaged(Place),
 }
 

@@ -3,30 +3,31 @@ ghost use Rattle.ft_base.specs.Layout.{checkpoint_pages};
 ghost use Rattle.cache_model.specs.Reading.{read_records as records_read, read_page_header as header_read};
 ghost use Rattle.cache_model.specs.Records.{no_entries};
 ghost use Rattle.cache_model.specs.Loading as loading;
-ghost use Rattle.recovery.specs.Plain.{page_listed, place_of, region_pages, complete_of};
+ghost use Rattle.recovery.specs.Plain.{page_listed, place_of, region_pages, complete_of, named};
 
-use crate::plain::pages::{header_at, page_at};
+use crate::plain::pages::{Stamp, header_at, page_at};
 use crate::plain::regions::Sealed;
-use cache_model::{Header, PageKind};
+use cache_model::{Header, PageKind, Totals};
 use ft_base::{Block, Geometry, Page, Place, Record};
 use mapping::Map;
 use record_codec::read_records;
 use std::alloc::AllocError;
 
-/// Pages of one kind and era, from the start of a region on.
+/// Pages of one kind and stamp, from the start of a region on.
 #[derive(Clone, Copy, Debug, PartialEq, Eq)]
 pub(crate) struct Part {
     /// Map pages or log pages.
     kind: PageKind,
     /// The region, 0 or 1.
     region: u32,
-    /// Their era.
-    era: u8,
+    /// Their format and their era.
+    stamp: Stamp,
     /// How many there may be.
     pages: u32,
 }
 
-/// Applies a checkpoint and its log to an empty map, up to the first damaged page, which is answered.
+/// Applies a checkpoint and its log to an empty map, up to the first damaged page, which is answered. Between
+/// the two the entries are counted: the seal is damaged where it says that there are more or fewer.
 pub(crate) fn replay(
     pages: &[Page],
     geometry: &Geometry,
@@ -35,7 +36,7 @@ pub(crate) fn replay(
     map: &mut Map,
 ) -> Result<Option<Place>, AllocError>
     requires region { region < 2 }
-    requires pages { sealed.now.pages ≤ checkpoint_pages geometry.now }
+    requires pages { sealed.now.pages < checkpoint_pages geometry.now }
     requires map { map.old.geometry ≡ geometry.now }
     requires nothing { map.old.entries ≡ no_entries }
     ensures geometry { map.new.geometry ≡ map.old.geometry }
@@ -47,20 +48,33 @@ pub(crate) fn replay(
     let maps = Part {
         kind: PageKind::Map,
         region,
-        era: sealed.era,
+        stamp: sealed.stamp,
         pages: sealed.pages,
     };
     if let Some(at) = apply_part(pages, geometry, &maps, map)? {
         return Ok(Some(at));
     }
+    if !are_totals(&sealed.totals, map) {
+        return Ok(Some(geometry.checkpoint_at(region, sealed.pages)));
+    }
     let log = Part {
         kind: PageKind::Log,
         region,
-        era: sealed.era,
+        stamp: sealed.stamp,
         pages: geometry.j * geometry.p,
     };
     let damaged = apply_part(pages, geometry, &log, map)?;
     Ok(damaged)
+}
+
+/// Whether a map has as many entries, and as many dirty ones, as totals say, where there are any.
+fn are_totals(totals: &Option<Totals>, map: &Map) -> bool
+    ensures { result ≡ loading.are_totals totals.now map.now.entries }
+{
+    let Some(told) = *totals else {
+        return true;
+    };
+    told.entries == map.held() && told.dirty == map.dirty_entries()
 }
 
 /// Applies pages in order, up to the first that is none of them, or the first damaged one, which is
@@ -76,20 +90,20 @@ fn apply_part(
     requires map { map.old.geometry ≡ geometry.now }
     ensures geometry { map.new.geometry ≡ map.old.geometry }
     ensures applied { IfOk result (λ damaged. MatchOption damaged
-        (loading.after_pages geometry.now part.now.kind part.now.era (place_of part.now.kind geometry.now part.now.region) 0
+        (loading.after_pages geometry.now part.now.kind (named part.now.stamp) (place_of part.now.kind geometry.now part.now.region) 0
         (loading.pages_from (page_listed geometry.now pages.now) (place_of part.now.kind geometry.now part.now.region) 0 part.now.pages)
         map.old.entries ≡ Ok map.new.entries)
-        (λ at. loading.after_pages geometry.now part.now.kind part.now.era (place_of part.now.kind geometry.now part.now.region) 0
+        (λ at. loading.after_pages geometry.now part.now.kind (named part.now.stamp) (place_of part.now.kind geometry.now part.now.region) 0
         (loading.pages_from (page_listed geometry.now pages.now) (place_of part.now.kind geometry.now part.now.region) 0 part.now.pages)
         map.old.entries ≡ Err (loading.Damaged at))) }
 {
     for i in 0..part.pages {
         let at = place_in(geometry, part.kind, part.region, i);
         let page = page_at(pages, geometry, at);
-        let Some(header) = header_at(&page, part.kind, part.era, i) else {
+        let Some(header) = header_at(&page, part.kind, part.stamp, i) else {
             return Ok(None);
         };
-        if !apply_page(&page, &header, map)? {
+        if !apply_page(&page, &header, geometry.p, map)? {
             return Ok(Some(at));
         }
     }
@@ -108,19 +122,19 @@ fn place_in(geometry: &Geometry, kind: PageKind, region: u32, i: u32) -> Place
     }
 }
 
-/// Applies the records of a page with this header. False where they are none, or one doesn't fit when
+/// Applies the records of a page with this header, for a cache with `p` pages in an erase block. False where they are none, or one doesn't fit when
 /// its turn comes.
-fn apply_page(page: &Page, header: &Header, map: &mut Map) -> Result<bool, AllocError>
+fn apply_page(page: &Page, header: &Header, p: u32, map: &mut Map) -> Result<bool, AllocError>
     requires { loading.said header_read page.now ≡ Some header.now }
     ensures geometry { map.new.geometry ≡ map.old.geometry }
     ensures applied { IfOk result (λ fits. option_and_then (λ changes. loading.after_all map.old.geometry changes map.old.entries)
-        (loading.said (records_read header.now) page.now) ≡ (if fits then Some map.new.entries else None)) }
+        (loading.said (records_read p header.now) page.now) ≡ (if fits then Some map.new.entries else None)) }
 {
     let Page::Whole(block, _) = page else {
         return Ok(false);
     };
     let mut changes = [Record::Remove { lba: 0 }; 127];
-    if !read_records(block, header, &mut changes) {
+    if !read_records(block, header, p, &mut changes) {
         return Ok(false);
     }
     apply_records(&changes[..header.count as usize], map)

@@ -1,11 +1,20 @@
-ghost use Rattle.std.specs.Prelude.{◌≡◌, ◌<◌, ◌≤◌, IfSome};
+ghost use Rattle.std.specs.Prelude.{◌≡◌, ◌<◌, ◌≤◌, IfSome, option_map};
 ghost use Rattle.ft_base.specs.Layout.{most_page_records};
 ghost use Rattle.cache_model.specs.Loading as loading;
 ghost use Rattle.recovery.specs.Plain as plain;
 
-use cache_model::{Header, PageKind, Seal};
+use cache_model::{Header, PageKind, Seal, Totals};
 use ft_base::{Geometry, Page, Place};
 use record_codec::{read_page_header, read_seal};
+
+/// The format and the era of a page.
+#[derive(Clone, Copy, Debug, PartialEq, Eq)]
+pub(crate) struct Stamp {
+    /// How it is spelled, 1 or 2.
+    pub(crate) format: u8,
+    /// Its era, 0 to 2.
+    pub(crate) era: u8,
+}
 
 /// The page at a place.
 pub(crate) fn page_at(pages: &[Page], geometry: &Geometry, at: Place) -> Page
@@ -28,54 +37,76 @@ pub(crate) fn is_whole(page: &Page) -> bool
     }
 }
 
-/// Whether a header is one of this kind and era, and says that its page is number `i` of its region.
-fn is_page(header: &Header, kind: PageKind, era: u8, i: u32) -> bool
-    ensures { result ≡ loading.is_page kind era i header.now }
+/// The stamp of a page with this header.
+fn stamp_of(header: &Header) -> Stamp
+    ensures { plain.named result ≡ loading.stamp_of header.now }
 {
-    header.kind == kind && header.era == era && header.sequence == i
+    Stamp {
+        format: header.format,
+        era: header.era,
+    }
 }
 
-/// The header of a page of records, where it is one of this kind and era, at its own place.
-pub(crate) fn header_at(page: &Page, kind: PageKind, era: u8, i: u32) -> Option<Header>
-    ensures value { result ≡ loading.header_at kind era i page.now }
+/// Whether a page with this header has the stamp.
+fn has_stamp(stamp: Stamp, header: &Header) -> bool
+    ensures { result ≡ loading.has_stamp (plain.named stamp) header.now }
+{
+    header.format == stamp.format && header.era == stamp.era
+}
+
+/// Whether a header is one of this kind and stamp, and says that its page is number `i` of its region.
+fn is_page(header: &Header, kind: PageKind, stamp: Stamp, i: u32) -> bool
+    ensures { result ≡ loading.is_page kind (plain.named stamp) i header.now }
+{
+    header.kind == kind && has_stamp(stamp, header) && header.sequence == i
+}
+
+/// The header of a page of records, where it is one of this kind and stamp, at its own place.
+pub(crate) fn header_at(page: &Page, kind: PageKind, stamp: Stamp, i: u32) -> Option<Header>
+    ensures value { result ≡ loading.header_at kind (plain.named stamp) i page.now }
     ensures few { IfSome result (λ h. h.count ≤ most_page_records) }
 {
     let Page::Whole(block, _) = page else {
         return None;
     };
     let header = read_page_header(block)?;
-    if !is_page(&header, kind, era, i) {
+    if !is_page(&header, kind, stamp, i) {
         return None;
     }
     Some(header)
 }
 
-/// The numbers of a seal over `i` map pages of this era with so many records.
-pub(crate) fn seal_at(page: &Page, era: u8, i: u32, count: u32) -> Option<Seal>
-    ensures { result ≡ loading.seal_at era i count page.now }
+/// What a seal says that is one over `i` map pages of this stamp with so many records.
+pub(crate) fn seal_at(
+    page: &Page,
+    stamp: Stamp,
+    i: u32,
+    count: u32,
+) -> Option<(Seal, Option<Totals>)>
+    ensures { option_map plain.sealed_with result ≡ loading.seal_at (plain.named stamp) i count page.now }
 {
     let Page::Whole(block, _) = page else {
         return None;
     };
-    let (header, seal) = read_seal(block)?;
-    if header.era != era || header.sequence != i || header.count != count {
+    let (header, seal, totals) = read_seal(block)?;
+    if !has_stamp(stamp, &header) || header.sequence != i || header.count != count {
         return None;
     }
-    Some(seal)
+    Some((seal, totals))
 }
 
-/// The era that a page of a checkpoint names.
-pub(crate) fn era_in(page: &Page) -> Option<u8>
-    ensures { result ≡ loading.era_in page.now }
+/// The stamp that a page of a checkpoint names.
+pub(crate) fn stamp_in(page: &Page) -> Option<Stamp>
+    ensures { option_map plain.named result ≡ loading.stamp_in page.now }
 {
     let Page::Whole(block, _) = page else {
         return None;
     };
     if let Some(header) = read_page_header(block) {
-        return Some(header.era);
+        return Some(stamp_of(&header));
     }
-    let (header, _) = read_seal(block)?;
-    Some(header.era)
+    let (header, _, _) = read_seal(block)?;
+    Some(stamp_of(&header))
 }
 
 /// Whether a seal has the numbers of this geometry.

@@ -1,20 +1,22 @@
 ghost use Rattle.std.specs.Prelude.{◌≡◌, ◌<◌, option_map};
 ghost use Rattle.cache_model.specs.Loading as loading;
-ghost use Rattle.recovery.specs.Plain.{page_listed, complete_of, complete_in};
+ghost use Rattle.recovery.specs.Plain.{page_listed, complete_of, complete_in, named};
 
-use crate::plain::pages::{era_in, header_at, page_at, seal_at};
-use cache_model::{PageKind, Seal};
+use crate::plain::pages::{Stamp, header_at, page_at, seal_at, stamp_in};
+use cache_model::{PageKind, Seal, Totals};
 use ft_base::{Geometry, Page};
 
 /// A complete checkpoint.
 #[derive(Clone, Copy, Debug, PartialEq, Eq)]
 pub(crate) struct Sealed {
-    /// Its era, 0 to 2.
-    pub(crate) era: u8,
+    /// Its format and its era.
+    pub(crate) stamp: Stamp,
     /// Its map pages.
     pub(crate) pages: u32,
     /// The numbers of its seal.
     pub(crate) seal: Seal,
+    /// Its totals, where its seal has any.
+    pub(crate) totals: Option<Totals>,
 }
 
 /// The region that counts, and its checkpoint.
@@ -36,7 +38,7 @@ fn chosen(first: Option<Sealed>, second: Option<Sealed>) -> Option<(u32, Sealed)
     let Some(one) = second else {
         return Some((0, zero));
     };
-    if u32::from(one.era) == (u32::from(zero.era) + 1) % 3 {
+    if u32::from(one.stamp.era) == (u32::from(zero.stamp.era) + 1) % 3 {
         return Some((1, one));
     }
     Some((0, zero))
@@ -49,27 +51,28 @@ fn checkpoint_in(pages: &[Page], geometry: &Geometry, region: u32) -> Option<Sea
         (loading.checkpoint_region geometry.now (page_listed geometry.now pages.now) region) }
 {
     let first = page_at(pages, geometry, geometry.checkpoint_at(region, 0));
-    let era = era_in(&first)?;
-    sealed_from(pages, geometry, region, era)
+    let stamp = stamp_in(&first)?;
+    sealed_from(pages, geometry, region, stamp)
 }
 
-/// The checkpoint of this era in a region: map pages, and then their seal.
-fn sealed_from(pages: &[Page], geometry: &Geometry, region: u32, era: u8) -> Option<Sealed>
+/// The checkpoint of this stamp in a region: map pages, and then their seal.
+fn sealed_from(pages: &[Page], geometry: &Geometry, region: u32, stamp: Stamp) -> Option<Sealed>
     requires { region < 2 }
-    ensures { option_map complete_of result ≡ loading.sealed_from era 0 0
+    ensures { option_map complete_of result ≡ loading.sealed_from (named stamp) 0 0
         (loading.checkpoint_region geometry.now (page_listed geometry.now pages.now) region) }
 {
     let mut count = 0;
     for i in 0..geometry.k() * geometry.p {
         let page = page_at(pages, geometry, geometry.checkpoint_at(region, i));
-        if let Some(seal) = seal_at(&page, era, i, count) {
+        if let Some((seal, totals)) = seal_at(&page, stamp, i, count) {
             return Some(Sealed {
-                era,
+                stamp,
                 pages: i,
                 seal,
+                totals,
             });
         }
-        let header = header_at(&page, PageKind::Map, era, i)?;
+        let header = header_at(&page, PageKind::Map, stamp, i)?;
         count += header.count;
     }
     None
