@@ -1,5 +1,5 @@
 -- Pages of the pool in which no entry stands may change: nothing looks at them.
-use Rattle.std.proofs.Common.{◌≡◌, ℕ, ◌<◌, ◌≤◌, ◌⊎◌, inl, inr, Option, Some, None, ok_or, Ok, refl, sym, ◌∙◌, ap, subst, arith, take, List, [], ◌∷◌, true}
+use Rattle.std.proofs.Common.{◌≡◌, ℕ, ◌<◌, ◌≤◌, ◌⊎◌, inl, inr, Option, Some, None, ok_or, Ok, refl, sym, ◌∙◌, ap, ap₂, subst, arith, take, List, [], ◌∷◌, true}
 use Rattle.std.specs.Option.{option_and_then}
 use Rattle.std.specs.FinMap.{get}
 use Rattle.ft_base.specs.declared.geometry.Geometry.{Geometry}
@@ -10,12 +10,12 @@ use Rattle.ft_base.specs.declared.block.Page.{Page}
 use Rattle.ft_base.specs.declared.block.Page.TheVariants.{Blank, Whole, Torn}
 use Rattle.ft_base.specs.declared.record.Record.{Record}
 use Rattle.ft_base.specs.Contents.{Contents, Flash, Shape, set_page}
-use Rattle.ft_base.specs.Layout.{first_pool, log_at, log_pages}
+use Rattle.ft_base.specs.Layout.{checkpoint_at, checkpoint_pages, first_pool, log_at, log_pages}
 use Rattle.ft_media.specs.Media.{LeavesPage, PagesErased}
 use Rattle.cache_model.specs.declared.entry.Entry.{Entry}
 use Rattle.cache_model.specs.declared.format.PageKind.TheVariants.{Log}
 use Rattle.cache_model.specs.Records.{Entries}
-use Rattle.cache_model.specs.Loading.{◌>>=◌, after_all, checkpoint_of, load, log_region, is_whole, wanted}
+use Rattle.cache_model.specs.Loading.{◌>>=◌, after_all, checkpoint_in, checkpoint_of, checkpoint_region, chosen, load, log_region, is_whole, newest, wanted}
 use Rattle.cache_model.specs.Loading.Refusal.{NotFormatted}
 use Rattle.cache_model.specs.Laws.{ArePages}
 use Rattle.cache_model.proofs.Alike.{LoadsAlike, SameBut}
@@ -23,6 +23,7 @@ use Rattle.cache_model.specs.CacheList.{CacheList}
 use Rattle.cache_model.specs.Stands.{FlashStandsFor, held_at, held_in}
 use Rattle.cache_model.proofs.LoadLemmas.{checkpoint_below, log_below, loaded_is, newest_below, same_for, load_same, stands_but, set_page-other, pages_from-same}
 use Rattle.mapping.specs.MapValue.{MapValue}
+use Rattle.op_log.specs.Stamps.{own_stamp}
 use Rattle.op_log.specs.Log.{LogValue, FitsOn}
 use Rattle.checkpoint.specs.Current.{IsCurrent, IsOpenLog}
 use Rattle.checkpoint.proofs.SealedLemmas.{current_low}
@@ -62,6 +63,13 @@ checkpoint_alike g page page' alike = ap (λ n. ok_or n NotFormatted >>= wanted 
 pub log_same : (g : Geometry) (page page' : Place → Page) (region : ℕ) → region < 2 → ((at : Place) → at.block < first_pool g → page at ≡ page' at) → log_region g page region ≡ log_region g page' region
 log_same g page page' region low same = pages_from-same page page' (log_at g region) 0 (log_pages g) (λ i within. same _ (log_below g region i low (omega arith)))
 
+-- and so is the checkpoint that counts
+newest_same : (g : Geometry) (page page' : Place → Page) → ((at : Place) → at.block < first_pool g → page at ≡ page' at) → newest g page ≡ newest g page'
+newest_same g page page' same = ap₂ (λ xs ys. chosen (checkpoint_in xs) (checkpoint_in ys)) (region_same 0 (omega arith)) (region_same 1 (omega arith))
+  where
+    region_same : (region : ℕ) → region < 2 → checkpoint_region g page region ≡ checkpoint_region g page' region
+    region_same region low = pages_from-same page page' (checkpoint_at g region) 0 (checkpoint_pages g) (λ i within. same _ (checkpoint_below g region i low (omega arith)))
+
 pub held_same : (page page' : Place → Page) (o : Option Entry) → ((e : Entry) → o ≡ Some e → page e.place ≡ page' e.place) → option_and_then (held_at page) o ≡ option_and_then (held_at page') o
 held_same page page' None at = refl
 held_same page page' (Some e) at = ap (held_in e.dirty) (at e refl)
@@ -69,8 +77,9 @@ held_same page page' (Some e) at = ap (held_in e.dirty) (at e refl)
 -- a flash that differs in the pool alone has the same open log
 pub open_log_same : (log : LogValue) (old new : Flash) → log.region < 2 → ((at : Place) → at.block < first_pool log.geometry → old.page at ≡ new.page at) → ((b : ℕ) → b < first_pool log.geometry → new.next b ≡ old.next b) → IsOpenLog old log → IsOpenLog new log
 open_log_same log old new low pages ready k = record {
-  before = subst (λ (xs : List Page). ArePages Log log.era 0 (take log.next xs)) (log_same log.geometry old.page new.page log.region low pages) k.before;
+  before = subst (λ (xs : List Page). ArePages Log (own_stamp log.era) 0 (take log.next xs)) (log_same log.geometry old.page new.page log.region low pages) k.before;
   ready = λ i le lt first. ready _ (log_below log.geometry log.region i low lt) ∙ k.ready i le lt first;
+  format = λ c is. k.format c (newest_same log.geometry old.page new.page pages ∙ is);
 }
 
 abbrev pub current_alike : (page page' : Place → Page) (log : LogValue) (m : Entries) (k : IsCurrent page log m) → LoadsAlike log.geometry page page' → IsCurrent page' log m

@@ -12,7 +12,7 @@ use Rattle.cache_model.specs.declared.entry.Entry.{Entry}
 use Rattle.cache_model.specs.declared.format.PageKind.TheVariants.{Log as log_page}
 use Rattle.cache_model.specs.Records.{Entries, after, page_of_group, has_bit}
 use Rattle.cache_model.specs.Entries.{each_once, groups_with, IsMap, Fits}
-use Rattle.cache_model.specs.Spelling.{may_stand_in}
+use Rattle.cache_model.specs.Spelling.{is_wide, may_stand_in}
 use Rattle.cache_model.proofs.StepLemmas.{get-after}
 use Rattle.cache_model.proofs.CountLemmas.{member, numbers, count_le, each_once-le, remove_group_fits}
 use Rattle.block_map.proofs.PageSetLemmas.{and-from_IsWithin}
@@ -181,7 +181,7 @@ module _ (g : Geometry) (m : Entries) (group block : ℕ) where
 
   -- ---- it can be spelled
 
-  pub move_spelled : IsGroupHeld g m group → IsTrue (may_stand_in log_page (move_record g m group block))
+  pub move_spelled : IsGroupHeld g m group → IsTrue (may_stand_in (is_wide 2 g.p) log_page (move_record g m group block))
   move_spelled held =
       let some = lt-ltb _ _ (not_nothing g m group held) in
       let within = eq-eqb _ _ (dirty_is_held g m group) in

@@ -1,5 +1,5 @@
 -- A change is buffered, and made in the map.
-use Rattle.std.proofs.Common.{◌≡◌, ℕ, ◌/◌, ◌<◌, ◌==◌, Bool, true, false, cond, List, [], ◌∷◌, ◌++◌, Option, Some, None, refl, sym, ◌∙◌, ap, subst, arith, inl, inr, eqb-true}
+use Rattle.std.proofs.Common.{◌≡◌, ℕ, ◌/◌, ◌<◌, ◌≤◌, ◌==◌, Bool, true, false, cond, List, [], ◌∷◌, ◌++◌, Option, Some, None, refl, sym, ◌∙◌, ap, subst, arith, inl, inr, eqb-true}
 use Rattle.std.specs.Option.{option_and_then, option_map}
 use Rattle.std.specs.FinMap.{get, insert}
 use Rattle.std.proofs.lemmas.Bool.{cases_Bool}
@@ -18,7 +18,7 @@ use Rattle.cache_model.specs.Loading.{after_all, is_whole}
 use Rattle.cache_model.proofs.Alike.{IsLess}
 use Rattle.cache_model.specs.Cache.{written_block, marked_as, evicted, made_clean}
 use Rattle.cache_model.specs.CacheList.{CacheList}
-use Rattle.cache_model.specs.Spelling.{data_spare}
+use Rattle.cache_model.specs.Spelling.{data_spare, is_wide, page_limit}
 use Rattle.cache_model.specs.Stands.{held_at, held_in}
 use Rattle.cache_model.proofs.MapLemmas.{get_insert, get_remove}
 use Rattle.cache_model.proofs.StepLemmas.{get-after}
@@ -26,6 +26,7 @@ use Rattle.cache_model.proofs.FitsLemmas.{fits-from}
 use Rattle.cache_model.proofs.CountLemmas.{same_number, taken, cleaned_is_less}
 use Rattle.cache_model.proofs.UndoLemmas.{get_marked}
 use Rattle.mapping.specs.MapValue.{MapValue}
+use Rattle.mapping.proofs.ChosenLemmas.{pages_spelled}
 use Rattle.op_log.specs.Log.{LogValue, pushed}
 use Rattle.checkpoint.specs.Current.{IsCurrent, AreWhole, IsOpenLog}
 use Rattle.block_pool.specs.Pool.{PoolValue}
@@ -65,7 +66,7 @@ current_of page log log' m m' g change same log_is map_is fit k =
     subst (λ (l : LogValue). IsCurrent page l m') (sym log_is) (subst (λ (n : Entries). IsCurrent page (pushed change log) n) (ap (λ (h : Geometry). after h change m) same ∙ sym map_is) done)
 
 open_of : (flash : Flash) (log log' : LogValue) (change : Record) → log' ≡ pushed change log → IsOpenLog flash log → IsOpenLog flash log'
-open_of flash log log' change is k = subst (λ (l : LogValue). IsOpenLog flash l) (sym is) (record { before = k.before; ready = k.ready })
+open_of flash log log' change is k = subst (λ (l : LogValue). IsOpenLog flash l) (sym is) (record { before = k.before; ready = k.ready; format = k.format })
 
 -- a change that fits, however the roles follow it
 module _ (old : Parts) (map : MapValue) (log : LogValue) (pool : PoolValue) (change : Record) (contents : Contents) (map_is : map.entries ≡ after old.geometry change old.map.entries) (log_is : log ≡ pushed change old.log) where
@@ -109,12 +110,11 @@ module _ (g : Geometry) (m : Entries) (lba : ℕ) (at : Place) (dirty : Bool) wh
       by true o rest is = let same : there ≡ e = cc in subst P same here
       by false o rest is = rest e is
 
-  pub sound_page : Fits g (SetPage lba at dirty) m → at.page < 64
-  sound_page fit =
-      let pool = fit.leaves.in_pool lba there (at_address lba ∙ ap (λ b. cond b (Some there) (get m lba)) (same_number lba)) in
-      let low = pool.page in
-      let most = g.in_range.p_high in
-      omega arith
+  pub sound_page : Fits g (SetPage lba at dirty) m → at.page < page_limit (is_wide 2 g.p)
+  sound_page fit = below (page_limit (is_wide 2 g.p)) (pages_spelled g) (fit.leaves.in_pool lba there (at_address lba ∙ ap (λ b. cond b (Some there) (get m lba)) (same_number lba))).page
+    where
+      below : (limit : ℕ) → g.p ≤ limit → at.page < g.p → at.page < limit
+      below limit within low = omega arith
 
   pub placed_held : (page : Place → Page) (s : CacheList) (block : Block) → page at ≡ Whole block (data_spare lba) → IsListOn page m s → IsListOn page (after g (SetPage lba at dirty) m) (insert s lba (written_block lba block dirty))
   placed_held page s block has same a =

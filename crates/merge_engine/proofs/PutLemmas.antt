@@ -13,7 +13,7 @@ use Rattle.cache_model.specs.declared.entry.Entry.{Entry}
 use Rattle.cache_model.specs.declared.format.PageKind.TheVariants.{Log as log_page}
 use Rattle.cache_model.specs.Records.{Entries, after, is_in_group}
 use Rattle.cache_model.specs.Entries.{IsMap, Fits}
-use Rattle.cache_model.specs.Spelling.{may_stand_in}
+use Rattle.cache_model.specs.Spelling.{is_wide, may_stand_in}
 use Rattle.cache_model.specs.Loading.{is_whole}
 use Rattle.cache_model.specs.CacheList.{CacheList}
 use Rattle.cache_model.specs.Stands.{held_at, held_in}
@@ -62,7 +62,7 @@ agree_noted parts contents map change pool agree fit is one whole roles =
         log_blocks = s.log_blocks;
         open_block = s.open_block;
       };
-      open_log = record { before = agree.open_log.before; ready = agree.open_log.ready };
+      open_log = record { before = agree.open_log.before; ready = agree.open_log.ready; format = agree.open_log.format };
     }
 
 -- ---- a group that is dropped
@@ -144,8 +144,8 @@ module _ (parts : Parts) (group block present dirty : ℕ) (one : AreOfOne parts
   pub putting_fits : Fits parts.geometry (SetGroup group block present dirty) parts.map.entries
   putting_fits = subst (λ (r : Record). Fits parts.geometry r parts.map.entries) (sym (change_is parts group block present dirty one present_is dirty_is)) (move_fits parts.geometry parts.map.entries group block is_map held room in_pool (free_unheld parts one roles block free))
 
-  pub putting_spelled : IsTrue (may_stand_in log_page (SetGroup group block present dirty))
-  putting_spelled = subst (λ (r : Record). IsTrue (may_stand_in log_page r)) (sym (change_is parts group block present dirty one present_is dirty_is)) (move_spelled parts.geometry parts.map.entries group block held)
+  pub putting_spelled : IsTrue (may_stand_in (is_wide 2 parts.geometry.p) log_page (SetGroup group block present dirty))
+  putting_spelled = subst (λ (r : Record). IsTrue (may_stand_in (is_wide 2 parts.geometry.p) log_page r)) (sym (change_is parts group block present dirty one present_is dirty_is)) (move_spelled parts.geometry parts.map.entries group block held)
 
   module _ (map : MapValue) (pool pool' : PoolValue) (is : map.entries ≡ after parts.geometry (SetGroup group block present dirty) parts.map.entries)
       (one' : AreOfOne (noted parts map (SetGroup group block present dirty) pool'))

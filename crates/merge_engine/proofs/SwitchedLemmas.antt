@@ -11,7 +11,7 @@ use Rattle.cache_model.specs.declared.entry.Entry.{Entry}
 use Rattle.cache_model.specs.declared.format.PageKind.TheVariants.{Log as log_page}
 use Rattle.cache_model.specs.Records.{Entries, after}
 use Rattle.cache_model.specs.Entries.{IsMap, Fits}
-use Rattle.cache_model.specs.Spelling.{may_stand_in}
+use Rattle.cache_model.specs.Spelling.{is_wide, may_stand_in}
 use Rattle.cache_model.specs.Loading.{is_whole}
 use Rattle.cache_model.specs.CacheList.{CacheList}
 use Rattle.cache_model.specs.Stands.{held_in}
@@ -51,8 +51,8 @@ module _ (parts : Parts) (group block present dirty : ℕ) (one : AreOfOne parts
   pub switching_fits : Fits parts.geometry (SetGroup group block present dirty) parts.map.entries
   switching_fits = subst (λ (r : Record). Fits parts.geometry r parts.map.entries) (sym (change_is parts group block present dirty one present_is dirty_is)) (switch_fits parts.geometry parts.map.entries group block is_map is_held room (roles.in_pool block switch.in_use) no_other)
 
-  pub switching_spelled : IsTrue (may_stand_in log_page (SetGroup group block present dirty))
-  switching_spelled = subst (λ (r : Record). IsTrue (may_stand_in log_page r)) (sym (change_is parts group block present dirty one present_is dirty_is)) (move_spelled parts.geometry parts.map.entries group block is_held)
+  pub switching_spelled : IsTrue (may_stand_in (is_wide 2 parts.geometry.p) log_page (SetGroup group block present dirty))
+  switching_spelled = subst (λ (r : Record). IsTrue (may_stand_in (is_wide 2 parts.geometry.p) log_page r)) (sym (change_is parts group block present dirty one present_is dirty_is)) (move_spelled parts.geometry parts.map.entries group block is_held)
 
   module _ (map : MapValue) (pool pool' : PoolValue) (is : map.entries ≡ after parts.geometry (SetGroup group block present dirty) parts.map.entries)
       (one' : AreOfOne (switched_to parts map (SetGroup group block present dirty) pool' block))
@@ -124,7 +124,7 @@ module _ (parts : Parts) (group block present dirty : ℕ) (one : AreOfOne parts
             log_blocks = sound;
             open_block = open_still parts.log_blocks block contents.flash s.open_block;
           };
-          open_log = record { before = agree.open_log.before; ready = agree.open_log.ready };
+          open_log = record { before = agree.open_log.before; ready = agree.open_log.ready; format = agree.open_log.format };
         }
 
     pub lists_switched : (contents : Contents) (list durable : CacheList) → Lists parts contents.flash.page list durable → Lists (switched_to parts map (SetGroup group block present dirty) pool' block) contents.flash.page list durable

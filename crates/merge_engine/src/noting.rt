@@ -9,7 +9,7 @@ ghost use Rattle.cache_model.specs.Cache.{evicted, written_block, made_clean};
 ghost use Rattle.cache_model.specs.CacheList.{CacheList};
 ghost use Rattle.cache_model.specs.Entries.{Fits, IsMap};
 ghost use Rattle.cache_model.specs.Records.{after};
-ghost use Rattle.cache_model.specs.Spelling.{may_stand_in};
+ghost use Rattle.cache_model.specs.Spelling.{is_wide, may_stand_in};
 ghost use Rattle.cache_model.specs.declared.format.PageKind.TheVariants.{Log as log_page};
 ghost use Rattle.mapping.specs.MapValue.{pages_taken, groups_taken};
 ghost use Rattle.op_log.specs.Log.{pushed};
@@ -89,7 +89,7 @@ pub(crate) fn note(cache: &mut Parts, change: &Record, group: u64)
     requires of_one { AreOfOne cache.old }
     requires is_map { IsMap cache.old.geometry cache.old.map.entries }
     requires fits { Fits cache.old.geometry change.now cache.old.map.entries }
-    requires sound { IsTrue (may_stand_in log_page change.now) }
+    requires sound { IsTrue (may_stand_in (is_wide 2 cache.old.geometry.p) log_page change.now) }
     requires room { CanNote cache.old (pages_taken change.now) (groups_taken change.now) }
     ensures cache { OnlyMapLogPoolChange cache.old cache.new }
     ensures of_one { AreOfOne cache.new }

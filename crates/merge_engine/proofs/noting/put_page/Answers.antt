@@ -1,5 +1,5 @@
-use Rattle.std.proofs.Common.{sym, subst, arith}
-use Rattle.std.proofs.lemmas.Bool.Decides.{nat_tests}
+use Rattle.std.proofs.Common.{refl, sym, subst, lt-ltb}
+use Rattle.std.proofs.lemmas.Bool.{and_from}
 use Rattle.ft_base.specs.declared.record.Record.TheVariants.{SetPage}
 use Rattle.cache_model.specs.Cache.{written_block}
 use Rattle.std.specs.FinMap.{insert}
@@ -11,8 +11,7 @@ use Rattle.merge_engine.proofs.noting.put_page.Goals as goal
 pub note-requires-clause-sound : goal.note-requires-clause-sound
 note-requires-clause-sound c =
     let old = c.args.cache.now in
-    let low = sound_page old.geometry old.map.entries c.args.lba c.args.place c.args.dirty c.requires.fits in
-    grind (arith, nat_tests, low)
+    and_from _ _ (lt-ltb _ _ (sound_page old.geometry old.map.entries c.args.lba c.args.place c.args.dirty c.requires.fits)) refl
 
 pub returns-clause-agree : goal.returns-clause-agree
 returns-clause-agree c = λ contents block agree page.
