@@ -1,16 +1,17 @@
 -- What a command leaves of the two lists.
 use Rattle.std.proofs.Common.{◌≡◌, ◌⊎◌, ℕ, true, false, List, [], ◌∷◌, ◌++◌, Option, Some, None, Result, Ok, Err, OnOk, IfOk, refl, sym, ◌∙◌, ap, subst, inl, inr}
 use Rattle.std.specs.FinMap.{get}
+use Rattle.std.specs.List.{list_any}
 use Rattle.std.proofs.lemmas.Bool.{cases_Bool, false≢true}
 use Rattle.ft_base.specs.declared.block.Block.{Block}
 use Rattle.ft_base.specs.declared.block.Place.{Place}
 use Rattle.ft_base.specs.declared.block.Page.{Page}
 use Rattle.ft_base.specs.declared.geometry.Geometry.{Geometry}
 use Rattle.ft_base.specs.Contents.{Contents, Image, Now}
-use Rattle.cache_model.specs.Cache.{Buffered, Inserted, Cleaned, Vanish, undo, written_dirty, written_clean, evicted, made_clean, marked, IsFull}
+use Rattle.cache_model.specs.Cache.{Buffered, Inserted, Cleaned, Vanish, undo, is_write, written_dirty, written_clean, evicted, made_clean, marked, IsFull}
 use Rattle.cache_model.specs.CacheList.{Held, held, CacheList}
 use Rattle.cache_model.specs.Stands.{FlashStandsFor}
-use Rattle.cache_model.proofs.UndoLemmas.{undone_at, undone_none, get_undo, undo_inserted, undo_cleaned}
+use Rattle.cache_model.proofs.UndoLemmas.{undone_at, get_undo, undo_own, back_inserted, back_cleaned}
 use Rattle.ssc.specs.declared.error.SscError.{SscError}
 use Rattle.ssc.specs.declared.error.SscError.TheVariants as error
 use Rattle.ssc.specs.Errors.{stops}
@@ -25,7 +26,7 @@ use Rattle.cache_history.specs.declared.kind.Kind.{Kind}
 use Rattle.cache_history.specs.declared.kind.Kind.TheVariants as kinds
 use Rattle.cache_history.specs.History.{Given, given, TwoLists, both_alike, stepped, LeftBy, IsAtOnce, unless_gone, AfterAnswer, AfterRefusal}
 use Rattle.cache_history.specs.Moment.{IsMoment}
-use Rattle.ssc.proofs.HoldsLemmas.{not_waiting, undone_away}
+use Rattle.ssc.proofs.HoldsLemmas.{none_written, undone_none}
 use Rattle.ssc.proofs.CommandLemmas.{cleaned_clean}
 use Rattle.cache_history.proofs.GoneLemmas.{vanished_at, vanished_none, left_whole, unless_same, unless_lost}
 
@@ -69,11 +70,11 @@ made_answer c d contents contents' x made l moment = let own = made l.now moment
 loses_none : (q : List Buffered) (s durable : CacheList) → durable ≡ undo q s → LosesOf q s s durable
 loses_none q s durable is a = ap (λ (t : CacheList). get t a) is ∙ sym (unless_same (get s a) (get s a) (get (undo q s) a) refl)
 
--- what gave way is gone from the list without what is buffered
-loses_undone : (g : Geometry) (q : List Buffered) (s : CacheList) (lba : ℕ) (v : CacheList) → Vanish g s lba v → LosesOf q s v (undo q v)
-loses_undone g q s lba v van a = elim (vanished_at g s lba v van a) [
+-- what gave way is gone from the list without what is buffered, where no write is
+loses_undone : (g : Geometry) (q : List Buffered) (s : CacheList) (lba : ℕ) (v : CacheList) → list_any is_write q ≡ false → Vanish g s lba v → LosesOf q s v (undo q v)
+loses_undone g q s lba v none van a = elim (vanished_at g s lba v van a) [
   | inl same ↦ get_undo q v a ∙ ap (undone_at q a) same ∙ sym (get_undo q s a) ∙ sym (unless_same (get s a) (get v a) (get (undo q s) a) same)
-  | inr gave ↦ get_undo q v a ∙ ap (undone_at q a) gave.1 ∙ undone_none q a ∙ sym (unless_lost (get s a) (get v a) (get (undo q s) a) gave.0 gave.1)
+  | inr gave ↦ get_undo q v a ∙ ap (undone_at q a) gave.1 ∙ undone_none q a none ∙ sym (unless_lost (get s a) (get v a) (get (undo q s) a) gave.0 gave.1)
 ]
 
 none_undone : (d : Ssc) → pending d ≡ [] → (s : CacheList) → undo (pending d) s ≡ s
@@ -133,9 +134,10 @@ module _ (c d : Ssc) (contents contents' : Contents) (kind : Kind) (lba : ℕ) (
   inserted : (s v : CacheList) → Vanish (geometry_of c) s lba v → get s lba ≡ None → PendsWith (pending c) (pending d) (Inserted lba)
       → LosesOf (pending c) s v (undo (pending d) (written_clean lba block v)) ⊎ (undo (pending d) (written_clean lba block v) ≡ v) ⊎ (undo (pending d) (written_clean lba block v) ≡ written_clean lba block v)
   inserted s v van absent (inl e) =
-      let undone = ap (λ (q : List Buffered). undo q (written_clean lba block v)) e ∙ undo_inserted (pending c) v lba block (vanished_none (geometry_of c) s lba v van lba absent) in
-      inl (λ a. ap (λ (t : CacheList). get t a) undone ∙ loses_undone (geometry_of c) (pending c) s lba v van a)
-  inserted s v van absent (inr (inl e)) = inr (inl (ap (λ (q : List Buffered). undo q (written_clean lba block v)) e ∙ undo_inserted [] v lba block (vanished_none (geometry_of c) s lba v van lba absent)))
+      let back = back_inserted v lba block (vanished_none (geometry_of c) s lba v van lba absent) in
+      let undone = ap (λ (q : List Buffered). undo q (written_clean lba block v)) e ∙ undo_own (pending c) (Inserted lba) v (written_clean lba block v) back in
+      inl (λ a. ap (λ (t : CacheList). get t a) undone ∙ loses_undone (geometry_of c) (pending c) s lba v (none_written c.parts.log.buffered) van a)
+  inserted s v van absent (inr (inl e)) = inr (inl (ap (λ (q : List Buffered). undo q (written_clean lba block v)) e ∙ back_inserted v lba block (vanished_none (geometry_of c) s lba v van lba absent)))
   inserted s v van absent (inr (inr e)) = inr (inr (none_undone d e (written_clean lba block v)))
 
   pub write_clean_answer : {T : Type 0} (r : Result T SscError) → kind ≡ kinds.WriteClean → geometry_of d ≡ geometry_of c → OnOk r ((s : CacheList) → Holds c contents s → HoldsWritten d contents' s lba (written_clean lba block))
@@ -178,8 +180,8 @@ module _ (c d : Ssc) (contents contents' : Contents) (kind : Kind) (lba : ℕ) (
       spelled = dirty.1 ∙ ap (λ m. Some (held dirty.0.block dirty.0.spare m)) dirty.2
 
       undone : undo (pending c ++ Cleaned lba ∷ []) (made_clean lba s) ≡ undo (pending c) s
-      undone = undo_cleaned (pending c) s lba dirty.0.block dirty.0.spare spelled (undone_away (pending c) lba (not_waiting (pending c) s lba (not_clean s lba dirty) h.waits.clean))
-  cleaned s h dirty (inr (inl e)) = inr (inl (ap (λ (q : List Buffered). undo q (made_clean lba s)) e ∙ undo_cleaned [] s lba dirty.0.block dirty.0.spare (dirty.1 ∙ ap (λ m. Some (held dirty.0.block dirty.0.spare m)) dirty.2) (λ o. refl)))
+      undone = undo_own (pending c) (Cleaned lba) s (made_clean lba s) (back_cleaned s lba dirty.0.block dirty.0.spare spelled)
+  cleaned s h dirty (inr (inl e)) = inr (inl (ap (λ (q : List Buffered). undo q (made_clean lba s)) e ∙ back_cleaned s lba dirty.0.block dirty.0.spare (dirty.1 ∙ ap (λ m. Some (held dirty.0.block dirty.0.spare m)) dirty.2)))
   cleaned s h dirty (inr (inr e)) = inr (inr (none_undone d e (made_clean lba s)))
 
   pub clean_answer : {T : Type 0} (r : Result T SscError) (same : Type 0) → kind ≡ kinds.Clean → OnOk r ((s : CacheList) → Holds c contents s → Holds d contents' (made_clean lba s))

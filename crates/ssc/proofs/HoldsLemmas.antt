@@ -1,28 +1,27 @@
 -- What is buffered between two commands, and the list without it.
-use Rattle.std.proofs.Common.{◌≡◌, ◌⊎◌, ℕ, suc, max, ◌+◌, ◌<◌, ◌≤◌, ◌==◌, ◌||◌, true, false, cond, List, [], ◌∷◌, ◌++◌, length, Option, Some, None, refl, sym, ◌∙◌, ap, subst, arith, inl, inr, eqb-true, ne_eqb, map, length-append}
+use Rattle.std.proofs.Common.{◌≡◌, ◌⊎◌, ℕ, suc, max, ◌+◌, ◌<◌, ◌≤◌, ◌==◌, Bool, true, false, cond, List, [], ◌∷◌, ◌++◌, length, Option, Some, None, refl, sym, ◌∙◌, ap, subst, arith, inl, inr, length-append}
 use Rattle.std.proofs.Math.Nat.{le-max_right}
 use Rattle.std.specs.Option.{option_and_then, option_map}
-use Rattle.std.specs.List.{list_all, AllByRecursion}
+use Rattle.std.specs.List.{list_all, list_any}
 use Rattle.std.specs.FinMap.{get}
-use Rattle.std.proofs.lemmas.Bool.{false≢true, cases_Bool, and_parts, and_from, or_parts}
+use Rattle.std.proofs.lemmas.Bool.{false≢true, and_parts, and_from}
 use Rattle.ft_base.specs.declared.block.Block.{Block}
 use Rattle.ft_base.specs.declared.block.Place.{Place}
 use Rattle.ft_base.specs.declared.geometry.Geometry.{Geometry}
 use Rattle.ft_base.specs.declared.record.Record.{Record}
-use Rattle.ft_base.specs.declared.record.Record.TheVariants.{SetPage, Clean}
+use Rattle.ft_base.specs.declared.record.Record.TheVariants.{SetPage, Remove, Clean, SetGroup, RemoveGroup}
 use Rattle.ft_base.specs.Contents.{Contents}
 use Rattle.ft_base.specs.Layout.{page_records}
 use Rattle.ft_base.proofs.LayoutLemmas.{q_some}
 use Rattle.cache_model.specs.declared.entry.Entry.{Entry}
-use Rattle.cache_model.specs.Cache.{written_block, Buffered, Inserted, Cleaned, address_of, AreApart, MayWait, undo, written_clean, made_clean, marked_as}
+use Rattle.cache_model.specs.Cache.{written_block, Buffered, Inserted, Cleaned, Written, IsLeftBy, MayWait, taken_back, undo, is_write, written_clean, made_clean, marked_as}
 use Rattle.cache_model.specs.CacheList.{Held, held, CacheList}
 use Rattle.cache_model.specs.Entries.{IsMap}
 use Rattle.cache_model.specs.Stands.{FlashStandsFor, held_at}
 use Rattle.cache_model.proofs.StandLemmas.{whole_held}
 use Rattle.cache_model.proofs.MapLemmas.{get_insert}
-use Rattle.cache_model.proofs.CountLemmas.{member, same_number, equals_turned}
-use Rattle.cache_model.proofs.UndoLemmas.{undone_at, undo_inserted, undo_cleaned, get_marked}
-use Rattle.mapping.proofs.CountsLemmas.{member_push}
+use Rattle.cache_model.proofs.CountLemmas.{same_number}
+use Rattle.cache_model.proofs.UndoLemmas.{undone_at, undo_own, left_push, back_inserted, back_cleaned, get_marked}
 use Rattle.mapping.specs.MapValue.{MapValue}
 use Rattle.mapping.specs.Room.{GrewForPages, HasFewBuckets, most_groups}
 use Rattle.mapping.proofs.FewLemmas.{few_kept, few_of_block, few_refused, keeps_reserved, IsReserved}
@@ -63,53 +62,38 @@ few_buffered c contents s holds =
 
 -- ---- what may wait beside a list
 
-abbrev pub IsCleanIn : CacheList → Buffered → Type 0
-IsCleanIn s b = (h : Held) × (get s (address_of b) ≡ Some h) × (h.dirty ≡ false)
+-- no record is a write that is only buffered
+pub none_written : (changes : List Record) → list_any is_write (waiting changes) ≡ false
+none_written [] = refl
+none_written (SetPage lba place dirty ∷ changes) = none_written changes
+none_written (Remove lba ∷ changes) = none_written changes
+none_written (Clean lba ∷ changes) = none_written changes
+none_written (SetGroup group block present dirty ∷ changes) = none_written changes
+none_written (RemoveGroup group ∷ changes) = none_written changes
 
--- an address that isn't held clean isn't buffered
-pub not_waiting : (q : List Buffered) (s : CacheList) (a : ℕ) → ((h : Held) → get s a ≡ Some h → h.dirty ≡ false → ⊥) → AllByRecursion (IsCleanIn s) q → member a (map address_of q) ≡ false
-not_waiting [] s a never all = refl
-not_waiting (b ∷ bs) s a never all = elim (cases_Bool (address_of b == a)) [
-  | inl t ↦ absurd (never all.0.0 (ap (λ n. get s n) (sym (eqb-true _ _ t)) ∙ all.0.1) all.0.2)
-  | inr f ↦ ap (λ x. x || member a (map address_of bs)) f ∙ not_waiting bs s a never all.1
-]
-
--- and nothing is changed back there
-pub undone_away : (q : List Buffered) (a : ℕ) → member a (map address_of q) ≡ false → (o : Option Held) → undone_at q a o ≡ o
-undone_away [] a f o = refl
-undone_away (Inserted k ∷ bs) a f o =
-    let p = or_parts (k == a) (member a (map address_of bs)) f in
-    ap (λ x. undone_at bs a (cond x None o)) (equals_turned a k ∙ p.0) ∙ undone_away bs a p.1 o
-undone_away (Cleaned k ∷ bs) a f o =
-    let p = or_parts (k == a) (member a (map address_of bs)) f in
-    ap (λ x. undone_at bs a (cond x (option_map (marked_as true) o) o)) (equals_turned a k ∙ p.0) ∙ undone_away bs a p.1 o
-
-apart_push : (ns : List ℕ) (n : ℕ) → member n ns ≡ false → AreApart ns → AreApart (ns ++ n ∷ [])
-apart_push [] n f apart = (refl, tt)
-apart_push (k ∷ ks) n f apart =
-    let p = or_parts (k == n) (member n ks) f in
-    (member_push k n ks ∙ ap (λ x. x || (n == k)) apart.0 ∙ equals_turned n k ∙ p.0, apart_push ks n p.1 apart.1)
-
-all_push : {A : Type 0} (P Q : A → Type 0) (xs : List A) (x : A) → ((y : A) → P y → Q y) → AllByRecursion P xs → Q x → AllByRecursion Q (xs ++ x ∷ [])
-all_push P Q [] x more all own = (own, tt)
-all_push P Q (y ∷ ys) x more all own = (more y all.0, all_push P Q ys x more all.1 own)
-
-map_push : (q : List Buffered) (b : Buffered) → map address_of (q ++ b ∷ []) ≡ map address_of q ++ address_of b ∷ []
-map_push [] b = refl
-map_push (x ∷ xs) b = ap (λ l. address_of x ∷ l) (map_push xs b)
+-- nothing is held at an absent address once what is buffered is undone, where no write is
+pub undone_none : (q : List Buffered) (a : ℕ) → list_any is_write q ≡ false → undone_at q a None ≡ None
+undone_none [] a none = refl
+undone_none (Inserted k ∷ q) a none = ap (λ (o : Option Held). cond (a == k) None o) (undone_none q a none) ∙ either_way (a == k)
+  where
+    either_way : (b : Bool) → cond {A = Option Held} b None None ≡ None
+    either_way true = refl
+    either_way false = refl
+undone_none (Cleaned k ∷ q) a none = ap (λ (o : Option Held). cond (a == k) (option_map (marked_as true) o) o) (undone_none q a none) ∙ either_way (a == k)
+  where
+    either_way : (b : Bool) → cond b (option_map (marked_as true) None) None ≡ None
+    either_way true = refl
+    either_way false = refl
+undone_none (Written k old ∷ q) a none = absurd (false≢true (sym none))
 
 waits_none : (g : Geometry) (s : CacheList) → MayWait g [] s
-waits_none g s = record { apart = tt; clean = tt; few = omega (arith, q_some g) }
+waits_none g s = record { left = tt; few = omega (arith, q_some g) }
 
-waits_push : (g g' : Geometry) (q : List Buffered) (own : Buffered) (s s' : CacheList) → ((h : Held) → get s (address_of own) ≡ Some h → h.dirty ≡ false → ⊥) → ((a : ℕ) → (a ≡ address_of own → ⊥) → get s' a ≡ get s a) → IsCleanIn s' own → length q + 1 < page_records g' →
-    MayWait g q s → MayWait g' (q ++ own ∷ []) s'
-waits_push g g' q own s s' never same clean few waits =
-    let absent = not_waiting q s (address_of own) never waits.clean in
-    record {
-      apart = subst AreApart (sym (map_push q own)) (apart_push (map address_of q) (address_of own) absent waits.apart);
-      clean = all_push (IsCleanIn s) (IsCleanIn s') q own (λ b is. (is.0, same (address_of b) (λ e. never is.0 (ap (λ n. get s n) (sym e) ∙ is.1) is.2) ∙ is.1, is.2)) waits.clean clean;
-      few = omega (arith, length-append q (own ∷ []));
-    }
+waits_push : (g g' : Geometry) (q : List Buffered) (own : Buffered) (s s' : CacheList) → taken_back own s' ≡ s → IsLeftBy own s' → length q + 1 < page_records g' → MayWait g q s → MayWait g' (q ++ own ∷ []) s'
+waits_push g g' q own s s' back is few waits = record {
+  left = left_push q own s s' back is waits.left;
+  few = omega (arith, few, length-append q (own ∷ []));
+}
 
 -- ---- the cache between two commands
 
@@ -199,13 +183,11 @@ holds_from c contents s durable buffered settled is undone lists kinds waits = r
 pub holds_committed : (c : Ssc) (contents : Contents) (s : CacheList) → IsSettled c contents → c.parts.log.buffered ≡ [] → Lists c.parts contents.flash.page s s → Holds c contents s
 holds_committed c contents s settled is lists = holds_from c contents s s [] settled is refl lists refl (waits_none (geometry_of c) s)
 
--- a step that waits, in a record of its own
+-- a step that waits, in a record of its own, and that can be taken back
 module _ (s s' : CacheList) (own : Record)
     (may : may_wait own ≡ true)
-    (never : (h : Held) → get s (address_of (waiting_as own)) ≡ Some h → h.dirty ≡ false → ⊥)
-    (same : (a : ℕ) → (a ≡ address_of (waiting_as own) → ⊥) → get s' a ≡ get s a)
-    (clean : IsCleanIn s' (waiting_as own))
-    (undone : (q : List Buffered) → ((o : Option Held) → undone_at q (address_of (waiting_as own)) o ≡ o) → undo (q ++ waiting_as own ∷ []) s' ≡ undo q s) where
+    (back : taken_back (waiting_as own) s' ≡ s)
+    (left : IsLeftBy (waiting_as own) s') where
   -- behind all that was buffered
   holds_behind : (old new : Ssc) (contents contents' : Contents) → Holds old contents s → IsSettled new contents' → length new.parts.log.buffered < page_records new.parts.log.geometry
       → new.parts.log.buffered ≡ old.parts.log.buffered ++ own ∷ [] → Lists new.parts contents'.flash.page s' (undo (pending old) s) → Holds new contents' s'
@@ -214,16 +196,15 @@ module _ (s s' : CacheList) (own : Record)
       let pushed = waiting_push old.parts.log.buffered own in
       let room = ap page_records settled.agree.sound.of_one.log in
       let count : length q + 1 < page_records (geometry_of new) = omega (arith, few, room, length_waiting old.parts.log.buffered, ap length is, length-append old.parts.log.buffered (own ∷ [])) in
-      let away = undone_away q (address_of (waiting_as own)) (not_waiting q s (address_of (waiting_as own)) never holds.waits.clean) in
-      holds_from new contents' s' (undo q s) (old.parts.log.buffered ++ own ∷ []) settled is (ap (λ (l : List Buffered). undo l s') pushed ∙ undone q away) lists
+      holds_from new contents' s' (undo q s) (old.parts.log.buffered ++ own ∷ []) settled is (ap (λ (l : List Buffered). undo l s') pushed ∙ undo_own q (waiting_as own) s s' back) lists
       (kinds_push old.parts.log.buffered own may holds.kinds)
-      (subst (λ (l : List Buffered). MayWait (geometry_of new) l s') (sym pushed) (waits_push (geometry_of old) (geometry_of new) q (waiting_as own) s s' never same clean count holds.waits))
+      (subst (λ (l : List Buffered). MayWait (geometry_of new) l s') (sym pushed) (waits_push (geometry_of old) (geometry_of new) q (waiting_as own) s s' back left count holds.waits))
 
   -- alone
   holds_alone : (new : Ssc) (contents' : Contents) → IsSettled new contents' → new.parts.log.buffered ≡ own ∷ [] → Lists new.parts contents'.flash.page s' s → Holds new contents' s'
   holds_alone new contents' settled is lists =
-      holds_from new contents' s' s (own ∷ []) settled is (undone [] (λ o. refl)) lists (and_from _ _ may refl)
-      (waits_push (geometry_of new) (geometry_of new) [] (waiting_as own) s s' never same clean (omega (arith, q_some (geometry_of new))) (waits_none (geometry_of new) s))
+      holds_from new contents' s' s (own ∷ []) settled is back lists (and_from _ _ may refl)
+      (waits_push (geometry_of new) (geometry_of new) [] (waiting_as own) s s' back left (omega (arith, q_some (geometry_of new))) (waits_none (geometry_of new) s))
 
   holds_after : (old new : Ssc) (contents contents' : Contents) → Holds old contents s → IsSettled new contents' → length new.parts.log.buffered < page_records new.parts.log.geometry → ListsAfter old.parts.log.buffered own new.parts contents'.flash.page (undo (pending old) s) s s' → Holds new contents' s'
   holds_after old new contents contents' holds settled few (inl k) = holds_behind old new contents contents' holds settled few k.0 k.1
@@ -238,44 +219,28 @@ pends_after own old new contents' durable before list (inr (inr k)) = inr (inr (
 
 -- a clean block at an address that was absent
 module _ (s : CacheList) (lba : ℕ) (at : Place) (block : Block) (absent : get s lba ≡ None) where
-  none_clean : (h : Held) → get s lba ≡ Some h → h.dirty ≡ false → ⊥
-  none_clean h is clean = let both : None ≡ Some h = sym absent ∙ is in cc
-
-  other_inserted : (a : ℕ) → (a ≡ lba → ⊥) → get (written_clean lba block s) a ≡ get s a
-  other_inserted a other = get_insert s lba (written_block lba block false) a ∙ ap (λ x. cond x (Some (written_block lba block false)) (get s a)) (ne_eqb a lba other)
-
-  here_inserted : get (written_clean lba block s) lba ≡ Some (written_block lba block false)
-  here_inserted = get_insert s lba (written_block lba block false) lba ∙ ap (λ x. cond x (Some (written_block lba block false)) (get s lba)) (same_number lba)
+  left_inserted : IsLeftBy (Inserted lba) (written_clean lba block s)
+  left_inserted = (written_block lba block false, get_insert s lba (written_block lba block false) lba ∙ ap (λ x. cond x (Some (written_block lba block false)) (get s lba)) (same_number lba), refl)
 
   pub inserted_behind : (old new : Ssc) (contents contents' : Contents) → Holds old contents s → IsSettled new contents' → length new.parts.log.buffered < page_records new.parts.log.geometry
       → new.parts.log.buffered ≡ old.parts.log.buffered ++ SetPage lba at false ∷ [] → Lists new.parts contents'.flash.page (written_clean lba block s) (undo (pending old) s)
       → Holds new contents' (written_clean lba block s)
-  inserted_behind = holds_behind s (written_clean lba block s) (SetPage lba at false) refl none_clean other_inserted (written_block lba block false, here_inserted, refl) (λ q away. undo_inserted q s lba block absent)
+  inserted_behind = holds_behind s (written_clean lba block s) (SetPage lba at false) refl (back_inserted s lba block absent) left_inserted
 
   pub inserted_alone : (new : Ssc) (contents' : Contents) → IsSettled new contents' → new.parts.log.buffered ≡ SetPage lba at false ∷ [] → Lists new.parts contents'.flash.page (written_clean lba block s) s → Holds new contents' (written_clean lba block s)
-  inserted_alone = holds_alone s (written_clean lba block s) (SetPage lba at false) refl none_clean other_inserted (written_block lba block false, here_inserted, refl) (λ q away. undo_inserted q s lba block absent)
+  inserted_alone = holds_alone s (written_clean lba block s) (SetPage lba at false) refl (back_inserted s lba block absent) left_inserted
 
 -- an address that was dirty, and is clean
 module _ (s : CacheList) (lba : ℕ) (h : Held) (is : get s lba ≡ Some h) (dirty : h.dirty ≡ true) where
   is_dirty : get s lba ≡ Some (held h.block h.spare true)
   is_dirty = is ∙ ap (λ m. Some (held h.block h.spare m)) dirty
 
-  dirty_not_clean : (k : Held) → get s lba ≡ Some k → k.dirty ≡ false → ⊥
-  dirty_not_clean k there clean =
-      let both : Some h ≡ Some k = sym is ∙ there in
-      let same : h ≡ k = cc in
-      let bits : true ≡ false = sym dirty ∙ ap (λ (x : Held). x.dirty) same ∙ clean in
-      cc
-
-  other_cleaned : (a : ℕ) → (a ≡ lba → ⊥) → get (made_clean lba s) a ≡ get s a
-  other_cleaned a other = get_marked false lba s (get s lba) a refl ∙ ap (λ x. cond x (option_map (marked_as false) (get s a)) (get s a)) (ne_eqb a lba other)
-
-  here_cleaned : get (made_clean lba s) lba ≡ Some (held h.block h.spare false)
-  here_cleaned = get_marked false lba s (get s lba) lba refl ∙ ap (λ x. cond x (option_map (marked_as false) (get s lba)) (get s lba)) (same_number lba) ∙ ap (option_map (marked_as false)) is
+  left_cleaned : IsLeftBy (Cleaned lba) (made_clean lba s)
+  left_cleaned = (held h.block h.spare false, get_marked false lba s (get s lba) lba refl ∙ ap (λ x. cond x (option_map (marked_as false) (get s lba)) (get s lba)) (same_number lba) ∙ ap (option_map (marked_as false)) is, refl)
 
   pub holds_cleaned : (old new : Ssc) (contents contents' : Contents) → Holds old contents s → IsSettled new contents' → length new.parts.log.buffered < page_records new.parts.log.geometry
       → ListsAfter old.parts.log.buffered (Clean lba) new.parts contents'.flash.page (undo (pending old) s) s (made_clean lba s) → Holds new contents' (made_clean lba s)
-  holds_cleaned = holds_after s (made_clean lba s) (Clean lba) refl dirty_not_clean other_cleaned (held h.block h.spare false, here_cleaned, refl) (λ q away. undo_cleaned q s lba h.block h.spare is_dirty away)
+  holds_cleaned = holds_after s (made_clean lba s) (Clean lba) refl (back_cleaned s lba h.block h.spare is_dirty) left_cleaned
 
 -- ---- entries and the list
 

@@ -70,14 +70,14 @@ loaded_current g page loaded log m is same log_is = subst (λ (l : LogValue). Is
 }))
 
 -- the era of a checkpoint that is loaded
-chosen_era : (x y : Option Complete) (c : ℕ × Complete) → ((d : Complete) → x ≡ Some d → d.era ≤ 2) → ((d : Complete) → y ≡ Some d → d.era ≤ 2) → chosen x y ≡ Some c → c.1.era ≤ 2
+chosen_era : (x y : Option Complete) (c : ℕ × Complete) → ((d : Complete) → x ≡ Some d → d.stamp.era ≤ 2) → ((d : Complete) → y ≡ Some d → d.stamp.era ≤ 2) → chosen x y ≡ Some c → c.1.stamp.era ≤ 2
 chosen_era None None c first second is = absurd (cc)
-chosen_era None (Some d) c first second is = let e : c ≡ (1, d) = cc in subst (λ (x : ℕ × Complete). x.1.era ≤ 2) (sym e) (second d refl)
-chosen_era (Some d) None c first second is = let e : c ≡ (0, d) = cc in subst (λ (x : ℕ × Complete). x.1.era ≤ 2) (sym e) (first d refl)
+chosen_era None (Some d) c first second is = let e : c ≡ (1, d) = cc in subst (λ (x : ℕ × Complete). x.1.stamp.era ≤ 2) (sym e) (second d refl)
+chosen_era (Some d) None c first second is = let e : c ≡ (0, d) = cc in subst (λ (x : ℕ × Complete). x.1.stamp.era ≤ 2) (sym e) (first d refl)
 chosen_era (Some d) (Some d') c first second is =
-    elim (cases_cond (d'.era == (d.era + 1) % 3) (Some (1, d')) (Some (0, d)) (Some c) (sym is)) [
-      | inl one ↦ let e : c ≡ (1, d') = cc in subst (λ (x : ℕ × Complete). x.1.era ≤ 2) (sym e) (second d' refl)
-      | inr two ↦ let e : c ≡ (0, d) = cc in subst (λ (x : ℕ × Complete). x.1.era ≤ 2) (sym e) (first d refl)
+    elim (cases_cond (d'.stamp.era == (d.stamp.era + 1) % 3) (Some (1, d')) (Some (0, d)) (Some c) (sym is)) [
+      | inl one ↦ let e : c ≡ (1, d') = cc in subst (λ (x : ℕ × Complete). x.1.stamp.era ≤ 2) (sym e) (second d' refl)
+      | inr two ↦ let e : c ≡ (0, d) = cc in subst (λ (x : ℕ × Complete). x.1.stamp.era ≤ 2) (sym e) (first d refl)
     ]
 
 pub loaded_era : (g : Geometry) (page : Place → Page) (loaded : Loaded) → IsLoaded g page loaded → loaded.era ≤ 2
@@ -149,14 +149,14 @@ pub made_checkpoint : (g : Geometry) (a m b : State) (loaded : Loaded) (parts ne
     → new ≡ record parts { log = new.log } → new.log ≡ log_checkpointed parts.log → AddsCheckpoint parts.log parts.map.records m b
     → PoolStays parts.geometry m.contents.flash.page b.contents.flash.page → c.parts ≡ new → MadeCheckpoint g c a b
 made_checkpoint g a m b loaded parts new c is reads as_is same log adds pool own =
-    let found : parts.log ≡ log_found g loaded.region is.newest.era = as_is.log ∙ ap (λ n. log_found g loaded.region n) (sym is.era) in
+    let found : parts.log ≡ log_found g loaded.region is.newest.stamp.era = as_is.log ∙ ap (λ n. log_found g loaded.region n) (sym is.era) in
     let records : parts.map.records ≡ c.parts.map.records = sym (ap (λ (p : Parts). p.map.records) (own ∙ same)) in
     record {
       region = loaded.region;
       newest = is.newest;
       found = is.chosen;
       log = ap (λ (p : Parts). p.log) own ∙ log ∙ ap log_checkpointed found;
-      adds = subst (λ (r : List Record). AddsCheckpoint (log_found g loaded.region is.newest.era) r a b) records
+      adds = subst (λ (r : List Record). AddsCheckpoint (log_found g loaded.region is.newest.stamp.era) r a b) records
           (subst (λ (l : LogValue). AddsCheckpoint l parts.map.records a b) found (adds_from parts.log parts.map.records a m b reads.counts adds));
       pool = subst (λ (k : Contents). PoolStays g k.flash.page b.contents.flash.page) reads.contents
           (subst (λ (h : Geometry). PoolStays h m.contents.flash.page b.contents.flash.page) as_is.geometry pool);

@@ -34,7 +34,6 @@ use Rattle.ssc.specs.Steps.{TakesLogPage, IsPushed, LeftOf, ListsAfter, ListsWri
 use Rattle.ssc.proofs.DirtyLemmas.{member_from, member_to}
 use Rattle.merge_engine.proofs.GaveLemmas.{dirty_numbers}
 use Rattle.cache_model.proofs.StandLemmas.{held_of, whole_held}
-use Rattle.cache_model.proofs.UndoLemmas.{none_either_way}
 use Rattle.ssc.proofs.ListLemmas.{list_some, stands_some}
 
 -- ---- lists that gave room, on the flash
@@ -43,6 +42,10 @@ use Rattle.ssc.proofs.ListLemmas.{list_some, stands_some}
 was_held : (g : Geometry) (list v : CacheList) → GivesRoom g list v → (a : ℕ) (h : Held) → get v a ≡ Some h → get list a ≡ Some h
 was_held g list v (inl same) a h is = ap (λ (s : CacheList). get s a) (sym same) ∙ is
 was_held g list v (inr gave) a h is = taken (gave.gone (a / g.p)) (get list a) h (sym (gave.stays a) ∙ is)
+
+none_either_way : (b : Bool) → cond {A = Option Held} b None None ≡ None
+none_either_way true = refl
+none_either_way false = refl
 
 -- what is absent stays so
 pub stays_absent : (g : Geometry) (list v : CacheList) → GivesRoom g list v → (a : ℕ) → get list a ≡ None → get v a ≡ None

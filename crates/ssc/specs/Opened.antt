@@ -18,8 +18,8 @@ pub record MadeCheckpoint (g : Geometry) (c : Ssc) (before after : State) : Type
   pub region : ℕ
   pub newest : Complete
   pub found : checkpoint_of g before.contents.flash.page ≡ Ok (region, newest)
-  pub log : c.parts.log ≡ log_checkpointed (log_found g region newest.era)
-  pub adds : AddsCheckpoint (log_found g region newest.era) c.parts.map.records before after
+  pub log : c.parts.log ≡ log_checkpointed (log_found g region newest.stamp.era)
+  pub adds : AddsCheckpoint (log_found g region newest.stamp.era) c.parts.map.records before after
   pub pool : PoolStays g before.contents.flash.page after.contents.flash.page
 
 -- Ok, an opening has made that one checkpoint; refused, it has only read, unless the flash failed or power was lost

@@ -22,9 +22,9 @@ use recovery::{Loaded, load};
 use std::alloc::{AllocError, Global};
 
 impl Ssc {
-    /// Loads what the flash stands for, and makes a checkpoint of it, in the region that hasn't the one that it found.
-    /// Refused or cut, the flash stands for what it stood for. Unless the flash failed or power was lost, a refusal
-    /// writes nothing.
+    /// Loads what the flash stands for, in either format. A checkpoint of it is made in format 2, in the region that
+    /// hasn't the one that was found. Refused or cut, the flash stands for what it stood for. Unless the flash failed
+    /// or power was lost, a refusal writes nothing.
     pub fn open<M: Media>(
         alloc: Global,
         media: &mut M,

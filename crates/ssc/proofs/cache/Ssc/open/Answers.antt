@@ -10,11 +10,10 @@ use Rattle.op_log.specs.Log.{LogValue}
 use Rattle.recovery.specs.declared.loading.Loaded.{Loaded}
 use Rattle.merge_engine.specs.declared.parts.Parts.{Parts}
 use Rattle.merge_engine.specs.Loaded.{AreFoundLogs}
-use Rattle.ssc.specs.CacheState.{waiting}
 use Rattle.ssc.proofs.OpenLemmas.{full_room, loaded_era, reads_drives, sound_loaded, lists_loaded, images_loaded, load-loaded, made_checkpoint, refused_reads}
 use Rattle.ssc.proofs.HoldsLemmas.{settled_opened, holds_committed}
 use Rattle.ssc.proofs.ListLemmas.{stands_some}
-use Rattle.ssc.proofs.OwnLemmas.{undo_own}
+use Rattle.ssc.proofs.OwnLemmas.{undone_own}
 use Rattle.ssc.proofs.cache.Ssc.open.Goals as goal
 
 pub parts_of-requires-clause-era : goal.parts_of-requires-clause-era
@@ -106,7 +105,7 @@ returns-in-Err-PowerLost-clause-drives g c =
     (subst (λ (e : MediaError). DrivesFlash (g.M.Media.state c.load.new.media) (g.M.Media.state c.make_checkpoint.new.media) (failed {T = Unit {0}} (Err e)) (lost {T = Unit {0}} (Err e))) c.in-Err-PowerLost.field-0-is c.in-Err-PowerLost.ensures.drives.flash)
 
 pub returns-in-Ok-clause-own : goal.returns-in-Ok-clause-own
-returns-in-Ok-clause-own g c = λ loads. record { list = loads.list; holds = returns-in-Ok-clause-holds g c loads.list loads.stands; own = loads.own; durable = undo_own (waiting c.make_checkpoint.new.cache.log.buffered) loads.list loads.own }
+returns-in-Ok-clause-own g c = λ loads. record { list = loads.list; holds = returns-in-Ok-clause-holds g c loads.list loads.stands; own = loads.own; durable = undone_own c.make_checkpoint.new.cache.log.buffered loads.list loads.own }
 
 pub returns-in-Ok-clause-opened : goal.returns-in-Ok-clause-opened
 returns-in-Ok-clause-opened g c = record {
