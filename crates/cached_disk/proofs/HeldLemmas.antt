@@ -1,6 +1,6 @@
 -- What it leaves of its media while it is up, and once it is down.
 use Rattle.std.proofs.Common.{◌≡◌, ◌⊎◌, ℕ, ◌<◌, ◌==◌, Bool, true, false, List, [], ◌∷◌, Option, Some, None, inl, inr, refl, sym, ◌∙◌, ap, ap₂, subst}
-use Rattle.std.specs.List.{AllByRecursion}
+use Rattle.std.specs.List.{AllByRecursion, list_any}
 use Rattle.std.specs.FinMap.{get}
 use Rattle.std.proofs.lemmas.Bool.{both_ways, false≢true, or_parts, or_right}
 use Rattle.ft_base.specs.declared.block.Block.{Block}
@@ -15,7 +15,7 @@ use Rattle.ft_media.specs.Media.{Crashed, DiskStays}
 use Rattle.ft_volume.specs.Opening.{ImageIs, Suits}
 use Rattle.ft_volume.specs.Volume.{StandForAny, StandForOneOf}
 use Rattle.ft_volume.specs.Standing.{StandFor}
-use Rattle.cache_model.specs.Cache.{Buffered, Inserted, Cleaned, undo}
+use Rattle.cache_model.specs.Cache.{Buffered, Inserted, Cleaned, Written, is_write, undo}
 use Rattle.cache_model.specs.CacheList.{Agrees, CacheList, Held, held_or}
 use Rattle.cache_model.specs.Stands.{FlashStandsFor}
 use Rattle.cache_model.proofs.CountLemmas.{taken}
@@ -24,6 +24,7 @@ use Rattle.op_log.specs.Log.{FitsOn}
 use Rattle.ssc.specs.declared.cache.Ssc.{Ssc}
 use Rattle.ssc.specs.CacheState.{Holds, IsUp, geometry_of, pending}
 use Rattle.ssc.specs.Commands.{ReadOf}
+use Rattle.ssc.proofs.HoldsLemmas.{none_written}
 use Rattle.cached_disk.specs.declared.disk.CachedDisk.{CachedDisk}
 use Rattle.cached_disk.specs.Kept.{IsBeneath, IsDirtyIn, IsHeld, IsInserted, IsLeft, MayUndo, is_down, told_of}
 use Rattle.cached_disk.proofs.DiskLemmas.{Had, IsOver, agrees_fewer, one_of_any, over_fewer, over_stands, stands_over}
@@ -67,10 +68,11 @@ module _ (a : ℕ) (h : Held) where
   back_was : (x : Buffered) → IsInserted x → (o : Option Held) → back_at x a o ≡ Some h → o ≡ Some h
   back_was (Inserted k) is o at = taken (a == k) o h at
   back_was (Cleaned k) is o at = absurd is
+  back_was (Written k old) is o at = absurd is
 
   undone_was : (q : List Buffered) → AllByRecursion IsInserted q → (o : Option Held) → undone_at q a o ≡ Some h → o ≡ Some h
   undone_was [] all o at = at
-  undone_was (x ∷ q) all o at = back_was x all.0 o (undone_was q all.1 (back_at x a o) at)
+  undone_was (x ∷ q) all o at = undone_was q all.1 o (back_was x all.0 (undone_at q a o) at)
 
 pub suits_undone : (mode : Mode) (q : List Buffered) (s : CacheList) → MayUndo mode q → Suits mode s → Suits mode (undo q s)
 suits_undone Back q s may suits = tt
@@ -90,21 +92,24 @@ module _ (v : CachedDisk) (contents : Contents) (s : CacheList) (own : geometry_
   abbrev pub undone : CacheList
   undone = undo (pending v.cache) s
 
+  none_waits : list_any is_write (pending v.cache) ≡ false
+  none_waits = none_written v.cache.parts.log.buffered
+
   undone_stands : FlashStandsFor v.options.geometry contents.flash.page undone
   undone_stands = subst (λ (g : Geometry). FlashStandsFor g contents.flash.page undone) own is.holds.lists.stands
 
   pub held_beneath : IsBeneath (told_of v) contents undone
   held_beneath = record {
     flash = undone_stands;
-    agrees = undo_agrees contents.disk s is.agrees (pending v.cache);
+    agrees = undo_agrees contents.disk s is.agrees (pending v.cache) none_waits;
     suits = suits_undone v.mode (pending v.cache) s is.undo is.suits;
   }
 
   pub undone_over : (d : PlainDisk) → IsOver v.options.geometry s contents.disk d → IsOver v.options.geometry undone contents.disk d
-  undone_over d over = over_same v.options.geometry contents.disk s undone d (undo_same contents.disk s is.agrees (geometry_of v.cache) (pending v.cache) is.holds.waits) over
+  undone_over d over = over_same v.options.geometry contents.disk s undone d (undo_same contents.disk s is.agrees (geometry_of v.cache) (pending v.cache) none_waits is.holds.waits) over
 
   undone_dirty : (a : ℕ) → IsDirtyIn s a → IsDirtyIn undone a
-  undone_dirty = undo_dirty (geometry_of v.cache) (pending v.cache) s is.holds.waits
+  undone_dirty = undo_dirty (geometry_of v.cache) (pending v.cache) s none_waits is.holds.waits
 
   pub held_left : FitsOn v.options.geometry contents.shape → IsLeft v contents
   held_left shape = record { own = own; shape = shape; list = undone; beneath = held_beneath; held = s; up = λ up. is }
@@ -112,7 +117,7 @@ module _ (v : CachedDisk) (contents : Contents) (s : CacheList) (own : geometry_
   -- what it holds is the plain disk that the media stand for
   pub held_over : (d : PlainDisk) → StandFor (ImageIs (told_of v)) contents d → IsOver v.options.geometry s contents.disk d
   held_over d stand =
-      over_same v.options.geometry contents.disk undone s d (same_back contents.disk s undone (undo_same contents.disk s is.agrees (geometry_of v.cache) (pending v.cache) is.holds.waits))
+      over_same v.options.geometry contents.disk undone s d (same_back contents.disk s undone (undo_same contents.disk s is.agrees (geometry_of v.cache) (pending v.cache) none_waits is.holds.waits))
       (stands_over (told_of v) contents undone undone_stands d stand)
 
   pub held_stands : (d : PlainDisk) → IsOver v.options.geometry s contents.disk d → StandFor (ImageIs (told_of v)) contents d

@@ -281,7 +281,7 @@ module _ (v : CachedDisk) (c : Ssc) (old new : Contents) (s : CacheList) (by : D
 
 pub room_fits : (g : Geometry) (next room : ℕ) → room ≡ log_pages g - next → 2 * room < 2 ^ 32
 room_fits g next room is =
-    let most : g.j * g.p ≤ 16 * 64 = mul-le g.j g.p 16 64 g.in_range.j_high g.in_range.p_high in
+    let most : g.j * g.p ≤ 16 * 128 = mul-le g.j g.p 16 128 g.in_range.j_high g.in_range.p_high in
     omega (arith, is, most)
 
 -- a checkpoint is due where no more than half is left

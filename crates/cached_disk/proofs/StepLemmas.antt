@@ -1,18 +1,18 @@
 -- What the steps on a list of held blocks leave over a disk: what is buffered undone, clean groups that give way, and a block that is written.
 use Rattle.std.proofs.Common.{◌≡◌, ◌⊎◌, ℕ, ◌/◌, ◌==◌, Bool, true, false, cond, List, [], ◌∷◌, Option, Some, None, option_map, inl, inr, refl, sym, ◌∙◌, ap, subst, arith, eqb-true}
-use Rattle.std.specs.List.{AllByRecursion}
+use Rattle.std.specs.List.{list_any}
 use Rattle.std.specs.FinMap.{get}
-use Rattle.std.proofs.lemmas.Bool.{cases_Bool, false≢true}
+use Rattle.std.proofs.lemmas.Bool.{cases_Bool, false_from_ne_true, false≢true, or_parts}
 use Rattle.std.proofs.lemmas.Bool.Decides.{nat_tests}
 use Rattle.ft_base.specs.declared.block.Block.{Block}
 use Rattle.ft_base.specs.declared.geometry.Geometry.{Geometry}
 use Rattle.ft_base.specs.Contents.{Values, HasValue, set}
 use Rattle.ft_base.specs.PlainDisk.{PlainDisk}
-use Rattle.cache_model.specs.Cache.{Buffered, Inserted, Cleaned, MayWait, Vanish, address_of, written_block, marked_as, undo, written_clean, written_dirty}
+use Rattle.cache_model.specs.Cache.{Buffered, Inserted, Cleaned, Written, IsLeftBy, IsMarked, MayWait, Vanish, WereLeft, is_write, taken_back, written_block, marked_as, undo, written_clean, written_dirty}
 use Rattle.cache_model.specs.CacheList.{Agrees, CacheList, Held, held_or}
 use Rattle.cache_model.proofs.CountLemmas.{equals_turned, taken}
 use Rattle.cache_model.proofs.MapLemmas.{get_insert}
-use Rattle.cache_model.proofs.UndoLemmas.{back_at, get_undo, undone_at}
+use Rattle.cache_model.proofs.UndoLemmas.{get_without}
 use Rattle.cached_disk.specs.Kept.{IsDirtyIn}
 use Rattle.cached_disk.proofs.DiskLemmas.{IsOver}
 
@@ -34,81 +34,72 @@ not_dirty_beneath disk s agrees a none b has (Some h) at = elim (cases_Bool h.di
   | inr f ↦ agrees a h b at f has
 ]
 
--- ---- without what is buffered
+-- ---- without what is buffered, where no write is
 
--- once it shows what is beneath, it does so whatever is undone
-back_beneath : (x : Buffered) (a : ℕ) (o : Option Held) (b : Block) → held_or o b ≡ b → held_or (back_at x a o) b ≡ b
-back_beneath (Inserted k) a o b is = by_choice (a == k)
-  where
-    by_choice : (t : Bool) → held_or (cond t None o) b ≡ b
-    by_choice true = refl
-    by_choice false = is
-back_beneath (Cleaned k) a o b is = by_choice (a == k)
-  where
-    marked_same : (o : Option Held) → held_or (option_map (marked_as true) o) b ≡ held_or o b
-    marked_same None = refl
-    marked_same (Some h) = refl
+-- what was left clean wasn't dirty
+not_here : (t : CacheList) (a k : ℕ) → IsMarked false t k → IsDirtyIn t a → (a == k) ≡ false
+not_here t a k left dirty = false_from_ne_true (a == k) (λ here.
+    let both : Some dirty.0 ≡ Some left.0 = sym dirty.1 ∙ ap (λ (n : ℕ). get t n) (eqb-true a k here) ∙ left.1 in
+    let same : dirty.0 ≡ left.0 = cc in
+    false≢true (sym left.2 ∙ sym (ap (λ (h : Held). h.dirty) same) ∙ dirty.2))
 
-    by_choice : (t : Bool) → held_or (cond t (option_map (marked_as true) o) o) b ≡ b
-    by_choice true = marked_same o ∙ is
-    by_choice false = is
+dirty_one : (x : Buffered) (t : CacheList) → is_write x ≡ false → IsLeftBy x t → (a : ℕ) → IsDirtyIn t a → IsDirtyIn (taken_back x t) a
+dirty_one (Inserted k) t none left a dirty = (dirty.0, get_without (Inserted k) t a ∙ ap (λ c. cond c None (get t a)) (not_here t a k left dirty) ∙ dirty.1, dirty.2)
+dirty_one (Cleaned k) t none left a dirty = (dirty.0, get_without (Cleaned k) t a ∙ ap (λ c. cond c (option_map (marked_as true) (get t a)) (get t a)) (not_here t a k left dirty) ∙ dirty.1, dirty.2)
+dirty_one (Written k old) t none left a dirty = absurd (false≢true (sym none))
 
-undone_beneath : (q : List Buffered) (a : ℕ) (o : Option Held) (b : Block) → held_or o b ≡ b → held_or (undone_at q a o) b ≡ b
-undone_beneath [] a o b is = is
-undone_beneath (x ∷ q) a o b is = undone_beneath q a (back_at x a o) b (back_beneath x a o b is)
-
--- another address
-back_other : (x : Buffered) (a : ℕ) (o : Option Held) → (a == address_of x) ≡ false → back_at x a o ≡ o
-back_other (Inserted k) a o other = ap (λ t. cond t None o) other
-back_other (Cleaned k) a o other = ap (λ t. cond t (option_map (marked_as true) o) o) other
-
-module _ (disk : ℕ → Values) (s : CacheList) (agrees : Agrees s disk) where
-  clean_beneath : (a : ℕ) (b : Block) → HasValue (disk a) b → (h : Held) × (get s a ≡ Some h) × (h.dirty ≡ false) → held_or (get s a) b ≡ b
-  clean_beneath a b has clean = ap (λ (o : Option Held). held_or o b) clean.1 ∙ sym (agrees a clean.0 b clean.1 clean.2 has)
-
-  undone_same : (q : List Buffered) → AllByRecursion (λ x. (h : Held) × (get s (address_of x) ≡ Some h) × (h.dirty ≡ false)) q → (a : ℕ) (b : Block) → HasValue (disk a) b → held_or (undone_at q a (get s a)) b ≡ held_or (get s a) b
-  undone_same [] all a b has = refl
-  undone_same (x ∷ q) all a b has = elim (cases_Bool (a == address_of x)) [
-    | inl here ↦
-        let clean : (h : Held) × (get s a ≡ Some h) × (h.dirty ≡ false) = subst (λ (n : ℕ). (h : Held) × (get s n ≡ Some h) × (h.dirty ≡ false)) (sym (eqb-true a (address_of x) here)) all.0 in
-        let is = clean_beneath a b has clean in
-        undone_beneath (x ∷ q) a (get s a) b is ∙ sym is
-    | inr other ↦ ap (λ (o : Option Held). held_or (undone_at q a o) b) (back_other x a (get s a) other) ∙ undone_same q all.1 a b has
-  ]
-
-  pub undo_same : (g : Geometry) (q : List Buffered) → MayWait g q s → IsSameOver disk s (undo q s)
-  undo_same g q may a b has = ap (λ (o : Option Held). held_or o b) (get_undo q s a) ∙ undone_same q may.clean a b has
-
-  -- what is clean without it, was clean
-  pub undo_agrees : (q : List Buffered) → Agrees (undo q s) disk
-  undo_agrees q a h b at clean has = agrees a h b (undone_clean q (get s a) (sym (get_undo q s a) ∙ at)) clean has
-    where
-      back_clean : (x : Buffered) (o : Option Held) → back_at x a o ≡ Some h → o ≡ Some h
-      back_clean (Inserted k) o is = taken (a == k) o h is
-      back_clean (Cleaned k) o is = by_choice (a == k) o is
-        where
-          by_choice : (t : Bool) (o : Option Held) → cond t (option_map (marked_as true) o) o ≡ Some h → o ≡ Some h
-          by_choice true None is = absurd (cc)
-          by_choice true (Some k) is = absurd (let same : marked_as true k ≡ h = cc in false≢true (sym clean ∙ sym (ap (λ (y : Held). y.dirty) same)))
-          by_choice false o is = is
-
-      undone_clean : (q : List Buffered) (o : Option Held) → undone_at q a o ≡ Some h → o ≡ Some h
-      undone_clean [] o is = is
-      undone_clean (x ∷ q) o is = back_clean x o (undone_clean q (back_at x a o) is)
+dirty_each : (q : List Buffered) (s : CacheList) → list_any is_write q ≡ false → WereLeft q s → (a : ℕ) → IsDirtyIn s a → IsDirtyIn (undo q s) a
+dirty_each [] s none left a dirty = dirty
+dirty_each (x ∷ q) s none left a dirty =
+    let p = or_parts (is_write x) (list_any is_write q) none in
+    dirty_one x (undo q s) p.0 left.0 a (dirty_each q s p.1 left.1 a dirty)
 
 -- what is dirty stays so
-pub undo_dirty : (g : Geometry) (q : List Buffered) (s : CacheList) → MayWait g q s → (a : ℕ) → IsDirtyIn s a → IsDirtyIn (undo q s) a
-undo_dirty g q s may a dirty = (dirty.0, get_undo q s a ∙ undone q may.clean ∙ dirty.1, dirty.2)
-  where
-    undone : (q : List Buffered) → AllByRecursion (λ x. (h : Held) × (get s (address_of x) ≡ Some h) × (h.dirty ≡ false)) q → undone_at q a (get s a) ≡ get s a
-    undone [] all = refl
-    undone (x ∷ q) all = elim (cases_Bool (a == address_of x)) [
-      | inl here ↦
-          let both : Some dirty.0 ≡ Some all.0.0 = sym dirty.1 ∙ ap (λ (n : ℕ). get s n) (eqb-true a (address_of x) here) ∙ all.0.1 in
-          let same : dirty.0 ≡ all.0.0 = cc in
-          absurd (false≢true (sym all.0.2 ∙ sym (ap (λ (h : Held). h.dirty) same) ∙ dirty.2))
-      | inr other ↦ ap (λ (o : Option Held). undone_at q a o) (back_other x a (get s a) other) ∙ undone q all.1
-    ]
+pub undo_dirty : (g : Geometry) (q : List Buffered) (s : CacheList) → list_any is_write q ≡ false → MayWait g q s → (a : ℕ) → IsDirtyIn s a → IsDirtyIn (undo q s) a
+undo_dirty g q s none may = dirty_each q s none may.left
+
+module _ (disk : ℕ → Values) where
+  marked_beneath : (here : Bool) (o : Option Held) (b : Block) → held_or (cond here (option_map (marked_as true) o) o) b ≡ held_or o b
+  marked_beneath true None b = refl
+  marked_beneath true (Some h) b = refl
+  marked_beneath false o b = refl
+
+  same_one : (x : Buffered) (t : CacheList) → is_write x ≡ false → IsLeftBy x t → Agrees t disk → IsSameOver disk t (taken_back x t)
+  same_one (Inserted k) t none left agrees a b has = ap (λ (o : Option Held). held_or o b) (get_without (Inserted k) t a) ∙ by_choice (cases_Bool (a == k))
+    where
+      by_choice : (a == k ≡ true) ⊎ (a == k ≡ false) → held_or (cond (a == k) None (get t a)) b ≡ held_or (get t a) b
+      by_choice (inl here) =
+          let at : get t a ≡ Some left.0 = ap (λ (n : ℕ). get t n) (eqb-true a k here) ∙ left.1 in
+          ap (λ c. held_or (cond c None (get t a)) b) here ∙ agrees a left.0 b at left.2 has ∙ sym (ap (λ (o : Option Held). held_or o b) at)
+      by_choice (inr other) = ap (λ c. held_or (cond c None (get t a)) b) other
+  same_one (Cleaned k) t none left agrees a b has = ap (λ (o : Option Held). held_or o b) (get_without (Cleaned k) t a) ∙ marked_beneath (a == k) (get t a) b
+  same_one (Written k old) t none left agrees a b has = absurd (false≢true (sym none))
+
+  -- what is clean once one is taken back, was clean
+  agrees_one : (x : Buffered) (t : CacheList) → is_write x ≡ false → Agrees t disk → Agrees (taken_back x t) disk
+  agrees_one (Inserted k) t none agrees a h b at clean has = agrees a h b (taken (a == k) (get t a) h (sym (get_without (Inserted k) t a) ∙ at)) clean has
+  agrees_one (Cleaned k) t none agrees a h b at clean has = agrees a h b (by_choice (a == k) (get t a) (sym (get_without (Cleaned k) t a) ∙ at)) clean has
+    where
+      by_choice : (here : Bool) (o : Option Held) → cond here (option_map (marked_as true) o) o ≡ Some h → o ≡ Some h
+      by_choice true None is = absurd (cc)
+      by_choice true (Some m) is = absurd (let same : marked_as true m ≡ h = cc in false≢true (sym clean ∙ sym (ap (λ (y : Held). y.dirty) same)))
+      by_choice false o is = is
+  agrees_one (Written k old) t none agrees a h b at clean has = absurd (false≢true (sym none))
+
+  module _ (s : CacheList) (agrees : Agrees s disk) where
+    -- what is clean without it, was clean
+    pub undo_agrees : (q : List Buffered) → list_any is_write q ≡ false → Agrees (undo q s) disk
+    undo_agrees [] none = agrees
+    undo_agrees (x ∷ q) none = let p = or_parts (is_write x) (list_any is_write q) none in agrees_one x (undo q s) p.0 (undo_agrees q p.1)
+
+    same_each : (q : List Buffered) → list_any is_write q ≡ false → WereLeft q s → IsSameOver disk s (undo q s)
+    same_each [] none left a b has = refl
+    same_each (x ∷ q) none left a b has =
+        let p = or_parts (is_write x) (list_any is_write q) none in
+        same_one x (undo q s) p.0 left.0 (undo_agrees q p.1) a b has ∙ same_each q p.1 left.1 a b has
+
+    pub undo_same : (g : Geometry) (q : List Buffered) → list_any is_write q ≡ false → MayWait g q s → IsSameOver disk s (undo q s)
+    undo_same g q none may = same_each q none may.left
 
 -- ---- once clean groups gave way
 

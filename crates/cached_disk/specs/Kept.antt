@@ -27,7 +27,7 @@ use Rattle.ft_volume.specs.declared.volume.VolumeError.TheVariants.{OutOfVolume}
 use Rattle.cache_model.specs.Loading.{load}
 use Rattle.cache_model.specs.Records.{Entries}
 pub use Rattle.ssc.specs.Commands.{IsDirtyIn}
-use Rattle.cache_model.specs.Cache.{Buffered, Cleaned, Inserted, dirty_between}
+use Rattle.cache_model.specs.Cache.{Buffered, Cleaned, Inserted, Written, dirty_between}
 use Rattle.cache_model.specs.CacheList.{Agrees, CacheList, vol}
 use Rattle.cache_model.specs.Stands.{FlashStandsFor}
 use Rattle.op_log.specs.Log.{FitsOn}
@@ -78,6 +78,7 @@ Loads told page m = load told.geometry page ≡ Ok m
 abbrev pub IsInserted : Buffered → Type 0
 IsInserted (Inserted a) = ⊤
 IsInserted (Cleaned a) = ⊥
+IsInserted (Written a old) = ⊥
 
 -- what a crash may undo: where it writes through, that makes no block dirty
 abbrev pub MayUndo : Mode → List Buffered → Type 0

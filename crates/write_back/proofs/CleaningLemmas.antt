@@ -30,6 +30,7 @@ use Rattle.ssc.specs.declared.error.SscError.TheVariants.{Full, OutOfMemory}
 use Rattle.ssc.specs.CacheState.{Holds, geometry_of, pending}
 use Rattle.ssc.specs.Commands.{ImagesOf, FlashStandsForOne, AsUndone, AsBefore, AsAfter}
 use Rattle.ssc.specs.Errors.{ssc_failed, ssc_lost, stops}
+use Rattle.ssc.proofs.HoldsLemmas.{none_written}
 use Rattle.cached_disk.specs.declared.disk.CachedDisk.{CachedDisk}
 use Rattle.cached_disk.specs.Errors.{IsOfCache}
 use Rattle.cached_disk.specs.Kept.{IsBeneath, IsDirtyIn, IsHeld, IsLeft, MayUndo, dirty_of, is_down, told_of, WritesDisk}
@@ -120,7 +121,7 @@ module _ (v : CachedDisk) (k : Ssc) (s t : State) (list : CacheList) (lba : ℕ)
   cleaned_over d over = over_same v.options.geometry s.contents.disk list after_clean d (cleaned_same lba list s.contents.disk) over
 
   left_by : (page : Place → Page) → FlashStandsForOne (geometry_of v.cache) page (undo (pending v.cache) list) list after_clean → IsLeftBy page
-  left_by page (AsUndone x) = record { list_of = undo (pending v.cache) list; stands = own_flash v own page (undo (pending v.cache) list) x; agrees = undo_agrees s.contents.disk list is.agrees (pending v.cache); over = undone_over v s.contents list own is }
+  left_by page (AsUndone x) = record { list_of = undo (pending v.cache) list; stands = own_flash v own page (undo (pending v.cache) list) x; agrees = undo_agrees s.contents.disk list is.agrees (pending v.cache) (none_written v.cache.parts.log.buffered); over = undone_over v s.contents list own is }
   left_by page (AsBefore x) = record { list_of = list; stands = own_flash v own page list x; agrees = is.agrees; over = λ d over. over }
   left_by page (AsAfter x) = record { list_of = after_clean; stands = own_flash v own page after_clean x; agrees = cleaned_agrees; over = cleaned_over }
 

@@ -28,6 +28,7 @@ use Rattle.ssc.specs.declared.error.SscError.{SscError}
 use Rattle.ssc.specs.declared.error.SscError.TheVariants.{OutOfMemory}
 use Rattle.ssc.specs.CacheState.{Holds, geometry_of, pending}
 use Rattle.ssc.specs.Commands.{ReadOf}
+use Rattle.ssc.proofs.HoldsLemmas.{none_written}
 use Rattle.ssc.specs.Errors.{ssc_failed, ssc_lost}
 use Rattle.cached_disk.specs.declared.disk.CachedDisk.{CachedDisk}
 use Rattle.cached_disk.specs.Errors.{IsOfCache, disk_error}
@@ -113,13 +114,13 @@ module _ (v : CachedDisk) (old new : Contents) (s : CacheList) (own : geometry_o
       let was = held_beneath v old s own is in
       record {
         flash = subst (λ (f : Place → Page). FlashStandsFor v.options.geometry f without_buffered) (sym shows.page) was.flash;
-        agrees = undo_agrees new.disk s agrees_now (pending v.cache);
+        agrees = undo_agrees new.disk s agrees_now (pending v.cache) (none_written v.cache.parts.log.buffered);
         suits = was.suits;
       }
 
   pub stands_now : KeepsPlainDisk (told_of v) old new
   stands_now d stand = over_stands (told_of v) new without_buffered beneath_now d
-      (over_same v.options.geometry new.disk s without_buffered d (undo_same new.disk s agrees_now (geometry_of v.cache) (pending v.cache) is.holds.waits) (over_now d (held_over v old s own is d stand)))
+      (over_same v.options.geometry new.disk s without_buffered d (undo_same new.disk s agrees_now (geometry_of v.cache) (pending v.cache) (none_written v.cache.parts.log.buffered) is.holds.waits) (over_now d (held_over v old s own is d stand)))
 
   -- refused, it is down
   pub left_down : (k : Ssc) → k ≡ v.cache → IsLeft (record v { cache = k; down = true }) new

@@ -12,7 +12,7 @@ use Rattle.ft_base.specs.Table.{Table, Waiting, is_full, is_of, last_size, lbas_
 use Rattle.ft_volume.specs.Volume.{dirty_lbas}
 use Rattle.cache_model.specs.declared.entry.Entry.{Entry}
 use Rattle.cache_model.specs.Records.{Entries}
-use Rattle.cache_model.specs.Cache.{AreApart, IsFull, dirty_groups}
+use Rattle.cache_model.specs.Cache.{IsFull, dirty_groups}
 use Rattle.cache_model.specs.CacheList.{CacheList, Held}
 use Rattle.cache_model.specs.Entries.{IsMap, each_once}
 use Rattle.cache_model.proofs.CountLemmas.{all_members, each_once-le, each_once-same, member, member_of, member_once, same_number, equals_turned}
@@ -22,7 +22,7 @@ use Rattle.mapping.proofs.MarksLemmas.{same_bools}
 use Rattle.merge_engine.specs.Loaded.{AreAscending}
 use Rattle.cached_disk.specs.Kept.{waiting_in}
 use Rattle.cached_disk.proofs.AddressLemmas.{ascending_same, filter_ascending, has_lba, has_lba-filter, has_lba-with, lbas_dirty, lbas_has, lbas_in, with_ascending}
-use Rattle.write_back.specs.Left.{IsExact, in_group, out_of_group}
+use Rattle.write_back.specs.Left.{AreApart, IsExact, in_group, out_of_group}
 
 -- ---- a list of distinct groups, one that is touched, and one that is taken out
 

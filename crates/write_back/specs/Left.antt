@@ -1,5 +1,5 @@
 -- What a volume is that writes back, and what it leaves on its media.
-use Rattle.std.specs.Prelude.{◌≡◌, ◌<◌, ◌/◌, ◌==◌, not, ℕ, true, false, List, filter, Result, IsErrOf}
+use Rattle.std.specs.Prelude.{◌≡◌, ◌<◌, ◌/◌, ◌==◌, not, ℕ, true, false, List, [], ◌∷◌, filter, Result, IsErrOf}
 use Rattle.std.specs.List.{list_any}
 use Rattle.ft_base.specs.Contents.{Contents}
 use Rattle.ft_base.specs.declared.geometry.Geometry.{Geometry}
@@ -8,7 +8,6 @@ use Rattle.ft_media.specs.State.{State}
 use Rattle.ft_volume.specs.Volume.{FaultDowns, Goes, VolumeState}
 use Rattle.ft_volume.specs.declared.volume.VolumeError.{VolumeError}
 use Rattle.ft_volume.specs.declared.volume.VolumeError.TheVariants.{OutOfVolume}
-use Rattle.cache_model.specs.Cache.{AreApart}
 use Rattle.dirty_table.specs.Groups.{Groups, has}
 use Rattle.cached_disk.specs.Kept.{dirty_of, state_in}
 use Rattle.cached_disk.specs.Kept as kept
@@ -17,6 +16,11 @@ use Rattle.write_back.specs.declared.volume.WriteBack.{WriteBack}
 -- what it is at this moment
 abbrev pub state_of : WriteBack → VolumeState
 state_of v = state_in v.dirty.order v.disk
+
+-- each of them is there once
+abbrev pub AreApart : List ℕ → Type 0
+AreApart [] = Unit {0}
+AreApart (n ∷ ns) = (list_any (λ k. k == n) ns ≡ false) × AreApart ns
 
 -- the table is of distinct groups, for as many as there may be
 pub record IsDirtyTable (g : Geometry) (table : Groups) : Type 0 where

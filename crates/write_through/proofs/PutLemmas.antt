@@ -6,6 +6,7 @@ use Rattle.std.proofs.lemmas.Bool.{cases_eq, false≢true}
 use Rattle.ft_base.specs.declared.block.Block.{Block}
 use Rattle.ft_base.specs.declared.block.Place.{Place}
 use Rattle.ft_base.specs.declared.block.Page.{Page}
+use Rattle.ft_base.specs.declared.record.Record.{Record}
 use Rattle.ft_base.specs.Contents.{Contents, HasValue, Image, Now, Shape, Values, flushed, set, written}
 use Rattle.ft_base.specs.PlainDisk.{PlainDisk}
 use Rattle.ft_base.specs.Told.{Told}
@@ -16,13 +17,14 @@ use Rattle.ft_volume.specs.Volume.{StandForEither, StandForOne, VolumeState, Was
 use Rattle.ft_volume.specs.Standing.{StandFor}
 use Rattle.ft_volume.specs.declared.volume.VolumeError.TheVariants.{DiskFault, PowerLost}
 use Rattle.ft_volume.proofs.DoneLemmas.{done_of_one}
-use Rattle.cache_model.specs.Cache.{Buffered, undo}
+use Rattle.cache_model.specs.Cache.{undo}
 use Rattle.cache_model.specs.CacheList.{Agrees, CacheList, Held, held_or}
 use Rattle.cache_model.specs.Stands.{FlashStandsFor}
-use Rattle.cache_model.proofs.UndoLemmas.{get_undo, undone_at, undone_none}
+use Rattle.cache_model.proofs.UndoLemmas.{get_undo, undone_at}
 use Rattle.op_log.specs.Log.{FitsOn}
 use Rattle.ssc.specs.declared.cache.Ssc.{Ssc}
-use Rattle.ssc.specs.CacheState.{Holds, entries_of, pending}
+use Rattle.ssc.specs.CacheState.{Holds, entries_of, waiting}
+use Rattle.ssc.proofs.HoldsLemmas.{none_written, undone_none}
 use Rattle.cached_disk.specs.declared.disk.CachedDisk.{CachedDisk}
 use Rattle.cached_disk.specs.Kept.{IsBeneath, IsHeld, IsLeft, is_down, told_of}
 use Rattle.cached_disk.proofs.AddressLemmas.{holds_held}
@@ -48,8 +50,8 @@ pub absent_of : (c : Ssc) (contents : Contents) (s : CacheList) → Holds c cont
 absent_of c contents s holds a is = not_some (get s a) (sym (holds_held c contents s holds a) ∙ is)
 
 -- it isn't held without what is buffered either
-undone_absent : (q : List Buffered) (s : CacheList) (a : ℕ) → get s a ≡ None → get (undo q s) a ≡ None
-undone_absent q s a none = get_undo q s a ∙ ap (undone_at q a) none ∙ undone_none q a
+undone_absent : (changes : List Record) (s : CacheList) (a : ℕ) → get s a ≡ None → get (undo (waiting changes) s) a ≡ None
+undone_absent changes s a none = get_undo (waiting changes) s a ∙ ap (undone_at (waiting changes) a) none ∙ undone_none (waiting changes) a (none_written changes)
 
 -- ---- over a list that lacks the address
 
@@ -162,7 +164,7 @@ module _ (v : CachedDisk) (old new : Contents) (left : IsLeft v old) (up : is_do
     beneath_list = undone v old left.held left.own is
 
     beneath_absent : get beneath_list lba ≡ None
-    beneath_absent = undone_absent (pending v.cache) left.held lba absent
+    beneath_absent = undone_absent v.cache.parts.log.buffered left.held lba absent
 
     beneath_old : IsBeneath (told_of v) old beneath_list
     beneath_old = held_beneath v old left.held left.own is
