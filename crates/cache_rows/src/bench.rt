@@ -6,11 +6,15 @@ ghost use Rattle.mem_rig.specs.Rig.{state_of};
 ghost use Rattle.op_log.specs.Log.{FitsOn};
 ghost use Rattle.ssc.specs.CacheState.{IsUp, geometry_of};
 
-use crate::lists::{Held, Lists, NOTHING, Plain, Step, give, groups_held, is_less, may_be_left};
-use ft_base::{Block, Geometry, Outcome, pattern, tag_of, zero_block};
-use ft_media::Media;
+use crate::lists::{
+    Held, Lists, NOTHING, Plain, Step, give, groups_held, is_less, lists_of, may_be_left,
+};
+use ft_base::{Block, Geometry, Outcome, Place, Spare, pattern, tag_of, zero_block};
+use ft_media::{Media, PageRead};
 use mem_rig::MemRig;
 use op_log::OpenError;
+use plain_format::{Old, made_old};
+use record_codec::{Header, read_header};
 use ssc::{Scrub, Ssc, SscError};
 use std::alloc::Global;
 use std::marker::Model;
@@ -100,6 +104,21 @@ fn write_disk(rig: &mut MemRig, lba: u64, block: &Block) -> bool
     rig.write_block(lba, block).is_ok() && rig.flush_disk().is_ok()
 }
 
+/// The header of the first page of an erase block, where the page is whole and begins with one.
+fn first_header(rig: &mut MemRig, block: u32) -> Option<Header>
+    ensures { (state_of rig.new).contents ≡ (state_of rig.old).contents }
+{
+    if block >= rig.flash_blocks() || rig.flash_pages() == 0 {
+        return None;
+    }
+    let mut bytes = zero_block();
+    let at = Place { block, page: 0 };
+    match rig.read_flash(at, &mut bytes, &mut Spare([0; 32])) {
+        Ok(PageRead::Whole) => read_header(&bytes),
+        _ => None,
+    }
+}
+
 fn block_of(lba: u64, tag: u64) -> Block {
     let mut block = zero_block();
     pattern(lba, tag, &mut block);
@@ -159,6 +178,14 @@ pub(crate) enum Line {
     WriteDisk(u64, u64),
     /// Power is cut, and the flash is opened.
     Cut,
+    /// The flash has these contents in format 1, and this is what they hold. It isn't opened.
+    Old(&'static Old, &'static [(u64, Held)]),
+    /// The flash is opened.
+    Open,
+    /// It is opened, and the device write of this number is cut so.
+    CutOpening(u64, Outcome),
+    /// The first page of a block has a header of this format and era.
+    Heads(u32, u8, u8),
     /// The memory of the next write is taken.
     Reserve,
     /// What the plain list has is held, and nothing else.
@@ -239,14 +266,29 @@ impl Bench {
         }
     }
 
-    /// Turns power on, and opens the flash, of which the second device write is cut.
-    pub(crate) fn cut_opening(&mut self, outcome: Outcome) -> bool {
+    /// Turns power on, and opens the flash, in which the device write of a number is cut.
+    pub(crate) fn cut_opening(&mut self, number: u64, outcome: Outcome) -> bool {
         self.going = false;
         self.rig.turn_on();
-        if !arm(&mut self.rig, 2, outcome) {
+        if !arm(&mut self.rig, number, outcome) {
             return false;
         }
         refusal(self.alloc, &mut self.rig, &geometry()) == Some(OpenError::PowerLost)
+    }
+
+    /// Gives the flash these contents in format 1, which hold this, and doesn't open it.
+    pub(crate) fn put_old(&mut self, old: &Old, held: &[(u64, Held)]) -> bool {
+        self.going = false;
+        self.lists = lists_of(held);
+        made_old(self.alloc, &mut self.rig, &geometry(), old) == Ok(true)
+    }
+
+    /// Whether the first page of a block has a header of this format and era.
+    fn heads(&mut self, block: u32, format: u8, era: u8) -> bool {
+        match first_header(&mut self.rig, block) {
+            Some(header) => header.format == format && header.era == era,
+            None => false,
+        }
     }
 
     /// Cuts power, and opens the flash.
@@ -446,7 +488,7 @@ impl Bench {
     }
 
     /// Whether what must be held is held, and nothing else.
-    fn holds_all(&mut self) -> bool {
+    pub(crate) fn holds_all(&mut self) -> bool {
         match self.seen() {
             Some(found) => found.0 == self.lists.now.0,
             None => false,
@@ -519,6 +561,10 @@ impl Bench {
             Line::Full(step, dirty_groups, limit) => self.is_full(step, *dirty_groups, *limit),
             Line::WriteDisk(lba, tag) => self.write_disk(*lba, *tag),
             Line::Cut => self.cut(),
+            Line::Old(old, held) => self.put_old(old, held),
+            Line::Open => self.open(),
+            Line::CutOpening(number, outcome) => self.cut_opening(*number, *outcome),
+            Line::Heads(block, format, era) => self.heads(*block, *format, *era),
             Line::Reserve => self.reserve(),
             Line::HoldsAll => self.holds_all(),
             Line::HoldsLess(lba) => self.holds_less(*lba),

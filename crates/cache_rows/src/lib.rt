@@ -1,5 +1,5 @@
 //! Worked examples of the cache's commands, over media that are cut: what it holds before a cut and after it,
-//! what it refuses, how much it writes, and which groups give way; and of the merges below them: where
+//! what it refuses, how much it writes, which groups give way, and how flash of format 1 is taken over; and of the merges below them: where
 //! pages lie, and what a merge writes.
 //!
 //! No layer stands on this crate; it has tests alone.
@@ -15,6 +15,8 @@ mod groups;
 mod lists;
 #[cfg(test)]
 mod merges;
+#[cfg(test)]
+mod migration;
 #[cfg(test)]
 mod parts;
 #[cfg(test)]

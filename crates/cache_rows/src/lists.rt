@@ -36,6 +36,15 @@ pub(crate) const NOTHING: Lists = Lists {
     durable: Plain([Held::Nothing; 16]),
 };
 
+/// The list of what these addresses hold. A crash leaves all of it.
+pub(crate) fn lists_of(held: &[(u64, Held)]) -> Lists {
+    let mut now = NOTHING.now;
+    for (lba, one) in held {
+        now.0[*lba as usize % 16] = *one;
+    }
+    Lists { now, durable: now }
+}
+
 /// The address of a command.
 fn lba_of(step: &Step) -> u64 {
     match *step {

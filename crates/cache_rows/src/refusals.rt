@@ -2,11 +2,12 @@
 
 use crate::bench::{SIZE, fit, format, geometry, refusal};
 use cache_model::{Seal, SpareKind};
-use ft_base::{Block, Geometry, Place, Record, zero_block};
+use ft_base::{Block, Geometry, Place, Record, Spare, pattern, zero_block};
 use mem_rig::MemRig;
 use op_log::OpenError;
 use page_oob::write_spare;
-use record_codec::{Header, PageKind, write_page};
+use plain_format::{spelled_page, spelled_seal};
+use record_codec::{Header, PageKind, Totals, write_page};
 use std::alloc::Global;
 
 /// The same with one data block more.
@@ -33,12 +34,16 @@ enum Line {
     WiderRefused(OpenError),
     /// A page of a log is programmed, as the first one of a block.
     Program(u32),
+    /// The flash is made one with a checkpoint of format 2 and era 0 that says that there are so many entries, and so
+    /// many dirty ones. It has one, which is dirty.
+    Checkpoint(u64, u64),
 }
 
 /// A log page that says that an address stands above the pool of a cache of two data blocks.
 fn page_above_the_pool() -> Block {
     let mut page = zero_block();
     let header = Header {
+        format: 2,
         kind: PageKind::Log,
         era: 1,
         sequence: 0,
@@ -49,8 +54,69 @@ fn page_above_the_pool() -> Block {
         place: Place { block: 9, page: 0 },
         dirty: true,
     };
-    write_page(&mut page, &header, [change].as_slice());
+    write_page(&mut page, &header, 4, [change].as_slice());
     page
+}
+
+/// The map page of a checkpoint with address 5 in the first block of the pool.
+fn map_page() -> Block {
+    let header = Header {
+        format: 2,
+        kind: PageKind::Map,
+        era: 0,
+        sequence: 0,
+        count: 1,
+    };
+    let change = Record::SetPage {
+        lba: 5,
+        place: Place { block: 4, page: 0 },
+        dirty: true,
+    };
+    spelled_page(&header, 4, [change].as_slice())
+}
+
+/// Its seal, which says this of the entries.
+fn seal_page(entries: u64, dirty: u64) -> Block {
+    let header = Header {
+        format: 2,
+        kind: PageKind::Seal,
+        era: 0,
+        sequence: 1,
+        count: 1,
+    };
+    let numbers = Seal {
+        p: 4,
+        c: 2,
+        l: 2,
+        j: 1,
+        size: SIZE,
+    };
+    spelled_seal(&header, &numbers, &Totals { entries, dirty })
+}
+
+/// Programs the next page of a block. False where it isn't ready.
+fn program_next(rig: &mut MemRig, block: u32, bytes: &Block) -> bool {
+    if block >= rig.flash_blocks() {
+        return false;
+    }
+    let Some(page) = rig.next_page(block) else {
+        return false;
+    };
+    if page >= rig.flash_pages() {
+        return false;
+    }
+    rig.program_page(Place { block, page }, bytes, &Spare([0; 32]));
+    true
+}
+
+/// Makes the flash one with this checkpoint.
+fn put_checkpoint(alloc: Global, rig: &mut MemRig, entries: u64, dirty: u64) -> bool {
+    let mut block = zero_block();
+    pattern(5, 1, &mut block);
+    fit(alloc, rig, &geometry())
+        && program_next(rig, 4, &block)
+        && program_next(rig, 0, &map_page())
+        && program_next(rig, 0, &seal_page(entries, dirty))
 }
 
 /// Programs the first page of a block. False where it isn't ready.
@@ -71,6 +137,7 @@ fn is_so(alloc: Global, rig: &mut MemRig, line: &Line) -> bool {
         Line::Refused(error) => refusal(alloc, rig, &geometry()) == Some(*error),
         Line::WiderRefused(error) => refusal(alloc, rig, &wider()) == Some(*error),
         Line::Program(block) => program_first(rig, *block),
+        Line::Checkpoint(entries, dirty) => put_checkpoint(alloc, rig, *entries, *dirty),
     }
 }
 
@@ -141,4 +208,18 @@ const DAMAGED: [Line; 4] = [
 #[test]
 fn a_damaged_log_is_refused(rt: HostRuntime) {
     assert_eq!(rt; first_wrong(rt.alloc(), &geometry(), &DAMAGED), None);
+}
+
+const TOTALS: [Line; 6] = [
+    Line::Checkpoint(2, 1),
+    Line::Refused(OpenError::Damaged { block: 0, page: 1 }),
+    Line::Checkpoint(1, 0),
+    Line::Refused(OpenError::Damaged { block: 0, page: 1 }),
+    Line::Checkpoint(1, 1),
+    Line::Opens,
+];
+
+#[test]
+fn a_seal_that_counts_otherwise_is_refused(rt: HostRuntime) {
+    assert_eq!(rt; first_wrong(rt.alloc(), &geometry(), &TOTALS), None);
 }

@@ -38,7 +38,11 @@ module _ (g : Geometry) (m m' : Entries) (log log' : LogValue) (change : Record)
   }))
 
   pub pushed_open : IsOpenLog now.flash log'
-  pushed_open = subst (λ (x : Contents). IsOpenLog x.flash log') (sym stays) (subst (λ (l : LogValue). IsOpenLog old.flash l) (sym buffered) (record { before = committed.opened.before; ready = committed.opened.ready }))
+  pushed_open = subst (λ (x : Contents). IsOpenLog x.flash log') (sym stays) (subst (λ (l : LogValue). IsOpenLog old.flash l) (sym buffered) (record {
+    before = committed.opened.before;
+    ready = committed.opened.ready;
+    format = committed.opened.format;
+  }))
 
 pub put_whole : (g : Geometry) (m m' : Entries) (lba : ℕ) (at : Place) (dirty : Bool) (old now : Contents) → now ≡ old → AreWhole old.flash.page m → is_whole (old.flash.page at) ≡ true → m' ≡ after g (SetPage lba at dirty) m → AreWhole now.flash.page m'
 put_whole g m m' lba at dirty old now stays whole here applied = subst (λ (x : Contents). AreWhole x.flash.page m') (sym stays) (record {

@@ -13,4 +13,6 @@ mod loads;
 #[cfg(test)]
 mod logs;
 #[cfg(test)]
+mod maps;
+#[cfg(test)]
 mod pages;

@@ -6,17 +6,17 @@ ghost use Rattle.ft_media.specs.Media.{IsNextPage};
 ghost use Rattle.mem_rig.specs.Rig.{state_of};
 
 use crate::flash::{At, arm, assert_none, fit, fits_on, read};
-use crate::pages::{Change, Put, make, may_stand_in, record_of};
+use crate::pages::{Change, Put, make, may_be_logged, record_of};
 use ft_base::{Block, Geometry, Outcome, Place, Spare, zero_block};
 use ft_media::MediaError;
 use mapping::Map;
 use mem_rig::MemRig;
-use op_log::{OpLog, OpenError, roll};
+use op_log::{OpLog, OpenError, Stamp, roll};
 use record_codec::PageKind;
 use std::alloc::Global;
 use std::process::Abort;
 
-const LOG_LINE: [u8; 32] = *b"FTSCPAGE\x01\x03\x01\0\0\0\0\0\0\0\0\x02\0\0\0\0\0\0\0\0\0\0\0\0";
+const LOG_LINE: [u8; 32] = *b"FTSCPAGE\x02\x03\x01\0\0\0\0\0\0\0\0\x02\0\0\0\0\0\0\0\0\0\0\0\0";
 
 const SET_PAGE_LINE: [u8; 32] =
     *b"\x01\x01\0\0\0\0\0\x09\0\0\0\0\0\0\0\x05\0\0\0\0\0\0\0\0\0\0\0\0\0\0\0\0";
@@ -49,6 +49,10 @@ enum Fact {
     Lies(u8, u64, Option<u32>),
     /// It finds the first page damaged.
     Damaged(u8),
+    /// A walk over the log of format 1 applies so many pages, after which the map has so many addresses.
+    OldWalk(u8, u32, u64),
+    /// It finds the first page damaged.
+    OldDamaged(u8),
 }
 
 /// A line of an example.
@@ -113,15 +117,21 @@ struct Walked {
     place: Option<(Place, bool)>,
 }
 
-/// Walks over the log of region 0 and of this era, into an empty map, and looks up an address.
-fn walk(rig: &mut MemRig, alloc: Global, geometry: &Geometry, era: u8, lba: u64) -> Option<Walked> {
+/// Walks over the log of region 0 and of this stamp, into an empty map, and looks up an address.
+fn walk(
+    rig: &mut MemRig,
+    alloc: Global,
+    geometry: &Geometry,
+    stamp: Stamp,
+    lba: u64,
+) -> Option<Walked> {
     if !fits_on(rig, geometry) {
         return None;
     }
     let Ok(mut map) = Map::new(alloc, geometry) else {
         return None;
     };
-    let pages = roll(rig, geometry, 0, era, &mut map);
+    let pages = roll(rig, geometry, 0, stamp, &mut map);
     Some(Walked {
         pages,
         held: map.held(),
@@ -174,6 +184,29 @@ fn is_damaged(walked: Option<Walked>) -> bool {
     }
 }
 
+/// What a walk over the log of a format and an era finds.
+fn walk_of(
+    alloc: Global,
+    rig: &mut MemRig,
+    geometry: &Geometry,
+    format: u8,
+    era: u8,
+) -> Option<Walked> {
+    walk(rig, alloc, geometry, Stamp { format, era }, 0)
+}
+
+/// Whether the address lies so after a walk over the log of this era.
+fn lies_in(
+    alloc: Global,
+    rig: &mut MemRig,
+    geometry: &Geometry,
+    era: u8,
+    lba: u64,
+    page: Option<u32>,
+) -> bool {
+    lies(walk(rig, alloc, geometry, Stamp { format: 2, era }, lba), page)
+}
+
 fn holds(alloc: Global, rig: &mut MemRig, log: &OpLog, geometry: &Geometry, fact: Fact) -> bool {
     match fact {
         Fact::Log { buffered, room } => log.buffered() == buffered && log.room() == room,
@@ -181,9 +214,15 @@ fn holds(alloc: Global, rig: &mut MemRig, log: &OpLog, geometry: &Geometry, fact
         Fact::Programs(count) => rig.done().programs == count,
         Fact::FirstPage => has_first_page(rig),
         Fact::NotWhole(at) => !is_whole(rig, at),
-        Fact::Walk(era, pages, held) => walks(walk(rig, alloc, geometry, era, 0), Ok(pages), held),
-        Fact::Lies(era, lba, page) => lies(walk(rig, alloc, geometry, era, lba), page),
-        Fact::Damaged(era) => is_damaged(walk(rig, alloc, geometry, era, 0)),
+        Fact::Walk(era, pages, held) => {
+            walks(walk_of(alloc, rig, geometry, 2, era), Ok(pages), held)
+        }
+        Fact::OldWalk(era, pages, held) => {
+            walks(walk_of(alloc, rig, geometry, 1, era), Ok(pages), held)
+        }
+        Fact::Lies(era, lba, page) => lies_in(alloc, rig, geometry, era, lba, page),
+        Fact::Damaged(era) => is_damaged(walk_of(alloc, rig, geometry, 2, era)),
+        Fact::OldDamaged(era) => is_damaged(walk_of(alloc, rig, geometry, 1, era)),
     }
 }
 
@@ -195,7 +234,7 @@ fn buffer(log: &mut OpLog, geometry: &Geometry, change: Change) -> bool
     ensures { log.new.geometry ≡ log.old.geometry }
 {
     let change = record_of(change);
-    if log.buffered() >= geometry.q() || !may_stand_in(PageKind::Log, &change) {
+    if log.buffered() >= geometry.q() || !may_be_logged(geometry.p, &change) {
         return false;
     }
     log.push(change);
@@ -378,6 +417,32 @@ const PAGES: [Line; 11] = [
 #[test]
 fn a_page_is_walked_or_damaged_or_the_end(rt: HostRuntime) {
     assert_all(&rt, &PAGES);
+}
+
+const OTHER_FORMAT: [Line; 15] = [
+    Line::Put(Put::Old(PageKind::Log, 1, 0, Change::Page(5, 9, 0))),
+    Line::See(Fact::OldWalk(1, 1, 1)),
+    Line::See(Fact::Walk(1, 0, 0)),
+    // A page of format 2 behind it ends the old log, and isn't the first of the other.
+    Line::Put(Put::One(PageKind::Log, 1, 1, Change::Page(6, 9, 1))),
+    Line::See(Fact::OldWalk(1, 1, 1)),
+    Line::See(Fact::Walk(1, 0, 0)),
+    // A page of format 1 behind one of format 2.
+    Line::Anew,
+    Line::Note(Change::Page(5, 9, 0)),
+    Line::Put(Put::Old(PageKind::Log, 1, 1, Change::Page(6, 9, 1))),
+    Line::See(Fact::Walk(1, 1, 1)),
+    Line::See(Fact::OldWalk(1, 0, 0)),
+    // An address past the size damages the log of its own format alone.
+    Line::Anew,
+    Line::Put(Put::Old(PageKind::Log, 1, 0, Change::Page(64, 9, 0))),
+    Line::See(Fact::OldDamaged(1)),
+    Line::See(Fact::Walk(1, 0, 0)),
+];
+
+#[test]
+fn a_page_of_the_other_format_ends_the_log(rt: HostRuntime) {
+    assert_all(&rt, &OTHER_FORMAT);
 }
 
 const TORN: [Line; 8] = [

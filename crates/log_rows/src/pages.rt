@@ -2,12 +2,14 @@
 
 ghost use Rattle.std.specs.Prelude.{◌≡◌};
 ghost use Rattle.cache_model.specs.Spelling as spelling;
+ghost use Rattle.cache_model.specs.declared.format.PageKind.TheVariants.{Log as log_page};
 
 use crate::flash::{arm, erase, program_next};
 use checkpoint::Newest;
 use ft_base::{Block, Outcome, Place, Record, pattern, zero_block};
 use mem_rig::MemRig;
-use record_codec::{Header, PageKind, Seal, write_page, write_seal};
+use plain_format::{spelled_page, spelled_seal};
+use record_codec::{Header, PageKind, Seal, Totals};
 
 /// What a seal says of the numbers of its cache.
 pub(crate) const NUMBERS: Seal = Seal {
@@ -18,7 +20,7 @@ pub(crate) const NUMBERS: Seal = Seal {
     size: 64,
 };
 
-/// The region, the era and the map pages of the checkpoint that counts, made for `NUMBERS`.
+/// The region, the era and the map pages of the checkpoint that counts, of format 2 and made for `NUMBERS`.
 pub(crate) type Counted = Option<(u32, u8, u32)>;
 
 /// A change of a map.
@@ -34,19 +36,28 @@ pub(crate) enum Change {
     GroupOut(u64),
 }
 
-/// What is programmed as the next page of an erase block, or done to the whole block.
+/// What is programmed as the next page of an erase block, or done to the whole block. Pages have format 2, if it isn't
+/// said that they are old.
 #[derive(Clone, Copy)]
 pub(crate) enum Put {
     /// A page of one record: its kind, its era, its place in the sequence, and the record.
     One(PageKind, u8, u32, Change),
-    /// The same, with a byte that isn't zero at this place behind the record.
+    /// The same in format 1.
+    Old(PageKind, u8, u32, Change),
+    /// A page of one record, with a byte that isn't zero at this place behind the record.
     Spoilt(PageKind, u8, u32, Change, usize),
     /// A log page of era 0 with two records.
     Two(u32, Change, Change),
     /// A log page of era 0 with one record.
     Log(u32, Change),
-    /// A seal of an era over so many map pages with so many records, made for `NUMBERS`.
+    /// A seal of an era over so many map pages with so many records, made for `NUMBERS`. It says that there are as
+    /// many entries, all of them dirty.
     Seal(u8, u32, u32),
+    /// The same in format 1, which says nothing of entries.
+    OldSeal(u8, u32, u32),
+    /// A seal of era 0 over one map page with so many records, which says that there are so many entries, and so many
+    /// dirty ones.
+    Told(u32, u64, u64),
     /// A page with the block of an address.
     Data,
     /// A program that is cut and leaves the page torn.
@@ -55,15 +66,23 @@ pub(crate) enum Put {
     MixedErase,
 }
 
-/// Whether this checkpoint counts.
-pub(crate) fn is_counted(found: Option<Newest>, wanted: Counted) -> bool {
+/// Whether this checkpoint counts, of this format.
+pub(crate) fn is_counted_of(format: u8, found: Option<Newest>, wanted: Counted) -> bool {
     match (found, wanted) {
         (Some(one), Some(counted)) => {
-            (one.region, one.era, one.pages) == counted && one.seal == NUMBERS
+            (one.region, one.stamp.era, one.pages) == counted
+                && one.stamp.format == format
+                && one.totals.is_some() == (format == 2)
+                && one.seal == NUMBERS
         }
         (None, None) => true,
         _ => false,
     }
+}
+
+/// The same of format 2.
+pub(crate) fn is_counted(found: Option<Newest>, wanted: Counted) -> bool {
+    is_counted_of(2, found, wanted)
 }
 
 /// The record that says so.
@@ -85,122 +104,97 @@ pub(crate) fn record_of(change: Change) -> Record {
     }
 }
 
-/// Whether a page of this kind may have this record.
-pub(crate) fn may_stand_in(kind: PageKind, change: &Record) -> bool
-    ensures { result ≡ spelling.may_stand_in kind change.now }
+/// Whether a log page of format 2 may have this record, for a cache with `p` pages in an erase block.
+pub(crate) fn may_be_logged(p: u32, change: &Record) -> bool
+    ensures { result ≡ spelling.may_stand_in (spelling.is_wide 2 p) log_page change.now }
 {
-    is_sound(change) && goes_on(kind, change)
-}
-
-fn is_sound(change: &Record) -> bool
-    ensures { result ≡ spelling.is_sound change.now }
-{
+    let wide = p > 64;
     match *change {
-        Record::SetPage { place, .. } => place.page < 64,
+        Record::SetPage { place, .. } => place.page < if wide { 128 } else { 64 },
         Record::SetGroup { present, dirty, .. } => {
-            present > 0 && present & dirty == dirty && present < 1 << 64
+            present > 0 && present & dirty == dirty && (wide || present < 1 << 64)
         }
         Record::Remove { .. } | Record::Clean { .. } | Record::RemoveGroup { .. } => true,
     }
 }
 
-fn goes_on(kind: PageKind, change: &Record) -> bool
-    ensures { result ≡ spelling.goes_on kind change.now }
-{
-    match kind {
-        PageKind::Log => true,
-        PageKind::Map => match *change {
-            Record::SetPage { .. } | Record::SetGroup { .. } => true,
-            Record::Remove { .. } | Record::Clean { .. } | Record::RemoveGroup { .. } => false,
-        },
-        PageKind::Seal => false,
-    }
-}
-
-/// Writes a page of one record. False where no such page is written.
-fn write_one(out: &mut Block, kind: PageKind, era: u8, sequence: u32, change: Change) -> bool {
-    let change = record_of(change);
-    if kind == PageKind::Seal || era > 2 || !may_stand_in(kind, &change) {
-        return false;
-    }
+/// A page of one record.
+fn page_of(format: u8, kind: PageKind, era: u8, sequence: u32, change: Change) -> Block {
     let header = Header {
+        format,
         kind,
         era,
         sequence,
         count: 1,
     };
-    write_page(out, &header, [change].as_slice());
-    true
+    spelled_page(&header, NUMBERS.p, [record_of(change)].as_slice())
 }
 
-/// Writes a log page of two records, of era 0. False where no such page is written.
-fn write_two(out: &mut Block, sequence: u32, first: Change, second: Change) -> bool {
-    let first = record_of(first);
-    let second = record_of(second);
-    if !may_stand_in(PageKind::Log, &first) || !may_stand_in(PageKind::Log, &second) {
-        return false;
-    }
+/// A log page of two records, of era 0.
+fn page_of_two(sequence: u32, first: Change, second: Change) -> Block {
     let header = Header {
+        format: 2,
         kind: PageKind::Log,
         era: 0,
         sequence,
         count: 2,
     };
-    write_page(out, &header, [first, second].as_slice());
-    true
+    let changes = [record_of(first), record_of(second)];
+    spelled_page(&header, NUMBERS.p, changes.as_slice())
 }
 
-/// Writes a seal. False where no such seal is written.
-fn write_seal_of(out: &mut Block, era: u8, pages: u32, records: u32) -> bool {
-    if era > 2 {
-        return false;
-    }
+/// A seal over so many map pages with so many records.
+fn seal_of(format: u8, era: u8, pages: u32, records: u32, entries: u64, dirty: u64) -> Block {
     let header = Header {
+        format,
         kind: PageKind::Seal,
         era,
         sequence: pages,
         count: records,
     };
-    write_seal(out, &header, &NUMBERS);
-    true
+    spelled_seal(&header, &NUMBERS, &Totals { entries, dirty })
 }
 
-/// Sets a byte of a page. False where there is none.
-fn spoil(out: &mut Block, at: usize) -> bool {
-    if at >= 4096 {
-        return false;
+/// The page with a byte that isn't zero at this place, where there is one.
+fn spoilt(page: Block, at: usize) -> Block {
+    let mut page = page;
+    if at < 4096 {
+        page.0[at] = 1;
     }
-    out.0[at] = 1;
-    true
+    page
 }
 
-/// Writes what is programmed: none where no such page is written, and zeros where the bytes don't matter.
-fn bytes_of(what: Put) -> Option<Block> {
-    let mut bytes = zero_block();
-    let written = match what {
-        Put::One(kind, era, sequence, change) => {
-            write_one(&mut bytes, kind, era, sequence, change)
-        }
+/// The block of an address.
+fn data() -> Block {
+    let mut block = zero_block();
+    pattern(5, 1, &mut block);
+    block
+}
+
+/// What is programmed: zeros where the bytes don't matter.
+fn bytes_of(what: Put) -> Block {
+    match what {
+        Put::One(kind, era, sequence, change) => page_of(2, kind, era, sequence, change),
+        Put::Old(kind, era, sequence, change) => page_of(1, kind, era, sequence, change),
         Put::Spoilt(kind, era, sequence, change, at) => {
-            write_one(&mut bytes, kind, era, sequence, change) && spoil(&mut bytes, at)
+            spoilt(page_of(2, kind, era, sequence, change), at)
         }
-        Put::Log(sequence, change) => write_one(&mut bytes, PageKind::Log, 0, sequence, change),
-        Put::Two(sequence, first, second) => write_two(&mut bytes, sequence, first, second),
-        Put::Seal(era, pages, records) => write_seal_of(&mut bytes, era, pages, records),
-        Put::Data => {
-            pattern(5, 1, &mut bytes);
-            true
+        Put::Log(sequence, change) => page_of(2, PageKind::Log, 0, sequence, change),
+        Put::Two(sequence, first, second) => page_of_two(sequence, first, second),
+        Put::Seal(era, pages, records) => {
+            let entries = u64::from(records);
+            seal_of(2, era, pages, records, entries, entries)
         }
-        Put::Torn | Put::MixedErase => true,
-    };
-    if written { Some(bytes) } else { None }
+        Put::OldSeal(era, pages, records) => seal_of(1, era, pages, records, 0, 0),
+        Put::Told(records, entries, dirty) => seal_of(2, 0, 1, records, entries, dirty),
+        Put::Data => data(),
+        Put::Torn | Put::MixedErase => zero_block(),
+    }
 }
 
 /// Does one thing to a block. False where it can't be done.
 pub(crate) fn make(rig: &mut MemRig, block: u32, what: Put) -> bool {
-    let Some(bytes) = bytes_of(what) else {
-        return false;
-    };
+    let bytes = bytes_of(what);
     match what {
         Put::MixedErase => {
             let done = arm(rig, Outcome::Mixed) && erase(rig, block);

@@ -7,11 +7,17 @@
 #[cfg(test)]
 mod appended;
 #[cfg(test)]
+mod codec;
+#[cfg(test)]
 mod entries;
 #[cfg(test)]
 mod maps;
 #[cfg(test)]
 mod pages;
+#[cfg(test)]
+mod random;
+#[cfg(test)]
+mod seals;
 #[cfg(test)]
 mod spares;
 #[cfg(test)]

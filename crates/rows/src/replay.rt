@@ -24,9 +24,14 @@ fn words(alloc: Global, spelled: &[&str]) -> Result<Vec<String>, AllocError> {
     Ok(words)
 }
 
-/// Runs `replay` over this rig, with the trace in pieces of 7 bytes.
-fn replay_on(alloc: Global, trace: &[u8], mut rig: MemRig) -> Result<Outcome, AllocError> {
-    let words = words(alloc, &["replay"])?;
+/// Runs the command of these words over this rig, with the trace in pieces of 7 bytes.
+fn run_on(
+    alloc: Global,
+    spelled: &[&str],
+    trace: &[u8],
+    mut rig: MemRig,
+) -> Result<Outcome, AllocError> {
+    let words = words(alloc, spelled)?;
     let mut source = MemSource::new(Vec::from_slice(alloc, trace)?, 7, Vec::new(alloc));
     let mut sink = MemSink::new(alloc, 100_000, 100, Vec::new(alloc))?;
     let status = run(alloc, words.as_slice(), &mut source, &mut sink, &mut rig);
@@ -35,6 +40,11 @@ fn replay_on(alloc: Global, trace: &[u8], mut rig: MemRig) -> Result<Outcome, Al
         text: Vec::from_slice(alloc, sink.bytes())?,
         counts: rig.counts(),
     })
+}
+
+/// Runs `replay` over this rig.
+fn replay_on(alloc: Global, trace: &[u8], rig: MemRig) -> Result<Outcome, AllocError> {
+    run_on(alloc, &["replay"], trace, rig)
 }
 
 fn replay(alloc: Global, trace: &[u8]) -> Result<Outcome, AllocError> {
@@ -160,6 +170,42 @@ fn erase_blocks_are_used_again(rt: HostRuntime) -> Result<(), Fail> {
     Ok(())
 }
 
+/// Runs `replay` with erase blocks of 128 pages.
+fn replay_wide(alloc: Global, trace: &[u8]) -> Result<Outcome, AllocError> {
+    run_on(
+        alloc,
+        &["replay", "--pages", "128"],
+        trace,
+        MemRig::new(alloc),
+    )
+}
+
+#[test]
+fn erase_blocks_of_128_pages_answer_the_same(rt: HostRuntime) -> Result<(), Fail> {
+    let alloc = rt.alloc();
+    let trace = b"w 5 1 7\nr 5 1\nr 6 1\n";
+    let usual = replay(alloc, trace)?;
+    let wide = replay_wide(alloc, trace)?;
+    assert_eq!(rt; wide.status, 0);
+    assert_eq!(rt; wide.text.as_slice(), usual.text.as_slice());
+    Ok(())
+}
+
+// 16 log blocks of 128 pages are full after the first line, so groups move. After the cut their pages are loaded.
+#[test]
+fn groups_of_128_pages_are_held_after_a_cut(rt: HostRuntime) -> Result<(), Fail> {
+    let alloc = rt.alloc();
+    let full = replay_wide(alloc, b"w 0 2048 1\nw 0 1 2\ncut whole\nr 0 2\nr 2047 1\n")?;
+    assert_eq!(rt; full.status, 0);
+    assert!(rt;
+        full.text.starts_with(
+            b"wrote 0 2048\nwrote 0 1\ncut\nread 0 2\nread 1 1\nread 2047 1\nend 2 2 2048 "
+        )
+    );
+    assert_eq!(rt; full.counts.disk_writes, 0);
+    Ok(())
+}
+
 #[test]
 fn a_block_is_read_from_the_disk_once(rt: HostRuntime) -> Result<(), Fail> {
     let alloc = rt.alloc();
@@ -222,7 +268,7 @@ const WRONG: [&[&str]; 45] = [
     &["replay", "--version"],
     &["replay", "--pages=3"],
     &["replay", "--pages", "3"],
-    &["replay", "--pages", "65"],
+    &["replay", "--pages", "129"],
     &["replay", "--pages"],
     &["replay", "--pages="],
     &["replay", "--pages=04"],

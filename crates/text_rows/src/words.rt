@@ -136,7 +136,7 @@ fn a_number_has_one_spelling(rt: HostRuntime) -> Result<(), Fail> {
 
 const OUT_OF_RANGE: [&str; 15] = [
     "replay --pages 3",
-    "replay --pages 65",
+    "replay --pages 129",
     "replay --data 0",
     "replay --data 513",
     "replay --log 1",
@@ -325,7 +325,7 @@ fn a_sweep_has_the_options_of_a_replay_and_what_a_cut_leaves(rt: HostRuntime) ->
     Ok(())
 }
 
-const DEFAULTS: [Row; 13] = [
+const DEFAULTS: [Row; 14] = [
     ("replay", Kind::Replay, Mode::Back, NUMBERS),
     ("replay --mode back", Kind::Replay, Mode::Back, NUMBERS),
     (
@@ -339,6 +339,12 @@ const DEFAULTS: [Row; 13] = [
         Kind::Replay,
         Mode::Back,
         [4, 128, 16, 2, 1048576, 64],
+    ),
+    (
+        "replay --pages=128",
+        Kind::Replay,
+        Mode::Back,
+        [128, 128, 16, 2, 1048576, 64],
     ),
     (
         "replay --data=1",
