@@ -61,7 +61,7 @@ pub enum Command {
 /// | Option | Value | Default |
 /// |---|---|---|
 /// | `--mode` | `back` or `through` | `back` |
-/// | `--pages` | pages of an erase block, 4 to 64 | 64 |
+/// | `--pages` | pages of an erase block, 4 to 128 | 64 |
 /// | `--data` | greatest number of data blocks, 1 to 512 | 128 |
 /// | `--log` | greatest number of log blocks, 2 to 64 | 16 |
 /// | `--journal` | erase blocks of a log region, 1 to 16 | 2 |

@@ -28,7 +28,7 @@ use trace_sweep::sweep_with;
 /// | Option | Says | Range | Default |
 /// |---|---|---|---|
 /// | `--mode` | whether the disk gets a block later, `back`, or when it is written, `through` | | `back` |
-/// | `--pages` | pages of an erase block | 4 to 64 | 64 |
+/// | `--pages` | pages of an erase block | 4 to 128 | 64 |
 /// | `--data` | data blocks of the cache at most | 1 to 512 | 128 |
 /// | `--log` | log blocks of the cache at most | 2 to 64 | 16 |
 /// | `--journal` | erase blocks of a log region | 1 to 16 | 2 |
