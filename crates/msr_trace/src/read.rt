@@ -1,0 +1,74 @@
+//! A line is read.
+ghost use Rattle.std.specs.Prelude.{◌≡◌, ◌∷◌, [], List, ℕ, Ok, IfOk, IfErr, IfSome, IfNone};
+ghost use Rattle.csv.specs.Records.{fields_of};
+ghost use Rattle.trace_model.specs.Lines.{IsRunnable};
+ghost use Rattle.msr_trace.specs.Msr.{RefusesAs, RefusesMore, msr_line, records_of};
+
+use crate::fields::record_says;
+use csv::{ByteRecord, ReaderBuilder};
+use std::alloc::Global;
+use thiserror::Error;
+use trace_model::{Line, LineError};
+
+/// A line has at most so many bytes.
+const LINE_LIMIT: usize = 200;
+
+/// Why a line isn't read.
+#[derive(Clone, Copy, Debug, PartialEq, Eq, Error)]
+pub enum MsrError {
+    /// It is refused.
+    #[error("the line is refused: {0}")]
+    Refused(LineError),
+    /// Memory was refused.
+    #[error("out of memory")]
+    OutOfMemory,
+}
+
+/// What the line with this number says for a volume of so many blocks, or the first refusal that applies.
+///
+/// A line with no record is Nothing, and so is one whose Size is 0. Any other is a request for each block that has
+/// one of its Size bytes from Offset on. The tag of a write is the line's number. Memory is held only while the line
+/// is read.
+pub fn read_msr(alloc: Global, line: &[u8], number: u64, size: u64) -> Result<Line, MsrError>
+    ensures line { IfOk result (λ l. msr_line size number line.now ≡ Ok l) }
+    ensures refused { IfErr result (λ e. RefusesAs e (msr_line size number line.now)) }
+    ensures runnable { IfOk result (IsRunnable size) }
+{
+    if line.len() > LINE_LIMIT {
+        return Err(MsrError::Refused(LineError::LineTooLong));
+    }
+    let Some(record) = only_record(alloc, line)? else {
+        return Ok(Line::Nothing);
+    };
+    match record_says(&record, number, size) {
+        Ok(said) => Ok(said),
+        Err(cause) => Err(MsrError::Refused(cause)),
+    }
+}
+
+/// The record of a line, where it has one. A line with more is refused.
+fn only_record(alloc: Global, line: &[u8]) -> Result<Option<ByteRecord>, MsrError>
+    ensures none { IfOk result (λ o. IfNone o (records_of line.now ≡ [])) }
+    ensures one { IfOk result (λ o. IfSome o (λ r. records_of line.now ≡ fields_of r ∷ [])) }
+    ensures more { IfErr result (λ e. RefusesMore e (records_of line.now)) }
+{
+    let mut reader = ReaderBuilder::new()
+        .has_headers(false)
+        .flexible(true)
+        .from_reader(alloc, line);
+    let mut first = ByteRecord::new(alloc);
+    let Ok(found) = reader.read_byte_record(&mut first) else {
+        return Err(MsrError::OutOfMemory);
+    };
+    if !found {
+        return Ok(None);
+    }
+    let mut second = ByteRecord::new(alloc);
+    let Ok(again) = reader.read_byte_record(&mut second) else {
+        return Err(MsrError::OutOfMemory);
+    };
+    if again {
+        return Err(MsrError::Refused(LineError::BadCount));
+    }
+    Ok(Some(first))
+}
