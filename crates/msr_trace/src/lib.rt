@@ -6,6 +6,10 @@
 #![tactic(auto)]
 
 mod fields;
+#[cfg(test)]
+mod plain;
 mod read;
+#[cfg(test)]
+mod rows;
 
 pub use read::{MsrError, read_msr};

@@ -1,11 +1,12 @@
 //! A line is read.
-ghost use Rattle.std.specs.Prelude.{◌≡◌, ◌∷◌, [], List, ℕ, Ok, IfOk, IfErr, IfSome, IfNone};
+ghost use Rattle.std.specs.Prelude.{◌≡◌, ◌∷◌, [], true, Ok, IfOk, IfErr, IfSome, IfNone};
+ghost use Rattle.csv.specs.Reading.{error_kind, stops_reader};
 ghost use Rattle.csv.specs.Records.{fields_of};
 ghost use Rattle.trace_model.specs.Lines.{IsRunnable};
 ghost use Rattle.msr_trace.specs.Msr.{RefusesAs, RefusesMore, msr_line, records_of};
 
 use crate::fields::record_says;
-use csv::{ByteRecord, ReaderBuilder};
+use csv::{ByteRecord, Error as ReadError, ReaderBuilder};
 use std::alloc::Global;
 use thiserror::Error;
 use trace_model::{Line, LineError};
@@ -57,18 +58,30 @@ fn only_record(alloc: Global, line: &[u8]) -> Result<Option<ByteRecord>, MsrErro
         .flexible(true)
         .from_reader(alloc, line);
     let mut first = ByteRecord::new(alloc);
-    let Ok(found) = reader.read_byte_record(&mut first) else {
-        return Err(MsrError::OutOfMemory);
+    let found = match reader.read_byte_record(&mut first) {
+        Ok(found) => found,
+        Err(error) => return Err(out_of_memory(&error)),
     };
     if !found {
         return Ok(None);
     }
     let mut second = ByteRecord::new(alloc);
-    let Ok(again) = reader.read_byte_record(&mut second) else {
-        return Err(MsrError::OutOfMemory);
+    let again = match reader.read_byte_record(&mut second) {
+        Ok(again) => again,
+        Err(error) => return Err(out_of_memory(&error)),
     };
     if again {
         return Err(MsrError::Refused(LineError::BadCount));
     }
     Ok(Some(first))
+}
+
+/// A slice never fails, so a reader of one is stopped by want of memory alone. No other error comes: a record may have
+/// any number of fields, of any bytes.
+fn out_of_memory(error: &ReadError) -> MsrError
+    requires stopped { stops_reader (error_kind error.now) ≡ true }
+    ensures { result ≡ MsrError.OutOfMemory }
+{
+    let _stopped = error;
+    MsrError::OutOfMemory
 }
