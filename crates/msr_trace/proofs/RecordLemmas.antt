@@ -77,8 +77,8 @@ more_in [] first second is next = absurd (cc)
 more_in (b ∷ text) first second is next = (
   records_from default_config (length text) second.1 second.2,
   ap (λ n. records_from default_config n st.StartRecord (b ∷ text)) (add-one (length (b ∷ text)))
-  ∙ ap (records_next (records_from default_config (length (b ∷ text)))) is
-  ∙ ap (λ (more : List (List (List ℕ))). first.0 ∷ more) (ap (records_next (records_from default_config (length text))) next),
+      ∙ ap (records_next (records_from default_config (length (b ∷ text)))) is
+      ∙ ap (λ (more : List (List (List ℕ))). first.0 ∷ more) (ap (records_next (records_from default_config (length text))) next),
 )
 
 -- the same of records that were reached

@@ -1,1 +1,2 @@
 pub mod Msr
+pub mod Trace

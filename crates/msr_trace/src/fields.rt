@@ -87,13 +87,7 @@ fn writes_of(kind: &[u8]) -> Option<bool>
 }
 
 /// The request for the blocks that have one of these bytes.
-fn span(
-    writes: bool,
-    offset: u64,
-    bytes: u64,
-    number: u64,
-    size: u64,
-) -> Result<Line, LineError>
+fn span(writes: bool, offset: u64, bytes: u64, number: u64, size: u64) -> Result<Line, LineError>
     ensures line { result ≡ msr.span_says size number writes offset bytes }
     ensures runnable { IfOk result (IsRunnable size) }
 {

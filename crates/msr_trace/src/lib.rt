@@ -2,7 +2,7 @@
 //!
 //! The layers above rely on this: `read_msr` reads one line, over the records that `csv` finds in it, and widens
 //! its bytes to whole blocks of 4,096. Type, Offset and Size are read; the four other fields are passed unread, so
-//! all lines go to one volume.
+//! all lines go to one volume. `MsrScript` gives the lines of a source in this form to `trace_replay`.
 #![tactic(auto)]
 
 mod fields;
@@ -11,5 +11,9 @@ mod plain;
 mod read;
 #[cfg(test)]
 mod rows;
+mod script;
+#[cfg(test)]
+mod script_rows;
 
 pub use read::{MsrError, read_msr};
+pub use script::{MsrForm, MsrScript};

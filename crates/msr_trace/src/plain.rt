@@ -131,7 +131,9 @@ fn plain_number(word: &[u8]) -> Option<u128> {
         if !byte.is_ascii_digit() {
             return None;
         }
-        value = value.saturating_mul(10).saturating_add((*byte - b'0') as u128);
+        value = value
+            .saturating_mul(10)
+            .saturating_add((*byte - b'0') as u128);
     }
     if value > u64::MAX as u128 {
         return None;

@@ -51,9 +51,13 @@ const fn writes(lba: u64, count: u64) -> Result<Line, LineError> {
 }
 
 const NOTHING: Result<Line, LineError> = Ok(Line::Nothing);
+
 const BAD_WORD: Result<Line, LineError> = Err(LineError::BadWord);
+
 const BAD_COUNT: Result<Line, LineError> = Err(LineError::BadCount);
+
 const BAD_NUMBER: Result<Line, LineError> = Err(LineError::BadNumber);
+
 const OUTSIDE: Result<Line, LineError> = Err(LineError::OutOfVolume);
 
 #[test]

@@ -11,13 +11,14 @@ use Rattle.trace_model.specs.declared.answer.Answer.TheVariants as answer
 use Rattle.trace_model.specs.declared.line.Line.{Line}
 use Rattle.trace_model.specs.declared.line.LineError.{LineError}
 use Rattle.trace_model.specs.declared.ran.Ran.{Ran}
-use Rattle.trace_model.specs.Readings.{Reading, Reads, accepted}
+use Rattle.trace_model.specs.Readings.{Reading, accepted}
 use Rattle.trace_model.specs.Run.{end_answers, end_of, stopped}
 use Rattle.trace_model.specs.Text.{text, text_of}
 use Rattle.trace_replay.specs.declared.reader.Reader.{Reader}
 use Rattle.trace_replay.specs.Commands.{TellsRefusalPart, is_refusal, refusals_in}
 use Rattle.trace_replay.specs.Events.{Event, NextRefused, answers_in, events_of, lines_given, refusal_after, taking, told_bytes}
 use Rattle.trace_replay.specs.Events.Event.{Gave, Took, Touched}
+use Rattle.trace_replay.specs.Forms.{ReadsBy, Says, text_form}
 use Rattle.trace_replay.specs.Quiet.{given_heard, heard, is_heard, lines_heard}
 use Rattle.trace_replay.specs.Said.{Said, SaidPart}
 use Rattle.trace_replay.specs.Stream.{BrokeStream, CameStream}
@@ -39,9 +40,9 @@ refusal_heard e cause = ap (λ (lines : List Line). answer.Refused (length lines
 
 -- ---- what is known of the lines
 
-pub reads_heard : (size : ℕ) (s a : SourceState) (e : List Event) (whole : Bool) → Reads size s a (length (lines_given (heard e))) (map accepted (lines_given (heard e))) whole
-    → Reads size s a (length (lines_given e)) (map accepted (lines_given e)) whole
-reads_heard size s a e whole reads = subst (λ (lines : List Line). Reads size s a (length lines) (map accepted lines) whole) (lines_heard e) reads
+pub reads_heard : (form : Says) (s a : SourceState) (e : List Event) (whole : Bool) → ReadsBy form s a (length (lines_given (heard e))) (map accepted (lines_given (heard e))) whole
+    → ReadsBy form s a (length (lines_given e)) (map accepted (lines_given e)) whole
+reads_heard form s a e whole reads = subst (λ (lines : List Line). ReadsBy form s a (length lines) (map accepted lines) whole) (lines_heard e) reads
 
 -- the next line is refused of all where it is of those that were heard
 pub refused_heard : {P Q : Type 0} (knows : SourceState → P → ℕ → List Reading → Bool → Type 0) {knew : SourceState → Q → ℕ → List Reading → Bool → Type 0} (now : P) {was : Q} (s : SourceState) (e : List Event) (armed : ℕ) (cause : LineError)
@@ -60,7 +61,7 @@ refused_heard knows now s e armed cause known refused = record {
 
 -- it came by these events
 abbrev pub Stands : Reader → SourceState → SinkState → Sha256 → SourceState → SinkState → List Event → Type 0
-Stands r a x h s b es = CameStream r a x s b es × Holds256 h (told_bytes es)
+Stands r a x h s b es = CameStream text_form r a x s b es × Holds256 h (told_bytes es)
 
 module _ (r : Reader) (a : SourceState) (x : SinkState) (h : Sha256) (s : SourceState) (b : SinkState) (e : List Event) where
   pub stands_heard : (more : List Event) → Stands r a x h s b (heard e ++ heard more) → Stands r a x h s b (heard (e ++ more))

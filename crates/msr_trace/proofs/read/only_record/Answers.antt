@@ -29,10 +29,10 @@ returns-then-again-clause-more c =
     let more : c.in-Ok-read_byte_record.again ≡ true = search rules in
     let on = c.in-Ok.ensures.reads_on some in
     let two =
-        read_two (λ (s : Bor (List ℕ)). Some s.now) c.from_reader-reader.result c.read_byte_record.new.self (fields_of c.read_byte_record.new.row) (strip_bom c.args.line.now) config fr.state fr.source
-        c.read_byte_record-2.new.self (fields_of c.read_byte_record-2.new.row)
-        (rw some at (c.in-Ok.ensures.reads trims ready))
-        (rw more at (c.in-Ok-read_byte_record.ensures.reads (on.1 ∙ trims) (on.4 ready).0))
+    read_two (λ (s : Bor (List ℕ)). Some s.now) c.from_reader-reader.result c.read_byte_record.new.self (fields_of c.read_byte_record.new.row) (strip_bom c.args.line.now) config fr.state fr.source
+    c.read_byte_record-2.new.self (fields_of c.read_byte_record-2.new.row)
+    (rw some at (c.in-Ok.ensures.reads trims ready))
+    (rw more at (c.in-Ok-read_byte_record.ensures.reads (on.1 ∙ trims) (on.4 ready).0))
     in
     (refl, two.0, two.1, two.2, two.3)
 
