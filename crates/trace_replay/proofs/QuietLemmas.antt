@@ -18,7 +18,7 @@ use Rattle.trace_replay.specs.declared.reader.Reader.{Reader}
 use Rattle.trace_replay.specs.Commands.{TellsRefusalPart, is_refusal, refusals_in}
 use Rattle.trace_replay.specs.Events.{Event, NextRefused, answers_in, events_of, lines_given, refusal_after, taking, told_bytes}
 use Rattle.trace_replay.specs.Events.Event.{Gave, Took, Touched}
-use Rattle.trace_replay.specs.Forms.{ReadsBy, Says, text_form}
+use Rattle.trace_replay.specs.Forms.{Form, ReadsBy, Says}
 use Rattle.trace_replay.specs.Quiet.{given_heard, heard, is_heard, lines_heard}
 use Rattle.trace_replay.specs.Said.{Said, SaidPart}
 use Rattle.trace_replay.specs.Stream.{BrokeStream, CameStream}
@@ -60,22 +60,22 @@ refused_heard knows now s e armed cause known refused = record {
 -- ---- where the stream stands that takes what is heard
 
 -- it came by these events
-abbrev pub Stands : Reader → SourceState → SinkState → Sha256 → SourceState → SinkState → List Event → Type 0
-Stands r a x h s b es = CameStream text_form r a x s b es × Holds256 h (told_bytes es)
+abbrev pub Stands : Form → Reader → SourceState → SinkState → Sha256 → SourceState → SinkState → List Event → Type 0
+Stands form r a x h s b es = CameStream form r a x s b es × Holds256 h (told_bytes es)
 
-module _ (r : Reader) (a : SourceState) (x : SinkState) (h : Sha256) (s : SourceState) (b : SinkState) (e : List Event) where
-  pub stands_heard : (more : List Event) → Stands r a x h s b (heard e ++ heard more) → Stands r a x h s b (heard (e ++ more))
-  stands_heard more is = subst (λ (es : List Event). Stands r a x h s b es) (sym (heard_more e more)) is
+module _ (form : Form) (r : Reader) (a : SourceState) (x : SinkState) (h : Sha256) (s : SourceState) (b : SinkState) (e : List Event) where
+  pub stands_heard : (more : List Event) → Stands form r a x h s b (heard e ++ heard more) → Stands form r a x h s b (heard (e ++ more))
+  stands_heard more is = subst (λ (es : List Event). Stands form r a x h s b es) (sym (heard_more e more)) is
 
-  pub stands_unheard : (event : Event) → is_heard event ≡ false → Stands r a x h s b (heard e) → Stands r a x h s b (heard (e ++ event ∷ []))
-  stands_unheard event not is = stands_heard (event ∷ []) (subst (λ (es : List Event). Stands r a x h s b es) (sym (ap (λ (es : List Event). heard e ++ es) (unheard_alone event not) ∙ append-nil (heard e))) is)
+  pub stands_unheard : (event : Event) → is_heard event ≡ false → Stands form r a x h s b (heard e) → Stands form r a x h s b (heard (e ++ event ∷ []))
+  stands_unheard event not is = stands_heard (event ∷ []) (subst (λ (es : List Event). Stands form r a x h s b es) (sym (ap (λ (es : List Event). heard e ++ es) (unheard_alone event not) ∙ append-nil (heard e))) is)
 
-  pub stands_took : (given : Answer) → is_refusal given ≡ true → Stands r a x h s b (heard e ++ Took given ∷ []) → Stands r a x h s b (heard (e ++ Took given ∷ []))
-  stands_took given is took = stands_heard (Took given ∷ []) (subst (λ (es : List Event). Stands r a x h s b (heard e ++ es)) (sym (heard_alone (Took given) is)) took)
+  pub stands_took : (given : Answer) → is_refusal given ≡ true → Stands form r a x h s b (heard e ++ Took given ∷ []) → Stands form r a x h s b (heard (e ++ Took given ∷ []))
+  stands_took given is took = stands_heard (Took given ∷ []) (subst (λ (es : List Event). Stands form r a x h s b (heard e ++ es)) (sym (heard_alone (Took given) is)) took)
 
   -- the next line is refused, and that was said
-  pub stands_refused : (cause : LineError) → Stands r a x h s b (heard e ++ taking (refusal_after (heard e) cause ∷ [])) → Stands r a x h s b (heard (e ++ taking (refusal_after e cause ∷ [])))
-  stands_refused cause said = stands_took (refusal_after e cause) refl (subst (λ (given : Answer). Stands r a x h s b (heard e ++ Took given ∷ [])) (refusal_heard e cause) said)
+  pub stands_refused : (cause : LineError) → Stands form r a x h s b (heard e ++ taking (refusal_after (heard e) cause ∷ [])) → Stands form r a x h s b (heard (e ++ taking (refusal_after e cause ∷ [])))
+  stands_refused cause said = stands_took (refusal_after e cause) refl (subst (λ (given : Answer). Stands form r a x h s b (heard e ++ Took given ∷ [])) (refusal_heard e cause) said)
 
 -- or a part of that
 pub broke_refusal : (b y : SinkState) (e : List Event) (cause : LineError) → BrokeStream b y (heard e) (Took (refusal_after (heard e) cause)) → BrokeStream b y (heard e) (Took (refusal_after e cause))
