@@ -6,7 +6,7 @@ use Rattle.msr_trace.specs.declared.read.MsrError.TheVariants as msr
 use Rattle.trace_model.specs.declared.line.Line.{Line}
 use Rattle.trace_model.specs.declared.line.Line.TheVariants as line
 use Rattle.trace_model.specs.declared.line.LineError.TheVariants as error
-use Rattle.trace_model.specs.Lines.{in_volume, last, lines_in, number_in, or_refused}
+use Rattle.trace_model.specs.Lines.{in_volume, last, number_in, or_refused}
 use Rattle.trace_model.specs.Readings.{Reading}
 
 -- the block of a byte

@@ -44,30 +44,47 @@ fn first_other(alloc: Global, rows: &[Row]) -> Result<Option<usize>, AllocError>
     Ok(None)
 }
 
-const fn reads(lba: u64, count: u64) -> Given {
-    Ok(Some(Line::Read { lba, count }))
-}
-
-const fn writes(lba: u64, count: u64, tag: u64) -> Given {
-    Ok(Some(Line::Write { lba, count, tag }))
-}
-
 const NOTHING: Given = Ok(Some(Line::Nothing));
+
+const READ_FIRST: Given = Ok(Some(Line::Read { lba: 0, count: 1 }));
+
+const READ_EIGHT: Given = Ok(Some(Line::Read {
+    lba: 93_627,
+    count: 8,
+}));
+
+const WRITE_TWO: Given = Ok(Some(Line::Write {
+    lba: 0,
+    count: 2,
+    tag: 1,
+}));
+
+const WRITE_THIRD: Given = Ok(Some(Line::Write {
+    lba: 2,
+    count: 1,
+    tag: 2,
+}));
+
+const WRITE_FIRST: Given = Ok(Some(Line::Write {
+    lba: 0,
+    count: 1,
+    tag: 4,
+}));
 
 const GIVEN: [Row; 5] = [
     Row {
         trace: b"128166372003061629,hm,0,Read,383496192,32768,41286",
-        given: &[reads(93_627, 8), Ok(None)],
+        given: &[READ_EIGHT, Ok(None)],
         printed: b"",
     },
     Row {
         trace: b"1,hm,0,Write,4095,2,5\n2,hm,0,Read,0,1,5\n",
-        given: &[writes(0, 2, 1), reads(0, 1), Ok(None)],
+        given: &[WRITE_TWO, READ_FIRST, Ok(None)],
         printed: b"",
     },
     Row {
         trace: b"\r\n1,hm,0,Write,8192,1,5\r\n1,hm,0,Write,0,0,5\r\n1,hm,0,Write,0,1,5\r\n",
-        given: &[NOTHING, writes(2, 1, 2), NOTHING, writes(0, 1, 4), Ok(None)],
+        given: &[NOTHING, WRITE_THIRD, NOTHING, WRITE_FIRST, Ok(None)],
         printed: b"",
     },
     Row {
@@ -77,7 +94,7 @@ const GIVEN: [Row; 5] = [
     },
     Row {
         trace: b"\n1,hm,0,\"Read\",0,1,\"5",
-        given: &[NOTHING, reads(0, 1), Ok(None)],
+        given: &[NOTHING, READ_FIRST, Ok(None)],
         printed: b"",
     },
 ];
@@ -100,7 +117,7 @@ const REFUSED: [Row; 5] = [
     },
     Row {
         trace: b"1,hm,0,Read,0,1,5\n1,\"hm\n,0\",0,Read,0,1,5\n",
-        given: &[reads(0, 1), Err(Ended::Trace)],
+        given: &[READ_FIRST, Err(Ended::Trace)],
         printed: b"line 2: BadCount\n",
     },
     Row {
@@ -126,7 +143,7 @@ fn a_refused_line_is_printed(rt: HostRuntime) -> Result<(), Fail> {
 fn no_more_is_read_than_is_needed(rt: HostRuntime) -> Result<(), Fail> {
     let first = Row {
         trace: b"1,hm,0,Read,0,1,5\n1,hm,0,Read,0,1,5\n",
-        given: &[reads(0, 1), Err(Ended::Source)],
+        given: &[READ_FIRST, Err(Ended::Source)],
         printed: b"",
     };
     // The first read gives the first line and one byte more, and the second read fails.

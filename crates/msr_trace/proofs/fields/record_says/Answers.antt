@@ -1,4 +1,4 @@
-use Rattle.std.proofs.Common.{sym, ◌∙◌, rules}
+use Rattle.std.proofs.Common.{◌∙◌, rules}
 use Rattle.csv.specs.Records.{fields_of}
 use Rattle.msr_trace.proofs.RecordLemmas.{seven_fields}
 use Rattle.msr_trace.proofs.fields.record_says.Goals as goal

@@ -1,7 +1,6 @@
 use Rattle.std.proofs.Common.{Bor, List, ℕ, ◌≡◌, ◌∙◌, refl, inr, true, false, Some, rules}
-use Rattle.csv.specs.Reading.{ReadRecord, Ready, default_config, strip_bom}
+use Rattle.csv.specs.Reading.{Ready, strip_bom}
 use Rattle.csv.specs.Records.{fields_of}
-use Rattle.csv.specs.declared.reader.Trim.TheVariants as trim
 use Rattle.msr_trace.proofs.RecordLemmas.{read_none, read_one, read_two}
 use Rattle.msr_trace.proofs.read.only_record.Goals as goal
 
