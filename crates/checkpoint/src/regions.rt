@@ -38,9 +38,10 @@ fn complete_in<M: Media>(
             } => {
                 return Ok(Some(Newest {
                     region,
-                    stamp,
+                    era: stamp.era,
                     pages: sequence,
                     seal,
+                    format: stamp.format,
                     totals,
                 }));
             }
@@ -57,7 +58,7 @@ fn later(first: Option<Newest>, second: Option<Newest>) -> Option<Newest>
 {
     match (first, second) {
         (Some(one), Some(two)) => {
-            if u32::from(two.stamp.era) == (u32::from(one.stamp.era) + 1) % 3 {
+            if u32::from(two.era) == (u32::from(one.era) + 1) % 3 {
                 second
             } else {
                 first

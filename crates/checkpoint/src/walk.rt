@@ -18,12 +18,14 @@ use op_log::Stamp;
 pub struct Newest {
     /// The region that it lies in, 0 or 1.
     pub region: u32,
-    /// Its format and its era, which its log has too.
-    pub stamp: Stamp,
+    /// Its era, 0 to 2, which its log has too.
+    pub era: u8,
     /// Its map pages.
     pub pages: u32,
     /// The numbers that it was made for.
     pub seal: Seal,
+    /// How its pages are spelled, 1 or 2, as those of its log are.
+    pub format: u8,
     /// How many entries its map pages have, where its format says it.
     pub totals: Option<Totals>,
 }

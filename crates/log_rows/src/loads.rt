@@ -773,8 +773,7 @@ fn contents_of_format_1_are_loaded(rt: HostRuntime) {
 
 // ---- totals
 
-const DAMAGED_SEAL: Line =
-    Line::Loads(Answer::Refused(OpenError::Damaged { block: 0, page: 1 }));
+const DAMAGED_SEAL: Line = Line::Loads(Answer::Refused(OpenError::Damaged { block: 0, page: 1 }));
 
 const TOTALS: [Line; 25] = [
     Line::Anew,

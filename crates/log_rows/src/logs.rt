@@ -131,7 +131,7 @@ fn walk(
     let Ok(mut map) = Map::new(alloc, geometry) else {
         return None;
     };
-    let pages = roll(rig, geometry, 0, stamp, &mut map);
+    let pages = roll(rig, geometry, 0, stamp.era, stamp.format, &mut map);
     Some(Walked {
         pages,
         held: map.held(),
@@ -204,7 +204,10 @@ fn lies_in(
     lba: u64,
     page: Option<u32>,
 ) -> bool {
-    lies(walk(rig, alloc, geometry, Stamp { format: 2, era }, lba), page)
+    lies(
+        walk(rig, alloc, geometry, Stamp { format: 2, era }, lba),
+        page,
+    )
 }
 
 fn holds(alloc: Global, rig: &mut MemRig, log: &OpLog, geometry: &Geometry, fact: Fact) -> bool {

@@ -70,8 +70,8 @@ pub(crate) enum Put {
 pub(crate) fn is_counted_of(format: u8, found: Option<Newest>, wanted: Counted) -> bool {
     match (found, wanted) {
         (Some(one), Some(counted)) => {
-            (one.region, one.stamp.era, one.pages) == counted
-                && one.stamp.format == format
+            (one.region, one.era, one.pages) == counted
+                && one.format == format
                 && one.totals.is_some() == (format == 2)
                 && one.seal == NUMBERS
         }

@@ -7,6 +7,10 @@ use Rattle.op_log.specs.declared.stamp.Stamp.{Stamp as Read}
 abbrev pub named : Read → Stamp
 named stamp = record { format = stamp.format; era = stamp.era }
 
+-- a format and an era
+abbrev pub stamped : ℕ → ℕ → Stamp
+stamped format era = record { format = format; era = era }
+
 -- what is written has format 2
 abbrev pub own_stamp : ℕ → Stamp
 own_stamp era = record { format = 2; era = era }

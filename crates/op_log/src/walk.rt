@@ -10,7 +10,7 @@ ghost use Rattle.mapping.specs.MapValue.{pages_taken, groups_taken};
 ghost use Rattle.mapping.specs.Room.{HasNoMoreRoom, KeepsBuckets, KeepsFewBuckets};
 ghost use Rattle.op_log.specs.Log.{FitsOn};
 ghost use Rattle.op_log.specs.Walk.{page_step, pages_in_order, Stepped, IsReadAs, found_whole, pages_needed, groups_needed, after_records, records_at, TakesRoom};
-ghost use Rattle.op_log.specs.Stamps.{named};
+ghost use Rattle.op_log.specs.Stamps.{named, stamped};
 ghost use Rattle.op_log.specs.Refusals.{open_failed, open_lost, IsRefusal, IsOfFlash, IsOfPages};
 
 use crate::OpenError;
@@ -177,31 +177,33 @@ fn apply_all(changes: &[Record], map: &mut Map) -> bool
     true
 }
 
-/// Applies the pages of the log of a region to a map, and says how many there are. A page of another stamp
-/// ends the log.
+/// Applies the pages of the log of a region to a map, and says how many there are. `era` and `format` are those of
+/// the chosen checkpoint: a page of another era or format ends the log.
 pub fn roll<M: Media>(
     media: &mut M,
     geometry: &Geometry,
     region: u32,
-    stamp: Stamp,
+    era: u8,
+    format: u8,
     map: &mut Map,
 ) -> Result<u32, OpenError>
     requires region { region < 2 }
     requires shape { FitsOn geometry.now (M.state media.old).contents.shape }
     requires map { map.old.geometry ≡ geometry.now }
     ensures geometry { map.new.geometry ≡ map.old.geometry }
-    ensures applied { IfOk result (λ n. after_pages geometry.now log_page (named stamp) (log_at geometry.now region) 0
+    ensures applied { IfOk result (λ n. after_pages geometry.now log_page (stamped format era) (log_at geometry.now region) 0
         (log_region geometry.now (M.state media.old).contents.flash.page region) map.old.entries ≡ Ok map.new.entries) }
-    ensures count { IfOk result (λ n. n ≡ pages_in_order log_page (named stamp) 0
+    ensures count { IfOk result (λ n. n ≡ pages_in_order log_page (stamped format era) 0
         (log_region geometry.now (M.state media.old).contents.flash.page region)) }
     ensures room { IfOk result (λ n. HasNoMoreRoom map.old map.new) }
     ensures few { IfOk result (λ n. KeepsFewBuckets map.old map.new) }
     ensures refused { IfErr result (λ e. IsRefusal geometry.now e
-        (after_pages geometry.now log_page (named stamp) (log_at geometry.now region) 0
+        (after_pages geometry.now log_page (stamped format era) (log_at geometry.now region) 0
         (log_region geometry.now (M.state media.old).contents.flash.page region) map.old.entries)) }
     ensures kinds { IfErr result IsOfPages }
     ensures reads { ReadsFlash (M.state media.old) (M.state media.new) (open_failed result) (open_lost result) }
 {
+    let stamp = Stamp { format, era };
     let pages = geometry.j * geometry.p;
     for i in 0..pages {
         let at = geometry.log_at(region, i);

@@ -7,7 +7,7 @@ ghost use Rattle.cache_model.specs.Records.{no_entries};
 ghost use Rattle.cache_model.specs.Loading.{after_pages, are_totals, load, pages_from, replayed};
 ghost use Rattle.mapping.specs.Room.{KeepsFewBuckets};
 ghost use Rattle.op_log.specs.Log.{FitsOn};
-ghost use Rattle.op_log.specs.Stamps.{named};
+ghost use Rattle.op_log.specs.Stamps.{stamped};
 ghost use Rattle.op_log.specs.Refusals.{open_failed, open_lost, IsRefusal};
 ghost use Rattle.checkpoint.specs.Found.{found_in};
 ghost use Rattle.recovery.specs.Loaded.{IsLoaded};
@@ -19,7 +19,7 @@ use checkpoint::Newest;
 use ft_base::Geometry;
 use ft_media::Media;
 use mapping::Map;
-use op_log::{OpenError, apply_page, roll};
+use op_log::{OpenError, Stamp, apply_page, roll};
 use std::alloc::Global;
 
 /// The map that the flash stands for, and where its checkpoint lies.
@@ -53,11 +53,11 @@ pub fn load<M: Media>(
     Ok(Loaded {
         map,
         region: newest.region,
-        era: newest.stamp.era,
+        era: newest.era,
     })
 }
 
-/// Applies a checkpoint and then its log to an empty map. Between the two the entries are counted, where the
+/// Applies a checkpoint and then its log to an empty map. Between the two the entries are counted, if the
 /// seal says how many there are.
 fn replay<M: Media>(
     media: &mut M,
@@ -86,11 +86,18 @@ fn replay<M: Media>(
             page: seal.page,
         });
     }
-    roll(media, geometry, newest.region, newest.stamp, map)?;
+    roll(
+        media,
+        geometry,
+        newest.region,
+        newest.era,
+        newest.format,
+        map,
+    )?;
     Ok(())
 }
 
-/// Whether the map has so many entries, and so many dirty ones, where totals are told.
+/// Whether the map has as many entries, and as many dirty ones, as the totals say. Format 1 has no totals.
 fn has_totals(totals: &Option<Totals>, map: &Map) -> bool
     ensures { result ≡ are_totals totals.now map.now.entries }
 {
@@ -113,18 +120,22 @@ fn apply_maps<M: Media>(
     requires map { map.old.geometry ≡ geometry.now }
     ensures geometry { map.new.geometry ≡ map.old.geometry }
     ensures few { OnOk result (KeepsFewBuckets map.old map.new) }
-    ensures applied { OnOk result (after_pages geometry.now map_page (named newest.now.stamp) (checkpoint_at geometry.now newest.now.region) 0
+    ensures applied { OnOk result (after_pages geometry.now map_page (stamped newest.now.format newest.now.era) (checkpoint_at geometry.now newest.now.region) 0
         (pages_from (M.state media.old).contents.flash.page (checkpoint_at geometry.now newest.now.region) 0 newest.now.pages)
         map.old.entries ≡ Ok map.new.entries) }
     ensures refused { IfErr result (λ e. IsRefusal geometry.now e
-        (after_pages geometry.now map_page (named newest.now.stamp) (checkpoint_at geometry.now newest.now.region) 0
+        (after_pages geometry.now map_page (stamped newest.now.format newest.now.era) (checkpoint_at geometry.now newest.now.region) 0
         (pages_from (M.state media.old).contents.flash.page (checkpoint_at geometry.now newest.now.region) 0 newest.now.pages)
         map.old.entries)) }
     ensures reads { ReadsFlash (M.state media.old) (M.state media.new) (open_failed result) (open_lost result) }
 {
+    let stamp = Stamp {
+        format: newest.format,
+        era: newest.era,
+    };
     for i in 0..newest.pages {
         let at = geometry.checkpoint_at(newest.region, i);
-        if !apply_page(media, geometry, at, PageKind::Map, newest.stamp, i, map)? {
+        if !apply_page(media, geometry, at, PageKind::Map, stamp, i, map)? {
             return Ok(());
         }
     }

@@ -23,6 +23,5 @@ pub mod PlanLemmas
 pub mod TakingLemmas
 pub mod HeirLemmas
 pub mod TurnLemmas
-pub mod LendLemmas
 pub mod RankedLemmas
 pub mod RoomsLemmas

@@ -8,7 +8,6 @@ pub mod Moved
 pub mod Heirs
 pub mod Probe
 pub mod Removal
-pub mod Lending
 pub mod Trimmed
 pub mod Places
 pub mod Seen

@@ -95,8 +95,6 @@ impl<V: Drop> Group<V> {
     ghost use Rattle.sparse_map.specs.Groups.{slots_in};
     ghost use Rattle.sparse_map.specs.Trimmed.{IsTrimmed, IsReady};
     ghost use Rattle.sparse_map.specs.Places.{grown_to};
-    ghost use Rattle.std.specs.Borrow.{sem};
-    ghost use Rattle.sparse_map.specs.Lending.{LendsGroupValue};
 
     /// A group with no item, which takes no memory.
     pub fn new(alloc: Global) -> Self
@@ -240,17 +238,6 @@ impl<V: Drop> Group<V> {
         ensures { option_map (λ e. e.1) (slot_at (slots_in self.now) k) ≡ Some result.now }
     {
         &self.items[place as usize].1
-    }
-
-    /// The value in the occupied bucket `k`, to write to.
-    pub fn value_mut(&mut self, k: u32, place: u32) -> &mut V
-        requires within { k < 64 }
-        requires place { place ≡ rank self.old.occupied k }
-        requires occupied { IsSome (slot_at (slots_in self.old) k) }
-        ensures* lends { sem 𝓛 (LendsGroupValue V.row self.entry k result) }
-        ensures value { option_map (λ e. e.1) (slot_at (slots_in self.old) k) ≡ Some result.now }
-    {
-        &mut self.items[place as usize].1
     }
 
     /// How many places of the list are free.

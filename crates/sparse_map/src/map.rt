@@ -56,10 +56,6 @@ impl<V> Model for SparseMap<V> {
 }
 
 impl<V: Drop> SparseMap<V> {
-    ghost use Rattle.std.specs.Option.{option_copied_mut};
-    ghost use Rattle.std.specs.Borrow.{sem};
-    ghost use Rattle.sparse_map.specs.Lending.{LendsValue};
-
     /// An empty map with no bucket, which takes no memory.
     pub fn new(alloc: Global) -> Self
         ensures none { buckets_of result ≡ 0 }
@@ -163,20 +159,6 @@ impl<V: Drop> SparseMap<V> {
         let groups = self.groups.as_slice();
         let seat = find(groups, self.bits, key)?;
         Some(value_at(groups, seat.bucket, seat.rank))
-    }
-
-    /// The value of a key, to write to.
-    pub fn get_mut(&mut self, key: u64) -> Option<&mut V>
-        ensures* writes_back { sem 𝓛 (LendsValue V.row self.entry key result) }
-        ensures value { option_copied_mut result ≡ map.get (map_of self.old) key }
-    {
-        match find(self.groups.as_slice(), self.bits, key) {
-            Some(seat) => {
-                let k = (seat.bucket % 64) as u32;
-                Some(self.groups[(seat.bucket / 64) as usize].value_mut(k, seat.rank))
-            }
-            None => None,
-        }
     }
 
     /// Sets the value of a key, and gives the old one. It takes no memory and can't be refused: a new key takes room

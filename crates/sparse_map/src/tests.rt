@@ -80,12 +80,10 @@ fn keys_with_one_home_go_round_the_end(rt: HostRuntime) -> Result<(), Fail> {
 }
 
 #[test]
-fn a_value_is_replaced_and_written(rt: HostRuntime) -> Result<(), Fail> {
+fn a_value_is_replaced(rt: HostRuntime) -> Result<(), Fail> {
     let mut map = three_at_the_end(rt.alloc())?;
     assert!(rt; !map.is_empty() && map.spare() < 32);
-    if let Some(value) = map.get_mut(144) {
-        *value = 7;
-    }
+    assert_eq!(rt; put(&mut map, 144, 7)?, Some(1440));
     assert_eq!(rt; put(&mut map, 55, 9)?, Some(550));
     first_group(
         &rt,

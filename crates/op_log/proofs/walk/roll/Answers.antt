@@ -5,7 +5,7 @@ use Rattle.ft_media.proofs.DrivesLemmas.{reads_then}
 use Rattle.cache_model.specs.declared.format.PageKind.TheVariants.{Log}
 use Rattle.cache_model.specs.Loading.{after_pages, log_region}
 use Rattle.op_log.specs.declared.error.OpenError.{OpenError}
-use Rattle.op_log.specs.Stamps.{named}
+use Rattle.op_log.specs.Stamps.{stamped}
 use Rattle.op_log.specs.Refusals.{IsRefusal}
 use Rattle.cache_model.proofs.LoadLemmas.{log_below}
 use Rattle.mapping.proofs.FewLemmas.{keeps_then}
@@ -21,21 +21,21 @@ apply_page-requires-clause-block g c =
 pub returns-in_err-apply_page-clause-refused : goal.returns-in_err-apply_page-clause-refused
 returns-in_err-apply_page-clause-refused g c =
     let start = (g.M.Media.state c.args.media.now).contents in
-    let loads = after_pages c.args.geometry.now Log (named c.args.stamp) (log_at c.args.geometry.now c.args.region) 0 (log_region c.args.geometry.now start.flash.page c.args.region) c.args.map.now.entries in
-    let refused = turn_refused c.args.geometry.now c.args.region (named c.args.stamp) start
+    let loads = after_pages c.args.geometry.now Log (stamped c.args.format c.args.era) (log_at c.args.geometry.now c.args.region) 0 (log_region c.args.geometry.now start.flash.page c.args.region) c.args.map.now.entries in
+    let refused = turn_refused c.args.geometry.now c.args.region (stamped c.args.format c.args.era) start
     (g.M.Media.state c.loop-i.media).contents c.loop-i.invariant.reads.contents c.args.map.now.entries c.loop-i.map.entries c.apply_page.new.map.entries c.loop-i.i c.log_at-at.result
     c.log_at-at.ensures c.loop-i-test.true c.loop-i.invariant.rolled c.in_err-apply_page.field-0.0 c.in_err-apply_page.ensures.answers in
     if_err c.from_residual.result _ _ c.from_residual.ensures.1 (λ e is. subst (λ (x : OpenError). IsRefusal c.args.geometry.now x loads) (sym is) refused)
 
 pub returns-then-not-branch-clause-applied : goal.returns-then-not-branch-clause-applied
 returns-then-not-branch-clause-applied g c =
-    (turn_end c.args.geometry.now c.args.region (named c.args.stamp) (g.M.Media.state c.args.media.now).contents
+    (turn_end c.args.geometry.now c.args.region (stamped c.args.format c.args.era) (g.M.Media.state c.args.media.now).contents
     (g.M.Media.state c.loop-i.media).contents c.loop-i.invariant.reads.contents c.args.map.now.entries c.loop-i.map.entries c.apply_page.new.map.entries c.loop-i.i c.log_at-at.result
     c.log_at-at.ensures c.loop-i-test.true c.loop-i.invariant.rolled c.in_ok-apply_page.field-0 c.if-not-branch.true c.in_ok-apply_page.ensures.answers).0
 
 pub returns-then-not-branch-clause-count : goal.returns-then-not-branch-clause-count
 returns-then-not-branch-clause-count g c =
-    (turn_end c.args.geometry.now c.args.region (named c.args.stamp) (g.M.Media.state c.args.media.now).contents
+    (turn_end c.args.geometry.now c.args.region (stamped c.args.format c.args.era) (g.M.Media.state c.args.media.now).contents
     (g.M.Media.state c.loop-i.media).contents c.loop-i.invariant.reads.contents c.args.map.now.entries c.loop-i.map.entries c.apply_page.new.map.entries c.loop-i.i c.log_at-at.result
     c.log_at-at.ensures c.loop-i-test.true c.loop-i.invariant.rolled c.in_ok-apply_page.field-0 c.if-not-branch.true c.in_ok-apply_page.ensures.answers).1
 
@@ -48,7 +48,7 @@ returns-then-not-branch-clause-few g c = keeps_then c.args.map.now c.loop-i.map 
 pub loop-i-preserved : goal.loop-i-preserved
 loop-i-preserved g c = record {
   geometry = search rules;
-  rolled = turn_more c.args.geometry.now c.args.region (named c.args.stamp) (g.M.Media.state c.args.media.now).contents
+  rolled = turn_more c.args.geometry.now c.args.region (stamped c.args.format c.args.era) (g.M.Media.state c.args.media.now).contents
       (g.M.Media.state c.loop-i.media).contents c.loop-i.invariant.reads.contents c.args.map.now.entries c.loop-i.map.entries c.apply_page.new.map.entries c.loop-i.i c.log_at-at.result
       c.log_at-at.ensures c.loop-i-test.true c.loop-i.invariant.rolled c.in_ok-apply_page.field-0 c.if-not-branch.false c.in_ok-apply_page.ensures.answers;
   room = room_taken _ c.args.map.now c.loop-i.map c.apply_page.new.map c.loop-i.invariant.room c.in_ok-apply_page.ensures.room;

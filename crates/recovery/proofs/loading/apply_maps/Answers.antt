@@ -4,7 +4,7 @@ use Rattle.ft_base.specs.Layout.{checkpoint_at}
 use Rattle.ft_media.proofs.DrivesLemmas.{reads_then}
 use Rattle.cache_model.specs.declared.format.PageKind.TheVariants.{Map as map_page}
 use Rattle.mapping.proofs.FewLemmas.{keeps_then}
-use Rattle.op_log.specs.Stamps.{named}
+use Rattle.op_log.specs.Stamps.{stamped}
 use Rattle.recovery.proofs.WalkLemmas.{map_block, stepped_on, stepped_off, stepped_refused}
 use Rattle.recovery.proofs.loading.apply_maps.Goals as goal
 
@@ -16,7 +16,7 @@ returns-in_err-apply_page-clause-refused g c =
     let g' = c.args.geometry.now in
     let n = c.args.newest.now in
     let refused =
-    stepped_refused g' map_page (named n.stamp) (checkpoint_at g' n.region) (g.M.Media.state c.args.media.now).contents.flash.page n.pages c.args.map.now.entries c.loop-i.i c.loop-i.map.entries c.loop-i-test.true c.loop-i.invariant.walked
+    stepped_refused g' map_page (stamped n.format n.era) (checkpoint_at g' n.region) (g.M.Media.state c.args.media.now).contents.flash.page n.pages c.args.map.now.entries c.loop-i.i c.loop-i.map.entries c.loop-i-test.true c.loop-i.invariant.walked
     c.checkpoint_at-at.result (g.M.Media.state c.loop-i.media).contents.flash.page c.checkpoint_at-at.ensures (ap (λ (k : Contents). k.flash.page) c.loop-i.invariant.reads.contents) c.in_err-apply_page.field-0.0 c.apply_page.new.map.entries c.in_err-apply_page.ensures.answers
     in
     search rules
@@ -25,7 +25,7 @@ pub returns-then-not-branch-clause-applied : goal.returns-then-not-branch-clause
 returns-then-not-branch-clause-applied g c =
     let g' = c.args.geometry.now in
     let n = c.args.newest.now in
-    stepped_off g' map_page (named n.stamp) (checkpoint_at g' n.region) (g.M.Media.state c.args.media.now).contents.flash.page n.pages c.args.map.now.entries c.loop-i.i c.loop-i.map.entries c.loop-i-test.true c.loop-i.invariant.walked
+    stepped_off g' map_page (stamped n.format n.era) (checkpoint_at g' n.region) (g.M.Media.state c.args.media.now).contents.flash.page n.pages c.args.map.now.entries c.loop-i.i c.loop-i.map.entries c.loop-i-test.true c.loop-i.invariant.walked
     c.checkpoint_at-at.result (g.M.Media.state c.loop-i.media).contents.flash.page c.checkpoint_at-at.ensures (ap (λ (k : Contents). k.flash.page) c.loop-i.invariant.reads.contents) c.in_ok-apply_page.field-0 c.apply_page.new.map.entries c.if-not-branch.true c.in_ok-apply_page.ensures.answers
 
 pub returns-then-not-branch-clause-few : goal.returns-then-not-branch-clause-few
@@ -40,7 +40,7 @@ loop-i-preserved g c =
       geometry = c.in_ok-apply_page.ensures.geometry ∙ c.loop-i.invariant.geometry;
       few = keeps_then c.args.map.now c.loop-i.map c.apply_page.new.map c.loop-i.invariant.few c.in_ok-apply_page.ensures.few;
       walked =
-          stepped_on g' map_page (named n.stamp) (checkpoint_at g' n.region) (g.M.Media.state c.args.media.now).contents.flash.page n.pages c.args.map.now.entries c.loop-i.i c.loop-i.map.entries c.loop-i-test.true c.loop-i.invariant.walked
+          stepped_on g' map_page (stamped n.format n.era) (checkpoint_at g' n.region) (g.M.Media.state c.args.media.now).contents.flash.page n.pages c.args.map.now.entries c.loop-i.i c.loop-i.map.entries c.loop-i-test.true c.loop-i.invariant.walked
           c.checkpoint_at-at.result (g.M.Media.state c.loop-i.media).contents.flash.page c.checkpoint_at-at.ensures (ap (λ (k : Contents). k.flash.page) c.loop-i.invariant.reads.contents)
           c.in_ok-apply_page.field-0 c.apply_page.new.map.entries c.if-not-branch.false c.in_ok-apply_page.ensures.answers;
     }
