@@ -110,10 +110,7 @@ const EXAMPLES: [Example; 10] = [
             region: 0,
             era: 2,
             page: 127,
-            entries: &[
-                Placed::InLog(1, 4, 0, false),
-                Placed::InLog(2, 4, 1, true),
-            ],
+            entries: &[Placed::InLog(1, 4, 0, false), Placed::InLog(2, 4, 1, true)],
             log: &[Record::Remove { lba: 1 }, Record::Clean { lba: 2 }],
         },
         held: &[(2, Held::Clean(1025))],

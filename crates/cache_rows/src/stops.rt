@@ -56,7 +56,8 @@ fn bench_for(alloc: Global, stop: Stop) -> Option<Bench> {
 /// Opens the flash after a stop. The opening may be cut as the commands were.
 fn opens_after(bench: &mut Bench, story: &Story, stop: Stop) -> bool {
     match stop {
-        Stop::Cut(_, outcome) if story.is_opening_cut => bench.cut_opening(2, outcome) && bench.open(),
+        Stop::Cut(_, outcome) if story.is_opening_cut => bench.cut_opening(2, outcome)
+            && bench.open(),
         _ => bench.open(),
     }
 }

@@ -55,7 +55,9 @@ fn may_stand_in(wide: bool, kind: PageKind, change: &Record) -> bool
 fn may_all_stand_in(wide: bool, kind: PageKind, changes: &[Record]) -> bool
     ensures { result ≡ list_all (spelling.may_stand_in wide kind) changes.now }
 {
-    changes.iter().all(|change| may_stand_in(wide, kind, change))
+    changes
+        .iter()
+        .all(|change| may_stand_in(wide, kind, change))
 }
 
 fn is_format(format: u8) -> bool

@@ -217,7 +217,12 @@ const UNSOUND: [(u8, u32, Record); 6] = [
 
 fn first_written(records: &[(u8, u32, Record)]) -> Option<usize> {
     for (i, (format, p, change)) in records.iter().enumerate() {
-        if write(&mut zero_block(), &log_header(*format), *p, [*change].as_slice()) {
+        if write(
+            &mut zero_block(),
+            &log_header(*format),
+            *p,
+            [*change].as_slice(),
+        ) {
             return Some(i);
         }
     }

@@ -32,7 +32,9 @@ pub struct Old {
 
 /// The tag of the block that stands at a place.
 pub fn tag_at(block: u32, page: u32) -> u64 {
-    u64::from(block).saturating_mul(256).saturating_add(u64::from(page))
+    u64::from(block)
+        .saturating_mul(256)
+        .saturating_add(u64::from(page))
 }
 
 // ---- the records of a checkpoint
@@ -315,7 +317,10 @@ fn put_log(
     let region = Region {
         kind: PageKind::Log,
         era: old.era,
-        first: old.region.saturating_mul(geometry.j).saturating_add(regions),
+        first: old
+            .region
+            .saturating_mul(geometry.j)
+            .saturating_add(regions),
     };
     let pages = region.put_all(alloc, rig, geometry, old.log, old.page)?;
     Ok(pages.is_some())

@@ -72,7 +72,11 @@ impl Part {
 
     /// Whether the bytes from one on and before another are zero.
     fn are_zero(&self, page: &Block, from: usize, end: usize) -> bool {
-        are_zero(page, self.at.saturating_add(from), self.at.saturating_add(end))
+        are_zero(
+            page,
+            self.at.saturating_add(from),
+            self.at.saturating_add(end),
+        )
     }
 
     /// The bytes 4 to 7.
