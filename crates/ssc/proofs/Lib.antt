@@ -13,4 +13,3 @@ pub mod SpendLemmas
 pub mod WriteLemmas
 pub mod GrowthLemmas
 pub mod OwnLemmas
-pub mod Words

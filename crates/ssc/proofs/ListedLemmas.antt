@@ -30,8 +30,7 @@ use Rattle.ssc.specs.declared.cache.Ssc.{Ssc}
 use Rattle.ssc.specs.CacheState.{Holds, entries_of}
 use Rattle.mapping.specs.declared.bits.Choice.TheVariants.{Dirty}
 use Rattle.mapping.specs.Bits.{chosen_of, is_chosen, set_of}
-use Rattle.ssc.specs.Listed.{dirty_pages, is_held_dirty, is_dirty_from, times_listed, AddsListed, AddsNumber, IsListedAt}
-use Rattle.ssc.proofs.Words.{listed}
+use Rattle.ssc.specs.Listed.{dirty_pages, is_held_dirty, is_dirty_from, times_listed, AddsListed, AddsNumber, IsListedAt, listed}
 use Rattle.ssc.proofs.HoldsLemmas.{held_none, held_some}
 use Rattle.ssc.proofs.NumberLemmas.{one_address, one_if, sorted_entries, the_entry}
 use Rattle.cache_model.proofs.MapLemmas.{less_key}
@@ -351,6 +350,13 @@ length_marks : {X : Type 0} (dirty : X → Bool) (es : List (ℕ × X)) → leng
 length_marks dirty [] = refl
 length_marks dirty (e ∷ es) = ap suc (length_marks dirty es)
 
+-- the dirty entries are those of a list that is dirty where they are
+pub listed_alike : (m : Entries) (s : CacheList) → ((a : ℕ) → option_map (λ (h : Held). h.dirty) (get s a) ≡ option_map (λ (e : Entry). e.dirty) (get m a)) → (from count : ℕ) → listed from (from + count) (entries m) ≡ dirty_between from count s
+listed_alike m s alike from count =
+    by_marks (λ (e : Entry). e.dirty) from (from + count) (entries m)
+    ∙ ap (marked_between from (from + count)) (sym (same_marks m s alike))
+    ∙ sym (by_marks (λ (h : Held). h.dirty) from (from + count) (entries s))
+
 module _ (c : Ssc) (contents : Contents) (s : CacheList) (holds : Holds c contents s) where
   pub dirty_alike : (a : ℕ) → option_map (λ (h : Held). h.dirty) (get s a) ≡ option_map (λ (e : Entry). e.dirty) (get (entries_of c) a)
   dirty_alike a = by (get (entries_of c) a) refl
@@ -360,10 +366,7 @@ module _ (c : Ssc) (contents : Contents) (s : CacheList) (holds : Holds c conten
       by (Some e) is = let h = held_some c contents s a e holds is in ap (option_map (λ (h : Held). h.dirty)) h.1 ∙ ap Some h.2
 
   pub listed_is : (from count : ℕ) → listed from (from + count) (entries (entries_of c)) ≡ dirty_between from count s
-  listed_is from count =
-      by_marks (λ (e : Entry). e.dirty) from (from + count) (entries (entries_of c))
-      ∙ ap (marked_between from (from + count)) (sym (same_marks (entries_of c) s dirty_alike))
-      ∙ sym (by_marks (λ (h : Held). h.dirty) from (from + count) (entries s))
+  listed_is from count = listed_alike (entries_of c) s dirty_alike from count
 
   -- as many entries as are held
   pub held_same : length (entries (entries_of c)) ≡ length (entries s)

@@ -1,31 +1,37 @@
 -- A cache is opened: what was loaded is its map, and a checkpoint of it is made.
 use Rattle.std.proofs.Common.{◌≡◌, ◌≢◌, ℕ, ◌+◌, ◌-◌, ◌%◌, ◌≤◌, ◌==◌, Bool, true, false, List, [], Option, Some, None, Result, Ok, Err, nat_cmp, refl, sym, ◌∙◌, ap, subst, arith, inl, inr}
-use Rattle.std.specs.Option.{option_and_then}
+use Rattle.std.specs.Option.{option_and_then, option_map}
+use Rattle.std.specs.Prelude.{IfErr}
 use Rattle.std.specs.Result.{IsErrAnd}
-use Rattle.std.specs.FinMap.{empty, get-empty}
-use Rattle.std.proofs.lemmas.Bool.{cases_cond}
+use Rattle.std.specs.FinMap.{empty, get, get-empty}
+use Rattle.std.proofs.lemmas.Bool.{cases_cond, false≢true}
 use Rattle.ft_base.specs.declared.geometry.Geometry.{Geometry}
 use Rattle.ft_base.specs.declared.record.Record.{Record}
 use Rattle.ft_base.specs.declared.block.Place.{Place}
 use Rattle.ft_base.specs.declared.block.Page.{Page}
 use Rattle.ft_base.specs.Contents.{Contents, Image, Now, HasValue}
+use Rattle.ft_base.specs.Count.{Rose}
 use Rattle.ft_base.specs.Layout.{log_pages}
 use Rattle.ft_media.specs.declared.rig.Counts.{Counts}
 use Rattle.ft_media.specs.State.{State}
 use Rattle.ft_media.specs.Media.{Crashed}
 use Rattle.ft_media.specs.Reads.{ReadsFlash}
+use Rattle.ft_media.specs.Passes.{ProgramsPages}
+use Rattle.ft_media.proofs.PassesLemmas.{spends_after}
+use Rattle.cache_model.specs.declared.entry.Entry.{Entry}
 use Rattle.ft_media.specs.Drives.{DrivesFlash}
 use Rattle.cache_model.specs.Records.{Entries, no_entries}
-use Rattle.cache_model.specs.Loading.{Complete, checkpoint_in, checkpoint_region, chosen, load}
-use Rattle.cache_model.specs.CacheList.{CacheList}
+use Rattle.cache_model.specs.Loading.{Complete, Refusal, checkpoint_in, checkpoint_of, checkpoint_region, chosen, load}
+use Rattle.cache_model.specs.CacheList.{CacheList, Held}
 use Rattle.cache_model.specs.Stands.{FlashStandsFor, held_at}
 use Rattle.cache_model.proofs.RegionLemmas.{checkpoint_era}
 use Rattle.cache_model.proofs.LoadLemmas.{newest_is}
-use Rattle.cache_model.proofs.StandLemmas.{entry_whole}
+use Rattle.cache_model.proofs.StandLemmas.{entry_whole, whole_held}
 use Rattle.mapping.specs.MapValue.{MapValue}
 use Rattle.op_log.specs.declared.error.OpenError.{OpenError}
+use Rattle.op_log.specs.declared.error.OpenError.TheVariants.{NotFormatted, OtherGeometry, Damaged, FlashFault, DiskFault, PowerLost, OutOfMemory}
 use Rattle.op_log.specs.Log.{LogValue, FitsOn}
-use Rattle.op_log.specs.Refusals.{open_failed, open_lost}
+use Rattle.op_log.specs.Refusals.{open_failed, open_lost, IsOfFlash, IsRefusal}
 use Rattle.checkpoint.specs.Commits.{AddsCheckpoint}
 use Rattle.checkpoint.specs.Counts.{checkpoint_counted}
 use Rattle.checkpoint.specs.Current.{IsCurrent, LoadsOneOf, PoolStays, log_checkpointed}
@@ -36,7 +42,8 @@ use Rattle.merge_engine.specs.declared.parts.Parts.{Parts}
 use Rattle.merge_engine.specs.Agreement.{IsListOn, ArePartsSound, Lists}
 use Rattle.merge_engine.proofs.BesideLemmas.{loaded_durable}
 use Rattle.ssc.specs.declared.cache.Ssc.{Ssc}
-use Rattle.ssc.specs.Opened.{CostsOpening, MadeCheckpoint}
+use Rattle.ssc.specs.declared.opening.LoadedCache.{LoadedCache}
+use Rattle.ssc.specs.Opened.{CostsOpening, IsLoadedFrom, IsOpenedOver, MadeCheckpoint, StandsStill}
 use Rattle.ssc.specs.Steps.{IsLoadedAs, FlashStandsForEither, log_found}
 
 -- ---- calls that read, as calls that drive
@@ -138,17 +145,10 @@ refused_reads g a b T (Err own) e is reads = record {
   refused = λ no_fault no_cut. reads_as a b (open_failed {T = T} (Err e)) (open_lost {T = T} (Err e)) reads (ap (λ (x : OpenError). open_failed {T = T} (Err x)) (sym is) ∙ no_fault) (ap (λ (x : OpenError). open_lost {T = T} (Err x)) (sym is) ∙ no_cut);
 }
 
--- reads are not counted
-adds_from : (log : LogValue) (records : List Record) (a m b : State) → m.counts ≡ a.counts → AddsCheckpoint log records m b → AddsCheckpoint log records a b
-adds_from log records a m b same adds = record {
-  spares = adds.spares;
-  counts = adds.counts ∙ ap (λ (k : Counts). checkpoint_counted log.geometry (map_pages log.geometry records) k) same;
-}
-
-pub made_checkpoint : (g : Geometry) (a m b : State) (loaded : Loaded) (parts new : Parts) (c : Ssc) → IsLoaded g a.contents.flash.page loaded → ReadsFlash a m false false → IsLoadedAs g loaded parts
-    → new ≡ record parts { log = new.log } → new.log ≡ log_checkpointed parts.log → AddsCheckpoint parts.log parts.map.records m b
-    → PoolStays parts.geometry m.contents.flash.page b.contents.flash.page → c.parts ≡ new → MadeCheckpoint g c a b
-made_checkpoint g a m b loaded parts new c is reads as_is same log adds pool own =
+pub made_checkpoint : (g : Geometry) (a b : State) (loaded : Loaded) (parts new : Parts) (c : Ssc) → IsLoaded g a.contents.flash.page loaded → IsLoadedAs g loaded parts
+    → new ≡ record parts { log = new.log } → new.log ≡ log_checkpointed parts.log → AddsCheckpoint parts.log parts.map.records a b
+    → PoolStays parts.geometry a.contents.flash.page b.contents.flash.page → c.parts ≡ new → MadeCheckpoint g c a b
+made_checkpoint g a b loaded parts new c is as_is same log adds pool own =
     let found : parts.log ≡ log_found g loaded.region is.newest.stamp.era = as_is.log ∙ ap (λ n. log_found g loaded.region n) (sym is.era) in
     let records : parts.map.records ≡ c.parts.map.records = sym (ap (λ (p : Parts). p.map.records) (own ∙ same)) in
     record {
@@ -156,15 +156,86 @@ made_checkpoint g a m b loaded parts new c is reads as_is same log adds pool own
       newest = is.newest;
       found = is.chosen;
       log = ap (λ (p : Parts). p.log) own ∙ log ∙ ap log_checkpointed found;
-      adds = subst (λ (r : List Record). AddsCheckpoint (log_found g loaded.region is.newest.stamp.era) r a b) records
-          (subst (λ (l : LogValue). AddsCheckpoint l parts.map.records a b) found (adds_from parts.log parts.map.records a m b reads.counts adds));
-      pool = subst (λ (k : Contents). PoolStays g k.flash.page b.contents.flash.page) reads.contents
-          (subst (λ (h : Geometry). PoolStays h m.contents.flash.page b.contents.flash.page) as_is.geometry pool);
+      adds = subst (λ (r : List Record). AddsCheckpoint (log_found g loaded.region is.newest.stamp.era) r a b) records (subst (λ (l : LogValue). AddsCheckpoint l parts.map.records a b) found adds);
+      pool = subst (λ (h : Geometry). PoolStays h a.contents.flash.page b.contents.flash.page) as_is.geometry pool;
     }
 
 -- nothing of the log is used
 pub full_room : (parts : Parts) (g : Geometry) → parts.geometry ≡ g → parts.log.next ≡ 0 → log_pages parts.geometry - parts.log.next ≡ log_pages g
 full_room parts g same next = let pages : log_pages parts.geometry ≡ log_pages g = ap (λ (h : Geometry). log_pages h) same in omega arith
+
+-- ---- an opening in two steps
+
+module _ (g h : Geometry) (a m b : State) (same : h ≡ g) (reads : ReadsFlash a m false false) where
+  pages : m.contents.flash.page ≡ a.contents.flash.page
+  pages = ap (λ (k : Contents). k.flash.page) reads.contents
+
+  pub shape_read : FitsOn g a.contents.shape → FitsOn h m.contents.shape
+  shape_read fits = subst (λ (n : Geometry). FitsOn n m.contents.shape) (sym same) (subst (λ (k : Contents). FitsOn g k.shape) (sym reads.contents) fits)
+
+  pub loaded_read : (c : LoadedCache) → IsLoadedFrom g a.contents.flash.page c → IsLoadedFrom h m.contents.flash.page c
+  loaded_read c is = subst (λ (n : Geometry). IsLoadedFrom n m.contents.flash.page c) (sym same) (subst (λ (page : Place → Page). IsLoadedFrom g page c) (sym pages) is)
+
+  pub opened_read : (c : Ssc) → IsOpenedOver h m.contents.flash.page b.contents c → IsOpenedOver g a.contents.flash.page b.contents c
+  opened_read c is = subst (λ (n : Geometry). IsOpenedOver n a.contents.flash.page b.contents c) same (subst (λ (page : Place → Page). IsOpenedOver h page b.contents c) pages is)
+
+  pub stands_read : StandsStill h m.contents.flash.page b.contents → StandsStill g a.contents.flash.page b.contents
+  stands_read is = subst (λ (n : Geometry). StandsStill n a.contents.flash.page b.contents) same (subst (λ (page : Place → Page). StandsStill h page b.contents) pages is)
+
+  -- reads are not counted
+  made_read : (c : Ssc) → MadeCheckpoint g c m b → MadeCheckpoint g c a b
+  made_read c made = record {
+    region = made.region;
+    newest = made.newest;
+    found = subst (λ (page : Place → Page). checkpoint_of g page ≡ Ok (made.region, made.newest)) pages made.found;
+    log = made.log;
+    adds = record {
+      spares = made.adds.spares;
+      counts = made.adds.counts ∙ ap (λ (k : Counts). checkpoint_counted g (map_pages g c.parts.map.records) k) reads.counts;
+    };
+    pool = subst (λ (page : Place → Page). PoolStays g page b.contents.flash.page) pages made.pool;
+  }
+
+  programs_read : ProgramsPages 1 m b → ProgramsPages 1 a b
+  programs_read programs = record {
+    count = subst (λ (k : Counts). Rose k.programs b.counts.programs) reads.counts programs.count;
+    spends = spends_after a m b 1 reads.passes programs.spends;
+  }
+
+  costs_same : (r : Result Ssc OpenError) → IfErr r IsOfFlash → CostsOpening g m b r → CostsOpening g a b r
+  costs_same (Ok c) of costs = record { made = made_read c costs.made; programs = programs_read costs.programs; refused = tt }
+  costs_same (Err FlashFault) of costs = record { made = tt; programs = tt; refused = λ no_fault no_cut. absurd (false≢true (sym no_fault)) }
+  costs_same (Err PowerLost) of costs = record { made = tt; programs = tt; refused = λ no_fault no_cut. absurd (false≢true (sym no_cut)) }
+  costs_same (Err NotFormatted) of costs = absurd of
+  costs_same (Err (OtherGeometry found wanted)) of costs = absurd of
+  costs_same (Err (Damaged block page)) of costs = absurd of
+  costs_same (Err DiskFault) of costs = absurd of
+  costs_same (Err OutOfMemory) of costs = absurd of
+
+  pub costs_read : (r : Result Ssc OpenError) → IfErr r IsOfFlash → CostsOpening h m b r → CostsOpening g a b r
+  costs_read r of costs = costs_same r of (subst (λ (n : Geometry). CostsOpening n m b r) same costs)
+
+-- a refusal of the flash, or of power, comes by itself
+pub refused_flash : {A : Type 0} (g : Geometry) (loads : Result A Refusal) (r : Result Ssc OpenError) → IfErr r IsOfFlash → IfErr r (λ e. IsRefusal g e loads)
+refused_flash g loads (Ok c) of = tt
+refused_flash g loads (Err FlashFault) of = tt
+refused_flash g loads (Err PowerLost) of = tt
+refused_flash g loads (Err NotFormatted) of = absurd of
+refused_flash g loads (Err (OtherGeometry found wanted)) of = absurd of
+refused_flash g loads (Err (Damaged block page)) of = absurd of
+refused_flash g loads (Err DiskFault) of = absurd of
+refused_flash g loads (Err OutOfMemory) of = absurd of
+
+-- what the flash stands for is dirty where the entries are
+pub loaded_alike : (g : Geometry) (page : Place → Page) (m : Entries) (s : CacheList) → load g page ≡ Ok m → FlashStandsFor g page s → (a : ℕ) → option_map (λ (h : Held). h.dirty) (get s a) ≡ option_map (λ (e : Entry). e.dirty) (get m a)
+loaded_alike g page m s loads stands a = by (get m a) refl
+  where
+    on : IsListOn page m s
+    on = subst (λ (n : Entries). IsListOn page n s) (loaded_durable g page s stands m loads) stands.held
+
+    by : (o : Option Entry) → get m a ≡ o → option_map (λ (h : Held). h.dirty) (get s a) ≡ option_map (λ (e : Entry). e.dirty) o
+    by None is = ap (option_map (λ (h : Held). h.dirty)) (on a ∙ ap (option_and_then (held_at page)) is)
+    by (Some e) is = let h = whole_held page e (entry_whole g page m loads a e is) in ap (option_map (λ (k : Held). k.dirty)) (on a ∙ ap (option_and_then (held_at page)) is ∙ h.1) ∙ ap Some h.2
 
 -- ---- an empty map
 

@@ -1,5 +1,5 @@
 -- The dirty entries of a range of addresses.
-use Rattle.std.specs.Prelude.{[], ◌≡◌, ℕ, ◌+◌, ◌*◌, ◌&&◌, nat_le, nat_lt, ◌==◌, Bool, true, false, if◌then◌else◌, Option, None, Some, List, ◌∷◌, ◌++◌, count_by, option_map, unwrap_or}
+use Rattle.std.specs.Prelude.{[], ◌≡◌, ℕ, ◌+◌, ◌*◌, ◌&&◌, nat_le, nat_lt, ◌==◌, Bool, true, false, if◌then◌else◌, Option, None, Some, List, ◌∷◌, ◌++◌, count_by, filter, map, option_map, unwrap_or}
 use Rattle.std.specs.FinMap.{get}
 use Rattle.ft_base.specs.declared.geometry.Geometry.{Geometry}
 use Rattle.cache_model.specs.declared.entry.Entry.{Entry}
@@ -11,6 +11,10 @@ use Rattle.mapping.specs.Numbers.{number_of}
 -- the entry is dirty, and its address is at least the first and below the end
 abbrev pub is_dirty_from : ℕ → ℕ → ℕ × Entry → Bool
 is_dirty_from from end x = x.1.dirty && nat_le from x.0 && nat_lt x.0 end
+
+-- the addresses of the dirty entries from the first on and below the end, in the order of the entries
+abbrev pub listed : ℕ → ℕ → List (ℕ × Entry) → List ℕ
+listed from end es = map (λ x. x.0) (filter (is_dirty_from from end) es)
 
 -- the address of the entry of this number, where it is listed; none where no entry of the number is
 abbrev pub IsListedAt : Geometry → Entries → ℕ → ℕ → ℕ → Option ℕ → Type 0

@@ -229,14 +229,7 @@ impl Ssc {
             ++ dirty_between from count s) }
         ensures refused { OnErr result (out.new.items ≡ out.old.items) }
     {
-        let before = out.len();
-        if self.list_dirty(from, from + count, out).is_err() {
-            out.truncate(before);
-            return Err(AllocError);
-        }
-        let listed = &mut out[before..];
-        listed.sort_unstable();
-        Ok(())
+        self.list_between(from, count, out)
     }
 
     /// Puts all that is buffered on the flash. It takes no memory.

@@ -1,20 +1,38 @@
-ghost use Rattle.std.specs.Prelude.{◌≡◌, Option, OnOk, OnErr, length, take};
-ghost use Rattle.ssc.specs.CacheState.{entries_of};
-ghost use Rattle.ssc.specs.Listed.{AddsListed, AddsNumber, IsListedAt};
+ghost use Rattle.std.specs.Prelude.{◌≡◌, ◌≤◌, ◌+◌, ◌++◌, Option, OnOk, OnErr, length, take};
+ghost use Rattle.std.specs.FinMap.{entries};
+ghost use Rattle.ssc.specs.CacheState.{entries_of, geometry_of};
+ghost use Rattle.ssc.specs.Listed.{AddsListed, AddsNumber, IsListedAt, listed};
 
 use crate::Ssc;
 use std::alloc::AllocError;
 
 // The steps of `exists`.
 impl Ssc {
-    /// Adds each address that is dirty, at least `from` and below `end`, once.
-    /// Whatever it answers, what was in `out` stands there still.
-    pub(crate) fn list_dirty(
+    /// Adds the dirty ones of the `count` addresses from `from` on, ascending. Refused, `out` has the
+    /// items that it had.
+    pub(crate) fn list_between(
         &self,
         from: u64,
-        end: u64,
+        count: u64,
         out: &mut Vec<u64>,
     ) -> Result<(), AllocError>
+        requires { from + count ≤ (geometry_of self.now).size }
+        ensures done { OnOk result (out.new.items ≡ out.old.items ++ listed from (from + count) (entries (entries_of self.now))) }
+        ensures refused { OnErr result (out.new.items ≡ out.old.items) }
+    {
+        let before = out.len();
+        if self.list_dirty(from, from + count, out).is_err() {
+            out.truncate(before);
+            return Err(AllocError);
+        }
+        let listed = &mut out[before..];
+        listed.sort_unstable();
+        Ok(())
+    }
+
+    /// Adds each address that is dirty, at least `from` and below `end`, once.
+    /// Whatever it answers, what was in `out` stands there still.
+    fn list_dirty(&self, from: u64, end: u64, out: &mut Vec<u64>) -> Result<(), AllocError>
         ensures done { OnOk result (AddsListed from end (entries_of self.now) out.old.items out.new.items) }
         ensures front { take (length out.old.items) out.new.items ≡ out.old.items }
     {

@@ -1,15 +1,20 @@
-ghost use Rattle.std.specs.Prelude.{◌≡◌, ◌<◌, ◌≤◌, false, Ok, IfOk, IfErr};
+ghost use Rattle.std.specs.Prelude.{◌≡◌, ◌<◌, ◌≤◌, ◌+◌, ◌++◌, Ok, IfOk, IfErr, OnOk, OnErr};
+ghost use Rattle.ft_base.specs.declared.geometry.Geometry.{Geometry};
+ghost use Rattle.ft_base.specs.declared.block.Place.{Place};
+ghost use Rattle.ft_base.specs.declared.block.Page.{Page};
 ghost use Rattle.ft_base.specs.Contents.{Image, Now};
 ghost use Rattle.ft_media.specs.Drives.{DrivesFlash};
+ghost use Rattle.ft_media.specs.Reads.{ReadsFlash};
+ghost use Rattle.cache_model.specs.Cache.{dirty_between};
 ghost use Rattle.cache_model.specs.CacheList.{CacheList};
 ghost use Rattle.cache_model.specs.Entries.{IsMap};
 ghost use Rattle.cache_model.specs.Loading.{load};
 ghost use Rattle.cache_model.specs.Stands.{FlashStandsFor};
 ghost use Rattle.op_log.specs.Log.{FitsOn};
-ghost use Rattle.op_log.specs.Refusals.{open_failed, open_lost, IsRefusal};
+ghost use Rattle.op_log.specs.Refusals.{open_failed, open_lost, IsOfFlash, IsRefusal};
 ghost use Rattle.ssc.specs.CacheState.{Holds, IsUp, entries_of, geometry_of};
 ghost use Rattle.ssc.specs.Kept.{IsJustOpened};
-ghost use Rattle.ssc.specs.Opened.{CostsOpening};
+ghost use Rattle.ssc.specs.Opened.{CostsOpening, IsLoadedFrom, IsOpenedOver, StandsStill};
 ghost use Rattle.ssc.specs.Own.{HoldsOwn, LoadsOwn};
 ghost use Rattle.ssc.specs.Steps.{IsLoadedAs};
 
@@ -20,6 +25,13 @@ use merge_engine::{Parts, make_checkpoint};
 use op_log::OpenError;
 use recovery::{Loaded, load};
 use std::alloc::{AllocError, Global};
+
+/// A cache that was loaded, and of which no checkpoint is made yet. It is the first of the two steps of an
+/// opening: what a caller refuses between them has written nothing.
+#[derive(Drop)]
+pub struct LoadedCache {
+    pub(crate) cache: Ssc,
+}
 
 impl Ssc {
     /// Loads what the flash stands for, in either format. A checkpoint of it is made in format 2, in the region that
@@ -51,17 +63,67 @@ impl Ssc {
         ensures costs { CostsOpening geometry.now (M.state media.old) (M.state media.new) result }
         ensures drives { DrivesFlash (M.state media.old) (M.state media.new) (open_failed result) (open_lost result) }
     {
+        let loaded = LoadedCache::load(alloc, media, geometry)?;
+        loaded.seal(media)
+    }
+}
+
+impl LoadedCache {
+    /// Loads what the flash stands for, in either format, and takes the memory of the parts. It writes nothing.
+    pub fn load<M: Media>(
+        alloc: Global,
+        media: &mut M,
+        geometry: &Geometry,
+    ) -> Result<LoadedCache, OpenError>
+        requires shape { FitsOn geometry.now (M.state media.old).contents.shape }
+        ensures loaded { IfOk result (IsLoadedFrom geometry.now (M.state media.old).contents.flash.page) }
+        ensures loads { IfOk result (λ c. load geometry.now (M.state media.old).contents.flash.page ≡ Ok (entries_of c.cache)) }
+        ensures refused { IfErr result (λ e. IsRefusal geometry.now e (load geometry.now (M.state media.old).contents.flash.page)) }
+        ensures reads { ReadsFlash (M.state media.old) (M.state media.new) (open_failed result) (open_lost result) }
+    {
         let loaded = load(alloc, media, geometry)?;
-        let mut parts = parts_of(alloc, geometry, loaded)?;
-        match make_checkpoint(&mut parts, media) {
-            Ok(()) => Ok(Ssc {
+        let parts = parts_of(alloc, geometry, loaded)?;
+        Ok(LoadedCache {
+            cache: Ssc {
                 parts,
                 ready: false,
                 stopped: false,
-            }),
+            },
+        })
+    }
+
+    /// Adds the dirty ones of the `count` addresses from `from` on, ascending. Refused, `out` has the
+    /// items that it had.
+    pub fn exists(&self, from: u64, count: u64, out: &mut Vec<u64>) -> Result<(), AllocError>
+        requires { from + count ≤ (geometry_of self.now.cache).size }
+        ensures done { OnOk result ((g : Geometry) (page : Place → Page) (s : CacheList) → IsLoadedFrom g page self.now
+            → FlashStandsFor g page s → out.new.items ≡ out.old.items ++ dirty_between from count s) }
+        ensures refused { OnErr result (out.new.items ≡ out.old.items) }
+    {
+        self.cache.list_between(from, count, out)
+    }
+
+    /// Makes a checkpoint of what was loaded, in format 2, in the region that hasn't the one that was found. It
+    /// takes no memory. Refused or cut, the flash stands for what it stood for.
+    pub fn seal<M: Media>(self, media: &mut M) -> Result<Ssc, OpenError>
+        requires shape { FitsOn (geometry_of self.cache) (M.state media.old).contents.shape }
+        requires loaded { IsLoadedFrom (geometry_of self.cache) (M.state media.old).contents.flash.page self }
+        ensures entries { IfOk result (λ c. entries_of c ≡ entries_of self.cache) }
+        ensures opened { IfOk result (IsOpenedOver (geometry_of self.cache) (M.state media.old).contents.flash.page
+            (M.state media.new).contents) }
+        // The flash failed or power was lost, and no memory was wanting.
+        ensures refused { IfErr result IsOfFlash }
+        // Whatever is answered, and wherever power went off, nothing is lost and nothing comes back.
+        ensures stands { StandsStill (geometry_of self.cache) (M.state media.old).contents.flash.page (M.state media.new).contents }
+        ensures costs { CostsOpening (geometry_of self.cache) (M.state media.old) (M.state media.new) result }
+        ensures drives { DrivesFlash (M.state media.old) (M.state media.new) (open_failed result) (open_lost result) }
+    {
+        let mut cache = self.cache;
+        match make_checkpoint(&mut cache.parts, media) {
+            Ok(()) => Ok(cache),
             Err(MediaError::Failed) => Err(OpenError::FlashFault),
             Err(MediaError::PowerLost) => Err(OpenError::PowerLost),
-            Err(MediaError::OutOfMemory) => Err(OpenError::OutOfMemory),
+            Err(MediaError::OutOfMemory) => unreachable!(),
         }
     }
 }
