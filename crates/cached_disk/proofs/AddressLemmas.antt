@@ -2,7 +2,7 @@
 use Rattle.std.proofs.Common.{◌≡◌, ◌⊎◌, ℕ, ◌+◌, ◌/◌, ◌≤◌, ◌<◌, ◌==◌, nat_le, nat_lt, not, ◌&&◌, ◌||◌, Bool, true, false, cond, List, [], ◌∷◌, length}
 use Rattle.std.proofs.Common.{map, filter, Option, Some, None, Ordering, Less, Equal, Greater, inl, inr, refl, sym, ◌∙◌, ap, subst, arith, nat_cmp, eqb-true, eq-eqb}
 use Rattle.std.specs.List.{AllByRecursion, list_any}
-use Rattle.std.specs.Option.{is_some}
+use Rattle.std.specs.Option.{is_some, option_map}
 use Rattle.std.specs.Ordering.{is_lt, match_ordering}
 use Rattle.std.specs.FinMap.{get, insert, entries, entries_sorted, is_sorted}
 use Rattle.std.specs.FinMap.Entries.{below_all}
@@ -16,6 +16,7 @@ use Rattle.ft_volume.specs.Volume.{Call, IsOwn, dirty_lbas}
 use Rattle.ft_volume.specs.Volume as volume
 use Rattle.cache_model.specs.declared.entry.Entry.{Entry}
 use Rattle.cache_model.specs.Cache.{Vanish, dirty_between, groups, with_group}
+use Rattle.cache_model.specs.Records.{Entries}
 use Rattle.cache_model.specs.CacheList.{CacheList, Held}
 use Rattle.cache_model.proofs.CountLemmas.{all_members, each_once-le, member_of, member_once, each_once-no_longer, same_number}
 use Rattle.cache_model.proofs.MapLemmas.{less_key, all_entries, by_get, get_insert, holds as true_of}
@@ -215,11 +216,14 @@ by_mark dirty (e ∷ es) = by (dirty e.1) (by_mark dirty es)
     by true rest = ap (λ l. e.0 ∷ l) rest
     by false rest = rest
 
-pub holds_lbas : (c : Ssc) (contents : Contents) (s : CacheList) → Holds c contents s → dirty_lbas (entries_of c) ≡ lbas_in s
-holds_lbas c contents s holds =
-    by_mark (λ (e : Entry). e.dirty) (entries (entries_of c))
-    ∙ ap (λ (es : List (ℕ × Bool)). map (λ x. x.0) (filter (λ x. x.1) es)) (sym (same_marks (entries_of c) s (dirty_alike c contents s holds)))
+pub lbas_alike : (m : Entries) (s : CacheList) → ((a : ℕ) → option_map (λ (h : Held). h.dirty) (get s a) ≡ option_map (λ (e : Entry). e.dirty) (get m a)) → dirty_lbas m ≡ lbas_in s
+lbas_alike m s alike =
+    by_mark (λ (e : Entry). e.dirty) (entries m)
+    ∙ ap (λ (es : List (ℕ × Bool)). map (λ x. x.0) (filter (λ x. x.1) es)) (sym (same_marks m s alike))
     ∙ sym (by_mark (λ (h : Held). h.dirty) (entries s))
+
+pub holds_lbas : (c : Ssc) (contents : Contents) (s : CacheList) → Holds c contents s → dirty_lbas (entries_of c) ≡ lbas_in s
+holds_lbas c contents s holds = lbas_alike (entries_of c) s (dirty_alike c contents s holds)
 
 -- ---- a write: few groups are held, so nothing gives way
 

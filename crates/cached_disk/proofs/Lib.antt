@@ -7,3 +7,4 @@ pub mod HeldLemmas
 pub mod OpenedLemmas
 pub mod ReadLemmas
 pub mod ReportLemmas
+pub mod SealLemmas

@@ -65,7 +65,7 @@ module _ (g : Geometry) (a b c : Contents) (page : b.flash.page ≡ a.flash.page
   open_cache_of (Err e) geometry holds loads opened up = tt
 
   -- a cache doesn't ask the disk
-  pub not_disk : {A : Type 0} (r : Result Ssc OpenError) (loads : Result A _) → IfErr r (λ e. IsRefusal g e loads) → disk_failed r ≡ true → ⊥
+  pub not_disk : {A T : Type 0} (r : Result T OpenError) (loads : Result A _) → IfErr r (λ e. IsRefusal g e loads) → disk_failed r ≡ true → ⊥
   not_disk (Ok v) loads refused is = false≢true is
   not_disk (Err NotFormatted) loads refused is = false≢true is
   not_disk (Err (OtherGeometry found wanted)) loads refused is = false≢true is
@@ -75,7 +75,7 @@ module _ (g : Geometry) (a b c : Contents) (page : b.flash.page ≡ a.flash.page
   not_disk (Err PowerLost) loads refused is = false≢true is
   not_disk (Err OutOfMemory) loads refused is = false≢true is
 
-  pub opens_after : (r : Result Ssc OpenError) → ((lba : ℕ) → b.disk lba ≡ flushed (a.disk lba)) → load g c.flash.page ≡ load g b.flash.page → ((s : CacheList) → FlashStandsFor g b.flash.page s → (x : Image) → Now c x → FlashStandsFor g x.page s)
+  pub opens_after : {T : Type 0} (r : Result T OpenError) → ((lba : ℕ) → b.disk lba ≡ flushed (a.disk lba)) → load g c.flash.page ≡ load g b.flash.page → ((s : CacheList) → FlashStandsFor g b.flash.page s → (x : Image) → Now c x → FlashStandsFor g x.page s)
       → IfErr r (λ e. IsRefusal g e (load g b.flash.page)) → DiskStays b c (open_lost r) → (open_lost r ≡ true → Crashed c) → Opens g a c (disk_failed r) (open_lost r)
   opens_after r flush same images refused stays crash = record {
     loads = same ∙ ap (λ (f : Place → Page). load g f) page;
@@ -106,11 +106,11 @@ module _ (g : Geometry) (a b c : Contents) (page : b.flash.page ≡ a.flash.page
 
 -- and power, the faults and the counts go on as the two answer
 module _ (a b c : State) (device : DeviceWrite {T = Unit {0}} a b (Ok tt)) (counts : b.counts ≡ flush_counted a.counts) (cause : DiskCause a.faults b.faults false false) (passes : Passes a b false) where
-  keeps_ready : (r : Result Ssc OpenError) → (open_failed r ≡ false → open_lost r ≡ false → KeepsReady b c) → OnOk r (KeepsReady a c)
+  keeps_ready : {T : Type 0} (r : Result T OpenError) → (open_failed r ≡ false → open_lost r ≡ false → KeepsReady b c) → OnOk r (KeepsReady a c)
   keeps_ready (Ok v) then = λ block there. then refl refl block (device.ready refl refl block there)
   keeps_ready (Err e) then = tt
 
-  pub only_opens : (r : Result Ssc OpenError) → (disk_failed r ≡ true → ⊥) → DrivesFlash b c (open_failed r) (open_lost r) → OnlyOpens a c r
+  pub only_opens : {T : Type 0} (r : Result T OpenError) → (disk_failed r ≡ true → ⊥) → DrivesFlash b c (open_failed r) (open_lost r) → OnlyOpens a c r
   only_opens r not_failed drives = record {
     ready = keeps_ready r drives.ready;
     disk_reads = drives.disk_reads ∙ ap (λ (n : Counts). n.disk_reads) counts;
@@ -129,7 +129,7 @@ module _ (a b c : State) (device : DeviceWrite {T = Unit {0}} a b (Ok tt)) (coun
   }
 
 -- refused, it has only read since
-pub reads_after : (a b c : State) (r : Result Ssc OpenError) → b.contents.flash ≡ a.contents.flash → b.counts ≡ flush_counted a.counts → OnErr r (open_failed r ≡ false → open_lost r ≡ false → ReadsFlash b c false false) → WritesNothingRefused a c r
+pub reads_after : {T : Type 0} (a b c : State) (r : Result T OpenError) → b.contents.flash ≡ a.contents.flash → b.counts ≡ flush_counted a.counts → OnErr r (open_failed r ≡ false → open_lost r ≡ false → ReadsFlash b c false false) → WritesNothingRefused a c r
 reads_after a b c (Ok v) flash counts reads = tt
 reads_after a b c (Err e) flash counts reads = λ not_failed not_disk not_lost. let only = reads not_failed not_lost in record { flash = ap (λ (x : Contents). x.flash) only.contents ∙ flash; counts = only.counts ∙ counts }
 

@@ -14,3 +14,4 @@ mod resting;
 
 pub use disk::CachedDisk;
 pub use errors::{cache_error, disk_error};
+pub use opening::LoadedDisk;

@@ -1,9 +1,12 @@
-ghost use Rattle.std.specs.Prelude.{OnOk, IfOk};
+ghost use Rattle.std.specs.Prelude.{◌≡◌, OnOk, IfOk, IfErr};
+ghost use Rattle.ft_media.specs.State.{State};
 ghost use Rattle.ft_volume.specs.Opening.{Creates, MayOpen, OpensOver, nothing_held};
 ghost use Rattle.ft_volume.specs.Volume.{told_for};
 ghost use Rattle.op_log.specs.Log.{FitsOn};
+ghost use Rattle.op_log.specs.Refusals.{IsOfFlash};
 ghost use Rattle.ssc.specs.CacheState.{entries_of};
 ghost use Rattle.cached_disk.specs.Kept.{IsFresh, IsLeft, IsOpenCache, IsOpening, Reopens, StandsOpened, WritesNothingRefused, is_down, told_of};
+ghost use Rattle.cached_disk.specs.Opened.{LoadedSince, OpensDisk};
 
 use crate::CachedDisk;
 use crate::errors::{cache_error, flush_error, open_error};
@@ -11,8 +14,22 @@ use ft_base::Geometry;
 use ft_media::Media;
 use ft_volume::{Mode, Options, VolumeError};
 use op_log::OpenError;
-use ssc::Ssc;
+use ssc::{LoadedCache, Ssc};
 use std::alloc::Global;
+
+/// A disk that was flushed, and a cache before it that was loaded, of which no checkpoint is made yet. It is the
+/// first of the two steps of an opening: what a caller refuses between them has written nothing beside that flush.
+#[derive(Drop)]
+pub struct LoadedDisk {
+    /// Where its memory comes from.
+    pub alloc: Global,
+    /// The numbers with which it is opened.
+    pub options: Options,
+    /// How it is to be written to.
+    pub mode: Mode,
+    /// The cache that was loaded.
+    pub cache: LoadedCache,
+}
 
 impl CachedDisk {
     /// Formats the flash and opens it, whatever it was before. The plain disk is then what the disk has.
@@ -59,14 +76,8 @@ impl CachedDisk {
         ensures reads { WritesNothingRefused (M.state media.old) (M.state media.new) result }
         ensures stands { OnOk result (StandsOpened (told_for mode options.now) (M.state media.old).contents (M.state media.new).contents) }
     {
-        let cache = open_cache(alloc, media, &options.geometry)?;
-        Ok(CachedDisk {
-            alloc,
-            options: *options,
-            mode,
-            cache,
-            down: false,
-        })
+        let loaded = LoadedDisk::load(alloc, media, options, mode)?;
+        loaded.seal(media)
     }
 
     /// Opens the cache again where it was cut off or given up.
@@ -89,6 +100,71 @@ impl CachedDisk {
     }
 }
 
+impl LoadedDisk {
+    /// Flushes the disk, and loads what the flash stands for. Unless a device failed or power was lost, a refusal
+    /// writes nothing beside that flush.
+    pub fn load<M: Media>(
+        alloc: Global,
+        media: &mut M,
+        options: &Options,
+        mode: Mode,
+    ) -> Result<LoadedDisk, OpenError>
+        requires shape { FitsOn options.now.geometry (M.state media.old).contents.shape }
+        ensures made { IfOk result (λ v. (v.options ≡ options.now) × (v.mode ≡ mode)) }
+        ensures loaded { IfOk result (λ v. LoadedSince options.now.geometry (M.state media.old) (M.state media.new) v.cache) }
+        ensures opening { IsOpening options.now.geometry (M.state media.old) (M.state media.new) result }
+        ensures reads { WritesNothingRefused (M.state media.old) (M.state media.new) result }
+    {
+        let cache = load_cache(alloc, media, &options.geometry)?;
+        Ok(LoadedDisk {
+            alloc,
+            options: *options,
+            mode,
+            cache,
+        })
+    }
+
+    /// Makes the checkpoint of what was loaded. It takes no memory, and makes no call of the disk.
+    pub fn seal<M: Media>(self, media: &mut M) -> Result<CachedDisk, OpenError>
+        requires { (start : State) × LoadedSince self.options.geometry start (M.state media.old) self.cache }
+        ensures entries { IfOk result (λ v. entries_of v.cache ≡ entries_of self.cache.cache) }
+        // The flash failed or power was lost, and no memory was wanting.
+        ensures refused { IfErr result IsOfFlash }
+        // All that an opening says, of what was there before the load.
+        ensures opens { (start : State) → LoadedSince self.options.geometry start (M.state media.old) self.cache
+            → MayOpen (told_for self.mode self.options) start.contents → OpensDisk self.mode self.options start (M.state media.new) result }
+    {
+        match self.cache.seal(media) {
+            Ok(cache) => Ok(CachedDisk {
+                alloc: self.alloc,
+                options: self.options,
+                mode: self.mode,
+                cache,
+                down: false,
+            }),
+            Err(error) => Err(error),
+        }
+    }
+}
+
+/// Loads a cache after a flush of the disk. Unless a device failed or power was lost, a refusal has only read since
+/// the flush.
+fn load_cache<M: Media>(
+    alloc: Global,
+    media: &mut M,
+    geometry: &Geometry,
+) -> Result<LoadedCache, OpenError>
+    requires shape { FitsOn geometry.now (M.state media.old).contents.shape }
+    ensures loaded { IfOk result (LoadedSince geometry.now (M.state media.old) (M.state media.new)) }
+    ensures opening { IsOpening geometry.now (M.state media.old) (M.state media.new) result }
+    ensures reads { WritesNothingRefused (M.state media.old) (M.state media.new) result }
+{
+    match media.flush_disk() {
+        Ok(()) => LoadedCache::load(alloc, media, geometry),
+        Err(error) => Err(flush_error(error)),
+    }
+}
+
 /// Opens a cache after a flush of the disk, so that no value of the disk waits while the cache is used.
 /// Refused or cut, the media stand for what they stood for. Unless a device failed or power was lost, a
 /// refusal has only read since the flush.
@@ -98,8 +174,6 @@ fn open_cache<M: Media>(alloc: Global, media: &mut M, geometry: &Geometry) -> Re
     ensures opening { IsOpening geometry.now (M.state media.old) (M.state media.new) result }
     ensures reads { WritesNothingRefused (M.state media.old) (M.state media.new) result }
 {
-    match media.flush_disk() {
-        Ok(()) => Ssc::open(alloc, media, geometry),
-        Err(error) => Err(flush_error(error)),
-    }
+    let loaded = load_cache(alloc, media, geometry)?;
+    loaded.seal(media)
 }
