@@ -5,3 +5,4 @@ pub mod PartLemmas
 pub mod TableLemmas
 pub mod VolumeLemmas
 pub mod WriteLemmas
+pub mod OpenLemmas

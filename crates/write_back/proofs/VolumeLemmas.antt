@@ -1,17 +1,20 @@
 -- A volume that comes up, with a table that is made of its cache.
-use Rattle.std.proofs.Common.{rules, arith, Result, Ok, Err, ◌≡◌, ◌⊎◌, ℕ, ◌+◌, ◌/◌, ◌≤◌, ◌<◌, nat_lt, lt-ltb, Some, Bool, true, false, if◌then◌else◌, List, [], ◌++◌, length, get_or, map, inl, refl, sym, ◌∙◌, ap, subst}
+use Rattle.std.proofs.Common.{rules, arith, Result, Ok, Err, ◌≡◌, ◌⊎◌, ℕ, ◌+◌, ◌/◌, ◌≤◌, ◌<◌, nat_lt, lt-ltb, Option, Some, None, Bool, true, false, if◌then◌else◌, List, [], ◌++◌, length, get_or, map, inl, refl, sym, ◌∙◌, ap, subst}
 use Rattle.std.specs.Prelude.{IsTrue}
 use Rattle.std.specs.FinMap.{get}
+use Rattle.std.specs.Option.{option_map}
+use Rattle.ft_base.specs.declared.block.Place.{Place}
+use Rattle.ft_base.specs.declared.block.Page.{Page}
 use Rattle.ft_base.specs.declared.geometry.Geometry.{Geometry}
 use Rattle.ft_base.specs.Contents.{Contents}
 use Rattle.ft_base.specs.Count.{RoseBy}
-use Rattle.ft_base.specs.Table.{goes_back, last_size, table_of, without_last}
+use Rattle.ft_base.specs.Table.{goes_back, last_size, without_last}
 use Rattle.ft_base.specs.declared.told.Mode.{Mode}
 use Rattle.ft_base.specs.declared.told.Mode.TheVariants.{Back}
 use Rattle.ft_media.specs.Passes.{Passes}
 use Rattle.ft_media.specs.State.{State}
 use Rattle.ft_volume.specs.Opening.{ImageIs}
-use Rattle.ft_volume.specs.Volume.{AsksDevices, ComesUp, Costs, Idles, VolumeState, backs_of, flushes_of}
+use Rattle.ft_volume.specs.Volume.{AsksDevices, ComesUp, Costs, Idles, VolumeState, backs_of, dirty_lbas, flushes_of}
 use Rattle.ft_volume.specs.declared.volume.Idled.{Idled}
 use Rattle.ft_volume.specs.declared.volume.Idled.TheVariants.{Cleaned}
 use Rattle.ft_volume.specs.declared.volume.VolumeError.{VolumeError}
@@ -20,20 +23,31 @@ use Rattle.ft_volume.proofs.OpenedLemmas.{opened_up}
 use Rattle.ft_volume.proofs.UpLemmas.{cause_at, err_at, lost_at}
 use Rattle.cache_model.specs.Cache.{dirty_between}
 use Rattle.cache_model.specs.CacheList.{CacheList, Held}
+use Rattle.cache_model.specs.declared.entry.Entry.{Entry}
+use Rattle.cache_model.specs.Loading.{load}
+use Rattle.cache_model.specs.Records.{Entries}
+use Rattle.cache_model.specs.Stands.{FlashStandsFor}
+use Rattle.cache_model.proofs.FitsLemmas.{load-map}
+use Rattle.mapping.specs.MapValue.{MapValue}
 use Rattle.cache_model.specs.Entries.{IsMap, each_once}
 use Rattle.merge_engine.proofs.TakeLemmas.{agree_map}
 use Rattle.dirty_table.specs.Groups.{Groups, groups_in_order, has, touched}
-use Rattle.ssc.specs.CacheState.{Holds, entries_of}
+use Rattle.ssc.specs.CacheState.{Holds, entries_of, geometry_of}
+use Rattle.ssc.specs.Opened.{IsLoadedFrom}
+use Rattle.ssc.proofs.ListLemmas.{stands_some}
+use Rattle.ssc.proofs.OpenLemmas.{loaded_alike}
 use Rattle.cached_disk.specs.declared.disk.CachedDisk.{CachedDisk}
-use Rattle.cached_disk.specs.Kept.{IsOrderOf, Loads, MayServe, dirty_of, waiting_in, WritesDisk}
+use Rattle.cached_disk.specs.declared.opening.LoadedDisk.{LoadedDisk}
+use Rattle.cached_disk.specs.Kept.{Loads, MayServe, dirty_of, WritesDisk}
 use Rattle.cached_disk.specs.Kept as kept
 use Rattle.merge_engine.specs.Loaded.{AreAscending}
-use Rattle.cached_disk.proofs.AddressLemmas.{holds_lbas, holds_within, lbas_ascending, lbas_between}
+use Rattle.cached_disk.proofs.AddressLemmas.{holds_lbas, holds_within, lbas_alike, lbas_ascending, lbas_between}
 use Rattle.cached_disk.proofs.CallLemmas.{asks_none, same_up}
 use Rattle.cached_disk.proofs.HeldLemmas.{one_held}
 use Rattle.cached_disk.proofs.OpenedLemmas.{given_up_left}
 use Rattle.write_back.specs.declared.volume.WriteBack.{WriteBack}
-use Rattle.write_back.specs.Left.{IsExact, IsLeft, IsDirtyTable, Steps, state_of}
+use Rattle.write_back.specs.Left.{IsLeft, IsDirtyTable, Steps, state_of}
+use Rattle.write_back.specs.Tables.{IsTableOf}
 use Rattle.write_back.proofs.TableLemmas.{IsTableSoFar, few_lbas, length_waiting, so_far_exact, so_far_more, so_far_none, so_far_order, so_far_room}
 
 -- ---- the table of a cache
@@ -46,6 +60,28 @@ pub record IsMade (g : Geometry) (lbas : List ℕ) (i : ℕ) (table : Groups) : 
 pub made_none : (g : Geometry) (lbas : List ℕ) (table : Groups) → table ≡ groups_in_order [] g.c → IsMade g lbas 0 table
 made_none g lbas table is = subst (λ (t : Groups). IsMade g lbas 0 t) (sym is) (record { limit = refl; so_far = so_far_none g.p lbas 0 [] refl refl })
 
+module _ (g : Geometry) (lbas : List ℕ) (ascends : AreAscending lbas) (few : length (each_once (map (λ a. a / g.p) lbas)) ≤ g.c) (i : ℕ) (table : Groups) (made : IsMade g lbas i table) where
+  -- there is room for the group of the next address
+  pub made_room : i < length lbas → (p : ℕ) → p ≡ g.p → IsTrue (has (get_or lbas i 0 / p) table.order) ⊎ (length table.order < table.limit)
+  made_room within p own =
+      subst (λ (q : ℕ). IsTrue (has (get_or lbas i 0 / q) table.order) ⊎ (length table.order < table.limit)) (sym own)
+      (subst (λ (c : ℕ). IsTrue (has (get_or lbas i 0 / g.p) table.order) ⊎ (length table.order < c)) (sym made.limit)
+      (so_far_room g.p lbas i table.order made.so_far g.c within few))
+
+  pub made_more : i < length lbas → (p : ℕ) → p ≡ g.p → (new : Groups) → new ≡ groups_in_order (touched (get_or lbas i 0 / p) table.order) table.limit → IsMade g lbas (i + 1) new
+  made_more within p own new is_new =
+      subst (λ (t : Groups). IsMade g lbas (i + 1) t) (sym (is_new ∙ ap (λ (q : ℕ). groups_in_order (touched (get_or lbas i 0 / q) table.order) table.limit) own))
+      (record { limit = made.limit; so_far = so_far_more g.p lbas i table.order ascends within made.so_far })
+
+  -- and at the end it is the table of all
+  pub made_all : length lbas ≤ i → IsTableOf g lbas table
+  made_all past = record {
+    groups = record { limit = made.limit; apart = made.so_far.apart };
+    exact = so_far_exact g.p lbas i table.order made.so_far past;
+    order = so_far_order g.p lbas i table.order made.so_far past;
+  }
+
+-- the dirty addresses of a cache
 module _ (v : CachedDisk) (over : (contents : Contents) × MayServe v contents) where
   abbrev held : CacheList
   held = over.1.left.held
@@ -67,36 +103,61 @@ module _ (v : CachedDisk) (over : (contents : Contents) × MayServe v contents) 
       ∙ sym (holds_lbas v.cache over.0 held holds)
 
   module _ (lbas : List ℕ) (is : lbas ≡ dirty_of v) where
-    ascends : AreAscending lbas
+    pub ascends : AreAscending lbas
     ascends = subst (λ (l : List ℕ). AreAscending l) (sym (is ∙ holds_lbas v.cache over.0 held holds)) (lbas_ascending held)
 
-    few : length (each_once (map (λ a. a / v.options.geometry.p) lbas)) ≤ v.options.geometry.c
+    pub few : length (each_once (map (λ a. a / v.options.geometry.p) lbas)) ≤ v.options.geometry.c
     few =
         let own : IsMap v.options.geometry (entries_of v.cache) = subst (λ (g : Geometry). IsMap g (entries_of v.cache)) over.1.left.own (agree_map v.cache.parts over.0 holds.agree) in
         subst (λ (l : List ℕ). length (each_once (map (λ a. a / v.options.geometry.p) l)) ≤ v.options.geometry.c) (sym is) (few_lbas v.options.geometry (entries_of v.cache) own)
 
-    module _ (i : ℕ) (table : Groups) (made : IsMade v.options.geometry lbas i table) where
-      -- there is room for the group of the next address
-      pub made_room : i < length lbas → (p : ℕ) → p ≡ v.options.geometry.p → IsTrue (has (get_or lbas i 0 / p) table.order) ⊎ (length table.order < table.limit)
-      made_room within p own =
-          subst (λ (q : ℕ). IsTrue (has (get_or lbas i 0 / q) table.order) ⊎ (length table.order < table.limit)) (sym own)
-          (subst (λ (c : ℕ). IsTrue (has (get_or lbas i 0 / v.options.geometry.p) table.order) ⊎ (length table.order < c)) (sym made.limit)
-          (so_far_room v.options.geometry.p lbas i table.order made.so_far v.options.geometry.c within few))
+-- and of one that was loaded
+module _ (v : LoadedDisk) (from : (page : Place → Page) × IsLoadedFrom v.options.geometry page v.cache) where
+  abbrev entries_now : Entries
+  entries_now = entries_of v.cache.cache
 
-      pub made_more : i < length lbas → (p : ℕ) → p ≡ v.options.geometry.p → (new : Groups) → new ≡ groups_in_order (touched (get_or lbas i 0 / p) table.order) table.limit → IsMade v.options.geometry lbas (i + 1) new
-      made_more within p own new is_new =
-          subst (λ (t : Groups). IsMade v.options.geometry lbas (i + 1) t) (sym (is_new ∙ ap (λ (q : ℕ). groups_in_order (touched (get_or lbas i 0 / q) table.order) table.limit) own))
-          (record { limit = made.limit; so_far = so_far_more v.options.geometry.p lbas i table.order ascends within made.so_far })
+  map_is : entries_now ≡ from.1.loaded.map.entries
+  map_is = ap (λ (m : MapValue). m.entries) from.1.parts.map
 
-      -- and at the end it is the table of the cache
-      pub made_exact : length lbas ≤ i → IsExact v.options.geometry.p table.order (dirty_of v)
-      made_exact past = subst (λ (l : List ℕ). IsExact v.options.geometry.p table.order l) is (so_far_exact v.options.geometry.p lbas i table.order made.so_far past)
+  loads : load v.options.geometry from.0 ≡ Ok entries_now
+  loads = from.1.is_loaded.loads ∙ ap Ok (sym map_is)
 
-      pub made_order : length lbas ≤ i → IsOrderOf table.order v
-      made_order past = subst (λ (l : List ℕ). waiting_in v.options.geometry.p table.order l ≡ table_of v.options.geometry.p [] l) is (so_far_order v.options.geometry.p lbas i table.order made.so_far past)
+  own_map : IsMap v.options.geometry entries_now
+  own_map = load-map v.options.geometry from.0 entries_now loads
 
-pub made_table : (g : Geometry) (lbas : List ℕ) (i : ℕ) (table : Groups) → IsMade g lbas i table → IsDirtyTable g table
-made_table g lbas i table made = record { limit = made.limit; apart = made.so_far.apart }
+  some : (s : CacheList) × FlashStandsFor v.options.geometry from.0 s
+  some = stands_some from.0 v.options.geometry entries_now loads
+
+  alike : (a : ℕ) → option_map (λ (h : Held). h.dirty) (get some.0 a) ≡ option_map (λ (e : Entry). e.dirty) (get entries_now a)
+  alike = loaded_alike v.options.geometry from.0 entries_now some.0 loads some.1
+
+  inside_loaded : (a : ℕ) (h : Held) → get some.0 a ≡ Some h → a < v.options.geometry.size
+  inside_loaded a h at = by (get entries_now a) refl
+    where
+      by : (o : Option Entry) → get entries_now a ≡ o → a < v.options.geometry.size
+      by None none = absurd (let both : Some h.dirty ≡ None = sym (ap (option_map (λ (k : Held). k.dirty)) at) ∙ alike a ∙ ap (option_map (λ (e : Entry). e.dirty)) none in cc)
+      by (Some e) is = own_map.within a e is
+
+  -- what it lists behind nothing
+  pub loaded_listed : (lbas out before : List ℕ) (n : ℕ) → lbas ≡ out → before ≡ [] → n ≡ v.options.geometry.size
+      → ((g : Geometry) (page : Place → Page) (s : CacheList) → IsLoadedFrom g page v.cache → FlashStandsFor g page s → out ≡ before ++ dirty_between 0 n s) → lbas ≡ dirty_lbas entries_now
+  loaded_listed lbas out before n is none all done =
+      is
+      ∙ done v.options.geometry from.0 some.0 from.1 some.1
+      ∙ ap (λ (l : List ℕ). l ++ dirty_between 0 n some.0) none
+      ∙ ap (λ (k : ℕ). dirty_between 0 k some.0) all
+      ∙ lbas_between some.0 v.options.geometry.size inside_loaded
+      ∙ sym (lbas_alike entries_now some.0 alike)
+
+  module _ (lbas : List ℕ) (is : lbas ≡ dirty_lbas entries_now) where
+    pub loaded_ascends : AreAscending lbas
+    loaded_ascends = subst (λ (l : List ℕ). AreAscending l) (sym (is ∙ lbas_alike entries_now some.0 alike)) (lbas_ascending some.0)
+
+    pub loaded_few : length (each_once (map (λ a. a / v.options.geometry.p) lbas)) ≤ v.options.geometry.c
+    loaded_few = subst (λ (l : List ℕ). length (each_once (map (λ a. a / v.options.geometry.p) l)) ≤ v.options.geometry.c) (sym is) (few_lbas v.options.geometry entries_now own_map)
+
+  pub loaded_size : (geometry_of v.cache.cache).size ≡ v.options.geometry.size
+  loaded_size = ap (λ (g : Geometry). g.size) from.1.parts.geometry
 
 -- ---- it comes up
 

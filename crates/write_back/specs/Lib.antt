@@ -1,3 +1,4 @@
 pub mod Cleaning
 pub mod Left
 pub mod Writing
+pub mod Tables

@@ -1,19 +1,18 @@
-ghost use Rattle.std.specs.Prelude.{◌≡◌, length, false, IsErrOf, OnOk, IfOk};
+ghost use Rattle.std.specs.Prelude.{◌≡◌, length, false, OnOk, IfOk};
 ghost use Rattle.ft_base.specs.declared.told.Mode.TheVariants.{Back};
 ghost use Rattle.ft_base.specs.PlainDisk.{PlainDisk};
 ghost use Rattle.ft_volume.specs.Opening.{Creates, ImageIs, IsOpened, MayOpen, OpensVolume, nothing_held};
 ghost use Rattle.ft_volume.specs.Volume.{AsksDevices, ComesUp, Costs, Idles, IsCheckpointed, WasDone, idled_of, told_for};
 ghost use Rattle.ft_volume.specs.Standing.{StandFor};
 ghost use Rattle.op_log.specs.Log.{FitsOn};
-ghost use Rattle.op_log.specs.declared.error.OpenError.TheVariants as open_error;
 ghost use Rattle.ssc.specs.CacheState.{entries_of};
 ghost use Rattle.cached_disk.specs.Kept.{IsMadeAs, IsOpening, Loads, StandsOpened, WritesNothingRefused};
 ghost use Rattle.cached_disk.specs.Kept as kept;
 ghost use Rattle.write_back.specs.Left.{IsLeft, Steps, state_of};
 ghost use Rattle.write_back.specs.Left as left;
 
-use crate::tables::dirty_table_of;
-use cached_disk::CachedDisk;
+use crate::tables::{dirty_table_of, loaded_table_of};
+use cached_disk::{CachedDisk, LoadedDisk};
 use dirty_table::DirtyTable;
 use ft_base::{Block, Outcome};
 use ft_media::{Media, Rig};
@@ -51,8 +50,8 @@ impl WriteBack {
     }
 
     /// Opens the flash that a volume left, after a flush of the disk. Clean blocks that it holds are
-    /// those of the disk. Unless a device failed, power was lost or memory was refused, a refusal writes
-    /// nothing beside that flush.
+    /// those of the disk. Unless a device failed or power was lost, a refusal writes nothing beside that flush: all
+    /// memory is taken before the cache's checkpoint is made.
     pub fn open<R: Rig>(
         alloc: Global,
         rig: &mut R,
@@ -65,13 +64,15 @@ impl WriteBack {
             (entries_of v.disk.cache)) }
         ensures opening { IsOpening options.now.geometry (R.state rig.old) (R.state rig.new) result }
         ensures stands { OnOk result (StandsOpened (told_for Back options.now) (R.state rig.old).contents (R.state rig.new).contents) }
-        ensures reads { (IsErrOf result open_error.OutOfMemory → ⊥)
-            → WritesNothingRefused (R.state rig.old) (R.state rig.new) result }
+        ensures reads { WritesNothingRefused (R.state rig.old) (R.state rig.new) result }
     {
-        let disk = CachedDisk::open(alloc, rig, options, Mode::Back)?;
-        match dirty_table_of(&disk) {
-            Ok(dirty) => Ok(WriteBack { disk, dirty }),
-            Err(_) => Err(OpenError::OutOfMemory),
+        let loaded = LoadedDisk::load(alloc, rig, options, Mode::Back)?;
+        let Ok(dirty) = loaded_table_of(&loaded) else {
+            return Err(OpenError::OutOfMemory);
+        };
+        match loaded.seal(rig) {
+            Ok(disk) => Ok(WriteBack { disk, dirty }),
+            Err(error) => Err(error),
         }
     }
 
