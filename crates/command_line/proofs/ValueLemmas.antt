@@ -75,7 +75,7 @@ within low high n above below = and_from (nat_le low n) (nat_le n high) (le-leb 
 
 none_out : (p c l j size : ℕ) → InRange p c l j size → first_out p c l j size ≡ None
 none_out p c l j size r =
-    rw (within 4 64 p r.p_low r.p_high, within 1 512 c r.c_low r.c_high, within 2 64 l r.l_low r.l_high, within 1 16 j r.j_low r.j_high, within 1 (2 ^ 40) size r.size_low r.size_high) refl
+    rw (within 4 128 p r.p_low r.p_high, within 1 512 c r.c_low r.c_high, within 2 64 l r.l_low r.l_high, within 1 16 j r.j_low r.j_high, within 1 (2 ^ 40) size r.size_low r.size_high) refl
 
 -- of numbers that are given, none is out of its range where a geometry has them
 pub out_of_none : (value : Text → Option Text) (p c l j size : ℕ) (error : GeometryError) → p < 2 ^ 32 → c < 2 ^ 32 → l < 2 ^ 32 → j < 2 ^ 32 → size < 2 ^ 64
