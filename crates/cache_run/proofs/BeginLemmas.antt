@@ -25,11 +25,11 @@ use Rattle.ft_volume.specs.declared.options.Options.{Options}
 use Rattle.trace_model.specs.declared.answer.Answer.{Answer}
 use Rattle.trace_model.specs.declared.line.Line.{Line}
 use Rattle.trace_model.specs.declared.ran.Ran.{Ran}
-use Rattle.trace_model.specs.Readings.{Reads}
 use Rattle.trace_replay.proofs.CutsLemmas.{counts_then}
 use Rattle.trace_replay.proofs.FromLemmas.{ends_from}
 use Rattle.trace_replay.specs.Before.{IsBefore}
 use Rattle.trace_replay.specs.Causes.{EndHasCause, EndHasCauseUntraced, KeepsLentUntraced, KeepsStreamsUntraced}
+use Rattle.trace_replay.specs.Forms.{Form, ReadsBy}
 use Rattle.trace_replay.specs.Lent.{KeepsLent}
 use Rattle.trace_replay.specs.Commands.{Gives}
 use Rattle.trace_replay.specs.AsMade.{IsAsMade}
@@ -177,17 +177,17 @@ goes_begun x begins = record {
 -- ---- the records of a run over it
 
 module _ (mode kind : Mode) (options : Options) (is : mode ≡ kind) {owns : Contents → Type 0} {v : VolumeState} {old begun : State} (new : IsNewVolume (told_for kind options) owns v old begun)
-    (u : Told) (stays : u ≡ v.told) (a z : SourceState) (x y : SinkState) (now : State) where
+    (u : Told) (stays : u ≡ v.told) (form : Form) (a z : SourceState) (x y : SinkState) (now : State) where
   same : v.told ≡ told_for mode options
   same = new.told ∙ ap (λ (m : Mode). told_for m options) (sym is)
 
-  pub ends_new : (r : Result (Unit {0}) Ended) → EndsAs v.told (Reads v.told.geometry.size a z) (Tells x y) (TellsPart x y) (ImageIs u) begun now r
-      → EndsAs (told_for mode options) (Reads options.geometry.size a z) (Tells x y) (TellsPart x y) (ImageStandsFor options.geometry) (fitted_for options.geometry old) now r
+  pub ends_new : (r : Result (Unit {0}) Ended) → EndsAs v.told (ReadsBy (form v.told.geometry.size) a z) (Tells x y) (TellsPart x y) (ImageIs u) begun now r
+      → EndsAs (told_for mode options) (ReadsBy (form options.geometry.size) a z) (Tells x y) (TellsPart x y) (ImageStandsFor options.geometry) (fitted_for options.geometry old) now r
   ends_new r ends =
-      ends_from (told_for mode options) (Reads options.geometry.size a z) (Reads options.geometry.size a z) (Tells x y) (Tells x y) (ImageIs (told_for mode options)) (ImageStandsFor options.geometry) (fitted_for options.geometry old) begun now
+      ends_from (told_for mode options) (ReadsBy (form options.geometry.size) a z) (ReadsBy (form options.geometry.size) a z) (Tells x y) (Tells x y) (ImageIs (told_for mode options)) (ImageStandsFor options.geometry) (fitted_for options.geometry old) begun now
       (λ lines all w reads. reads) (λ run answers says. says) (image_stands (told_for mode options)) new.before
       (TellsPart x y) (TellsPart x y) (λ run answers next shown. shown) r
-      (subst (λ (k : Told). EndsAs k (Reads k.geometry.size a z) (Tells x y) (TellsPart x y) (ImageIs k) begun now r) same (subst (λ (k : Told). EndsAs v.told (Reads v.told.geometry.size a z) (Tells x y) (TellsPart x y) (ImageIs k) begun now r) stays ends))
+      (subst (λ (k : Told). EndsAs k (ReadsBy (form k.geometry.size) a z) (Tells x y) (TellsPart x y) (ImageIs k) begun now r) same (subst (λ (k : Told). EndsAs v.told (ReadsBy (form v.told.geometry.size) a z) (Tells x y) (TellsPart x y) (ImageIs k) begun now r) stays ends))
 
 -- ---- the records of a run of given lines over it
 

@@ -4,6 +4,7 @@ ghost use Rattle.ft_volume.specs.Volume.{told_for};
 ghost use Rattle.cache_model.specs.Stands.{ImageStandsFor};
 ghost use Rattle.trace_model.specs.Readings.{Reads};
 ghost use Rattle.trace_replay.specs.Causes.{EndHasCause};
+ghost use Rattle.trace_replay.specs.Forms.{ReadsBy};
 ghost use Rattle.trace_replay.specs.Lent.{KeepsLent};
 ghost use Rattle.trace_replay.specs.Said.{Tells, TellsPart};
 ghost use Rattle.trace_replay.specs.Theorem.{EndsAs};
@@ -15,10 +16,50 @@ use ft_base::{Sink, Source};
 use ft_media::{Media, Rig};
 use ft_volume::{Mode, Options};
 use std::alloc::Global;
-use trace_replay::{Ended, replay};
+use trace_replay::{Ended, LineForm, TextForm, replay_form};
+use write_back::WriteBack;
+use write_through::WriteThrough;
 
-/// Fits the rig, makes a volume of this mode and these options on it, runs the trace over it, and prints what
-/// each request answered. Power may stop within any device write; the run then goes on after recovery.
+/// Fits the rig, makes a volume of this mode and these options on it, runs a trace in this form over it, and prints
+/// what each request answered. Power may stop within any device write; the run then goes on after recovery.
+pub fn replay_form_with<F: LineForm, I: Source, O: Sink, R: Rig>(
+    alloc: Global,
+    mode: Mode,
+    options: &Options,
+    source: &mut I,
+    sink: &mut O,
+    rig: &mut R,
+) -> Result<(), Ended>
+    // It ended before the volume was made, or as a run over it.
+    ensures ends { IsUnbegun result source.old source.new sink.old sink.new (R.state rig.old) (R.state rig.new)
+        ⊎ EndsAs (told_for mode options.now)
+        (ReadsBy (F.says options.now.geometry.size) (I.state source.old) (I.state source.new))
+        (Tells (O.state sink.old) (O.state sink.new)) (TellsPart (O.state sink.old) (O.state sink.new))
+        (ImageStandsFor options.now.geometry) (fitted_for options.now.geometry (R.state rig.old)) (R.state rig.new) result }
+    ensures end { OnOk result (IsAtEnd (I.state source.new).left) }
+    ensures causes { EndHasCause result (I.state source.old) (I.state source.new) (O.state sink.old) (O.state sink.new) (R.state rig.old)
+        (R.state rig.new) }
+    ensures on { (IsErrOf result Ended.Memory → ⊥) → (R.state rig.new).power.on ≡ true }
+    ensures lent { KeepsLent (I.state source.old) (I.state source.new) (O.state sink.old) (O.state sink.new) (R.state rig.old)
+        (R.state rig.new) }
+{
+    match mode {
+        Mode::Back => match begin_back(alloc, rig, options) {
+            Ok(mut volume) => {
+                replay_form::<F, I, O, R, WriteBack>(alloc, source, sink, rig, &mut volume)
+            }
+            Err(ended) => Err(ended),
+        },
+        Mode::Through => match begin_through(alloc, rig, options) {
+            Ok(mut volume) => {
+                replay_form::<F, I, O, R, WriteThrough>(alloc, source, sink, rig, &mut volume)
+            }
+            Err(ended) => Err(ended),
+        },
+    }
+}
+
+/// Runs a trace in the form of `read_line` as `replay_form_with` does.
 pub fn replay_with<I: Source, O: Sink, R: Rig>(
     alloc: Global,
     mode: Mode,
@@ -39,14 +80,5 @@ pub fn replay_with<I: Source, O: Sink, R: Rig>(
     ensures lent { KeepsLent (I.state source.old) (I.state source.new) (O.state sink.old) (O.state sink.new) (R.state rig.old)
         (R.state rig.new) }
 {
-    match mode {
-        Mode::Back => match begin_back(alloc, rig, options) {
-            Ok(mut volume) => replay(alloc, source, sink, rig, &mut volume),
-            Err(ended) => Err(ended),
-        },
-        Mode::Through => match begin_through(alloc, rig, options) {
-            Ok(mut volume) => replay(alloc, source, sink, rig, &mut volume),
-            Err(ended) => Err(ended),
-        },
-    }
+    replay_form_with::<TextForm, I, O, R>(alloc, mode, options, source, sink, rig)
 }

@@ -16,7 +16,9 @@ use Rattle.ft_base.specs.declared.told.Mode.TheVariants.{Back, Through}
 use Rattle.ft_base.specs.declared.power.Outcome.{Outcome}
 use Rattle.ft_base.specs.declared.power.Outcome.TheVariants.{Blank, Whole, Torn, Mixed}
 use Rattle.std.specs.List.{list_all}
-use Rattle.command_line.specs.Command.{AreNumbers, IsCommand, IsCount, IsDirty, IsGen, IsGiven, IsInspect, IsRunOf, IsSweep, Say, SayMade, Setting, Spells, Text, gen_names, mode_word, option_names, outcome_word, sweep_names, value_in}
+use Rattle.command_line.specs.Command.{AreNumbers, IsCommand, IsCount, IsDirty, IsGen, IsGiven, IsInspect, IsReplay, IsRunOf, IsSweep, Say, SayMade, Setting, Spells, Text, form_word, gen_names, mode_word, option_names, outcome_word, replay_names, sweep_names, value_in}
+use Rattle.command_line.specs.declared.command.TraceForm.{TraceForm}
+use Rattle.command_line.specs.declared.command.TraceForm.TheVariants.{Lines, Msr}
 use Rattle.command_line.specs.Matching.{is_name}
 use Rattle.command_line.proofs.Pairs.{pair_value, pairs_of}
 use Rattle.command_line.proofs.SettingLemmas.{spelled_options, value_pairs}
@@ -198,13 +200,56 @@ differ : (one other : Text) → bytes_eq one other ≡ false → one ≡ other �
 differ one other not is = both_ways (bytes_eq one other) not ((bytes_eq-Decides one other).1 is)
 
 pub apart : (words : List Text) (o other : Told) (number count : ℕ) → IsCommand words o → IsGen words other number count → ⊥
-apart words o other number count command gen = differ (codes "replay") (codes "gen") refl (cc (command.first, gen.first))
+apart words o other number count command gen = differ (codes "replay") (codes "gen") refl (cc (command.1.first, gen.first))
 
 pub inspected_apart : (words : List Text) (o other : Told) → IsInspect words o → IsCommand words other → ⊥
-inspected_apart words o other inspect command = differ (codes "inspect") (codes "replay") refl (cc (inspect.first, command.first))
+inspected_apart words o other inspect command = differ (codes "inspect") (codes "replay") refl (cc (inspect.first, command.1.first))
 
 pub inspected_made : (words : List Text) (o other : Told) (number count : ℕ) → IsInspect words o → IsGen words other number count → ⊥
 inspected_made words o other number count inspect gen = differ (codes "inspect") (codes "gen") refl (cc (inspect.first, gen.first))
+
+-- ---- a replay
+
+same_form_word : (f g : TraceForm) → form_word f ≡ form_word g → f ≡ g
+same_form_word Lines Lines is = refl
+same_form_word Lines Msr is = absurd (differ (codes "lines") (codes "msr") refl is)
+same_form_word Msr Lines is = absurd (differ (codes "msr") (codes "lines") refl is)
+same_form_word Msr Msr is = refl
+
+same_form : (word : Option Text) (f g : TraceForm) → IsGiven form_word Lines word f → IsGiven form_word Lines word g → f ≡ g
+same_form None f g given other = given ∙ sym other
+same_form (Some word) f g given other = same_form_word f g (sym given ∙ other)
+
+form_along : (value other : Text → Option Text) (f : TraceForm) → ((name : Text) → value name ≡ other name) → IsGiven form_word Lines (value (codes "form")) f → IsGiven form_word Lines (other (codes "form")) f
+form_along value other f same = subst (λ (word : Option Text). IsGiven form_word Lines word f) (same (codes "form"))
+
+same_replay : (words : List Text) (o other : Told) (f g : TraceForm) → IsReplay words o f → IsReplay words other g → (o ≡ other) × (f ≡ g)
+same_replay words o other f g replay also =
+    let rest : replay.others ≡ also.others = cc (replay.first, also.first) in
+    let spelled = subst (λ (ws : List Text). Spells replay_names ws replay.settings) rest replay.spelled in
+    let values = same_values replay_names also.others replay.settings also.settings refl spelled also.spelled in (
+      same_said (value_in also.settings) o other (say_along (value_in replay.settings) (value_in also.settings) o values replay.says) also.says,
+      same_form (value_in also.settings (codes "form")) f g (form_along (value_in replay.settings) (value_in also.settings) f values replay.spelling) also.spelling,
+    )
+
+pub same_replayed : (words : List Text) (o other : Told) → IsCommand words o → IsCommand words other → o ≡ other
+same_replayed words o other replay also = (same_replay words o other replay.0 also.0 replay.1 also.1).0
+
+pub same_spelling : (words : List Text) (o other : Told) (f g : TraceForm) → IsReplay words o f → IsReplay words other g → f ≡ g
+same_spelling words o other f g replay also = (same_replay words o other f g replay also).1
+
+module _ (others : List Text) (settings : List Setting) (value : Text → Option Text) (values : (name : Text) → value name ≡ value_in settings name) where
+  replay_values : Spells replay_names others settings → (o : Told) (f : TraceForm) (replay : IsReplay (codes "replay" ∷ others) o f) → (name : Text) → value_in replay.settings name ≡ value name
+  replay_values spelled o f replay name =
+      let rest : replay.others ≡ others = cc replay.first in
+      let also = subst (λ (ws : List Text). Spells replay_names ws replay.settings) rest replay.spelled in
+      same_values replay_names others replay.settings settings refl also spelled name ∙ sym (values name)
+
+  pub no_replay_volume : Spells replay_names others settings → ((o : Told) → Say value o → ⊥) → (o : Told) → IsCommand (codes "replay" ∷ others) o → ⊥
+  no_replay_volume spelled says o command = says o (say_along (value_in command.1.settings) value o (replay_values spelled o command.0 command.1) command.1.says)
+
+  pub no_replay_form : Spells replay_names others settings → ((f : TraceForm) → IsGiven form_word Lines (value (codes "form")) f → ⊥) → (o : Told) → IsCommand (codes "replay" ∷ others) o → ⊥
+  no_replay_form spelled says o command = says command.0 (form_along (value_in command.1.settings) value command.0 (replay_values spelled o command.0 command.1) command.1.spelling)
 
 -- ---- a sweep
 
@@ -256,7 +301,7 @@ module _ (others : List Text) (settings : List Setting) (value : Text → Option
   no_sweep_outcome spelled says o x sweep = says x (left_along (value_in sweep.settings) value x (sweep_values spelled o x sweep) sweep.leaves)
 
 pub swept_apart : (words : List Text) (o other : Told) (x : Outcome) → IsSweep words o x → IsCommand words other → ⊥
-swept_apart words o other x sweep command = differ (codes "sweep") (codes "replay") refl (cc (sweep.first, command.first))
+swept_apart words o other x sweep command = differ (codes "sweep") (codes "replay") refl (cc (sweep.first, command.1.first))
 
 pub swept_inspected : (words : List Text) (o other : Told) (x : Outcome) → IsSweep words o x → IsInspect words other → ⊥
 swept_inspected words o other x sweep inspect = differ (codes "sweep") (codes "inspect") refl (cc (sweep.first, inspect.first))

@@ -8,6 +8,8 @@ use Rattle.ft_base.specs.declared.power.Outcome.TheVariants.{Blank, Whole, Torn,
 use Rattle.ft_base.specs.declared.told.Ack.TheVariants.{Write}
 use Rattle.ft_base.specs.declared.told.Mode.{Mode}
 use Rattle.ft_base.specs.declared.told.Mode.TheVariants.{Back, Through}
+use Rattle.command_line.specs.declared.command.TraceForm.{TraceForm}
+use Rattle.command_line.specs.declared.command.TraceForm.TheVariants.{Lines, Msr}
 
 -- the bytes of a word, or of a part of it
 abbrev pub Text : Type 0
@@ -18,6 +20,10 @@ Text = List ℕ
 -- the options of a run
 abbrev pub option_names : List Text
 option_names = codes "mode" ∷ codes "pages" ∷ codes "data" ∷ codes "log" ∷ codes "journal" ∷ codes "size" ∷ codes "dirty" ∷ []
+
+-- the options of a replay
+abbrev pub replay_names : List Text
+replay_names = option_names ++ codes "form" ∷ []
 
 -- the options of a made trace
 abbrev pub gen_names : List Text
@@ -86,6 +92,11 @@ outcome_word Whole = codes "whole"
 outcome_word Torn = codes "torn"
 outcome_word Mixed = codes "mixed"
 
+-- how a form of lines is spelled
+abbrev pub form_word : TraceForm → Text
+form_word Lines = codes "lines"
+form_word Msr = codes "msr"
+
 -- the numbers of the cache, each spelled by its decimal digits; a geometry has them in their ranges
 pub record AreNumbers (value : Text → Option Text) (g : Geometry) : Type 0 where
   pub pages : IsGiven decimal 64 (value (codes "pages")) g.p
@@ -127,9 +138,18 @@ pub record IsRunOf (word : Text) (words : List Text) (o : Told) : Type 0 where
   pub spelled : Spells option_names others settings
   pub says : Say (value_in settings) o
 
--- a trace is replayed
+-- the word replay, and then options that say this of the volume and of the form of the trace's lines
+pub record IsReplay (words : List Text) (o : Told) (form : TraceForm) : Type 0 where
+  pub others : List Text
+  pub first : words ≡ codes "replay" ∷ others
+  pub settings : List Setting
+  pub spelled : Spells replay_names others settings
+  pub says : Say (value_in settings) o
+  pub spelling : IsGiven form_word Lines (value_in settings (codes "form")) form
+
+-- a trace is replayed, in whatever form its lines are
 abbrev pub IsCommand : List Text → Told → Type 0
-IsCommand words o = IsRunOf (codes "replay") words o
+IsCommand words o = (form : TraceForm) × IsReplay words o form
 
 -- a trace is run, and what it leaves in the cache is told
 abbrev pub IsInspect : List Text → Told → Type 0

@@ -6,11 +6,20 @@ ghost use Rattle.ft_volume.specs.Volume.{told_for};
 ghost use Rattle.command_line.specs.Command.{IsCommand, IsGen, IsInspect, IsRunOf, IsSweep, Text};
 ghost use Rattle.command_line.specs.Spoken.{AreWordsOf};
 
-use crate::matching::{gen_options, run_options, sweep_options};
-use crate::settings::{made_of, outcome_of, volume_of};
+use crate::matching::{gen_options, replay_options, run_options, sweep_options};
+use crate::settings::{form_of, made_of, outcome_of, volume_of};
 use ft_base::Outcome;
 use ft_volume::{Mode, Options};
 use std::alloc::{AllocError, Global};
+
+/// The form in which the lines of a trace are spelled.
+#[derive(Clone, Copy, Debug, PartialEq, Eq)]
+pub enum TraceForm {
+    /// Words, one request a line.
+    Lines,
+    /// Fields with commas between them, as in the traces of MSR Cambridge.
+    Msr,
+}
 
 /// A command: to run a trace over a volume of this mode, made with these options.
 #[derive(Clone, Copy, Debug, PartialEq, Eq)]
@@ -21,6 +30,8 @@ pub enum Command {
         mode: Mode,
         /// What the volume is made with.
         options: Options,
+        /// How its lines are spelled.
+        form: TraceForm,
     },
     /// Over a made trace.
     Gen {
@@ -67,6 +78,7 @@ pub enum Command {
 /// | `--journal` | erase blocks of a log region, 1 to 16 | 2 |
 /// | `--size` | blocks of the volume, 1 to 2^40 | 1,048,576 |
 /// | `--dirty` | dirty groups that an idle step leaves alone, 1 to the data blocks | half of these, rounded up |
+/// | `--form`, of `replay` alone | form of the trace's lines: `lines` or `msr` | `lines` |
 /// | `--number`, of `gen` alone | which made trace, 0 to 2^64 - 1 | 1 |
 /// | `--count`, of `gen` alone | lines of the made trace, 1 to 1,000,000 | 20,000 |
 /// | `--outcome`, of `sweep` alone | what a power cut leaves: `blank`, `whole`, `torn` or `mixed` | `torn` |
@@ -116,10 +128,20 @@ fn replay_command(alloc: Global, others: &[String]) -> Result<Option<Command>, A
     ensures command { IfOk result (λ c. IfSome c (AreWordsOf (codes "replay" ∷ map string_bytes others.now))) }
     ensures none { IfOk result (λ c. IfNone c ((o : Told) → IsCommand (codes "replay" ∷ map string_bytes others.now) o → ⊥)) }
 {
-    match run_of(alloc, others)? {
-        Some((mode, options)) => Ok(Some(Command::Replay { mode, options })),
-        None => Ok(None),
-    }
+    let Some(matches) = replay_options(alloc, others)? else {
+        return Ok(None);
+    };
+    let Some((mode, options)) = volume_of(&matches) else {
+        return Ok(None);
+    };
+    let Some(form) = form_of(&matches) else {
+        return Ok(None);
+    };
+    Ok(Some(Command::Replay {
+        mode,
+        options,
+        form,
+    }))
 }
 
 /// The command that `inspect` and these words after it say, or None where they are none.

@@ -10,5 +10,5 @@ mod matching;
 mod number;
 mod settings;
 
-pub use command::{Command, command_of};
+pub use command::{Command, TraceForm, command_of};
 pub use laws::command_law;

@@ -2,7 +2,7 @@ ghost use Rattle.std.specs.Prelude.{◌≡◌, ◌≢◌, List, [], map, true, f
 ghost use Rattle.std.specs.String.{string_bytes};
 ghost use Rattle.std.specs.List.{list_all};
 ghost use Rattle.clap.specs.Words.{app_of, rule_of, rows_of, found_of, matches_of, fault_of, is_simple_and_free};
-ghost use Rattle.command_line.specs.Command.{Setting, Spells, Text, gen_names, option_names, sweep_names, value_in};
+ghost use Rattle.command_line.specs.Command.{Setting, Spells, Text, gen_names, option_names, replay_names, sweep_names, value_in};
 ghost use Rattle.command_line.specs.Matching.{bare_app, is_fair_word, is_name, option_rule, options_app, value_of};
 
 use clap::error::ErrorKind;
@@ -11,6 +11,11 @@ use std::alloc::{AllocError, Global};
 
 /// The options of a run.
 static RUN_NAMES: [&str; 7] = ["mode", "pages", "data", "log", "journal", "size", "dirty"];
+
+/// The options of a replay.
+static REPLAY_NAMES: [&str; 8] = [
+    "mode", "pages", "data", "log", "journal", "size", "dirty", "form",
+];
 
 /// The options of a made trace.
 static GEN_NAMES: [&str; 9] = [
@@ -129,6 +134,20 @@ pub(crate) fn run_options<'a>(
         → ⊥)) }
 {
     options(alloc, RUN_NAMES.as_slice(), words)
+}
+
+/// The options of a replay that the words spell, or None if they spell none.
+pub(crate) fn replay_options<'a>(
+    alloc: Global,
+    words: &'a [String],
+) -> Result<Option<ArgMatches<'a>>, AllocError>
+    ensures some { IfOk result (λ r. IfSome r (λ m. (settings : List Setting)
+        × Spells replay_names (map string_bytes words.entry.now) settings
+        × ((name : Text) → value_of m name ≡ value_in settings name))) }
+    ensures none { IfOk result (λ r. IfNone r ((settings : List Setting) → Spells replay_names (map string_bytes words.entry.now) settings
+        → ⊥)) }
+{
+    options(alloc, REPLAY_NAMES.as_slice(), words)
 }
 
 /// The options of a made trace that the words spell, or None where they spell none.

@@ -6,9 +6,12 @@ ghost use Rattle.ft_base.specs.declared.power.Outcome.TheVariants.{Torn};
 ghost use Rattle.ft_base.specs.declared.told.Mode.{Mode};
 ghost use Rattle.ft_base.specs.declared.told.Mode.TheVariants.{Back};
 ghost use Rattle.ft_volume.specs.Volume.{told_for};
-ghost use Rattle.command_line.specs.Command.{AreNumbers, IsCount, IsDirty, IsGiven, Say, SayMade, mode_word, outcome_word};
+ghost use Rattle.command_line.specs.Command.{AreNumbers, IsCount, IsDirty, IsGiven, Say, SayMade, form_word, mode_word, outcome_word};
 ghost use Rattle.command_line.specs.Matching.{value_of};
+ghost use Rattle.command_line.specs.declared.command.TraceForm.{TraceForm};
+ghost use Rattle.command_line.specs.declared.command.TraceForm.TheVariants.{Lines};
 
+use crate::command::TraceForm;
 use crate::matching::value;
 use crate::number::number_of;
 use clap::ArgMatches;
@@ -128,6 +131,31 @@ pub(crate) fn made_of(matches: &ArgMatches<'_>) -> Option<(u64, u64)>
     let which = number(matches, "number", 1)?;
     let count = count_of(matches)?;
     Some((which, count))
+}
+
+/// The form of lines of which this is the word.
+fn form_named(word: &str) -> Option<TraceForm>
+    ensures some { IfSome result (λ f. word.now ≡ form_word f) }
+    ensures none { IfNone result ((f : TraceForm) → word.now ≡ form_word f → ⊥) }
+{
+    if word == "lines" {
+        return Some(TraceForm::Lines);
+    }
+    if word == "msr" {
+        return Some(TraceForm::Msr);
+    }
+    None
+}
+
+/// The form of a trace's lines: what is given, or lines of words.
+pub(crate) fn form_of(matches: &ArgMatches<'_>) -> Option<TraceForm>
+    ensures some { IfSome result (IsGiven form_word Lines (value_of matches.now (codes "form"))) }
+    ensures none { IfNone result ((f : TraceForm) → IsGiven form_word Lines (value_of matches.now (codes "form")) f → ⊥) }
+{
+    match value(matches, "form") {
+        Some(word) => form_named(word),
+        None => Some(TraceForm::Lines),
+    }
 }
 
 /// The outcome of which this is the word.

@@ -1,28 +1,36 @@
 -- How a command ends.
-use Rattle.std.specs.Prelude.{◌≡◌, ◌⊎◌, ℕ, Result, ⊤}
+use Rattle.std.specs.Prelude.{◌≡◌, ◌⊎◌, ℕ, Bool, List, Result, ⊤}
 use Rattle.cache_model.specs.Stands.{ImageStandsFor}
 use Rattle.cache_run.specs.Fitted.{fitted_for}
 use Rattle.cache_run.specs.Inspected.{EndsInspected, LoadsAs}
 use Rattle.command_line.specs.declared.command.Command.{Command}
 use Rattle.command_line.specs.declared.command.Command.TheVariants.{Replay, Gen, Inspect, Sweep}
+use Rattle.command_line.specs.declared.command.TraceForm.{TraceForm}
+use Rattle.command_line.specs.declared.command.TraceForm.TheVariants.{Lines, Msr}
 use Rattle.ft_base.specs.StreamState.{SinkState, SourceState}
 use Rattle.ft_media.specs.State.{State}
 use Rattle.ft_volume.specs.Volume.{told_for}
 use Rattle.held_trace.specs.Sweep.{SweepReads}
+use Rattle.msr_trace.specs.Trace.{ReadsMsr}
 use Rattle.trace_gen.specs.Made.{made_trace}
-use Rattle.trace_model.specs.Readings.{Reads}
+use Rattle.trace_model.specs.Readings.{Reading, Reads}
 use Rattle.trace_replay.specs.Commands.{Gives, TellsEnd, TellsEndPart}
 use Rattle.trace_replay.specs.Said.{Tells, TellsPart}
 use Rattle.trace_replay.specs.Theorem.{EndsAs}
 use Rattle.trace_replay.specs.declared.ended.Ended.{Ended}
 use Rattle.trace_sweep.specs.Ends.{EndsSweep}
 
+-- a source was read so far that this is known of a trace's lines, in whatever form they are spelled
+abbrev pub ReadsIn : TraceForm → ℕ → SourceState → SourceState → ℕ → List Reading → Bool → Type 0
+ReadsIn Lines size a b = Reads size a b
+ReadsIn Msr size a b = ReadsMsr size a b
+
 -- a command ended so: over its volume, a trace that was read, with each answer printed; a made trace, with its end line
 -- alone; a trace that was read, with a report of what is in the cache; or a sweep of a trace, over a volume for each run
 module _ (a b : SourceState) (x y : SinkState) (old now : State) where
   abbrev pub EndsCommand : Command → Result (Unit {0}) Ended → Type 0
-  EndsCommand (Replay mode options) end = EndsAs (told_for mode options) (Reads options.geometry.size a b) (Tells x y) (TellsPart x y)
-      (ImageStandsFor options.geometry) (fitted_for options.geometry old) now end
+  EndsCommand (Replay mode options form) end = EndsAs (told_for mode options) (ReadsIn form options.geometry.size a b) (Tells x y)
+      (TellsPart x y) (ImageStandsFor options.geometry) (fitted_for options.geometry old) now end
   EndsCommand (Gen mode options number count) end = EndsAs (told_for mode options) (Gives (made_trace number count options.geometry))
       (TellsEnd x y) (TellsEndPart x y) (ImageStandsFor options.geometry) (fitted_for options.geometry old) now end
   EndsCommand (Inspect mode options) end = EndsInspected (told_for mode options) (Reads options.geometry.size a b)

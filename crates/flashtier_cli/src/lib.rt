@@ -5,6 +5,7 @@
 
 mod laws;
 mod program;
+mod spelled;
 
 pub use laws::default_law;
 pub use program::run;

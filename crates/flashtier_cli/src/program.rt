@@ -13,7 +13,8 @@ ghost use Rattle.flashtier_cli.specs.Ends.{EndsCommand, IsOverOne, IsUntouched};
 ghost use Rattle.flashtier_cli.specs.Status.{RunsEveryLine, StatusHasCause};
 ghost use Rattle.flashtier_cli.specs.Words.{IsAnySweep, ReadsTrace, RefusesWords};
 
-use cache_run::{gen_with, inspect_with, replay_with, status_of};
+use crate::spelled::replay_spelled;
+use cache_run::{gen_with, inspect_with, status_of};
 use command_line::{Command, command_of};
 use ft_base::{Sink, Source};
 use ft_media::{Media, Rig};
@@ -34,13 +35,15 @@ use trace_sweep::sweep_with;
 /// | `--journal` | erase blocks of a log region | 1 to 16 | 2 |
 /// | `--size` | blocks of the volume | 1 to 2^40 | 1,048,576 |
 /// | `--dirty` | groups that an idle step leaves dirty | 1 to the data blocks | half of these, rounded up |
+/// | `--form`, of `replay` alone | form of the trace's lines: `lines`, or `msr` for those of MSR Cambridge | | `lines` |
 /// | `--number`, of `gen` alone | which made trace | 0 to 2^64 - 1 | 1 |
 /// | `--count`, of `gen` alone | lines of the made trace | 1 to 1,000,000 | 20,000 |
 /// | `--outcome`, of `sweep` alone | what a power cut leaves: `blank`, `whole`, `torn` or `mixed` | | `torn` |
 ///
 /// With `replay` it reads a trace from the source, runs it over a cache of these numbers before a disk, both
 /// of them on the rig, and prints to the sink what each request answered. Power may stop within any device
-/// write; the run then goes on after recovery.
+/// write; the run then goes on after recovery. With `--form msr` its lines are those that storage people share,
+/// `Timestamp,Hostname,DiskNumber,Type,Offset,Size,ResponseTime`, each widened to whole blocks.
 ///
 /// With `gen` it runs a made trace so, and prints the end line alone. It takes nothing from the source.
 ///
@@ -109,9 +112,11 @@ pub fn run<I: Source, O: Sink, R: Rig>(
         return 1;
     };
     match command {
-        Command::Replay { mode, options } => {
-            status_of(replay_with(alloc, mode, &options, source, sink, rig))
-        }
+        Command::Replay {
+            mode,
+            options,
+            form,
+        } => status_of(replay_spelled(alloc, mode, &options, form, source, sink, rig)),
         Command::Gen {
             mode,
             options,

@@ -10,9 +10,9 @@ const EMPTY: &str = "e3b0c44298fc1c149afbf4c8996fb92427ae41e4649b934ca495991b785
 
 /// What a run printed, its status, and the calls of the media.
 #[derive(Drop)]
-struct Outcome {
-    status: u8,
-    text: Vec<u8>,
+pub(crate) struct Outcome {
+    pub(crate) status: u8,
+    pub(crate) text: Vec<u8>,
     counts: Counts,
 }
 
@@ -25,7 +25,7 @@ fn words(alloc: Global, spelled: &[&str]) -> Result<Vec<String>, AllocError> {
 }
 
 /// Runs the command of these words over this rig, with the trace in pieces of 7 bytes.
-fn run_on(
+pub(crate) fn run_on(
     alloc: Global,
     spelled: &[&str],
     trace: &[u8],

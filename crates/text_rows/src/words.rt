@@ -1,6 +1,6 @@
 //! The words after the program's name, as commands or none.
 
-use command_line::{Command, command_law, command_of};
+use command_line::{Command, TraceForm, command_law, command_of};
 use ft_base::Outcome;
 use ft_volume::{Mode, Options};
 use std::alloc::Global;
@@ -204,6 +204,27 @@ fn what_a_cut_leaves_is_one_word_and_of_a_sweep_alone(rt: HostRuntime) -> Result
     Ok(())
 }
 
+const NO_FORMS: [&str; 12] = [
+    "replay --form",
+    "replay --form=",
+    "replay --form text",
+    "replay --form MSR",
+    "replay --form=line",
+    "replay --form msr,lines",
+    "replay --form msr lines",
+    "replay --form msr --form=msr",
+    "replay --forms msr",
+    "gen --form lines",
+    "inspect --form=msr",
+    "sweep --form msr",
+];
+
+#[test]
+fn a_form_is_one_of_two_words_and_of_a_replay_alone(rt: HostRuntime) -> Result<(), Fail> {
+    assert_eq!(rt; first_command(rt.alloc(), &NO_FORMS)?, None);
+    Ok(())
+}
+
 // ---- commands
 
 /// The numbers in the order of the options.
@@ -223,6 +244,8 @@ fn numbers_of(options: &Options) -> [u64; 6] {
 #[derive(Clone, Copy, PartialEq, Eq)]
 enum Kind {
     Replay,
+    /// Of a trace in the form of MSR Cambridge.
+    ReplayMsr,
     Inspect,
     /// A made trace of this number, and how many lines it has.
     Gen(u64, u64),
@@ -235,7 +258,16 @@ type Row<'a> = (&'a str, Kind, Mode, [u64; 6]);
 
 fn says(command: Command, kind: Kind, mode: Mode, numbers: [u64; 6]) -> bool {
     let (found, how, options) = match command {
-        Command::Replay { mode, options } => (Kind::Replay, mode, options),
+        Command::Replay {
+            mode,
+            options,
+            form: TraceForm::Lines,
+        } => (Kind::Replay, mode, options),
+        Command::Replay {
+            mode,
+            options,
+            form: TraceForm::Msr,
+        } => (Kind::ReplayMsr, mode, options),
         Command::Inspect { mode, options } => (Kind::Inspect, mode, options),
         Command::Gen {
             mode,
@@ -282,6 +314,24 @@ const INSPECTION: [Row; 1] = [(
 #[test]
 fn an_inspection_has_the_options_of_a_replay(rt: HostRuntime) -> Result<(), Fail> {
     assert_eq!(rt; first_other(rt.alloc(), &INSPECTION)?, None);
+    Ok(())
+}
+
+const FORMS: [Row; 4] = [
+    ("replay --form lines", Kind::Replay, Mode::Back, NUMBERS),
+    ("replay --form msr", Kind::ReplayMsr, Mode::Back, NUMBERS),
+    ("replay --form=msr", Kind::ReplayMsr, Mode::Back, NUMBERS),
+    (
+        "replay --mode=through --pages 4 --form msr --data=2 --log 2 --journal=1 --size 64 --dirty=1",
+        Kind::ReplayMsr,
+        Mode::Through,
+        [4, 2, 2, 1, 64, 1],
+    ),
+];
+
+#[test]
+fn a_replay_has_the_form_of_its_lines(rt: HostRuntime) -> Result<(), Fail> {
+    assert_eq!(rt; first_other(rt.alloc(), &FORMS)?, None);
     Ok(())
 }
 

@@ -1,48 +1,19 @@
 use Rattle.std.proofs.Common.{inl, inr}
-use Rattle.ft_base.specs.declared.told.Mode.TheVariants.{Back, Through}
-use Rattle.cache_run.proofs.BeginLemmas.{cause_begun, cause_later, empty_new, fresh_new, lent_later, ends_new, unbegun}
+use Rattle.ft_volume.specs.Volume.{told_for}
+use Rattle.trace_replay.specs.Forms.{reads_text}
+use Rattle.trace_replay.proofs.FromLemmas.{before_itself, ends_from}
 use Rattle.cache_run.proofs.replaying.replay_with.Goals as goal
 
--- ---- a volume that writes back
-
-pub replay-requires-clause-fresh : goal.replay-requires-clause-fresh
-replay-requires-clause-fresh g c = fresh_new Back c.args.options.now _ c.in-Ok.ensures.new (empty_new c.in-Ok.ensures.new)
-
-pub returns-in-Ok-clause-ends : goal.returns-in-Ok-clause-ends
-returns-in-Ok-clause-ends g c = inr (
-    ends_new c.args.mode Back c.args.options.now c.in-Back.is c.in-Ok.ensures.new _ c.replay.ensures.owner.1
-    (g.I.Source.state c.args.source.now) (g.I.Source.state c.replay.new.source) (g.O.Sink.state c.args.sink.now) (g.O.Sink.state c.replay.new.sink) (g.R.Media.state c.replay.new.rig) c.replay.result c.replay.ensures.ends)
-
-pub returns-in-Ok-clause-causes : goal.returns-in-Ok-clause-causes
-returns-in-Ok-clause-causes g c = cause_later c.in-Ok.ensures.begins c.replay.ensures.causes
-
-pub returns-in-Ok-clause-lent : goal.returns-in-Ok-clause-lent
-returns-in-Ok-clause-lent g c = lent_later c.in-Ok.ensures.begins c.replay.ensures.lent
-
-pub returns-in-Err-clause-ends : goal.returns-in-Err-clause-ends
-returns-in-Err-clause-ends g c = inl (unbegun c.in-Err.ended _ _ _ _ c.in-Err.ensures.begins)
-
-pub returns-in-Err-clause-causes : goal.returns-in-Err-clause-causes
-returns-in-Err-clause-causes g c = cause_begun c.in-Err.ended _ _ _ _ c.in-Err.ensures.begins
-
--- ---- a volume that writes through
-
-pub replay-requires-in-Ok-begin_through-clause-fresh : goal.replay-requires-in-Ok-begin_through-clause-fresh
-replay-requires-in-Ok-begin_through-clause-fresh g c = fresh_new Through c.args.options.now _ c.in-Ok-begin_through.ensures.new (empty_new c.in-Ok-begin_through.ensures.new)
-
-pub returns-in-Ok-begin_through-clause-ends : goal.returns-in-Ok-begin_through-clause-ends
-returns-in-Ok-begin_through-clause-ends g c = inr (
-    ends_new c.args.mode Through c.args.options.now c.in-Through.is c.in-Ok-begin_through.ensures.new _ c.replay-in-Ok-begin_through.ensures.owner.1
-    (g.I.Source.state c.args.source.now) (g.I.Source.state c.replay-in-Ok-begin_through.new.source) (g.O.Sink.state c.args.sink.now) (g.O.Sink.state c.replay-in-Ok-begin_through.new.sink) (g.R.Media.state c.replay-in-Ok-begin_through.new.rig) c.replay-in-Ok-begin_through.result c.replay-in-Ok-begin_through.ensures.ends)
-
-pub returns-in-Ok-begin_through-clause-causes : goal.returns-in-Ok-begin_through-clause-causes
-returns-in-Ok-begin_through-clause-causes g c = cause_later c.in-Ok-begin_through.ensures.begins c.replay-in-Ok-begin_through.ensures.causes
-
-pub returns-in-Ok-begin_through-clause-lent : goal.returns-in-Ok-begin_through-clause-lent
-returns-in-Ok-begin_through-clause-lent g c = lent_later c.in-Ok-begin_through.ensures.begins c.replay-in-Ok-begin_through.ensures.lent
-
-pub returns-in-Err-begin_through-clause-ends : goal.returns-in-Err-begin_through-clause-ends
-returns-in-Err-begin_through-clause-ends g c = inl (unbegun c.in-Err-begin_through.ended _ _ _ _ c.in-Err-begin_through.ensures.begins)
-
-pub returns-in-Err-begin_through-clause-causes : goal.returns-in-Err-begin_through-clause-causes
-returns-in-Err-begin_through-clause-causes g c = cause_begun c.in-Err-begin_through.ended _ _ _ _ c.in-Err-begin_through.ensures.begins
+pub returns-clause-ends : goal.returns-clause-ends
+returns-clause-ends g c =
+    elim c.replay_form_with.ensures.ends [
+      | inl none ↦ inl none
+      | inr ends ↦ inr (
+          ends_from (told_for c.args.mode c.args.options.now) _ _ _ _ _ _ _ _ _
+          (λ lines all whole known. reads_text _ _ _ lines all whole known)
+          (λ run answers says. says)
+          (λ y d stood. stood)
+          (before_itself _)
+          _ _ (λ run answers next part. part)
+          c.replay_form_with.result ends)
+    ]

@@ -1,9 +1,12 @@
 use Rattle.std.proofs.Common.{codes}
-use Rattle.command_line.proofs.ValueLemmas.{apart, inspected_apart, inspected_made, same_command, same_gen, same_sweep, swept_apart, swept_inspected, swept_made}
+use Rattle.command_line.proofs.ValueLemmas.{apart, inspected_apart, inspected_made, same_command, same_gen, same_replayed, same_spelling, same_sweep, swept_apart, swept_inspected, swept_made}
 use Rattle.command_line.proofs.laws.command_law.Goals as goal
 
 pub returns-clause-replay : goal.returns-clause-replay
-returns-clause-replay c = same_command (codes "replay")
+returns-clause-replay c = same_replayed
+
+pub returns-clause-form : goal.returns-clause-form
+returns-clause-form c = same_spelling
 
 pub returns-clause-made : goal.returns-clause-made
 returns-clause-made c = λ words o other number number_too count count_too. same_gen words o other number number_too count count_too

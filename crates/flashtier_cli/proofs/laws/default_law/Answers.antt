@@ -17,4 +17,5 @@ returns c = λ o is.
                 record { given = is.dirty ∙ sym (ap (λ (n : ℕ). (n + 1) / 2) is.data_blocks); low = omega arith; high = omega arith };
             ack = is.ack;
           };
+      spelling = refl;
     }

@@ -26,25 +26,25 @@ returns-in_default-command-clause-complete g c =
 -- ---- a trace that is read
 
 pub returns-in-Replay-clause-ends : goal.returns-in-Replay-clause-ends
-returns-in-Replay-clause-ends g c = inl (_, c.replay_with.result, spoken _ _ _ c.in-Some.is c.in-Ok.ensures.command, c.status_of.ensures, subst (λ (k : Command). (IsOverOne k × IsUnbegun c.replay_with.result c.args.source.now c.replay_with.new.source c.args.sink.now c.replay_with.new.sink (g.R.Media.state c.args.rig.now) (g.R.Media.state c.replay_with.new.rig)) ⊎ EndsCommand (g.I.Source.state c.args.source.now) (g.I.Source.state c.replay_with.new.source) (g.O.Sink.state c.args.sink.now) (g.O.Sink.state c.replay_with.new.sink) (g.R.Media.state c.args.rig.now) (g.R.Media.state c.replay_with.new.rig) k c.replay_with.result) (sym c.in-Replay.is) (elim c.replay_with.ensures.ends [ inl none ↦ inl (tt, none) | inr ends ↦ inr ends ]))
+returns-in-Replay-clause-ends g c = inl (_, c.replay_spelled.result, spoken _ _ _ c.in-Some.is c.in-Ok.ensures.command, c.status_of.ensures, subst (λ (k : Command). (IsOverOne k × IsUnbegun c.replay_spelled.result c.args.source.now c.replay_spelled.new.source c.args.sink.now c.replay_spelled.new.sink (g.R.Media.state c.args.rig.now) (g.R.Media.state c.replay_spelled.new.rig)) ⊎ EndsCommand (g.I.Source.state c.args.source.now) (g.I.Source.state c.replay_spelled.new.source) (g.O.Sink.state c.args.sink.now) (g.O.Sink.state c.replay_spelled.new.sink) (g.R.Media.state c.args.rig.now) (g.R.Media.state c.replay_spelled.new.rig) k c.replay_spelled.result) (sym c.in-Replay.is) (elim c.replay_spelled.ensures.ends [ inl none ↦ inl (tt, none) | inr ends ↦ inr ends ]))
 
 pub returns-in-Replay-clause-unused : goal.returns-in-Replay-clause-unused
-returns-in-Replay-clause-unused g c = λ o number count made. absurd (apart _ _ _ _ _ (says_read _ _ _ _ _ c.in-Some.is c.in-Replay.is c.in-Ok.ensures.command) made)
+returns-in-Replay-clause-unused g c = λ o number count made. absurd (apart _ _ _ _ _ (says_read _ _ _ _ _ _ c.in-Some.is c.in-Replay.is c.in-Ok.ensures.command) made)
 
 pub returns-in-Replay-clause-on : goal.returns-in-Replay-clause-on
-returns-in-Replay-clause-on g c = λ other memory. inl (unless_memory c.replay_with.result _ c.status_of.ensures c.replay_with.ensures.on memory)
+returns-in-Replay-clause-on g c = λ other memory. inl (unless_memory c.replay_spelled.result _ c.status_of.ensures c.replay_spelled.ensures.on memory)
 
 pub returns-in-Replay-clause-words : goal.returns-in-Replay-clause-words
-returns-in-Replay-clause-words g c = words_run _ _ _ _ _ _ _ _ (inl (_, inl (says_read _ _ _ _ _ c.in-Some.is c.in-Replay.is c.in-Ok.ensures.command))) (not_one c.replay_with.result _ c.status_of.ensures)
+returns-in-Replay-clause-words g c = words_run _ _ _ _ _ _ _ _ (inl (_, inl (says_read _ _ _ _ _ _ c.in-Some.is c.in-Replay.is c.in-Ok.ensures.command))) (not_one c.replay_spelled.result _ c.status_of.ensures)
 
 pub returns-in-Replay-clause-end : goal.returns-in-Replay-clause-end
-returns-in-Replay-clause-end g c = λ is o reads. at_ok c.replay_with.result c.replay_with.ensures.end (sym c.status_of.ensures ∙ is)
+returns-in-Replay-clause-end g c = λ is o reads. at_ok c.replay_spelled.result c.replay_spelled.ensures.end (sym c.status_of.ensures ∙ is)
 
 pub returns-in-Replay-clause-causes : goal.returns-in-Replay-clause-causes
-returns-in-Replay-clause-causes g c = status_cause c.replay_with.result _ c.status_of.ensures _ _ _ _ _ _ c.replay_with.ensures.causes
+returns-in-Replay-clause-causes g c = status_cause c.replay_spelled.result _ c.status_of.ensures _ _ _ _ _ _ c.replay_spelled.ensures.causes
 
 pub returns-in-Replay-clause-complete : goal.returns-in-Replay-clause-complete
-returns-in-Replay-clause-complete g c = runs_read _ c.replay_with.result _ c.status_of.ensures _ _ _ _ _ _ (not_made _ _ (inl (says_read _ _ _ _ _ c.in-Some.is c.in-Replay.is c.in-Ok.ensures.command))) c.replay_with.ensures.causes
+returns-in-Replay-clause-complete g c = runs_read _ c.replay_spelled.result _ c.status_of.ensures _ _ _ _ _ _ (not_made _ _ (inl (says_read _ _ _ _ _ _ c.in-Some.is c.in-Replay.is c.in-Ok.ensures.command))) c.replay_spelled.ensures.causes
 
 -- ---- a made trace
 
