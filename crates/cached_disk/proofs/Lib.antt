@@ -6,5 +6,6 @@ pub mod OpenLemmas
 pub mod HeldLemmas
 pub mod OpenedLemmas
 pub mod ReadLemmas
+pub mod RefusedLemmas
 pub mod ReportLemmas
 pub mod SealLemmas

@@ -6,6 +6,7 @@ use Rattle.ft_base.specs.Contents.{Contents}
 use Rattle.ft_base.specs.Count.{bumped}
 use Rattle.ft_media.specs.declared.rig.Counts.{Counts}
 use Rattle.ft_base.proofs.Images.{newest_image, with_newest}
+use Rattle.ft_media.specs.declared.media.MediaError.{MediaError}
 use Rattle.ft_volume.specs.Opening.{ImageIs}
 use Rattle.ft_volume.specs.Volume.{Reads, dirty_lbas, misses}
 use Rattle.ft_volume.specs.Standing.{StandFor}
@@ -21,6 +22,7 @@ use Rattle.cached_disk.proofs.CallLemmas.{answered_same, gives_up, goes_after, g
 use Rattle.cached_disk.proofs.HeldLemmas.{found_absent, is_up, stopped_down}
 use Rattle.cached_disk.proofs.OpenedLemmas.{reserved_tells}
 use Rattle.cached_disk.proofs.ReadLemmas.{IsReserved, absent_held, cut_left, cut_stands, drove_held, on_ok_of, put_dirty, put_held, put_left, put_stands, reserved_left, reserved_up, still_up}
+use Rattle.cached_disk.proofs.RefusedLemmas.{goes_refused}
 use Rattle.cached_disk.proofs.disk.CachedDisk.read_missing.Goals as goal
 
 -- the memory wasn't there
@@ -72,7 +74,9 @@ returns-in-Err-clause-serves g c =
     record {
       left = reserved_left v k reserved before.contents mid.contents c.read_block.ensures.contents c.requires.may.left;
       was = λ order base stand. refused_same (Reads c.args.lba c.args.block.now) (state_in order v) (state_in order u) mid.contents base refl refl (subst (λ (x : Contents). StandFor (ImageIs (told_of v)) x base) (sym c.read_block.ensures.contents) stand) c.disk_error.result;
-      goes = search rules;
+      goes = λ order.
+          goes_refused before mid (state_in order v) (state_in order u) refl (reserved_up v k reserved c.requires.may.up) c.read_block.ensures.contents c.in-Err.error c.disk_error.result c.disk_error.ensures c.in-Err.ensures.cause
+          (λ is. c.in-Err.ensures.memory (ap (λ (e : MediaError). Err e) is)) c.in-Err.ensures.power c.in-Err.ensures.passes;
       dirty = search rules;
       made = search rules;
       within = search rules;
