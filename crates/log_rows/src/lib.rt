@@ -9,6 +9,8 @@ mod commits;
 #[cfg(test)]
 mod flash;
 #[cfg(test)]
+mod formats;
+#[cfg(test)]
 mod loads;
 #[cfg(test)]
 mod logs;

@@ -3,11 +3,11 @@
 use crate::flash::{At, assert_none, fit, fits_on, geometry};
 use crate::pages::{Change, Counted, NUMBERS, Put, is_counted_of, make};
 use checkpoint::newest;
-use ft_base::{Geometry, Outcome, Page, Place, Record, Spare, zero_block};
+use ft_base::{Geometry, Outcome, Page, Place, Spare, zero_block};
 use ft_media::PageRead;
 use mapping::Map;
 use mem_rig::MemRig;
-use plain_format::{Old, Placed, made_old};
+use plain_format::{Old, made_old};
 use record_codec::{PageKind, Seal};
 use recovery::plain::{PlainLoad, plain_load};
 use recovery::{Loaded, OpenError, load};
@@ -16,7 +16,7 @@ use std::process::Abort;
 
 /// What loading answers.
 #[derive(Clone, Copy)]
-enum Answer {
+pub(crate) enum Answer {
     /// The region and the era of the checkpoint, and how many addresses are held.
     Loaded(u32, u8, u64),
     /// Why nothing is loaded.
@@ -25,7 +25,7 @@ enum Answer {
 
 /// A line of an example.
 #[derive(Clone, Copy)]
-enum Line {
+pub(crate) enum Line {
     /// The media are blank.
     Anew,
     /// They are blank but for an empty checkpoint of era 0 in region 0.
@@ -225,7 +225,7 @@ fn is_so(alloc: Global, rig: &mut MemRig, geometry: &Geometry, line: Line) -> bo
 }
 
 /// Goes through the lines on a rig. Says which is the first that tells what isn't so.
-fn first_wrong_on(
+pub(crate) fn first_wrong_on(
     alloc: Global,
     rig: &mut MemRig,
     geometry: &Geometry,
@@ -249,7 +249,7 @@ fn first_wrong(alloc: Global, lines: &[Line]) -> Option<usize> {
 }
 
 /// Goes through the lines on a rig of its own. All that they tell must be so.
-fn assert_all(rt: &(impl Abort + AllocGlobal), lines: &[Line]) {
+pub(crate) fn assert_all(rt: &(impl Abort + AllocGlobal), lines: &[Line]) {
     assert_none(rt, first_wrong(rt.alloc(), lines));
 }
 
@@ -257,9 +257,9 @@ const DAMAGED_LOG: Line = Line::Loads(Answer::Refused(OpenError::Damaged { block
 
 const DAMAGED_NEXT: Line = Line::Loads(Answer::Refused(OpenError::Damaged { block: 2, page: 1 }));
 
-const NOT_FORMATTED: Line = Line::Loads(Answer::Refused(OpenError::NotFormatted));
+pub(crate) const NOT_FORMATTED: Line = Line::Loads(Answer::Refused(OpenError::NotFormatted));
 
-const PAGE_5: Change = Change::Page(5, 4, 0);
+pub(crate) const PAGE_5: Change = Change::Page(5, 4, 0);
 
 // ---- which checkpoint counts
 
@@ -674,255 +674,6 @@ const NOT_WHOLE: [Line; 30] = [
 #[test]
 fn the_first_address_without_a_whole_page_is_told(rt: HostRuntime) {
     assert_all(&rt, &NOT_WHOLE);
-}
-
-// ---- both formats
-
-const MAP_5: Put = Put::One(PageKind::Map, 0, 0, PAGE_5);
-
-const OLD_MAP_5: Put = Put::Old(PageKind::Map, 0, 0, PAGE_5);
-
-const PAGE_6: Change = Change::Page(6, 4, 1);
-
-const OLD_CHECKPOINT: [Line; 15] = [
-    Line::Anew,
-    Line::Put(4, Put::Data),
-    Line::Put(4, Put::Data),
-    Line::Put(0, OLD_MAP_5),
-    Line::Counts(None),
-    Line::Put(0, Put::OldSeal(0, 1, 1)),
-    Line::OldCounts(Some((0, 0, 1))),
-    Line::Loads(Answer::Loaded(0, 0, 1)),
-    // Its log is of format 1, and ends before a page of format 2.
-    Line::Put(2, Put::Old(PageKind::Log, 0, 0, PAGE_6)),
-    Line::Loads(Answer::Loaded(0, 0, 2)),
-    Line::Put(2, Put::Log(1, Change::PageOut(5))),
-    Line::Loads(Answer::Loaded(0, 0, 2)),
-    // A page of format 1 is none of the log of a checkpoint of format 2.
-    Line::Sealed,
-    Line::Put(2, Put::Old(PageKind::Log, 0, 0, PAGE_5)),
-    Line::Loads(Answer::Loaded(0, 0, 0)),
-];
-
-#[test]
-fn a_checkpoint_of_format_1_is_loaded_with_its_own_log(rt: HostRuntime) {
-    assert_all(&rt, &OLD_CHECKPOINT);
-}
-
-const TWO_FORMATS: [Line; 15] = [
-    // Old pages under a seal of format 2.
-    Line::Anew,
-    Line::Put(0, OLD_MAP_5),
-    Line::Put(0, Put::Seal(0, 1, 1)),
-    NOT_FORMATTED,
-    // Pages of format 2 under an old seal.
-    Line::Anew,
-    Line::Put(0, MAP_5),
-    Line::Put(0, Put::OldSeal(0, 1, 1)),
-    NOT_FORMATTED,
-    // Both kinds of pages.
-    Line::Anew,
-    Line::Put(0, MAP_5),
-    Line::Put(0, Put::Old(PageKind::Map, 0, 1, PAGE_6)),
-    Line::Put(0, Put::Seal(0, 2, 2)),
-    NOT_FORMATTED,
-    // An old seal alone.
-    Line::Put(1, Put::OldSeal(2, 0, 0)),
-    Line::Loads(Answer::Loaded(1, 2, 0)),
-];
-
-#[test]
-fn a_checkpoint_has_one_format(rt: HostRuntime) {
-    assert_all(&rt, &TWO_FORMATS);
-}
-
-/// Two groups with a data block, and two addresses in a log block, of which the log changes some. Of two records a page.
-const FOUR_RECORDS: Old = Old {
-    region: 1,
-    era: 2,
-    page: 2,
-    entries: &[
-        Placed::InData(0, 5, false),
-        Placed::InLog(9, 4, 0, true),
-        Placed::InData(3, 5, false),
-        Placed::InData(7, 6, true),
-        Placed::InLog(5, 4, 1, false),
-    ],
-    log: &[
-        Record::Clean { lba: 7 },
-        Record::Remove { lba: 3 },
-        Record::SetPage {
-            lba: 9,
-            place: Place { block: 4, page: 2 },
-            dirty: true,
-        },
-    ],
-};
-
-const MADE: [Line; 4] = [
-    Line::Old(&FOUR_RECORDS),
-    Line::OldCounts(Some((1, 2, 2))),
-    Line::Loads(Answer::Loaded(1, 2, 4)),
-    Line::Lies(9, (4, 2)),
-];
-
-#[test]
-fn contents_of_format_1_are_loaded(rt: HostRuntime) {
-    assert_all(&rt, &MADE);
-}
-
-// ---- totals
-
-const DAMAGED_SEAL: Line = Line::Loads(Answer::Refused(OpenError::Damaged { block: 0, page: 1 }));
-
-const TOTALS: [Line; 25] = [
-    Line::Anew,
-    Line::Put(4, Put::Data),
-    Line::Put(0, MAP_5),
-    Line::Put(0, Put::Told(1, 1, 1)),
-    Line::Loads(Answer::Loaded(0, 0, 1)),
-    // An entry too many, and one too few.
-    Line::Anew,
-    Line::Put(4, Put::Data),
-    Line::Put(0, MAP_5),
-    Line::Put(0, Put::Told(1, 2, 1)),
-    DAMAGED_SEAL,
-    Line::Anew,
-    Line::Put(4, Put::Data),
-    Line::Put(0, MAP_5),
-    Line::Put(0, Put::Told(1, 0, 1)),
-    DAMAGED_SEAL,
-    // A dirty one too many, and one too few.
-    Line::Anew,
-    Line::Put(4, Put::Data),
-    Line::Put(0, MAP_5),
-    Line::Put(0, Put::Told(1, 1, 2)),
-    DAMAGED_SEAL,
-    Line::Anew,
-    Line::Put(4, Put::Data),
-    Line::Put(0, MAP_5),
-    Line::Put(0, Put::Told(1, 1, 0)),
-    DAMAGED_SEAL,
-];
-
-#[test]
-fn a_seal_tells_how_many_entries_there_are(rt: HostRuntime) {
-    assert_all(&rt, &TOTALS);
-}
-
-/// Two pages of a data block are clean: two entries of one record.
-const MAP_GROUP: Put = Put::One(PageKind::Map, 0, 0, Change::Group(1, 4, 3));
-
-const GROUP_TOTALS: [Line; 12] = [
-    Line::Anew,
-    Line::Put(4, Put::Data),
-    Line::Put(4, Put::Data),
-    Line::Put(0, MAP_GROUP),
-    Line::Put(0, Put::Told(1, 2, 0)),
-    Line::Loads(Answer::Loaded(0, 0, 2)),
-    // A count of what lies in log blocks alone.
-    Line::Anew,
-    Line::Put(4, Put::Data),
-    Line::Put(4, Put::Data),
-    Line::Put(0, MAP_GROUP),
-    Line::Put(0, Put::Told(1, 0, 0)),
-    DAMAGED_SEAL,
-];
-
-#[test]
-fn entries_of_data_blocks_count(rt: HostRuntime) {
-    assert_all(&rt, &GROUP_TOTALS);
-}
-
-const ORDER: [Line; 16] = [
-    // A damaged map page is told first.
-    Line::Anew,
-    Line::Put(0, Put::Spoilt(PageKind::Map, 0, 0, PAGE_5, 4095)),
-    Line::Put(0, Put::Told(1, 2, 1)),
-    Line::Loads(Answer::Refused(OpenError::Damaged { block: 0, page: 0 })),
-    // Then the seal, before a damaged log page, and before the page of an entry that isn't whole.
-    Line::Anew,
-    Line::Put(0, MAP_5),
-    Line::Put(0, Put::Told(1, 2, 1)),
-    Line::Put(2, Put::Log(0, Change::Page(64, 4, 0))),
-    DAMAGED_SEAL,
-    // The totals are those before the log.
-    Line::Anew,
-    Line::Put(4, Put::Data),
-    Line::Put(4, Put::Data),
-    Line::Put(0, MAP_5),
-    Line::Put(0, Put::Told(1, 2, 2)),
-    Line::Put(2, Put::Log(0, PAGE_6)),
-    DAMAGED_SEAL,
-];
-
-#[test]
-fn totals_are_compared_between_the_map_pages_and_the_log(rt: HostRuntime) {
-    assert_all(&rt, &ORDER);
-}
-
-// ---- a checkpoint of format 2 over one of format 1
-
-/// Old flash of two addresses, one of them in the log; beside it the pages that a new checkpoint has before its seal.
-const MIGRATION: [Line; 14] = [
-    Line::Anew,
-    Line::Put(4, Put::Data),
-    Line::Put(4, Put::Data),
-    Line::Put(0, OLD_MAP_5),
-    Line::Put(0, Put::OldSeal(0, 1, 1)),
-    Line::Put(2, Put::Old(PageKind::Log, 0, 0, PAGE_6)),
-    Line::Loads(Answer::Loaded(0, 0, 2)),
-    Line::Put(1, Put::One(PageKind::Map, 1, 0, PAGE_5)),
-    Line::Loads(Answer::Loaded(0, 0, 2)),
-    Line::Put(1, Put::One(PageKind::Map, 1, 1, PAGE_6)),
-    Line::Loads(Answer::Loaded(0, 0, 2)),
-    Line::OldCounts(Some((0, 0, 1))),
-    Line::Put(1, Put::Seal(1, 2, 2)),
-    Line::Counts(Some((1, 1, 2))),
-];
-
-const AFTER_THE_SEAL: [Line; 4] = [
-    Line::Loads(Answer::Loaded(1, 1, 2)),
-    // The old log counts no more.
-    Line::Put(2, Put::Old(PageKind::Log, 0, 1, Change::PageOut(5))),
-    Line::Loads(Answer::Loaded(1, 1, 2)),
-    Line::Lies(6, (4, 1)),
-];
-
-/// The same with a seal that is torn.
-const TORN_SEAL: [Line; 10] = [
-    Line::Anew,
-    Line::Put(4, Put::Data),
-    Line::Put(0, OLD_MAP_5),
-    Line::Put(0, Put::OldSeal(0, 1, 1)),
-    Line::Put(1, Put::One(PageKind::Map, 1, 0, PAGE_5)),
-    Line::Put(1, Put::Torn),
-    Line::OldCounts(Some((0, 0, 1))),
-    Line::Loads(Answer::Loaded(0, 0, 1)),
-    // An erase of the region that is cut leaves nothing that counts.
-    Line::Put(1, Put::MixedErase),
-    Line::Loads(Answer::Loaded(0, 0, 1)),
-];
-
-/// Goes through both lists of lines, one after the other.
-fn first_wrong_of_both(alloc: Global, first: &[Line], then: &[Line]) -> Option<usize> {
-    let Some(geometry) = geometry() else {
-        return Some(0);
-    };
-    let mut rig = MemRig::new(alloc);
-    if let Some(wrong) = first_wrong_on(alloc, &mut rig, &geometry, first) {
-        return Some(wrong);
-    }
-    first_wrong_on(alloc, &mut rig, &geometry, then)
-}
-
-#[test]
-fn a_checkpoint_of_format_2_counts_with_its_seal(rt: HostRuntime) {
-    assert_none(
-        &rt,
-        first_wrong_of_both(rt.alloc(), &MIGRATION, &AFTER_THE_SEAL),
-    );
-    assert_all(&rt, &TORN_SEAL);
 }
 
 // ---- how often a page is read
