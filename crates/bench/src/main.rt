@@ -1,6 +1,6 @@
 //! Measures the program and parts of it, and prints what it found as a table. Without words it prints one
 //! fixed line; the first word names what is measured. After `run` come the options of a made trace, as the
-//! program's own word `gen` takes them; after `sweep` those that `replay` takes.
+//! program's own word `gen` takes them; after `sweep` and `form` those that `replay` takes.
 //!
 //! | Status | When |
 //! |---|---|
@@ -30,14 +30,19 @@ fn words_of(rt: &(impl Env + AllocGlobal)) -> io::Result<Vec<String>> {
 fn run(rt: &(impl Env + AllocGlobal + Clock + Files + Print + Eprint)) -> io::Result<u8> {
     let words = words_of(rt)?;
     match task_of(words.as_slice()) {
-        Some(Task::Hint) => println!(rt; "bench: give the word map, run or sweep")?,
+        Some(Task::Hint) => println!(rt; "bench: give the word map, run, sweep or form")?,
         Some(Task::Map) => map_bench::measure(rt)?,
         Some(Task::Sweep) => {
             return run_bench::measure_sweep(rt, after_first(words.as_slice()));
         }
+        Some(Task::Form) => {
+            return run_bench::measure_forms(rt, after_first(words.as_slice()));
+        }
         Some(Task::Run) => return run_bench::measure(rt, after_first(words.as_slice())),
         None => {
-            eprintln!(rt; "use: bench [map | run [options of gen] | sweep [options of replay]]")?;
+            eprintln!(rt;
+                "use: bench [map | run [options of gen] | sweep [options of replay] | form [options of replay]]"
+            )?;
             return Ok(1);
         }
     }

@@ -13,6 +13,8 @@ pub(crate) enum Task {
     Run,
     /// `sweep`, and after it the options of a volume: a sweep beside its runs.
     Sweep,
+    /// `form`, and after it the options of a volume: a trace in both forms of lines.
+    Form,
 }
 
 /// What the words ask for, and `None` where they are none of these.
@@ -20,6 +22,7 @@ pub(crate) fn task_of(words: &[String]) -> Option<Task>
     ensures hint { (result ≡ Some task.Hint) ↔ (words.now ≡ []) }
     ensures map { (result ≡ Some task.Map) ↔ (map string_bytes words.now ≡ codes "map" ∷ []) }
     ensures sweep { (result ≡ Some task.Sweep) ↔ (take 1 (map string_bytes words.now) ≡ codes "sweep" ∷ []) }
+    ensures form { (result ≡ Some task.Form) ↔ (take 1 (map string_bytes words.now) ≡ codes "form" ∷ []) }
     ensures run { (result ≡ Some task.Run) ↔ (take 1 (map string_bytes words.now) ≡ codes "run" ∷ []) }
 {
     let Some((first, others)) = words.split_first() else {
@@ -33,6 +36,9 @@ pub(crate) fn task_of(words: &[String]) -> Option<Task>
     }
     if first.as_str() == "sweep" {
         return Some(Task::Sweep);
+    }
+    if first.as_str() == "form" {
+        return Some(Task::Form);
     }
     None
 }

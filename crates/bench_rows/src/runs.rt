@@ -2,6 +2,7 @@
 use crate::clock::Slowing;
 use ft_media::Counts;
 use run_bench::floor::floor;
+use run_bench::forms::{Formed, read_forms};
 use run_bench::memory::{peak_in, peak_memory};
 use run_bench::replayed::{End, Replayed, replay};
 use run_bench::ring::Ring;
@@ -61,6 +62,20 @@ fn a_sweep_is_measured_beside_its_runs(rt: HostRuntime) -> Result<(), Fail> {
         single: Duration::from_micros(2_000),
     };
     assert_eq!(rt; swept.ratio(), 105);
+    Ok(())
+}
+
+#[test]
+fn a_trace_is_measured_in_both_forms(rt: HostRuntime) -> Result<(), Fail> {
+    if read_forms(&rt, &[])?.is_err() {
+        return Err(Fail::new("a run ended early"));
+    }
+    let formed = Formed {
+        words: Duration::from_micros(2_000),
+        msr: Duration::from_micros(2_500),
+        reading: Duration::from_micros(600),
+    };
+    assert_eq!(rt; (formed.ratio(), formed.reading_ratio()), (125, 30));
     Ok(())
 }
 

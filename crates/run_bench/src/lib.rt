@@ -1,9 +1,10 @@
 //! The whole program: a made trace, run over flash and disk in memory, and beside it the floor, which is what
-//! the same pages and blocks cost a plain loop; and a sweep, and beside it its runs one by one. What stands side by side
-//! is measured in one process, one after the other.
+//! the same pages and blocks cost a plain loop; a sweep, and beside it its runs one by one; and a trace in both forms of
+//! lines. What stands side by side is measured in one process, one after the other.
 #![tactic(auto)]
 
 pub mod floor;
+pub mod forms;
 pub mod memory;
 pub mod replayed;
 pub mod ring;
@@ -12,6 +13,7 @@ pub mod slot;
 pub mod swept;
 
 use floor::floor;
+use forms::{Formed, read_forms};
 use memory::peak_memory;
 use replayed::replay;
 use row::{Row, print_head};
@@ -60,6 +62,31 @@ pub fn measure_sweep(
         "{runs} runs: a sweep takes {sweep} ms, its runs one by one {single} ms: {}.{:02} times",
         ratio / 100,
         ratio % 100
+    )?;
+    Ok(0)
+}
+
+/// Runs a trace that reads cached blocks in both forms of lines, over a cache of these options, and prints how long each
+/// took. Answers the status of a run.
+pub fn measure_forms(
+    rt: &(impl AllocGlobal + Clock + Print + Eprint),
+    options: &[String],
+) -> io::Result<u8> {
+    let formed: Formed = match read_forms(rt, options)? {
+        Ok(formed) => formed,
+        Err(status) => {
+            eprintln!(rt; "bench: a run ended with status {status}")?;
+            return Ok(status);
+        }
+    };
+    let (ratio, reading) = (formed.ratio(), formed.reading_ratio());
+    let (words, msr) = (formed.words.as_millis(), formed.msr.as_millis());
+    println!(rt;
+        "20001 lines: of words {words} ms, in the form msr {msr} ms: {}.{:02} times; reading these alone: {}.{:02} times",
+        ratio / 100,
+        ratio % 100,
+        reading / 100,
+        reading % 100
     )?;
     Ok(0)
 }
