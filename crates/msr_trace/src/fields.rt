@@ -18,25 +18,25 @@ const BLOCK: u64 = 4096;
 const BLOCK_LIMIT: u64 = 65536;
 
 /// What a record says, in the line with this number and for a volume of so many blocks.
-pub(crate) fn record_says(record: &ByteRecord, number: u64, size: u64) -> Result<Line, LineError>
-    ensures line { result ≡ msr.fields_say size number (fields_of record.now) }
+pub(crate) fn record_says(fields: &ByteRecord, number: u64, size: u64) -> Result<Line, LineError>
+    ensures line { result ≡ msr.fields_say size number (fields_of fields.now) }
     ensures runnable { IfOk result (IsRunnable size) }
 {
-    if record.len() != FIELDS {
+    if fields.len() != FIELDS {
         return Err(LineError::BadCount);
     }
-    let kind = field(record, 3);
-    let offset = field(record, 4);
-    let bytes = field(record, 5);
+    let kind = field(fields, 3);
+    let offset = field(fields, 4);
+    let bytes = field(fields, 5);
     request(kind, offset, bytes, number, size)
 }
 
 /// The field at this place.
-fn field(record: &ByteRecord, place: usize) -> &[u8]
-    requires within { place < length (fields_of record.now) }
-    ensures { Some result.now ≡ field_at (fields_of record.now) place }
+fn field(fields: &ByteRecord, place: usize) -> &[u8]
+    requires within { place < length (fields_of fields.now) }
+    ensures { Some result.now ≡ field_at (fields_of fields.now) place }
 {
-    match record.get(place) {
+    match fields.get(place) {
         Some(field) => field,
         // The record has more fields than that:
         None => unreachable!(),
