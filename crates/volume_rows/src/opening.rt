@@ -24,7 +24,7 @@ fn options() -> Result<Options, Fail>
     })
 }
 
-/// A rig just large enough, with flash that a cache left with two dirty blocks.
+/// A rig just large enough, with flash that a cache left with one block, dirty.
 fn left(alloc: Global, options: &Options) -> Result<MemRig, Fail>
     requires { 6 < options.now.geometry.size }
     ensures { IfOk result (λ rig. FitsOn options.now.geometry (state_of rig).contents.shape) }
@@ -35,7 +35,6 @@ fn left(alloc: Global, options: &Options) -> Result<MemRig, Fail>
     Ssc::format(&mut rig, &geometry)?;
     let mut cache = Ssc::open(alloc, &mut rig, &geometry)?;
     cache.write_dirty(&mut rig, 6, &block_of(6, 1))?;
-    cache.write_dirty(&mut rig, 1, &block_of(1, 1))?;
     Ok(rig)
 }
 
@@ -59,7 +58,7 @@ fn listed(alloc: Global) -> Result<Vec<u64>, Fail> {
 
 #[test]
 fn a_loaded_cache_lists_its_dirty_addresses(rt: HostRuntime) -> Result<(), Fail> {
-    assert_eq!(rt; listed(rt.alloc())?.as_slice(), [1, 6].as_slice());
+    assert_eq!(rt; listed(rt.alloc())?.as_slice(), [6].as_slice());
     Ok(())
 }
 
@@ -88,7 +87,7 @@ fn held_when_sealed(alloc: Global) -> Result<u64, Fail> {
 
 #[test]
 fn a_sealed_cache_holds_what_was_loaded(rt: HostRuntime) -> Result<(), Fail> {
-    assert_eq!(rt; held_when_sealed(rt.alloc())?, 2);
+    assert_eq!(rt; held_when_sealed(rt.alloc())?, 1);
     Ok(())
 }
 

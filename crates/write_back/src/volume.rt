@@ -67,12 +67,12 @@ impl WriteBack {
         ensures reads { WritesNothingRefused (R.state rig.old) (R.state rig.new) result }
     {
         let loaded = LoadedDisk::load(alloc, rig, options, Mode::Back)?;
-        let Ok(dirty) = loaded_table_of(&loaded) else {
-            return Err(OpenError::OutOfMemory);
-        };
-        match loaded.seal(rig) {
-            Ok(disk) => Ok(WriteBack { disk, dirty }),
-            Err(error) => Err(error),
+        match loaded_table_of(&loaded) {
+            Ok(dirty) => match loaded.seal(rig) {
+                Ok(disk) => Ok(WriteBack { disk, dirty }),
+                Err(error) => Err(error),
+            },
+            Err(_) => Err(OpenError::OutOfMemory),
         }
     }
 

@@ -53,22 +53,22 @@ returns-in-Ok-seal-clause-stands g c =
     let opens : OpensDisk Back c.args.options.now before after (Ok c.in-Ok-seal.disk) = opens_made c.args.options.now Back loaded made before now after (Ok c.in-Ok-seal.disk) c.in_ok-loaded.ensures.loaded c.requires.agrees c.in-Ok-seal.ensures.opens in
     opens.stands
 
-pub returns-in-Err-clause-opening : goal.returns-in-Err-clause-opening
-returns-in-Err-clause-opening g c =
+pub returns-in-Err-seal-clause-opening : goal.returns-in-Err-seal-clause-opening
+returns-in-Err-seal-clause-opening g c =
     let before = g.R.Media.state c.args.rig.now in
     let now = g.R.Media.state c.load.new.media in
     let after = g.R.Media.state c.seal.new.media in
     let loaded = c.in_ok-loaded.loaded in
     let made = c.in_ok-loaded.ensures.made in
-    let opens : OpensDisk Back c.args.options.now before after (Err c.in-Err.error) = opens_made c.args.options.now Back loaded made before now after (Err c.in-Err.error) c.in_ok-loaded.ensures.loaded c.requires.agrees c.in-Err.ensures.opens in
+    let opens : OpensDisk Back c.args.options.now before after (Err c.in-Err-seal.error) = opens_made c.args.options.now Back loaded made before now after (Err c.in-Err-seal.error) c.in_ok-loaded.ensures.loaded c.requires.agrees c.in-Err-seal.ensures.opens in
     record { opens = opens.opening.opens; refused = opens.opening.refused; goes = record { ready = tt; disk_reads = opens.opening.goes.disk_reads; disk_writes = opens.opening.goes.disk_writes; disk_flushes = opens.opening.goes.disk_flushes; cause = opens.opening.goes.cause; passes = opens.opening.goes.passes } }
 
-pub returns-in-Err-clause-reads : goal.returns-in-Err-clause-reads
-returns-in-Err-clause-reads g c =
+pub returns-in-Err-seal-clause-reads : goal.returns-in-Err-seal-clause-reads
+returns-in-Err-seal-clause-reads g c =
     let before = g.R.Media.state c.args.rig.now in
     let now = g.R.Media.state c.load.new.media in
     let after = g.R.Media.state c.seal.new.media in
     let loaded = c.in_ok-loaded.loaded in
     let made = c.in_ok-loaded.ensures.made in
-    let opens : OpensDisk Back c.args.options.now before after (Err c.in-Err.error) = opens_made c.args.options.now Back loaded made before now after (Err c.in-Err.error) c.in_ok-loaded.ensures.loaded c.requires.agrees c.in-Err.ensures.opens in
+    let opens : OpensDisk Back c.args.options.now before after (Err c.in-Err-seal.error) = opens_made c.args.options.now Back loaded made before now after (Err c.in-Err-seal.error) c.in_ok-loaded.ensures.loaded c.requires.agrees c.in-Err-seal.ensures.opens in
     opens.reads
