@@ -1,6 +1,7 @@
 pub mod AskLemmas
 pub mod BeginLemmas
 pub mod CountLemmas
+pub mod CostLemmas
 pub mod InspectLemmas
 pub mod SilentLemmas
 pub mod UncutLemmas

@@ -1,4 +1,5 @@
 pub mod Begun
+pub mod Costed
 pub mod Counted
 pub mod Default
 pub mod Inspected

@@ -6,6 +6,7 @@
 #![tactic(auto)]
 
 mod beginning;
+mod costing;
 mod counting;
 mod defaults;
 mod ending;
@@ -15,6 +16,7 @@ mod making;
 mod replaying;
 mod reporting;
 
+pub use costing::{Cost, cost_with};
 pub use counting::count_lines;
 pub use defaults::default_options;
 pub use ending::status_of;

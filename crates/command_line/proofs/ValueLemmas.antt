@@ -16,7 +16,7 @@ use Rattle.ft_base.specs.declared.told.Mode.TheVariants.{Back, Through}
 use Rattle.ft_base.specs.declared.power.Outcome.{Outcome}
 use Rattle.ft_base.specs.declared.power.Outcome.TheVariants.{Blank, Whole, Torn, Mixed}
 use Rattle.std.specs.List.{list_all}
-use Rattle.command_line.specs.Command.{AreNumbers, IsCommand, IsCount, IsDirty, IsGen, IsGiven, IsInspect, IsReplay, IsRunOf, IsSweep, Say, SayMade, Setting, Spells, Text, form_word, gen_names, mode_word, option_names, outcome_word, replay_names, sweep_names, value_in}
+use Rattle.command_line.specs.Command.{AreNumbers, IsCommand, IsCost, IsCount, IsDirty, IsGen, IsGiven, IsInspect, IsReadOf, IsReplay, IsRunOf, IsSweep, Say, SayMade, Setting, Spells, Text, form_word, gen_names, mode_word, option_names, outcome_word, replay_names, sweep_names, value_in}
 use Rattle.command_line.specs.declared.command.TraceForm.{TraceForm}
 use Rattle.command_line.specs.declared.command.TraceForm.TheVariants.{Lines, Msr}
 use Rattle.command_line.specs.Matching.{is_name}
@@ -223,33 +223,47 @@ same_form (Some word) f g given other = same_form_word f g (sym given ∙ other)
 form_along : (value other : Text → Option Text) (f : TraceForm) → ((name : Text) → value name ≡ other name) → IsGiven form_word Lines (value (codes "form")) f → IsGiven form_word Lines (other (codes "form")) f
 form_along value other f same = subst (λ (word : Option Text). IsGiven form_word Lines word f) (same (codes "form"))
 
-same_replay : (words : List Text) (o other : Told) (f g : TraceForm) → IsReplay words o f → IsReplay words other g → (o ≡ other) × (f ≡ g)
-same_replay words o other f g replay also =
-    let rest : replay.others ≡ also.others = cc (replay.first, also.first) in
-    let spelled = subst (λ (ws : List Text). Spells replay_names ws replay.settings) rest replay.spelled in
-    let values = same_values replay_names also.others replay.settings also.settings refl spelled also.spelled in (
-      same_said (value_in also.settings) o other (say_along (value_in replay.settings) (value_in also.settings) o values replay.says) also.says,
-      same_form (value_in also.settings (codes "form")) f g (form_along (value_in replay.settings) (value_in also.settings) f values replay.spelling) also.spelling,
+pub same_read : (word : Text) (words : List Text) (o other : Told) (f g : TraceForm) → IsReadOf word words o f → IsReadOf word words other g → (o ≡ other) × (f ≡ g)
+same_read word words o other f g read also =
+    let rest : read.others ≡ also.others = cc (read.first, also.first) in
+    let spelled = subst (λ (ws : List Text). Spells replay_names ws read.settings) rest read.spelled in
+    let values = same_values replay_names also.others read.settings also.settings refl spelled also.spelled in (
+      same_said (value_in also.settings) o other (say_along (value_in read.settings) (value_in also.settings) o values read.says) also.says,
+      same_form (value_in also.settings (codes "form")) f g (form_along (value_in read.settings) (value_in also.settings) f values read.spelling) also.spelling,
     )
 
 pub same_replayed : (words : List Text) (o other : Told) → IsCommand words o → IsCommand words other → o ≡ other
-same_replayed words o other replay also = (same_replay words o other replay.0 also.0 replay.1 also.1).0
+same_replayed words o other replay also = (same_read (codes "replay") words o other replay.0 also.0 replay.1 also.1).0
 
 pub same_spelling : (words : List Text) (o other : Told) (f g : TraceForm) → IsReplay words o f → IsReplay words other g → f ≡ g
-same_spelling words o other f g replay also = (same_replay words o other f g replay also).1
+same_spelling words o other f g replay also = (same_read (codes "replay") words o other f g replay also).1
 
 module _ (others : List Text) (settings : List Setting) (value : Text → Option Text) (values : (name : Text) → value name ≡ value_in settings name) where
-  replay_values : Spells replay_names others settings → (o : Told) (f : TraceForm) (replay : IsReplay (codes "replay" ∷ others) o f) → (name : Text) → value_in replay.settings name ≡ value name
-  replay_values spelled o f replay name =
-      let rest : replay.others ≡ others = cc replay.first in
-      let also = subst (λ (ws : List Text). Spells replay_names ws replay.settings) rest replay.spelled in
-      same_values replay_names others replay.settings settings refl also spelled name ∙ sym (values name)
+  read_values : Spells replay_names others settings → (word : Text) (o : Told) (f : TraceForm) (read : IsReadOf word (word ∷ others) o f) → (name : Text) → value_in read.settings name ≡ value name
+  read_values spelled word o f read name =
+      let rest : read.others ≡ others = cc read.first in
+      let also = subst (λ (ws : List Text). Spells replay_names ws read.settings) rest read.spelled in
+      same_values replay_names others read.settings settings refl also spelled name ∙ sym (values name)
 
-  pub no_replay_volume : Spells replay_names others settings → ((o : Told) → Say value o → ⊥) → (o : Told) → IsCommand (codes "replay" ∷ others) o → ⊥
-  no_replay_volume spelled says o command = says o (say_along (value_in command.1.settings) value o (replay_values spelled o command.0 command.1) command.1.says)
+  pub no_read_volume : Spells replay_names others settings → ((o : Told) → Say value o → ⊥) → (word : Text) (o : Told) (f : TraceForm) → IsReadOf word (word ∷ others) o f → ⊥
+  no_read_volume spelled says word o f read = says o (say_along (value_in read.settings) value o (read_values spelled word o f read) read.says)
 
-  pub no_replay_form : Spells replay_names others settings → ((f : TraceForm) → IsGiven form_word Lines (value (codes "form")) f → ⊥) → (o : Told) → IsCommand (codes "replay" ∷ others) o → ⊥
-  no_replay_form spelled says o command = says command.0 (form_along (value_in command.1.settings) value command.0 (replay_values spelled o command.0 command.1) command.1.spelling)
+  pub no_read_form : Spells replay_names others settings → ((f : TraceForm) → IsGiven form_word Lines (value (codes "form")) f → ⊥) → (word : Text) (o : Told) (f : TraceForm) → IsReadOf word (word ∷ others) o f → ⊥
+  no_read_form spelled says word o f read = says f (form_along (value_in read.settings) value f (read_values spelled word o f read) read.spelling)
+
+-- ---- what a run cost
+
+pub costed_apart : (words : List Text) (o other : Told) (f : TraceForm) → IsCost words o f → IsCommand words other → ⊥
+costed_apart words o other f cost command = differ (codes "cost") (codes "replay") refl (cc (cost.first, command.1.first))
+
+pub costed_inspected : (words : List Text) (o other : Told) (f : TraceForm) → IsCost words o f → IsInspect words other → ⊥
+costed_inspected words o other f cost inspect = differ (codes "cost") (codes "inspect") refl (cc (cost.first, inspect.first))
+
+pub costed_made : (words : List Text) (o other : Told) (f : TraceForm) (number count : ℕ) → IsCost words o f → IsGen words other number count → ⊥
+costed_made words o other f number count cost gen = differ (codes "cost") (codes "gen") refl (cc (cost.first, gen.first))
+
+pub costed_swept : (words : List Text) (o other : Told) (f : TraceForm) (x : Outcome) → IsCost words o f → IsSweep words other x → ⊥
+costed_swept words o other f x cost sweep = differ (codes "cost") (codes "sweep") refl (cc (cost.first, sweep.first))
 
 -- ---- a sweep
 

@@ -138,14 +138,22 @@ pub record IsRunOf (word : Text) (words : List Text) (o : Told) : Type 0 where
   pub spelled : Spells option_names others settings
   pub says : Say (value_in settings) o
 
--- the word replay, and then options that say this of the volume and of the form of the trace's lines
-pub record IsReplay (words : List Text) (o : Told) (form : TraceForm) : Type 0 where
+-- this word, and then options that say this of the volume and of the form of the trace's lines
+pub record IsReadOf (word : Text) (words : List Text) (o : Told) (form : TraceForm) : Type 0 where
   pub others : List Text
-  pub first : words ≡ codes "replay" ∷ others
+  pub first : words ≡ word ∷ others
   pub settings : List Setting
   pub spelled : Spells replay_names others settings
   pub says : Say (value_in settings) o
   pub spelling : IsGiven form_word Lines (value_in settings (codes "form")) form
+
+-- a trace is replayed, of which the lines are in this form
+abbrev pub IsReplay : List Text → Told → TraceForm → Type 0
+IsReplay words o form = IsReadOf (codes "replay") words o form
+
+-- a trace is run, of which the lines are in this form, and what it cost is told
+abbrev pub IsCost : List Text → Told → TraceForm → Type 0
+IsCost words o form = IsReadOf (codes "cost") words o form
 
 -- a trace is replayed, in whatever form its lines are
 abbrev pub IsCommand : List Text → Told → Type 0

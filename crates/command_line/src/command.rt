@@ -3,8 +3,9 @@ ghost use Rattle.std.specs.String.{string_bytes};
 ghost use Rattle.ft_base.specs.Told.{Told};
 ghost use Rattle.ft_base.specs.declared.power.Outcome.{Outcome};
 ghost use Rattle.ft_volume.specs.Volume.{told_for};
-ghost use Rattle.command_line.specs.Command.{IsCommand, IsGen, IsInspect, IsRunOf, IsSweep, Text};
+ghost use Rattle.command_line.specs.Command.{IsCommand, IsCost, IsGen, IsInspect, IsReadOf, IsRunOf, IsSweep, Text};
 ghost use Rattle.command_line.specs.Spoken.{AreWordsOf};
+ghost use Rattle.command_line.specs.declared.command.TraceForm.{TraceForm};
 
 use crate::matching::{gen_options, replay_options, run_options, sweep_options};
 use crate::settings::{form_of, made_of, outcome_of, volume_of};
@@ -26,6 +27,15 @@ pub enum TraceForm {
 pub enum Command {
     /// Over a trace that is read.
     Replay {
+        /// When a block that was written comes to the disk.
+        mode: Mode,
+        /// What the volume is made with.
+        options: Options,
+        /// How its lines are spelled.
+        form: TraceForm,
+    },
+    /// Over a trace that is read, to tell what it cost.
+    Cost {
         /// When a block that was written comes to the disk.
         mode: Mode,
         /// What the volume is made with.
@@ -64,7 +74,7 @@ pub enum Command {
 
 /// The command that the words after the program's name say, or None where they are none.
 ///
-/// The first word is `replay`, `gen`, `inspect` or `sweep`. After it come options in any order, each at most once, as
+/// The first word is `replay`, `gen`, `inspect`, `cost` or `sweep`. After it come options in any order, each at most once, as
 /// `--name value` or `--name=value`. A value in a word by itself doesn't begin with `-`. A number is `0`, or
 /// decimal digits of which the first isn't 0. Every other word is refused, also `--` and flags for help or a
 /// version.
@@ -78,7 +88,7 @@ pub enum Command {
 /// | `--journal` | erase blocks of a log region, 1 to 16 | 2 |
 /// | `--size` | blocks of the volume, 1 to 2^40 | 1,048,576 |
 /// | `--dirty` | dirty groups that an idle step leaves alone, 1 to the data blocks | half of these, rounded up |
-/// | `--form`, of `replay` alone | form of the trace's lines: `lines` or `msr` | `lines` |
+/// | `--form`, of `replay` and `cost` alone | form of the trace's lines: `lines` or `msr` | `lines` |
 /// | `--number`, of `gen` alone | which made trace, 0 to 2^64 - 1 | 1 |
 /// | `--count`, of `gen` alone | lines of the made trace, 1 to 1,000,000 | 20,000 |
 /// | `--outcome`, of `sweep` alone | what a power cut leaves: `blank`, `whole`, `torn` or `mixed` | `torn` |
@@ -86,6 +96,7 @@ pub fn command_of(alloc: Global, words: &[String]) -> Result<Option<Command>, Al
     ensures command { IfOk result (λ c. IfSome c (AreWordsOf (map string_bytes words.now))) }
     ensures none { IfOk result (λ c. IfNone c ((o : Told) → IsCommand (map string_bytes words.now) o → ⊥)) }
     ensures none_inspected { IfOk result (λ c. IfNone c ((o : Told) → IsInspect (map string_bytes words.now) o → ⊥)) }
+    ensures none_costed { IfOk result (λ c. IfNone c ((o : Told) (form : TraceForm) → IsCost (map string_bytes words.now) o form → ⊥)) }
     ensures none_made { IfOk result (λ c. IfNone c ((o : Told) (number count : ℕ)
         → IsGen (map string_bytes words.now) o number count → ⊥)) }
     ensures none_swept { IfOk result (λ c. IfNone c ((o : Told) (outcome : Outcome) → IsSweep (map string_bytes words.now) o outcome → ⊥)) }
@@ -101,6 +112,9 @@ pub fn command_of(alloc: Global, words: &[String]) -> Result<Option<Command>, Al
     }
     if first.as_str() == "inspect" {
         return inspect_command(alloc, others);
+    }
+    if first.as_str() == "cost" {
+        return cost_command(alloc, others);
     }
     if first.as_str() == "sweep" {
         return sweep_command(alloc, others);
@@ -123,10 +137,15 @@ fn run_of(alloc: Global, others: &[String]) -> Result<Option<(Mode, Options)>, A
     Ok(Some(said))
 }
 
-/// The command that `replay` and these words after it say, or None where they are none.
-fn replay_command(alloc: Global, others: &[String]) -> Result<Option<Command>, AllocError>
-    ensures command { IfOk result (λ c. IfSome c (AreWordsOf (codes "replay" ∷ map string_bytes others.now))) }
-    ensures none { IfOk result (λ c. IfNone c ((o : Told) → IsCommand (codes "replay" ∷ map string_bytes others.now) o → ⊥)) }
+/// The mode, the options and the form that these words after the word of a command say, or None if they say none.
+fn read_of(
+    alloc: Global,
+    others: &[String],
+) -> Result<Option<(Mode, Options, TraceForm)>, AllocError>
+    ensures some { IfOk result (λ it. IfSome it (λ it. (word : Text)
+        → IsReadOf word (word ∷ map string_bytes others.now) (told_for it.0 it.1) it.2)) }
+    ensures none { IfOk result (λ it. IfNone it ((word : Text) (o : Told) (form : TraceForm)
+        → IsReadOf word (word ∷ map string_bytes others.now) o form → ⊥)) }
 {
     let Some(matches) = replay_options(alloc, others)? else {
         return Ok(None);
@@ -137,11 +156,38 @@ fn replay_command(alloc: Global, others: &[String]) -> Result<Option<Command>, A
     let Some(form) = form_of(&matches) else {
         return Ok(None);
     };
-    Ok(Some(Command::Replay {
-        mode,
-        options,
-        form,
-    }))
+    Ok(Some((mode, options, form)))
+}
+
+/// The command that `replay` and these words after it say, or None where they are none.
+fn replay_command(alloc: Global, others: &[String]) -> Result<Option<Command>, AllocError>
+    ensures command { IfOk result (λ c. IfSome c (AreWordsOf (codes "replay" ∷ map string_bytes others.now))) }
+    ensures none { IfOk result (λ c. IfNone c ((o : Told) → IsCommand (codes "replay" ∷ map string_bytes others.now) o → ⊥)) }
+{
+    match read_of(alloc, others)? {
+        Some((mode, options, form)) => Ok(Some(Command::Replay {
+            mode,
+            options,
+            form,
+        })),
+        None => Ok(None),
+    }
+}
+
+/// The command that `cost` and these words after it say, or None if they are none.
+fn cost_command(alloc: Global, others: &[String]) -> Result<Option<Command>, AllocError>
+    ensures command { IfOk result (λ c. IfSome c (AreWordsOf (codes "cost" ∷ map string_bytes others.now))) }
+    ensures none { IfOk result (λ c. IfNone c ((o : Told) (form : TraceForm)
+        → IsCost (codes "cost" ∷ map string_bytes others.now) o form → ⊥)) }
+{
+    match read_of(alloc, others)? {
+        Some((mode, options, form)) => Ok(Some(Command::Cost {
+            mode,
+            options,
+            form,
+        })),
+        None => Ok(None),
+    }
 }
 
 /// The command that `inspect` and these words after it say, or None where they are none.

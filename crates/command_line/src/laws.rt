@@ -2,13 +2,21 @@ ghost use Rattle.std.specs.Prelude.{◌≡◌, ℕ, List};
 ghost use Rattle.ft_base.specs.Told.{Told};
 ghost use Rattle.ft_base.specs.declared.power.Outcome.{Outcome};
 ghost use Rattle.command_line.specs.declared.command.TraceForm.{TraceForm};
-ghost use Rattle.command_line.specs.Command.{IsCommand, IsGen, IsInspect, IsReplay, IsSweep, Text};
+ghost use Rattle.command_line.specs.Command.{IsCommand, IsCost, IsGen, IsInspect, IsReplay, IsSweep, Text};
 
 /// No words say two things: of two commands that they would say, the word and all values are the same.
 pub fn command_law()
     ensures replay { (words : List Text) (o other : Told) → IsCommand words o → IsCommand words other → o ≡ other }
     ensures form { (words : List Text) (o other : Told) (form form_too : TraceForm) → IsReplay words o form
         → IsReplay words other form_too → form ≡ form_too }
+    ensures costed { (words : List Text) (o other : Told) (form form_too : TraceForm) → IsCost words o form
+        → IsCost words other form_too → (o ≡ other) × (form ≡ form_too) }
+    ensures costed_apart { (words : List Text) (o other : Told) (form : TraceForm) → IsCost words o form → IsCommand words other → ⊥ }
+    ensures costed_inspected { (words : List Text) (o other : Told) (form : TraceForm) → IsCost words o form → IsInspect words other → ⊥ }
+    ensures costed_made { (words : List Text) (o other : Told) (form : TraceForm) (number count : ℕ) → IsCost words o form
+        → IsGen words other number count → ⊥ }
+    ensures costed_swept { (words : List Text) (o other : Told) (form : TraceForm) (outcome : Outcome) → IsCost words o form
+        → IsSweep words other outcome → ⊥ }
     ensures made { (words : List Text) (o other : Told) (number number_too count count_too : ℕ) → IsGen words o number count
         → IsGen words other number_too count_too
         → (o ≡ other) × (number ≡ number_too) × (count ≡ count_too) }

@@ -1,10 +1,11 @@
 -- How a command ends.
 use Rattle.std.specs.Prelude.{◌≡◌, ◌⊎◌, ℕ, Bool, List, Result, ⊤}
 use Rattle.cache_model.specs.Stands.{ImageStandsFor}
+use Rattle.cache_run.specs.Costed.{EndsCosted}
 use Rattle.cache_run.specs.Fitted.{fitted_for}
 use Rattle.cache_run.specs.Inspected.{EndsInspected, LoadsAs}
 use Rattle.command_line.specs.declared.command.Command.{Command}
-use Rattle.command_line.specs.declared.command.Command.TheVariants.{Replay, Gen, Inspect, Sweep}
+use Rattle.command_line.specs.declared.command.Command.TheVariants.{Replay, Cost, Gen, Inspect, Sweep}
 use Rattle.command_line.specs.declared.command.TraceForm.{TraceForm}
 use Rattle.command_line.specs.declared.command.TraceForm.TheVariants.{Lines, Msr}
 use Rattle.ft_base.specs.StreamState.{SinkState, SourceState}
@@ -25,12 +26,14 @@ abbrev pub ReadsIn : TraceForm → ℕ → SourceState → SourceState → ℕ �
 ReadsIn Lines size a b = Reads size a b
 ReadsIn Msr size a b = ReadsMsr size a b
 
--- a command ended so: over its volume, a trace that was read, with each answer printed; a made trace, with its end line
+-- a command ended so: over its volume, a trace that was read, with each answer printed, or with what it cost; a made trace, with its end line
 -- alone; a trace that was read, with a report of what is in the cache; or a sweep of a trace, over a volume for each run
 module _ (a b : SourceState) (x y : SinkState) (old now : State) where
   abbrev pub EndsCommand : Command → Result (Unit {0}) Ended → Type 0
   EndsCommand (Replay mode options form) end = EndsAs (told_for mode options) (ReadsIn form options.geometry.size a b) (Tells x y)
       (TellsPart x y) (ImageStandsFor options.geometry) (fitted_for options.geometry old) now end
+  EndsCommand (Cost mode options form) end = EndsCosted (told_for mode options) (ReadsIn form options.geometry.size a b) x y
+      (ImageStandsFor options.geometry) old now end
   EndsCommand (Gen mode options number count) end = EndsAs (told_for mode options) (Gives (made_trace number count options.geometry))
       (TellsEnd x y) (TellsEndPart x y) (ImageStandsFor options.geometry) (fitted_for options.geometry old) now end
   EndsCommand (Inspect mode options) end = EndsInspected (told_for mode options) (Reads options.geometry.size a b)

@@ -2,15 +2,20 @@
 use Rattle.std.specs.Prelude.{◌≡◌, ◌⊎◌, ℕ, List}
 use Rattle.ft_base.specs.Told.{Told}
 use Rattle.ft_base.specs.declared.power.Outcome.{Outcome}
-use Rattle.command_line.specs.Command.{IsCommand, IsGen, IsInspect, IsSweep, Text}
+use Rattle.command_line.specs.Command.{IsCommand, IsCost, IsGen, IsInspect, IsSweep, Text}
+use Rattle.command_line.specs.declared.command.TraceForm.{TraceForm}
 
 -- the words are a sweep of a trace, whatever a power cut leaves in it
 abbrev pub IsAnySweep : List Text → Told → Type 0
 IsAnySweep words o = (outcome : Outcome) × IsSweep words o outcome
 
--- the words are a command that reads a trace: to run it, to tell what it leaves in the cache, or to sweep it
+-- the words ask for the cost of a trace, whatever the form of its lines
+abbrev pub IsAnyCost : List Text → Told → Type 0
+IsAnyCost words o = (form : TraceForm) × IsCost words o form
+
+-- the words are a command that reads a trace: to run it, to tell what it leaves in the cache or what it cost, or to sweep it
 abbrev pub ReadsTrace : List Text → Told → Type 0
-ReadsTrace words o = IsCommand words o ⊎ (IsInspect words o ⊎ IsAnySweep words o)
+ReadsTrace words o = IsCommand words o ⊎ (IsInspect words o ⊎ (IsAnySweep words o ⊎ IsAnyCost words o))
 
 -- the words are a command: over a trace that is read or a made one
 abbrev pub AreCommand : List Text → Type 0

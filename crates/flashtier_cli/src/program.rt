@@ -13,7 +13,7 @@ ghost use Rattle.flashtier_cli.specs.Ends.{EndsCommand, IsOverOne, IsUntouched};
 ghost use Rattle.flashtier_cli.specs.Status.{RunsEveryLine, StatusHasCause};
 ghost use Rattle.flashtier_cli.specs.Words.{IsAnySweep, ReadsTrace, RefusesWords};
 
-use crate::spelled::replay_spelled;
+use crate::spelled::{cost_spelled, replay_spelled};
 use cache_run::{gen_with, inspect_with, status_of};
 use command_line::{Command, command_of};
 use ft_base::{Sink, Source};
@@ -23,7 +23,7 @@ use trace_sweep::sweep_with;
 
 /// Runs the command that the words say, and answers its status.
 ///
-/// The words are those after the program's name: `replay`, `gen`, `inspect` or `sweep`, and after it options, in
+/// The words are those after the program's name: `replay`, `gen`, `inspect`, `cost` or `sweep`, and after it options, in
 /// any order and each at most once, as `--name value` or `--name=value`.
 ///
 /// | Option | Says | Range | Default |
@@ -35,7 +35,7 @@ use trace_sweep::sweep_with;
 /// | `--journal` | erase blocks of a log region | 1 to 16 | 2 |
 /// | `--size` | blocks of the volume | 1 to 2^40 | 1,048,576 |
 /// | `--dirty` | groups that an idle step leaves dirty | 1 to the data blocks | half of these, rounded up |
-/// | `--form`, of `replay` alone | form of the trace's lines: `lines`, or `msr` for those of MSR Cambridge | | `lines` |
+/// | `--form`, of `replay` and `cost` alone | form of the trace's lines: `lines`, or `msr` for those of MSR Cambridge | | `lines` |
 /// | `--number`, of `gen` alone | which made trace | 0 to 2^64 - 1 | 1 |
 /// | `--count`, of `gen` alone | lines of the made trace | 1 to 1,000,000 | 20,000 |
 /// | `--outcome`, of `sweep` alone | what a power cut leaves: `blank`, `whole`, `torn` or `mixed` | | `torn` |
@@ -52,6 +52,11 @@ use trace_sweep::sweep_with;
 /// `held H`, the addresses that the cache has; `dirty groups D`, the groups with one that the disk lacks;
 /// `buckets B`, those of the map of page-mapped addresses; and `scrubbed S`, the pages that were read.
 ///
+/// With `cost` it runs a trace as `replay` does, but prints of its answers a refusal alone, and reads no address at the
+/// end. Then it prints eight lines: `blocks written W` and `blocks read R`, those of the lines; `flash programs N`,
+/// `flash erases N`, `disk reads N`, `disk writes N` and `disk flushes N`, what the devices did from the end of the
+/// volume's creation to the end of the last line; and `power cuts N`.
+///
 /// With `sweep` it reads a trace of at most 4,096 bytes and 256 blocks, in which no line cuts power. It runs the trace
 /// once without printing, and counts its device writes. Then it runs it once for each of these, over a new volume,
 /// with power cut there and in the second device write after it. For each of these runs it prints `at K` and what
@@ -65,7 +70,7 @@ use trace_sweep::sweep_with;
 /// | 3 | the source failed, after the lines that ended before were run, or before any was with `sweep`; not with `gen` |
 /// | 4 | the sink failed; what it took is a front of the text |
 /// | 5, 6 | the flash, the disk failed |
-/// | 7 | memory was refused, also that in which the words are read |
+/// | 7 | memory was refused, also that in which the words are read; with `cost` also if a number to be printed is above 2^64 - 1 |
 pub fn run<I: Source, O: Sink, R: Rig>(
     alloc: Global,
     words: &[String],
@@ -117,6 +122,11 @@ pub fn run<I: Source, O: Sink, R: Rig>(
             options,
             form,
         } => status_of(replay_spelled(alloc, mode, &options, form, source, sink, rig)),
+        Command::Cost {
+            mode,
+            options,
+            form,
+        } => status_of(cost_spelled(alloc, mode, &options, form, source, sink, rig)),
         Command::Gen {
             mode,
             options,

@@ -8,17 +8,18 @@ ghost use Rattle.trace_replay.specs.Lent.{KeepsLent};
 ghost use Rattle.trace_replay.specs.Said.{Tells, TellsPart};
 ghost use Rattle.trace_replay.specs.Theorem.{EndsAs};
 ghost use Rattle.cache_run.specs.Begun.{IsUnbegun};
+ghost use Rattle.cache_run.specs.Costed.{EndsCosted};
 ghost use Rattle.cache_run.specs.Fitted.{fitted_for};
 ghost use Rattle.flashtier_cli.specs.Ends.{ReadsIn};
 
-use cache_run::{replay_form_with, replay_with};
+use cache_run::{cost_with, replay_form_with, replay_with};
 use command_line::TraceForm;
 use ft_base::{Sink, Source};
 use ft_media::{Media, Rig};
 use ft_volume::{Mode, Options};
 use msr_trace::MsrForm;
 use std::alloc::Global;
-use trace_replay::Ended;
+use trace_replay::{Ended, TextForm};
 
 /// Runs a trace whose lines are in this form over a new volume, and prints what each request answered.
 pub(crate) fn replay_spelled<I: Source, O: Sink, R: Rig>(
@@ -47,5 +48,34 @@ pub(crate) fn replay_spelled<I: Source, O: Sink, R: Rig>(
         TraceForm::Msr => {
             replay_form_with::<MsrForm, I, O, R>(alloc, mode, options, source, sink, rig)
         }
+    }
+}
+
+/// Runs a trace whose lines are in this form over a new volume, and prints what it cost.
+pub(crate) fn cost_spelled<I: Source, O: Sink, R: Rig>(
+    alloc: Global,
+    mode: Mode,
+    options: &Options,
+    form: TraceForm,
+    source: &mut I,
+    sink: &mut O,
+    rig: &mut R,
+) -> Result<(), Ended>
+    // It ended before the volume was made, or as a run over it of which the cost is told.
+    ensures ends { IsUnbegun result source.old source.new sink.old sink.new (R.state rig.old) (R.state rig.new)
+        ⊎ EndsCosted (told_for mode options.now) (ReadsIn form options.now.geometry.size (I.state source.old) (I.state source.new))
+        (O.state sink.old) (O.state sink.new) (ImageStandsFor options.now.geometry) (R.state rig.old) (R.state rig.new) result }
+    ensures end { OnOk result (IsAtEnd (I.state source.new).left) }
+    ensures causes { EndHasCause result (I.state source.old) (I.state source.new) (O.state sink.old) (O.state sink.new) (R.state rig.old)
+        (R.state rig.new) }
+    ensures on { (IsErrOf result Ended.Memory → ⊥) → (R.state rig.new).power.on ≡ true }
+    ensures lent { KeepsLent (I.state source.old) (I.state source.new) (O.state sink.old) (O.state sink.new) (R.state rig.old)
+        (R.state rig.new) }
+{
+    match form {
+        TraceForm::Lines => {
+            cost_with::<TextForm, I, O, R>(alloc, mode, options, source, sink, rig)
+        }
+        TraceForm::Msr => cost_with::<MsrForm, I, O, R>(alloc, mode, options, source, sink, rig),
     }
 }

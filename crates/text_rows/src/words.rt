@@ -204,7 +204,7 @@ fn what_a_cut_leaves_is_one_word_and_of_a_sweep_alone(rt: HostRuntime) -> Result
     Ok(())
 }
 
-const NO_FORMS: [&str; 12] = [
+const NO_FORMS: [&str; 14] = [
     "replay --form",
     "replay --form=",
     "replay --form text",
@@ -214,6 +214,8 @@ const NO_FORMS: [&str; 12] = [
     "replay --form msr lines",
     "replay --form msr --form=msr",
     "replay --forms msr",
+    "cost --form",
+    "cost --number 1",
     "gen --form lines",
     "inspect --form=msr",
     "sweep --form msr",
@@ -246,6 +248,8 @@ enum Kind {
     Replay,
     /// Of a trace in the form of MSR Cambridge.
     ReplayMsr,
+    /// What a trace in this form costs.
+    Cost(TraceForm),
     Inspect,
     /// A made trace of this number, and how many lines it has.
     Gen(u64, u64),
@@ -268,6 +272,11 @@ fn says(command: Command, kind: Kind, mode: Mode, numbers: [u64; 6]) -> bool {
             options,
             form: TraceForm::Msr,
         } => (Kind::ReplayMsr, mode, options),
+        Command::Cost {
+            mode,
+            options,
+            form,
+        } => (Kind::Cost(form), mode, options),
         Command::Inspect { mode, options } => (Kind::Inspect, mode, options),
         Command::Gen {
             mode,
@@ -317,10 +326,17 @@ fn an_inspection_has_the_options_of_a_replay(rt: HostRuntime) -> Result<(), Fail
     Ok(())
 }
 
-const FORMS: [Row; 4] = [
+const FORMS: [Row; 6] = [
     ("replay --form lines", Kind::Replay, Mode::Back, NUMBERS),
     ("replay --form msr", Kind::ReplayMsr, Mode::Back, NUMBERS),
     ("replay --form=msr", Kind::ReplayMsr, Mode::Back, NUMBERS),
+    ("cost", Kind::Cost(TraceForm::Lines), Mode::Back, NUMBERS),
+    (
+        "cost --form msr",
+        Kind::Cost(TraceForm::Msr),
+        Mode::Back,
+        NUMBERS,
+    ),
     (
         "replay --mode=through --pages 4 --form msr --data=2 --log 2 --journal=1 --size 64 --dirty=1",
         Kind::ReplayMsr,

@@ -27,6 +27,7 @@ use Rattle.trace_model.proofs.RunLemmas.{disk_line, disk_without-none}
 use Rattle.trace_replay.specs.declared.ended.Ended.{Ended}
 use Rattle.trace_replay.specs.declared.ended.Ended.TheVariants as ended
 use Rattle.trace_replay.specs.declared.tally.Tally.{Tally}
+use Rattle.trace_replay.specs.Asked.{RunsLines}
 use Rattle.trace_replay.specs.Ends.{BreaksThrough, CanBecome, EndsEnd, EndsWithin, SaysThrough, StandForPart}
 use Rattle.trace_replay.specs.Events.{Breaks, BreaksBy, BreaksNext, CameBy, Event, KnowsGiven, KnowsLines, NextRefused, NextSaid, Says, ScriptState, events_of, lines_given, refusal_after, refused_for, taking}
 use Rattle.trace_replay.specs.Events.Event.{Gave, Took}
@@ -34,7 +35,7 @@ use Rattle.trace_replay.specs.Ran.{RanSoFar}
 use Rattle.trace_replay.specs.Said.{Cuts, RoseAtLeast, Takes, TellsStops}
 use Rattle.trace_replay.specs.Spends.{IsQuiet, SpendsAtMost, Spent, fresh, steps_after, steps_of, touches_each}
 use Rattle.trace_replay.specs.Theorem.{EndsEarly, EndsPart, EndsRefused, EndsUnread, LeavesLines, LeavesRig, RunsWhole, StandForNext}
-use Rattle.trace_replay.proofs.BacksLemmas.{end_reads_few, end_writes_back, end_writes_none, reads_few, writes_none}
+use Rattle.trace_replay.proofs.BacksLemmas.{end_reads_few, end_writes_back, end_writes_none, lines_read_no_more, lines_write_back, reads_few, writes_none}
 use Rattle.trace_replay.proofs.CutsLemmas.{counts_none, counts_then}
 use Rattle.trace_replay.proofs.FromLemmas.{takes_from}
 use Rattle.trace_replay.proofs.GivenLemmas.{answers_in-taking, given_left, lines_given-next, lines_given-run, next_left, told_bytes-run}
@@ -302,6 +303,22 @@ module _ (o : Told) (stands : Image → PlainDisk → Type 0) (first a : State) 
       printed = ([], refl, now);
       leaves = leaves_lines [];
     }
+
+    -- every line was run, and nothing was done behind the last one
+    pub ends_all : KnowsLines knows s y (events_of run) true → came s b (events_of run) y → (runs : RunsLines o (knows s y) (CameBy came s b y) stands first a) × came s b (events_of runs.run) y
+    ends_all known now = (
+      record {
+        all = map accepted (lines_given (events_of run));
+        run = run;
+        trace = subst (λ n. knows s y n (map accepted (lines_given (events_of run))) true) given_here known;
+        lines = lines_left _ [] (all_given _ refl);
+        printed = ([], refl, subst (λ (r : List Event). came s b r y) (sym (append-nil (events_of run))) now);
+        leaves = leaves_lines [];
+        backs = lines_write_back o run first a v so_far.spent;
+        reads_no_more = lines_read_no_more o run first a v so_far.spent;
+      },
+      now,
+    )
 
     -- the sink failed while a refusal was said
     pub ends_sink : (armed : ℕ) (cause : LineError) → armed ≡ length a.power.stops → NextRefused knows s y (events_of run) armed cause

@@ -1,5 +1,5 @@
 use Rattle.std.proofs.Common.{codes}
-use Rattle.command_line.proofs.ValueLemmas.{apart, inspected_apart, inspected_made, same_command, same_gen, same_replayed, same_spelling, same_sweep, swept_apart, swept_inspected, swept_made}
+use Rattle.command_line.proofs.ValueLemmas.{apart, costed_apart, costed_inspected, costed_made, costed_swept, inspected_apart, inspected_made, same_command, same_gen, same_read, same_replayed, same_spelling, same_sweep, swept_apart, swept_inspected, swept_made}
 use Rattle.command_line.proofs.laws.command_law.Goals as goal
 
 pub returns-clause-replay : goal.returns-clause-replay
@@ -7,6 +7,21 @@ returns-clause-replay c = same_replayed
 
 pub returns-clause-form : goal.returns-clause-form
 returns-clause-form c = same_spelling
+
+pub returns-clause-costed : goal.returns-clause-costed
+returns-clause-costed c = same_read (codes "cost")
+
+pub returns-clause-costed_apart : goal.returns-clause-costed_apart
+returns-clause-costed_apart c = costed_apart
+
+pub returns-clause-costed_inspected : goal.returns-clause-costed_inspected
+returns-clause-costed_inspected c = costed_inspected
+
+pub returns-clause-costed_made : goal.returns-clause-costed_made
+returns-clause-costed_made c = costed_made
+
+pub returns-clause-costed_swept : goal.returns-clause-costed_swept
+returns-clause-costed_swept c = costed_swept
 
 pub returns-clause-made : goal.returns-clause-made
 returns-clause-made c = λ words o other number number_too count count_too. same_gen words o other number number_too count count_too

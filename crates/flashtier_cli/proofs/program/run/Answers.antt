@@ -1,10 +1,10 @@
 use Rattle.std.proofs.Common.{◌⊎◌, inl, inr, refl, sym, subst, ◌∙◌}
-use Rattle.command_line.proofs.ValueLemmas.{apart, inspected_made, swept_made}
+use Rattle.command_line.proofs.ValueLemmas.{apart, costed_made, inspected_made, swept_made}
 use Rattle.command_line.specs.declared.command.Command.{Command}
 use Rattle.cache_run.specs.Begun.{IsUnbegun}
 use Rattle.flashtier_cli.specs.Ends.{EndsCommand, IsOverOne}
 use Rattle.flashtier_cli.proofs.StatusLemmas.{at_ok, not_one, runs_made, runs_read, spoken, status_cause, status_untraced, unbegun_source, unless_memory}
-use Rattle.flashtier_cli.proofs.WordsLemmas.{no_words, not_made, says_inspected, says_made, says_read, says_swept, words_refused, words_run}
+use Rattle.flashtier_cli.proofs.WordsLemmas.{no_words, not_made, says_costed, says_inspected, says_made, says_read, says_swept, words_refused, words_run}
 use Rattle.flashtier_cli.proofs.program.run.Goals as goal
 
 -- ---- words that are no command
@@ -13,11 +13,11 @@ pub returns-in_default-command-clause-ends : goal.returns-in_default-command-cla
 returns-in_default-command-clause-ends g c = inr (record { answer = inl refl; source = refl; sink = refl; rig = refl })
 
 pub returns-in_default-command-clause-words : goal.returns-in_default-command-clause-words
-returns-in_default-command-clause-words g c = words_refused _ _ _ _ (no_words _ _ c.in_default-command.is c.in-Ok.ensures.none c.in-Ok.ensures.none_made c.in-Ok.ensures.none_inspected c.in-Ok.ensures.none_swept)
+returns-in_default-command-clause-words g c = words_refused _ _ _ _ (no_words _ _ c.in_default-command.is c.in-Ok.ensures.none c.in-Ok.ensures.none_made c.in-Ok.ensures.none_inspected c.in-Ok.ensures.none_swept c.in-Ok.ensures.none_costed)
 
 pub returns-in_default-command-clause-complete : goal.returns-in_default-command-clause-complete
 returns-in_default-command-clause-complete g c =
-    let none = no_words _ _ c.in_default-command.is c.in-Ok.ensures.none c.in-Ok.ensures.none_made c.in-Ok.ensures.none_inspected c.in-Ok.ensures.none_swept in
+    let none = no_words _ _ c.in_default-command.is c.in-Ok.ensures.none c.in-Ok.ensures.none_made c.in-Ok.ensures.none_inspected c.in-Ok.ensures.none_swept c.in-Ok.ensures.none_costed in
     record {
       complete = λ o says source sink flash disk. absurd (none (inl (o, says)));
       complete_made = λ o number count says sink flash disk. absurd (none (inr (o, number, count, says)));
@@ -94,6 +94,29 @@ returns-in-Inspect-clause-causes g c = status_cause c.inspect_with.result _ c.st
 pub returns-in-Inspect-clause-complete : goal.returns-in-Inspect-clause-complete
 returns-in-Inspect-clause-complete g c = runs_read _ c.inspect_with.result _ c.status_of-in-Inspect.ensures _ _ _ _ _ _ (not_made _ _ (inr (inl (says_inspected _ _ _ _ _ c.in-Some.is c.in-Inspect.is c.in-Ok.ensures.command)))) c.inspect_with.ensures.causes
 
+-- ---- a trace of which the cost is told
+
+pub returns-in-Cost-clause-ends : goal.returns-in-Cost-clause-ends
+returns-in-Cost-clause-ends g c = inl (_, c.cost_spelled.result, spoken _ _ _ c.in-Some.is c.in-Ok.ensures.command, c.status_of-in-Cost.ensures, subst (λ (k : Command). (IsOverOne k × IsUnbegun c.cost_spelled.result c.args.source.now c.cost_spelled.new.source c.args.sink.now c.cost_spelled.new.sink (g.R.Media.state c.args.rig.now) (g.R.Media.state c.cost_spelled.new.rig)) ⊎ EndsCommand (g.I.Source.state c.args.source.now) (g.I.Source.state c.cost_spelled.new.source) (g.O.Sink.state c.args.sink.now) (g.O.Sink.state c.cost_spelled.new.sink) (g.R.Media.state c.args.rig.now) (g.R.Media.state c.cost_spelled.new.rig) k c.cost_spelled.result) (sym c.in-Cost.is) (elim c.cost_spelled.ensures.ends [ inl none ↦ inl (tt, none) | inr ends ↦ inr ends ]))
+
+pub returns-in-Cost-clause-unused : goal.returns-in-Cost-clause-unused
+returns-in-Cost-clause-unused g c = λ o number count made. absurd (costed_made _ _ _ _ _ _ (says_costed _ _ _ _ _ _ c.in-Some.is c.in-Cost.is c.in-Ok.ensures.command) made)
+
+pub returns-in-Cost-clause-on : goal.returns-in-Cost-clause-on
+returns-in-Cost-clause-on g c = λ other memory. inl (unless_memory c.cost_spelled.result _ c.status_of-in-Cost.ensures c.cost_spelled.ensures.on memory)
+
+pub returns-in-Cost-clause-words : goal.returns-in-Cost-clause-words
+returns-in-Cost-clause-words g c = words_run _ _ _ _ _ _ _ _ (inl (_, inr (inr (inr (_, says_costed _ _ _ _ _ _ c.in-Some.is c.in-Cost.is c.in-Ok.ensures.command))))) (not_one c.cost_spelled.result _ c.status_of-in-Cost.ensures)
+
+pub returns-in-Cost-clause-end : goal.returns-in-Cost-clause-end
+returns-in-Cost-clause-end g c = λ is o reads. at_ok c.cost_spelled.result c.cost_spelled.ensures.end (sym c.status_of-in-Cost.ensures ∙ is)
+
+pub returns-in-Cost-clause-causes : goal.returns-in-Cost-clause-causes
+returns-in-Cost-clause-causes g c = status_cause c.cost_spelled.result _ c.status_of-in-Cost.ensures _ _ _ _ _ _ c.cost_spelled.ensures.causes
+
+pub returns-in-Cost-clause-complete : goal.returns-in-Cost-clause-complete
+returns-in-Cost-clause-complete g c = runs_read _ c.cost_spelled.result _ c.status_of-in-Cost.ensures _ _ _ _ _ _ (not_made _ _ (inr (inr (inr (_, says_costed _ _ _ _ _ _ c.in-Some.is c.in-Cost.is c.in-Ok.ensures.command))))) c.cost_spelled.ensures.causes
+
 -- ---- a trace that is swept
 
 pub returns-in-Sweep-clause-ends : goal.returns-in-Sweep-clause-ends
@@ -109,7 +132,7 @@ returns-in-Sweep-clause-on g c = λ other memory. elim (unless_memory c.sweep_wi
 ]
 
 pub returns-in-Sweep-clause-words : goal.returns-in-Sweep-clause-words
-returns-in-Sweep-clause-words g c = words_run _ _ _ _ _ _ _ _ (inl (_, inr (inr (_, says_swept _ _ _ _ _ _ c.in-Some.is c.in-Sweep.is c.in-Ok.ensures.command)))) (not_one c.sweep_with.result _ c.status_of-in-Sweep.ensures)
+returns-in-Sweep-clause-words g c = words_run _ _ _ _ _ _ _ _ (inl (_, inr (inr (inl (_, says_swept _ _ _ _ _ _ c.in-Some.is c.in-Sweep.is c.in-Ok.ensures.command))))) (not_one c.sweep_with.result _ c.status_of-in-Sweep.ensures)
 
 pub returns-in-Sweep-clause-end : goal.returns-in-Sweep-clause-end
 returns-in-Sweep-clause-end g c = λ is o reads. at_ok c.sweep_with.result c.sweep_with.ensures.end (sym c.status_of-in-Sweep.ensures ∙ is)
@@ -118,4 +141,4 @@ pub returns-in-Sweep-clause-causes : goal.returns-in-Sweep-clause-causes
 returns-in-Sweep-clause-causes g c = status_cause c.sweep_with.result _ c.status_of-in-Sweep.ensures _ _ _ _ _ _ c.sweep_with.ensures.causes
 
 pub returns-in-Sweep-clause-complete : goal.returns-in-Sweep-clause-complete
-returns-in-Sweep-clause-complete g c = runs_read _ c.sweep_with.result _ c.status_of-in-Sweep.ensures _ _ _ _ _ _ (not_made _ _ (inr (inr (_, says_swept _ _ _ _ _ _ c.in-Some.is c.in-Sweep.is c.in-Ok.ensures.command)))) c.sweep_with.ensures.causes
+returns-in-Sweep-clause-complete g c = runs_read _ c.sweep_with.result _ c.status_of-in-Sweep.ensures _ _ _ _ _ _ (not_made _ _ (inr (inr (inl (_, says_swept _ _ _ _ _ _ c.in-Some.is c.in-Sweep.is c.in-Ok.ensures.command))))) c.sweep_with.ensures.causes
