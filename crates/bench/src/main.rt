@@ -1,13 +1,13 @@
-//! Measures the program and parts of it, and prints what it found as a table. Without words it prints one
-//! fixed line; the first word names what is measured. After `run` come the options of a made trace, as the
-//! program's own word `gen` takes them; after `sweep` and `form` those that `replay` takes.
+//! Measures the program and parts of it, and prints its findings as a table. Without words it prints one fixed line.
+//! The first word names the measurement. After `run` come the options of a made trace, as the program's own word
+//! `gen` takes them. After `sweep` and `form` come the options that `replay` takes.
 //!
 //! | Status | When |
 //! |---|---|
-//! | 0 | it was measured and printed, or there was no word |
+//! | 0 | the measurement was made and printed, or there was no word |
 //! | 1 | the words are none of these; a line says which there are |
 //! | 2 | memory, the clock or the output failed, a word can't be read, a map lost a key, the floor a page, or a run has no end line |
-//! | another, or 1 | a run ended with it, as one does whose options are none of its word; a line says so |
+//! | another, or 1 | a run ended with it, as one does if its options are none of its word; a line says so |
 #![tactic(auto)]
 
 mod words;
@@ -26,7 +26,7 @@ fn words_of(rt: &(impl Env + AllocGlobal)) -> io::Result<Vec<String>> {
     Ok(words)
 }
 
-/// Does what the words ask for, and answers the status.
+/// Makes the measurement that the words name, and answers the status.
 fn run(rt: &(impl Env + AllocGlobal + Clock + Files + Print + Eprint)) -> io::Result<u8> {
     let words = words_of(rt)?;
     match task_of(words.as_slice()) {

@@ -2,7 +2,7 @@ ghost use Rattle.std.specs.Prelude.{◌≡◌, ◌↔◌, [], ◌∷◌, Some, d
 ghost use Rattle.std.specs.String.{string_bytes};
 ghost use Rattle.bench.specs.declared.words.Task.TheVariants as task;
 
-/// What the words ask for.
+/// The task that the words name.
 #[derive(Clone, Copy, Debug, PartialEq, Eq)]
 pub(crate) enum Task {
     /// No word: a line that says which words there are.
@@ -17,7 +17,7 @@ pub(crate) enum Task {
     Form,
 }
 
-/// What the words ask for, and `None` where they are none of these.
+/// The task that the words name, or `None` if they name none.
 pub(crate) fn task_of(words: &[String]) -> Option<Task>
     ensures hint { (result ≡ Some task.Hint) ↔ (words.now ≡ []) }
     ensures map { (result ≡ Some task.Map) ↔ (map string_bytes words.now ≡ codes "map" ∷ []) }
@@ -43,7 +43,7 @@ pub(crate) fn task_of(words: &[String]) -> Option<Task>
     None
 }
 
-/// The words after the first.
+/// The words after the first word.
 pub(crate) fn after_first(words: &[String]) -> &[String]
     ensures { result.now ≡ drop 1 words.now }
 {

@@ -1,17 +1,17 @@
-//! A clock of which each reading is known.
+//! A clock whose readings are all known.
 use std::cell::Cell;
 use std::io;
 use std::rt::Clock;
 use std::time::Duration;
 
-/// A clock that goes on by one millisecond more with each reading: 0, 1, 3, 6 and so on.
+/// A clock that goes on by one more millisecond with each reading: 0, 1, 3, 6 and so on.
 #[derive(Drop)]
 pub(crate) struct Slowing {
     readings: Cell<u64>,
 }
 
 impl Slowing {
-    /// One that was read so many times.
+    /// A clock that was read this many times.
     pub(crate) fn after(readings: u64) -> Slowing {
         Slowing {
             readings: Cell::new(readings),

@@ -1,6 +1,7 @@
-//! Worked examples of what measures: each map and its row, a run of the whole program and its row, and the floor.
+//! Worked examples of the measuring parts: each map and its row, a run of the whole program and its row, and the
+//! floor.
 //!
-//! No layer stands on this crate; it has tests alone.
+//! No layer stands on this crate; it has only tests.
 #![tactic(auto)]
 
 #[cfg(test)]

@@ -1,4 +1,4 @@
-//! Each map once, through the trait: a thousand keys, and how large the map is with them; and a row of each table.
+//! Each map once, through the trait: a thousand keys, and the size of the map with them; and a row of each table.
 use crate::clock::Slowing;
 use map_bench::churn::churn_in_turns;
 use map_bench::keys::Keys;
@@ -69,8 +69,9 @@ fn each_round_adds_the_time_of_each_operation(rt: HostRuntime) -> Result<(), Fai
         &keys,
         2,
     )?;
-    // The second of two readings comes 1, 3 and 5 milliseconds after the first in the first map's first round, then 7, 9
-    // and 11 in the second map's, and in their next rounds 13, 15 and 17, and 19, 21 and 23.
+    // Between the two readings of a measurement there are 1, 3 and 5 milliseconds in the first round of the first
+    // map. In the first round of the second map there are 7, 9 and 11. In the next rounds there are 13, 15 and 17,
+    // and 19, 21 and 23.
     let sparse = Times {
         insertions: Duration::from_millis(14),
         lookups: Duration::from_millis(18),

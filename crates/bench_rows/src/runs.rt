@@ -54,7 +54,7 @@ fn a_sweep_is_measured_beside_its_runs(rt: HostRuntime) -> Result<(), Fail> {
     let Ok(swept) = sweep(&rt, words.as_slice())? else {
         return Err(Fail::new("the sweep ended early"));
     };
-    // Two device writes for each of 32 blocks, and the erase of an erase block for the first.
+    // Two device writes for each of 32 blocks, and the erase of an erase block for the first block.
     assert_eq!(rt; swept.runs, 65);
     let swept = Swept {
         runs: 5,
@@ -113,7 +113,7 @@ fn each_column_shows_what_was_measured(rt: HostRuntime) -> Result<(), Fail> {
 fn the_floor_is_timed_from_its_first_copy_on(rt: HostRuntime) -> Result<(), Fail> {
     let clock = Slowing::after(4);
     let time = floor(&(clock, rt.alloc()), 3, 7, 5)?;
-    // Its first reading is the fifth.
+    // The first reading of its clock is the fifth.
     assert_eq!(rt; time, Duration::from_millis(5));
     Ok(())
 }

@@ -9,8 +9,8 @@ const OLD: &str = "kept 0 of 1\nread 0 1\nread 1 1\nread 2 1\nread 3 1\nread 4 0
 
 const NEW: &str = "kept 1 of 1\nread 0 1\nread 1 1\nread 2 1\nread 3 1\nread 4 2\nend 2 1 5 ";
 
-// The second write erases a pool block, programs its page, finds the log without a page left, erases two
-// region blocks, programs a map page, and is cut at the seal: the sixth device write.
+// The second write erases a pool block and programs its page. It finds no page left in the log, erases two region
+// blocks and programs a map page. The seal is the sixth device write, and is cut.
 #[test]
 fn a_seal_that_is_cut_counts_where_it_is_whole(rt: HostRuntime) -> Result<(), Fail> {
     let alloc = rt.alloc();
@@ -26,7 +26,7 @@ fn a_seal_that_is_cut_counts_where_it_is_whole(rt: HostRuntime) -> Result<(), Fa
     Ok(())
 }
 
-// The first stop cuts the erase of a checkpoint region, whose seal stays; the second cuts the same erase in
+// The first stop cuts the erase of a checkpoint region, whose seal stays. The second stop cuts the same erase in
 // recovery, after the flush of the disk.
 #[test]
 fn a_recovery_that_is_cut_loses_nothing(rt: HostRuntime) -> Result<(), Fail> {

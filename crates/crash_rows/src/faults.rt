@@ -8,21 +8,21 @@ use std::alloc::{AllocError, Global};
 use std::process::Abort;
 use std::test::Fail;
 
-/// Writes to three groups, reads of written and of other blocks, a write that is cut, idle steps and a cut.
+/// Writes to three groups, reads of written blocks and of others, a write that is cut, idle steps and a cut.
 const TRACE: &[u8] =
     b"w 0 2 1\nr 0 3\ni\nstop 4 torn\nw 1 2 2\ncut whole\nw 5 1 3\nw 9 1 4\nf\ni\nr 0 6\n";
 
 /// More calls than the trace makes of a device.
 const CALLS: u64 = 150;
 
-/// Which device fails.
+/// The device that fails.
 #[derive(Clone, Copy, PartialEq, Eq)]
 enum Device {
     Flash,
     Disk,
 }
 
-/// The run of which this call of the device fails.
+/// The run in which this call of the device fails.
 fn without_call(
     alloc: Global,
     shape: &Shape,
@@ -39,15 +39,15 @@ fn without_call(
     run_on(alloc, shape, trace, rig)
 }
 
-/// Whether it ended with this status, after the first lines of the whole text.
+/// Whether the run ended with this status, after the first lines of the whole text.
 fn ends_within(outcome: &Outcome, status: u8, whole: &[u8]) -> bool {
     let text = outcome.text.as_slice();
     let in_lines = text.is_empty() || text.ends_with(b"\n");
     outcome.status == status && in_lines && whole.starts_with(text)
 }
 
-/// Lets each call of a device fail in turn: the run ends for it, within its text, or is as without a fault.
-/// Says which is the last call that the run makes.
+/// Lets each call of a device fail in turn. Either the run ends for the fault, within its text, or it is the same as
+/// without a fault. Says which is the last call that the run makes.
 fn fail_each(rt: &impl Abort, alloc: Global, shape: &Shape, device: Device) -> Result<u64, Fail> {
     let whole = run(alloc, shape, TRACE)?;
     assert_eq!(rt; whole.status, 0);
@@ -78,7 +78,7 @@ fn fail_each_of_two(
     Ok(first.min(second))
 }
 
-// One call of the flash is the read of a block for its line, and a later one that for the end line.
+// One call of the flash reads a block for its line, and a later one reads the block for the end line.
 #[test]
 fn each_call_of_the_flash_that_fails_ends_the_run(rt: HostRuntime) -> Result<(), Fail> {
     for through in [false, true] {
@@ -88,8 +88,8 @@ fn each_call_of_the_flash_that_fails_ends_the_run(rt: HostRuntime) -> Result<(),
     Ok(())
 }
 
-// The flush of each of three openings, and the read of a block that the flash doesn't hold; and with each
-// block that is written through a block write and a flush.
+// There is the flush of each of three openings, and the read of a block that the flash doesn't hold. Each block that
+// is written through adds a block write and a flush.
 #[test]
 fn each_call_of_the_disk_that_fails_ends_the_run(rt: HostRuntime) -> Result<(), Fail> {
     for (through, least) in [(false, 3), (true, 15)] {
@@ -99,8 +99,8 @@ fn each_call_of_the_disk_that_fails_ends_the_run(rt: HostRuntime) -> Result<(), 
     Ok(())
 }
 
-/// The last calls of the flash without which a run of a write and a read ends before the read is answered, and
-/// before the end line.
+/// Two calls of the flash, in a run of a write and a read. The first is the last call whose fault ends the run before
+/// the read is answered. The second is the last call whose fault ends it before the end line.
 fn calls_at_reads(alloc: Global, shape: &Shape) -> Result<(u64, u64), Fail> {
     let (mut at_line, mut at_end) = (0, 0);
     for number in 1..=200 {
@@ -115,7 +115,7 @@ fn calls_at_reads(alloc: Global, shape: &Shape) -> Result<(u64, u64), Fail> {
     Ok((at_line, at_end))
 }
 
-// A block that is held is read from its page each time: no copy of it lives beside the media.
+// A held block is read from its page each time: no copy of it lives beside the media.
 #[test]
 fn a_page_is_read_for_each_read(rt: HostRuntime) -> Result<(), Fail> {
     for shape in [back(2, 2), THROUGH] {

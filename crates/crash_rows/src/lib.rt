@@ -1,8 +1,8 @@
-//! Worked examples of the whole program over small traces: many of them at random, with power cuts, over volumes of both
-//! modes; a trace of which each call of flash and disk fails in turn; and sweeps. Each text is the one that the plain
-//! programs compute.
+//! Worked examples of the whole program over small traces. Many of them are random, with power cuts, over volumes of
+//! both modes. In one trace each call of flash and disk fails in turn. The others are sweeps. Each text is the text
+//! that the plain programs compute.
 //!
-//! No layer stands on this crate; it has tests alone.
+//! No layer stands on this crate; it has only tests.
 #![tactic(auto)]
 
 #[cfg(test)]

@@ -1,5 +1,4 @@
-//! Small traces at random, each with stops and cuts, over volumes made at random, whose texts are those of a
-//! plain disk.
+//! Small random traces, each with stops and cuts, over random volumes. Their texts are the texts of a plain disk.
 
 use ft_media::Rig;
 use rand_core::SeedableRng;
@@ -11,10 +10,10 @@ use std::ops::Range;
 use std::process::Abort;
 use std::test::Fail;
 
-/// Words for what a cut leaves.
+/// The words for the outcomes of a cut.
 const OUTCOMES: [&str; 4] = ["blank", "whole", "torn", "mixed"];
 
-/// A line over the first 16 blocks, which are 4 groups: a write or a read of up to 3 blocks, a flush, an idle
+/// A line over the first 16 blocks, which are 4 groups. It is a write or a read of up to 3 blocks, a flush, an idle
 /// step, a stop at one of the next 16 device writes, or a cut.
 fn push_line(
     alloc: Global,

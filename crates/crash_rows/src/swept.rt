@@ -1,4 +1,4 @@
-//! Sweeps: the runs of a trace with power cut in each of its device writes, each of which prints what a plain disk prints.
+//! Sweeps: the runs of a trace with power cut in each of its device writes. Each run prints what a plain disk prints.
 
 use ft_media::Rig;
 use mem_rig::MemRig;
@@ -14,17 +14,17 @@ use trace_model::Answer;
 use trace_sweep::plain_text_at;
 use trace_text::next_line;
 
-/// Words for what a power cut leaves.
+/// The words for the outcomes of a power cut.
 const OUTCOMES: [&str; 4] = ["blank", "whole", "torn", "mixed"];
 
-/// What is printed at the end of a trace that named address 0, which is a zero block.
+/// The end line of a trace that named address 0, which is a zero block.
 const ZERO: &str = "end 1 0 1 4f2cfec1c5dc3827cdeb42906713b37cae91e009aa0e2d211c376ccb9969b3ea";
 
 fn sweep(alloc: Global, shape: &Shape, outcome: &str, trace: &[u8]) -> Result<Outcome, AllocError> {
     sweep_on(alloc, shape, outcome, trace, MemRig::new(alloc))
 }
 
-/// The text of one run, and what comes after it.
+/// The text of one run, and the bytes after it.
 fn run_text(alloc: Global, text: &[u8]) -> Result<(Vec<u8>, &[u8]), Fail> {
     let mut run = Vec::new(alloc);
     let mut rest = text;
@@ -42,7 +42,7 @@ fn run_text(alloc: Global, text: &[u8]) -> Result<(Vec<u8>, &[u8]), Fail> {
     Ok((run, rest))
 }
 
-/// Whether this is what a plain disk prints of the trace with power cut in this device write, and in the second one
+/// Whether a plain disk prints this text of the trace, with power cut in this device write and in the second one
 /// after it.
 fn is_plain_at(
     alloc: Global,
@@ -57,7 +57,7 @@ fn is_plain_at(
     is_plain(alloc, lines.as_slice(), run, 64)
 }
 
-/// How many runs a text is of, if each is what a plain disk prints.
+/// The number of runs in a text, if each is what a plain disk prints.
 fn runs_in(alloc: Global, outcome: &str, trace: &[u8], text: &[u8]) -> Result<Option<u64>, Fail> {
     let mut rest = text;
     let mut runs: u64 = 0;
@@ -192,7 +192,7 @@ fn trace_of(alloc: Global, words: &mut Lcg64Xsh32) -> Result<Vec<u8>, Fail> {
     Ok(trace)
 }
 
-/// Sweeps the traces of these numbers, each over a volume made at random, and says how many runs there were.
+/// Sweeps the traces of these numbers, each over a random volume, and says how many runs there were.
 fn sweep_traces(
     rt: &impl Abort,
     alloc: Global,
@@ -234,7 +234,7 @@ fn sweeps_of_traces_that_are_written_through_print_what_a_plain_disk_prints(
 
 // ---- traces that are refused
 
-/// Sweeps a trace that is refused: that is all that is printed, and the rig is as it was.
+/// Sweeps a trace that is refused. Nothing but the refusal is printed, and the rig has not changed.
 fn refuses(rt: &impl Abort, alloc: Global, trace: &[u8], text: &[u8]) -> Result<(), Fail> {
     let swept = sweep(alloc, &back(2, 2), "torn", trace)?;
     assert_eq!(rt; (swept.status, swept.text.as_slice()), (2, text));

@@ -1,4 +1,5 @@
-//! One example is run, and what it prints is compared with what is shown of it, and with the text beside its trace.
+//! Runs one example, and compares the text that it prints with the text that is shown, and with the text beside its
+//! trace.
 
 use crate::page::Example;
 use flashtier_cli::run;
@@ -8,19 +9,19 @@ use std::alloc::{AllocError, Global};
 use std::rt::Files;
 use std::{fs, io};
 
-/// Room for what an example prints.
+/// Room for the text that an example prints.
 const ROOM: usize = 65_536;
 
 /// How an example differs from the program.
 #[derive(Clone, Copy, Debug, PartialEq, Eq)]
 pub(crate) enum Difference {
-    /// It ends with another status.
+    /// The example ends with another status.
     Status(u8),
     /// The program prints something else.
     Text,
 }
 
-/// Runs an example. None where it is as shown.
+/// Runs an example. `None` if it is as shown.
 pub(crate) fn differs(
     rt: &(impl AllocGlobal + Files),
     example: &Example,
@@ -50,7 +51,7 @@ pub(crate) fn differs(
     })
 }
 
-/// The trace of an example: the one that it names, or the lines of its table.
+/// The trace of an example: the trace that it names, or the lines of its table.
 fn trace_of(rt: &(impl AllocGlobal + Files), example: &Example) -> io::Result<String> {
     match &example.name {
         Some(name) => read_file(rt, name.as_str(), "trace"),
@@ -58,13 +59,13 @@ fn trace_of(rt: &(impl AllocGlobal + Files), example: &Example) -> io::Result<St
     }
 }
 
-/// The file of a name, and of a kind.
+/// The file with this name, of this kind.
 fn read_file(rt: &(impl AllocGlobal + Files), name: &str, kind: &str) -> io::Result<String> {
     let path = format!(in rt.alloc(); "{name}.{kind}")?;
     fs::read_to_string(rt, path.as_str())
 }
 
-/// Whether the table of an example shows this text. One without a table shows any.
+/// Whether the table of an example shows this text. An example without a table shows any text.
 fn is_in_table(example: &Example, text: &[u8]) -> bool {
     example.shown.is_empty() || is_text(example.shown.as_slice(), text)
 }
@@ -109,7 +110,7 @@ pub(crate) fn is_text(shown: &[String], text: &[u8]) -> bool {
     shown.next().is_none()
 }
 
-/// Whether this is the line that is shown.
+/// Whether `line` is the line that is shown.
 fn is_line(wanted: &str, line: &str) -> bool {
     match wanted.strip_suffix("…") {
         Some(front) => line.starts_with(front),

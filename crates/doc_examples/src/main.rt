@@ -1,6 +1,6 @@
-//! Runs each command line that README and the page on traces show, over the trace that it names or the lines of the
-//! table after it, and compares what the program prints with the text of that table, word for word, and with the text
-//! that stands beside the trace. Each command line has to end with 0, or with the status that it says.
+//! Runs each command line that README and the page on traces show. Its trace is the one that it names, or the lines
+//! of the table after it. The text that the program prints is compared with the text of that table, word for word,
+//! and with the text beside the trace. Each command line has to end with 0, or with the status that it names.
 #![tactic(auto)]
 
 mod example;
@@ -37,7 +37,7 @@ fn try_page(rt: &(impl AllocGlobal + Files + Print)) -> io::Result<bool> {
     Ok(are_shown)
 }
 
-/// Says what differs, after so many tables and texts.
+/// Says what differs, after this many tables and texts.
 fn tell(
     rt: &(impl AllocGlobal + Print),
     difference: Difference,

@@ -1,4 +1,4 @@
-//! What a page of the docs shows of the program: command lines, and tables of a trace and its text.
+//! The examples that a page of the docs shows of the program: command lines, and tables of a trace and its text.
 
 use std::alloc::{AllocError, Global};
 use std::io;
@@ -6,29 +6,30 @@ use std::io;
 /// The head of a table that shows a trace and the text that it prints.
 const HEAD: &str = "| Trace | Text | What happens |";
 
-/// What stands between the words of a command and the name of the trace that it runs, without `.trace`.
+/// The text between the words of a command and the name of the trace that it runs, without `.trace`.
 const FROM: &str = " < examples/";
 
-/// What stands before the status that a command ends with, where that isn't 0.
+/// The text before the status with which a command ends, if that isn't 0.
 const STATUS: &str = " # ends with ";
 
-/// A command line of a page, and the table after it where there is one.
+/// A command line of a page, and the table after it if there is one.
 #[derive(Drop)]
 pub(crate) struct Example {
     /// The words after the program's name.
     pub(crate) words: Vec<String>,
-    /// The name of the trace that it runs, of those in `examples/`.
+    /// The name of the trace that it runs, one of the traces in `examples/`.
     pub(crate) name: Option<String>,
     /// The status that it ends with.
     pub(crate) status: u8,
     /// The lines of the table's first column.
     pub(crate) lines: Vec<String>,
-    /// Those of its second column.
+    /// The lines of the table's second column.
     pub(crate) shown: Vec<String>,
 }
 
 impl Example {
-    /// That of a command line, from the word after the program's name on. A status that is none counts as 0.
+    /// The example of a command line, from the word after the program's name on. A status that is no number counts as
+    /// 0.
     fn of(alloc: Global, command: &str) -> Result<Example, AllocError> {
         let (command, status) = match command.split_once(STATUS) {
             Some((front, status)) => (front, status.parse().unwrap_or(0)),
@@ -55,7 +56,7 @@ impl Example {
         })
     }
 
-    /// Whether it prints what each line of its trace answered, and so has a text beside the trace.
+    /// Whether the example prints the answer to each line of its trace, and so has a text beside the trace.
     pub(crate) fn has_text(&self) -> bool {
         match self.words.first() {
             Some(word) => word.as_str() == "replay" || word.as_str() == "sweep",
@@ -63,7 +64,7 @@ impl Example {
         }
     }
 
-    /// Adds a row of its table.
+    /// Adds a row of the example's table.
     fn add_row(&mut self, alloc: Global, row: &str) -> Result<(), AllocError> {
         let mut cells = row.split('|').skip(1);
         if let Some(cell) = cells.next() {
@@ -76,7 +77,7 @@ impl Example {
     }
 }
 
-/// Adds what stands between backquotes.
+/// Adds the texts between backquotes.
 fn add_spans(alloc: Global, cell: &str, spans: &mut Vec<String>) -> Result<(), AllocError> {
     let mut is_code = false;
     for piece in cell.split('`') {
@@ -88,8 +89,8 @@ fn add_spans(alloc: Global, cell: &str, spans: &mut Vec<String>) -> Result<(), A
     Ok(())
 }
 
-/// What a line says after the name of the program, where it is a command line: one with four spaces before
-/// it, or one in backquotes that ends with a colon.
+/// The words of a command line after the name of the program, or `None` if this is no command line. A command line
+/// has four spaces before it, or stands in backquotes and ends with a colon.
 fn command_in(line: &str) -> Option<&str> {
     if let Some(command) = line.strip_prefix("    ./flashtier ") {
         return Some(command);

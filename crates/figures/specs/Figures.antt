@@ -1,13 +1,13 @@
--- What a row of the table shows of what was measured.
+-- The figures that a row of the table shows of a measurement.
 use Rattle.std.specs.Prelude.{ℕ, ◌+◌, ◌*◌, ◌/◌, ◌-◌, ◌^◌, min}
 use Rattle.std.specs.Duration.{as_nanos}
 use Rattle.std.specs.declared.time.Duration.{Duration}
 
--- tenths of a mean, 0 where nothing was counted
+-- tenths of a mean, or 0 if nothing was counted
 abbrev pub tenths : ℕ → ℕ → ℕ
 tenths total count = min (10 * total) (2 ^ 64 - 1) / count
 
--- hundredths of a mean, 0 where nothing was counted
+-- hundredths of a mean, or 0 if nothing was counted
 abbrev pub hundredths : ℕ → ℕ → ℕ
 hundredths total count = min (100 * total) (2 ^ 64 - 1) / count
 
@@ -15,7 +15,7 @@ hundredths total count = min (100 * total) (2 ^ 64 - 1) / count
 abbrev pub nanoseconds : Duration → ℕ
 nanoseconds time = min (as_nanos time) (2 ^ 64 - 1)
 
--- how many operations there were in so many rounds
+-- the number of operations in this many rounds
 abbrev pub operations : ℕ → ℕ → ℕ
 operations entries rounds = min (entries * rounds) (2 ^ 64 - 1)
 

@@ -1,5 +1,4 @@
-//! The program: standard input is the trace, standard output takes the text, and flash and disk are in
-//! memory.
+//! The program: standard input is the trace, standard output takes the text, and flash and disk are in memory.
 #![tactic(auto)]
 
 use flashtier_cli::run;
@@ -22,7 +21,7 @@ fn main(rt: HostRuntime) -> ExitCode {
     let words = match words_of(&rt) {
         Ok(words) => words,
         Err(error) if error.kind() == io::ErrorKind::OutOfMemory => return ExitCode::from(7),
-        // A word is not UTF-8, so it is none of a command.
+        // A word is not UTF-8, so the words are no command.
         Err(_) => return ExitCode::from(1),
     };
     let mut source = StdSource::new(rt.reader());

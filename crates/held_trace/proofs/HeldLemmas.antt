@@ -1,4 +1,4 @@
--- What holds of a trace that is held.
+-- Facts about a trace that is held.
 use Rattle.std.proofs.Common.{◌≡◌, ◌≤◌, ℕ, false, All, length, refl, arith}
 use Rattle.trace_model.specs.declared.line.Line.{Line}
 use Rattle.trace_model.specs.declared.line.Line.TheVariants.{Write, Read, Flush, Idle, Stop, Cut, Nothing}
@@ -17,7 +17,7 @@ lines_few t = omega arith
 pub blocks_few : (t : HeldTrace) → blocks_in (lines_of t) ≤ 256
 blocks_few t = let counted = t.counted in let few = t.few_blocks in omega arith
 
--- such a line can be run
+-- a line that a sweep runs can be run
 pub sweepable_runs : (size : ℕ) (l : Line) → IsSweepLine size l → IsRunnable size l
 sweepable_runs size (Write lba count tag) so = so
 sweepable_runs size (Read lba count) so = so
@@ -27,7 +27,7 @@ sweepable_runs size (Stop after outcome) so = absurd so
 sweepable_runs size (Cut outcome) so = absurd so
 sweepable_runs size Nothing so = tt
 
--- and arms no stop
+-- a line that a sweep runs arms no stop
 pub sweepable_unarmed : (size : ℕ) (l : Line) → IsSweepLine size l → is_stop l ≡ false
 sweepable_unarmed size (Write lba count tag) so = refl
 sweepable_unarmed size (Read lba count) so = refl

@@ -1,4 +1,4 @@
--- What the lines of a sweep's trace say, one after the other.
+-- The readings of the lines of a sweep's trace, one after the other.
 use Rattle.std.proofs.Common.{◌≡◌, ◌<◌, ◌≤◌, ◌+◌, ◌∷◌, ◌++◌, [], ℕ, nat_lt, Bool, true, false, List, Option, Some, None, Result, Ok, Err, IfOk, IsErrOf, map, length, take, drop, ◌⊎◌, inl, inr, refl, sym, ap, ◌∙◌, subst, append_assoc, arith, if◌then◌else◌}
 use Rattle.std.specs.Io.KnownBytes.{Consumes, IsAtEnd}
 use Rattle.ft_base.specs.Count.{Rose}
@@ -32,7 +32,7 @@ accepted_then (x ∷ xs) ys = ap (λ (r : List Reading). accepted x ∷ r) (acce
 
 -- ---- one line after the other
 
--- what these lines say that stand behind others, of which it is known what they say
+-- the readings of these lines, which stand behind lines whose readings are known
 abbrev pub SaidSo : ℕ → List Reading → List Reading → ℕ → List (List ℕ) → Type 0
 SaidSo size all said before lines = all ≡ said ++ readings_behind before (map (line_of size) lines)
 
@@ -67,7 +67,7 @@ next_refused size all held before lines left spelled number cause so is reads pl
   place = place;
 }
 
--- ---- the whole of what is known
+-- ---- all readings that are known
 
 short_is : (bytes : List ℕ) → length bytes ≤ 4096 → nat_lt byte_limit (length bytes) ≡ false
 short_is bytes few = let is = limit_is in grind (arith, nat_tests)
@@ -98,7 +98,7 @@ readings_past size whole bytes long =
 
 -- ---- the first refused line
 
--- a line that is refused stays the first, whatever comes behind
+-- a line that is refused stays the first, whatever comes behind it
 pub refused_then : (all more : List Reading) (number : ℕ) (cause : LineError) → RefusesFirst all number cause → RefusesFirst (all ++ more) number cause
 refused_then all more number cause so = record {
   lines = so.lines;
@@ -107,7 +107,7 @@ refused_then all more number cause so = record {
   place = so.place;
 }
 
--- the line behind those that are held
+-- the line behind the held lines is refused
 pub refused_behind : (all : List Reading) (held : List Line) (cause : LineError) → all ≡ map accepted held → RefusesFirst (all ++ Err cause ∷ []) (length held + 1) cause
 refused_behind all held cause is = record {
   lines = held;
@@ -133,7 +133,7 @@ pub ok_weaker : {T E : Type 0} (r : Result T E) (P Q : T → Type 0) → ((x : T
 ok_weaker (Ok x) P Q f h = f x h
 ok_weaker (Err e) P Q f h = tt
 
--- ---- what was taken of the source
+-- ---- the bytes that were taken of the source
 
 pub reads_whole : (size : ℕ) (old new : SourceState) (bytes : List ℕ) (known : List Reading) → Consumes old.left new.left bytes → known ≡ sweep_readings size true bytes → length bytes ≤ 4096 → IsAtEnd new.left → SweepReads size old new known true
 reads_whole size old new bytes known taken says few at_end =
@@ -159,7 +159,7 @@ reads_part size old new bytes known taken says few far =
       far = λ _. elim far [ inl long ↦ inl (omega arith) | inr rose ↦ inr rose ];
     }
 
--- a piece more behind what was taken
+-- a further piece behind the bytes that were taken
 pub consumes_more : (a b c : Option (List ℕ)) (count n : ℕ) (old new : List ℕ) → Consumes a b (take count old) → Consumes b c (take n (drop count new)) → take count new ≡ take count old → Consumes a c (take (count + n) new)
 consumes_more None b c count n old new first next same = tt
 consumes_more (Some xs) None c count n old new first next same = absurd first

@@ -1,4 +1,4 @@
--- The trace of a sweep: how long it may be, and what its lines say.
+-- The trace of a sweep: its length limit, and the readings of its lines.
 use Rattle.std.specs.Prelude.{◌≡◌, ◌≤◌, ◌+◌, ◌⊎◌, ℕ, nat_le, nat_lt, Bool, true, false, if◌then◌else◌, List, [], ◌∷◌, ◌++◌, length, map, take, sum_by, All, slice_index_or, Ok, Err}
 use Rattle.std.specs.Coded.{×_prop, Π_prop, Unit-prop, le_prop}
 use Rattle.std.specs.Io.KnownBytes.{Consumes, IsAtEnd}
@@ -11,11 +11,11 @@ use Rattle.trace_model.specs.declared.line.LineError.TheVariants.{BadWord, TooLo
 use Rattle.trace_model.specs.Lines.{IsRunnable, line_of, lines_in}
 use Rattle.trace_model.specs.Readings.{Reading, accepted, unended}
 
--- the trace of a sweep has at most so many bytes
+-- the trace of a sweep has at most this many bytes
 unfoldable pub byte_limit : ℕ
 byte_limit = 4096
 
--- its lines write and read at most so many blocks together
+-- its lines write and read at most this many blocks together
 abbrev pub block_limit : ℕ
 block_limit = 256
 
@@ -25,44 +25,45 @@ blocks_in_line (Write lba count tag) = count
 blocks_in_line (Read lba count) = count
 blocks_in_line other = 0
 
--- how many these lines write and read together
+-- how many blocks these lines write and read together
 abbrev pub blocks_in : List Line → ℕ
 blocks_in lines = sum_by blocks_in_line lines
 
--- a line behind so many blocks: a sweep cuts power itself, so it takes no line that does, and not more blocks than that
+-- the reading of a line behind `before` blocks. A sweep cuts power itself, so it takes no line that does, and no more
+-- blocks than the limit
 abbrev pub line_behind : ℕ → Line → Reading
 line_behind before (Stop after outcome) = Err BadWord
 line_behind before (Cut outcome) = Err BadWord
 line_behind before other = if nat_le (before + blocks_in_line other) block_limit then Ok other else Err TooLong
 
--- what a line says behind so many blocks; one that is refused by itself keeps its cause
+-- a reading behind `before` blocks; a line that is refused by itself keeps its cause
 abbrev pub reading_behind : ℕ → Reading → Reading
 reading_behind before (Ok line) = line_behind before line
 reading_behind before (Err cause) = Err cause
 
--- how many blocks it adds
+-- how many blocks the reading adds
 abbrev pub blocks_added : Reading → ℕ
 blocks_added (Ok line) = blocks_in_line line
 blocks_added (Err cause) = 0
 
--- what these lines say one behind the other
+-- the readings of these lines, one behind the other
 abbrev pub readings_behind : ℕ → List Reading → List Reading
 readings_behind before [] = []
 readings_behind before (reading ∷ readings) = reading_behind before reading ∷ readings_behind
     (before + blocks_added (reading_behind before reading)) readings
 
--- what these lines of a sweep's trace say
+-- the readings of these lines of a sweep's trace
 abbrev pub lines_say : ℕ → List (List ℕ) → List Reading
 lines_say size lines = readings_behind 0 (map (line_of size) lines)
 
--- what is known of a sweep's trace when these bytes of it were read, and they are all of it or not: the line with the
--- first byte past the limit is too long, whatever it says
+-- the readings that are known of a sweep's trace when these bytes of it were read; the flag says whether they are all
+-- its bytes. The line with the first byte past the limit is too long, whatever it says
 abbrev pub sweep_readings : ℕ → Bool → List ℕ → List Reading
 sweep_readings size whole bytes = if nat_lt byte_limit (length bytes) then lines_say size (lines_in false (take byte_limit bytes)) ++ Err
     TooLong ∷ [] else if whole then lines_say size (lines_in true bytes) else lines_say size (lines_in false bytes) ++ unended bytes
 
--- a source was read so far that this is known of a sweep's trace: to its end, or up to a fault, or to the first byte
--- past the limit, and no further
+-- a source was read so far that these readings of a sweep's trace are known. It was read to its end, to a fault, or
+-- to the first byte past the limit, and no further
 pub record SweepReads (size : ℕ) (old new : SourceState) (known : List Reading) (whole : Bool) : Type 0 where
   pub bytes : List ℕ
   pub taken : Consumes old.left new.left bytes
@@ -71,7 +72,7 @@ pub record SweepReads (size : ℕ) (old new : SourceState) (known : List Reading
   pub end : whole ≡ true → IsAtEnd new.left × (length bytes ≤ byte_limit)
   pub far : whole ≡ false → (length bytes ≡ byte_limit + 1) ⊎ Rose old.faults new.faults
 
--- the first of these lines that is refused has this number, counted from 1, and this cause
+-- the first of these readings that is a refusal has this number, counted from 1, and this cause
 pub record RefusesFirst (known : List Reading) (number : ℕ) (cause : LineError) : Type 0 where
   pub lines : List Line
   pub left : List Reading

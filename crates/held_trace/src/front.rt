@@ -1,22 +1,22 @@
-//! The front of a trace: as much of it as a sweep looks at.
+//! The front of a trace: the bytes that a sweep looks at.
 ghost use Rattle.std.specs.Prelude.{◌≡◌, ◌≤◌, ◌<◌, ◌+◌, length, take, drop, IfOk, OnErr};
 ghost use Rattle.std.specs.Io.KnownBytes.{Consumes, IsAtEnd, Keeps};
 ghost use Rattle.ft_base.specs.Count.{Blames, Rose};
 
 use ft_base::{Failed, Source};
 
-/// Why no more of a trace was read.
+/// Why reading a trace stopped.
 #[derive(Clone, Copy, Debug, PartialEq, Eq)]
 pub(crate) enum ReadTo {
-    /// The trace is at its end.
+    /// The trace has ended.
     End,
     /// The source failed.
     Fault,
-    /// There is no room for more.
+    /// The buffer has no more room.
     Limit,
 }
 
-/// Reads the source to the front of the buffer, as far as it goes. Says how many bytes these are.
+/// Reads the source to the front of the buffer, as far as it goes. Says how many bytes it read.
 pub(crate) fn read_front<I: Source>(source: &mut I, buffer: &mut [u8]) -> (usize, ReadTo)
     ensures within { result.0 ≤ length buffer.new }
     ensures long { length buffer.new ≡ length buffer.old }
@@ -38,7 +38,7 @@ pub(crate) fn read_front<I: Source>(source: &mut I, buffer: &mut [u8]) -> (usize
     (count, ReadTo::Limit)
 }
 
-/// Reads a piece behind the first bytes of the buffer, and says how long it is.
+/// Reads a piece behind the first `count` bytes of the buffer, and says how long the piece is.
 fn read_behind<I: Source>(source: &mut I, buffer: &mut [u8], count: usize) -> Result<usize, Failed>
     requires room { count < length buffer.old }
     ensures long { length buffer.new ≡ length buffer.old }

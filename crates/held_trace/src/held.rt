@@ -11,13 +11,13 @@ use std::alloc::Global;
 use trace_model::{Line, LineError};
 use trace_text::next_line;
 
-/// The lines of a whole trace that a sweep runs, those that say nothing included.
+/// The lines of a whole trace that a sweep runs, including the lines that say nothing.
 #[derive(Drop)]
 pub struct HeldTrace {
     /// The size for which the lines were read.
     size: u64,
     lines: Vec<Line>,
-    /// How many blocks they write and read together.
+    /// How many blocks the lines write and read together.
     blocks: u64,
     ghost few_lines: { vec_len lines ≤ 4096 },
     ghost sweepable: { All (IsSweepLine size) lines.items } by { AreSweepLines-prop size lines.items },
@@ -28,7 +28,7 @@ pub struct HeldTrace {
 impl HeldTrace {
     ghost use Rattle.held_trace.specs.Held.{lines_of, size_of};
 
-    /// No line is held.
+    /// A trace of no line.
     pub(crate) fn new(alloc: Global, size: u64) -> HeldTrace
         ensures none { lines_of result ≡ [] }
         ensures size { size_of result ≡ size }
@@ -74,8 +74,8 @@ impl HeldTrace {
         }
     }
 
-    /// Holds the lines of these bytes, up to the first that is refused. Bytes that no line feed follows are
-    /// a line if the trace is `whole`.
+    /// Holds the lines of these bytes, up to the first that is refused. Bytes that no line feed follows are a line if
+    /// the trace is `whole`.
     pub(crate) fn hold_lines(&mut self, bytes: &[u8], whole: bool) -> Result<(), TakeError>
         requires none { lines_of self.old ≡ [] }
         requires few { length bytes.now ≤ 4096 }
@@ -95,7 +95,7 @@ impl HeldTrace {
         Ok(())
     }
 
-    /// Holds the line that is spelled so, unless it is refused.
+    /// Holds the line with this spelling, unless the line is refused.
     fn hold_line(&mut self, spelled: &[u8]) -> Result<(), TakeError>
         requires room { length (lines_of self.old) < 4096 }
         ensures held { OnOk result ((line : Line) × (reading_behind self.old.blocks (line_of (size_of self.old) spelled.now) ≡ Ok line)

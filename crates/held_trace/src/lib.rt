@@ -1,9 +1,9 @@
 //! The lines of a whole small trace, read before any of them is run.
 //!
-//! The layers above rely on this: `HeldTrace::take` reads a source to its end and holds each line of it, or
-//! names the first line that a sweep refuses. A sweep cuts power itself, at each device write in turn, so it
-//! refuses a line that does. It runs the trace once for each of these writes, so it refuses a long one. What
-//! the lines say is the definition `sweep_readings`, and `plain_sweep_readings` computes it.
+//! The layers above rely on this. `HeldTrace::take` reads a source to its end and holds each line of it, or names the
+//! first line that a sweep refuses. A sweep cuts power itself, at each device write in turn, so it refuses a line
+//! that cuts power. It runs the trace once for each device write, so it refuses a long trace. The definition
+//! `sweep_readings` says the readings of the lines, and `plain_sweep_readings` computes it.
 #![tactic(auto)]
 
 mod front;

@@ -1,4 +1,4 @@
-//! What a sweep takes of a trace.
+//! The limits of a sweep's trace.
 ghost use Rattle.std.specs.Prelude.{◌≡◌, ◌≤◌, ◌+◌, nat_lt, length, take, IfOk};
 ghost use Rattle.trace_model.specs.Lines.{line_of};
 ghost use Rattle.trace_model.specs.Readings.{since_feed};
@@ -7,13 +7,13 @@ ghost use Rattle.held_trace.specs.Sweep.{IsSweepLine, blocks_in_line, reading_be
 use trace_model::{Line, LineError};
 use trace_text::read_line;
 
-/// The trace of a sweep has at most so many bytes.
+/// The trace of a sweep has at most this many bytes.
 pub(crate) const BYTE_LIMIT: usize = 4096;
 
-/// A line has at most so many bytes.
+/// A line has at most this many bytes.
 const LINE_LIMIT: usize = 200;
 
-/// The lines write and read at most so many blocks together.
+/// The lines write and read at most this many blocks together.
 const BLOCK_LIMIT: u64 = 256;
 
 /// How many blocks the line writes or reads.
@@ -26,7 +26,7 @@ pub(crate) fn blocks_of(line: &Line) -> u64
     }
 }
 
-/// What the line says behind so many blocks, or why it is refused there.
+/// What the line says behind `before` blocks, or why it is refused there.
 pub(crate) fn read_behind(spelled: &[u8], size: u64, before: u64) -> Result<Line, LineError>
     requires within { before ≤ 256 }
     ensures line { result ≡ reading_behind before (line_of size spelled.now) }
@@ -43,7 +43,7 @@ pub(crate) fn read_behind(spelled: &[u8], size: u64, before: u64) -> Result<Line
     }
 }
 
-/// The first bytes of these, so many.
+/// The first `count` of these bytes.
 pub(crate) fn first_bytes(bytes: &[u8], count: usize) -> &[u8]
     requires within { count ≤ length bytes.now }
     ensures front { result.now ≡ take count bytes.now }
@@ -52,7 +52,7 @@ pub(crate) fn first_bytes(bytes: &[u8], count: usize) -> &[u8]
     &bytes[..count]
 }
 
-/// The line that no line feed ended yet has more bytes than a line may have.
+/// Whether the line that no line feed has ended yet has more bytes than a line may have.
 pub(crate) fn is_over_long(bytes: &[u8]) -> bool
     ensures { result ≡ nat_lt 200 (since_feed 0 bytes.now) }
 {

@@ -1,4 +1,4 @@
-//! The plain program: what is known of a sweep's trace, computed line by line.
+//! The plain program: the readings that are known of a sweep's trace, computed line by line.
 ghost use Rattle.std.specs.Prelude.{◌≡◌, ◌≤◌, ◌<◌, ◌++◌, ◌∷◌, [], Bool, false, length, Err, IfOk};
 ghost use Rattle.trace_model.specs.Lines.{lines_in};
 ghost use Rattle.held_trace.specs.Sweep as sweep;
@@ -9,7 +9,8 @@ use std::alloc::{AllocError, Global};
 use trace_model::{Line, LineError};
 use trace_text::next_line;
 
-/// What is known of a sweep's trace when these bytes of it were read, and they are all of it or not.
+/// The readings that are known of a sweep's trace when these bytes of it were read. `whole` says whether they are all
+/// its bytes.
 pub fn plain_sweep_readings(
     alloc: Global,
     size: u64,
@@ -27,7 +28,7 @@ pub fn plain_sweep_readings(
     plain_part(alloc, size, bytes)
 }
 
-/// The same for more bytes than a sweep's trace has.
+/// The same for more bytes than a sweep's trace may have.
 fn plain_past(
     alloc: Global,
     size: u64,
@@ -56,7 +57,7 @@ fn plain_part(
     Ok(readings)
 }
 
-/// What is known, and that the next line is refused for this cause.
+/// These readings, and then the refusal of the next line for this cause.
 fn with_refusal(
     readings: Vec<Result<Line, LineError>>,
     cause: LineError,
@@ -68,7 +69,7 @@ fn with_refusal(
     Ok(readings)
 }
 
-/// What the lines of these bytes say.
+/// The readings of the lines of these bytes.
 fn plain_lines(
     alloc: Global,
     size: u64,
@@ -89,7 +90,7 @@ fn plain_lines(
     Ok(readings)
 }
 
-/// How many blocks a line adds that says this.
+/// How many blocks a line with this reading adds.
 fn blocks_added(reading: &Result<Line, LineError>) -> u64
     ensures { result ≡ sweep.blocks_added reading.now }
 {

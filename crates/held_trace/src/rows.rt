@@ -1,4 +1,4 @@
-//! Worked traces: what of them is held, and which of their lines is refused.
+//! Worked traces: which of their lines are held, and which are refused.
 
 use crate::{HeldTrace, TakeError, plain_sweep_readings};
 use ft_base::MemSource;
@@ -6,10 +6,10 @@ use std::alloc::{AllocError, Global};
 use std::test::Fail;
 use trace_model::{Line, LineError};
 
-/// How many blocks the volume has.
+/// The number of blocks of the volume.
 const SIZE: u64 = 1_048_576;
 
-/// Takes a trace that a source gives in pieces of so many bytes, and that fails at the listed reads.
+/// Takes a trace from a source that gives pieces of `piece` bytes and fails at the listed reads.
 fn take_from(
     alloc: Global,
     trace: &[u8],
@@ -21,7 +21,7 @@ fn take_from(
     Ok(HeldTrace::take(alloc, &mut source, SIZE))
 }
 
-/// Which line of a trace is refused first, and why; none if it is held.
+/// The line of a trace that is refused first, and why, or `None` if the trace is held.
 fn refused_in(alloc: Global, trace: &[u8]) -> Result<Option<(u64, LineError)>, Fail> {
     match take_from(alloc, trace, 100, &[])? {
         Ok(_) => Ok(None),
@@ -49,7 +49,7 @@ fn plainly_refused(
 
 // ---- whole traces
 
-/// The first trace of which another line is refused, or for another cause.
+/// The first trace in which another line is refused, or the same line for another cause.
 fn first_other(
     alloc: Global,
     rows: &[(&[u8], Option<(u64, LineError)>)],
@@ -97,9 +97,9 @@ fn the_first_refusal_that_applies_is_answered(rt: HostRuntime) -> Result<(), Fai
     Ok(())
 }
 
-// ---- traces about as long as may be
+// ---- traces about as long as they may be
 
-/// A trace of so many flushes with these bytes behind them.
+/// A trace of this many flushes with these bytes behind them.
 fn flushes_then(alloc: Global, flushes: u64, last: &[u8]) -> Result<Vec<u8>, AllocError> {
     let mut trace = Vec::new(alloc);
     for _flush in 0..flushes {
@@ -109,7 +109,8 @@ fn flushes_then(alloc: Global, flushes: u64, last: &[u8]) -> Result<Vec<u8>, All
     Ok(trace)
 }
 
-/// The first trace of so many flushes and these bytes of which another line is refused, or for another cause.
+/// The first trace, of that many flushes and these bytes, in which another line is refused, or the same line for
+/// another cause.
 fn first_other_long(
     alloc: Global,
     rows: &[(u64, &[u8], Option<(u64, LineError)>)],
@@ -126,19 +127,19 @@ fn first_other_long(
 }
 
 const LONG: [(u64, &[u8], Option<(u64, LineError)>); 13] = [
-    // 4,096 bytes, the last of them a line feed or not.
+    // These have 4,096 bytes; the last byte is a line feed or not.
     (2048, b"", None),
     (2047, b"f ", None),
     // Byte 4,097 is a word, a line feed, or the line feed of the last line.
     (2048, b"f", Some((2049, LineError::TooLong))),
     (2048, b"\n", Some((2049, LineError::TooLong))),
     (2047, b"f \n", Some((2048, LineError::TooLong))),
-    // What the line says doesn't matter, nor what stands behind it.
+    // Neither what the line says matters, nor what stands behind the line.
     (2048, b"cut blank\n", Some((2049, LineError::TooLong))),
     (2047, b"cut blank\n", Some((2048, LineError::TooLong))),
     (2046, b"x y\nf\nx\n", Some((2047, LineError::BadWord))),
     (3000, b"x\n", Some((2049, LineError::TooLong))),
-    // An over-long line with byte 4,097 in it, and others that end before it.
+    // An over-long line with byte 4,097 in it, and other lines that end before that byte.
     (1900, &[b'#'; 297], Some((1901, LineError::TooLong))),
     (1900, &[b'#'; 1000], Some((1901, LineError::TooLong))),
     (1900, &[b'#'; 296], Some((1901, LineError::LineTooLong))),
@@ -156,7 +157,7 @@ fn the_line_past_the_limit_is_too_long(rt: HostRuntime) -> Result<(), Fail> {
 /// A trace, how many bytes of it the first read gives, and which line is refused before the second read fails.
 type Failing<'a> = (&'a [u8], usize, Option<(u64, LineError)>);
 
-/// The first trace of which another line is refused before the source fails, or for another cause.
+/// The first trace in which another line is refused before the source fails, or the same line for another cause.
 fn first_other_failing(alloc: Global, rows: &[Failing]) -> Result<Option<usize>, Fail> {
     for i in 0..rows.len() {
         let (trace, read, refused) = rows[i];
@@ -192,7 +193,7 @@ fn a_refused_line_comes_before_a_fault(rt: HostRuntime) -> Result<(), Fail> {
     Ok(())
 }
 
-// ---- what is held
+// ---- the lines that are held
 
 #[test]
 fn each_line_is_held_with_its_blocks(rt: HostRuntime) -> Result<(), Fail> {

@@ -1,4 +1,4 @@
-//! A trace is read, and then its lines are held.
+//! Reads a trace, and then holds its lines.
 ghost use Rattle.std.specs.Prelude.{◌≡◌, ◌≤◌, ℕ, Bool, true, false, List, [], length, map, IfOk, IsErrOf};
 ghost use Rattle.ft_base.specs.Count.{Rose};
 ghost use Rattle.trace_model.specs.declared.line.Line.{Line};
@@ -17,34 +17,34 @@ use std::alloc::Global;
 use thiserror::Error;
 use trace_model::LineError;
 
-/// Why a trace isn't held.
+/// Why a trace can't be held.
 #[derive(Clone, Copy, Debug, PartialEq, Eq, Error)]
 pub enum TakeError {
     /// A line is refused, and all lines before it are accepted.
     #[error("line {line} of the trace is refused: {cause}")]
     Refused {
-        /// Its number, counted from 1.
+        /// The line's number, counted from 1.
         line: u64,
-        /// Why it is refused.
+        /// Why the line is refused.
         cause: LineError,
     },
     /// The source failed, and its count of faults rose.
     #[error("the source failed")]
     Source,
-    /// Memory was refused.
+    /// Out of memory.
     #[error("out of memory")]
     Memory,
 }
 
 impl HeldTrace {
-    /// Reads a trace to its end and holds its lines, for a volume of so many blocks. It takes at most the
-    /// first byte past the limit of 4,096 bytes.
+    /// Reads a trace to its end and holds its lines, for a volume of `size` blocks. It takes at most the first byte
+    /// past the limit of 4,096 bytes.
     ///
-    /// A line is refused as `read_line` refuses it. Three more are refused. The line with the first byte past
-    /// the limit is `TooLong`, whatever it says. A line with which the `w` and `r` lines have more than 256
-    /// blocks together is `TooLong`. A `stop` or `cut` line is `BadWord`.
+    /// It refuses each line that `read_line` refuses, and three more. The line with the first byte past the limit is
+    /// `TooLong`, whatever it says. A line with which the `w` and `r` lines have more than 256 blocks together is
+    /// `TooLong`. A `stop` or `cut` line is `BadWord`.
     ///
-    /// A refused line that stands before the place of a fault is answered in place of the fault.
+    /// If a line before the place of a fault is refused, the answer is the refusal and not the fault.
     pub fn take<I: Source>(alloc: Global, source: &mut I, size: u64) -> Result<HeldTrace, TakeError>
         ensures held { IfOk result (λ t. SweepReads size (I.state source.old) (I.state source.new) (map accepted (lines_of t)) true) }
         ensures size { IfOk result (λ t. size_of t ≡ size) }
@@ -62,7 +62,7 @@ impl HeldTrace {
     }
 }
 
-/// Holds the lines of the front of a trace if that is the whole trace and no line is refused.
+/// Holds the lines of the front of a trace if the front is the whole trace and no line is refused.
 fn hold_front(alloc: Global, front: &[u8], to: ReadTo, size: u64) -> Result<HeldTrace, TakeError>
     requires far { IsFrontTo to (length front.now) }
     ensures so_far { IsFrontTo to (length front.now) }
@@ -98,7 +98,7 @@ fn hold_whole(held: HeldTrace, trace: &[u8]) -> Result<HeldTrace, TakeError>
     }
 }
 
-/// Why the trace isn't held of which these bytes were read before the source failed.
+/// Why a trace can't be held, when these bytes of it were read before the source failed.
 fn after_fault(held: HeldTrace, front: &[u8]) -> TakeError
     requires none { lines_of held ≡ [] }
     requires few { length front.now ≤ 4096 }
@@ -117,7 +117,7 @@ fn after_fault(held: HeldTrace, front: &[u8]) -> TakeError
     TakeError::Source
 }
 
-/// Why the trace isn't held that goes on past the limit.
+/// Why a trace that goes on past the limit can't be held.
 fn past_limit(held: HeldTrace, front: &[u8]) -> TakeError
     requires none { lines_of held ≡ [] }
     requires long { length front.now ≡ 4097 }

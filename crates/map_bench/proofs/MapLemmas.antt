@@ -1,4 +1,4 @@
--- What a finite map has at a key after a change at another or the same.
+-- The content of a finite map at a key, after a change at this key or another.
 use Rattle.std.proofs.Common.{◌≡◌, ℕ, ◌==◌, Some, None, ◌∙◌, ap, arith, cond}
 use Rattle.std.proofs.lemmas.Bool.Decides.{nat_tests}
 use Rattle.std.specs.Ordering.{nat_cmp}

@@ -1,4 +1,5 @@
-//! The time of one step in a map whose number of entries stays: its oldest address is taken out, and a new one set.
+//! The time of one step in a map whose number of entries stays: its oldest address is taken out, and a new address is
+//! set.
 ghost use Rattle.std.specs.Prelude.{◌≡◌, ◌<◌, ◌≤◌, IfOk};
 
 use crate::measured::{Measured, Size};
@@ -7,21 +8,21 @@ use std::io;
 use std::rt::Clock;
 use std::time::{Duration, Instant};
 
-/// How large the map was at the end of some steps, and how long they took.
+/// The size of the map at the end of some steps, and the time that the steps took.
 #[derive(Clone, Copy, Debug, PartialEq, Eq)]
 pub struct Churned {
-    /// How large the map is after them.
+    /// The size of the map after the steps.
     pub size: Size,
-    /// How many steps there were.
+    /// The number of steps.
     pub steps: u32,
-    /// How long they took, all together.
+    /// The time of all steps together.
     pub time: Duration,
 }
 
-/// How many steps one map takes before it is the other's turn.
+/// How many steps one map takes before the other map has its turn.
 const STEPS_A_TURN: u32 = 10_000;
 
-/// A map whose entries come and go, with what its steps showed so far.
+/// A map whose entries come and go, with the results of its steps so far.
 #[derive(Drop)]
 struct Turning<M> {
     map: M,
@@ -30,7 +31,7 @@ struct Turning<M> {
 }
 
 impl<M: Measured> Turning<M> {
-    /// A map of the addresses below a number, before its first step.
+    /// A map of the addresses below `addresses`, before its first step.
     fn new(alloc: Global, addresses: u32) -> Result<Self, AllocError> {
         Ok(Turning {
             map: first_addresses::<M>(alloc, addresses)?,
@@ -39,7 +40,7 @@ impl<M: Measured> Turning<M> {
         })
     }
 
-    /// Takes so many steps, the first of which has the number `from`.
+    /// Takes `steps` steps, the first of which has the number `from`.
     fn take_turn(
         &mut self,
         rt: &impl Clock,
@@ -56,11 +57,11 @@ impl<M: Measured> Turning<M> {
         Ok(())
     }
 
-    /// What the steps showed, of which there were so many.
+    /// The results of `steps` steps.
     fn churned(&self, steps: u32) -> io::Result<Churned>
         ensures { IfOk result (λ c. c.steps ≡ steps) }
     {
-        // What was found is looked at, so that no compiler leaves the work out.
+        // The count of found addresses is looked at, so that no compiler leaves the work out.
         if self.found != steps {
             return Err(io::Error::other("a map lost an address"));
         }
@@ -72,8 +73,8 @@ impl<M: Measured> Turning<M> {
     }
 }
 
-/// Sets the addresses below a number in each of two maps, and takes so many steps in each, some of them at a time, in
-/// turns: what slows the machine for a while slows both.
+/// Sets the addresses below `addresses` in each of two maps, and takes `steps` steps in each. The maps have turns of
+/// some steps, so that a cause that slows the machine for a while slows both.
 pub fn churn_in_turns<M: Measured, N: Measured>(
     rt: &(impl AllocGlobal + Clock),
     addresses: u32,
@@ -93,7 +94,7 @@ pub fn churn_in_turns<M: Measured, N: Measured>(
     Ok((first.churned(steps)?, second.churned(steps)?))
 }
 
-/// A map of the addresses below a number, each with itself as its value.
+/// A map of the addresses below `addresses`, each with itself as its value.
 fn first_addresses<M: Measured>(alloc: Global, addresses: u32) -> Result<M, AllocError> {
     let mut map = M::empty(alloc);
     for address in 0..addresses {
@@ -102,8 +103,8 @@ fn first_addresses<M: Measured>(alloc: Global, addresses: u32) -> Result<M, Allo
     Ok(map)
 }
 
-/// Takes so many steps, the first of which has the number `from`: the oldest address goes, and the one after the newest
-/// comes, going round twice their number. Gives how many had themselves as their value.
+/// Takes `steps` steps, of which the first has the number `from`. In each the oldest address goes, and the address
+/// after the newest comes, going round twice their number. Gives how many addresses had themselves as their value.
 fn turn_over<M: Measured>(
     map: &mut M,
     addresses: u32,

@@ -1,23 +1,23 @@
-//! The keys that a map is asked for.
+//! The keys for which a map is asked.
 ghost use Rattle.std.specs.Prelude.{◌≡◌, length, IfOk};
 
 use std::alloc::{AllocError, Global};
 
-/// How far apart in the order of insertion two keys lie that are asked for one after the other. It is a
+/// Two keys that are asked for one after the other lie this far apart in the order of insertion. The number is a
 /// prime that divides no number of entries, so that each key is asked for once.
 const STRIDE: usize = 7_919;
 
 /// The keys of a measurement, spread over all 64 bits.
 #[derive(Drop)]
 pub struct Keys {
-    /// In the order in which they are inserted.
+    /// The keys in the order of their insertion.
     pub inserted: Vec<u64>,
-    /// In the order in which they are looked up and removed.
+    /// The keys in the order of their look-up and removal.
     pub asked: Vec<u64>,
 }
 
 impl Keys {
-    /// So many keys.
+    /// This many keys.
     pub fn new(alloc: Global, count: u32) -> Result<Keys, AllocError>
         ensures inserted { IfOk result (λ keys. length keys.inserted.items ≡ count) }
         ensures asked { IfOk result (λ keys. length keys.asked.items ≡ count) }

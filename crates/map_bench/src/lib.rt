@@ -1,10 +1,10 @@
-//! The sparse map beside std's hash map: bytes an entry, the time of a look-up, an insertion and a removal, and the
-//! time of a step where an old address goes and a new one comes.
+//! The sparse map beside std's hash map. It measures bytes for each entry, the time of a look-up, an insertion and a
+//! removal, and the time of a step. In a step an old address goes and a new one comes.
 //!
-//! A round makes a map of so many entries, looks each of them up and takes each of them out; the two maps have their
-//! rounds in turns, and the time of one operation is the mean over all rounds of its map. So insertions and removals are met at every size from none to
-//! all of the entries, and insertions pay for the growth of the map. Bytes are counted with all entries in the map,
-//! and at the peak of its filling, where it moves into longer lists.
+//! A round makes a map of some entries, looks each of them up and takes each of them out. The two maps have their
+//! rounds in turns, and the time of one operation is the mean over all rounds of its map. So insertions and removals
+//! happen at every size from no entry to all entries, and insertions pay for the growth of the map. Bytes are counted
+//! with all entries in the map, and at the peak of its filling, when it moves into longer lists.
 #![tactic(auto)]
 
 pub mod churn;
@@ -23,7 +23,7 @@ use std::collections::HashMap;
 use std::io;
 use std::rt::Clock;
 
-/// The numbers of entries, each with the number of rounds that makes it three million operations of each kind.
+/// The numbers of entries. Each has the number of rounds with which there are three million operations of each kind.
 const SIZES: [(u32, u32); 3] = [(1_000, 3_000), (100_000, 30), (1_000_000, 3)];
 
 /// The addresses of a map whose entries come and go, and how many come.
@@ -31,7 +31,7 @@ const ADDRESSES: u32 = 4_000;
 
 const STEPS: u32 = 1_000_000;
 
-/// Prints a row for each map at each number of entries, and one for each that is turned over.
+/// Prints a row for each map at each number of entries, and a row for each map whose entries come and go.
 pub fn measure(rt: &(impl AllocGlobal + Clock + Print)) -> io::Result<()> {
     print_head(rt)?;
     for (entries, count) in SIZES {
@@ -50,7 +50,7 @@ pub fn measure(rt: &(impl AllocGlobal + Clock + Print)) -> io::Result<()> {
     print_churn(rt, <HashMap<u64, u64> as Measured>::NAME, &dense)
 }
 
-/// Prints the row of one map, of which so many rounds showed this.
+/// Prints the row of one map, of which `count` rounds had these results.
 fn print_row<M: Measured>(
     rt: &(impl AllocGlobal + Print),
     keys: &Keys,

@@ -1,4 +1,4 @@
-//! What a map has to answer to be measured, and how large it is.
+//! What a map must offer to be measured, and how large it is.
 ghost use Rattle.std.specs.Prelude.{◌≡◌, ◌↔◌, ℕ, ◌+◌, ◌-◌, ◌*◌, ◌/◌, ◌^◌, ◌≤◌, ◌==◌, min, Option, Some, None, OnOk, IsTrue, if◌then◌else◌, nat_eq};
 ghost use Rattle.std.specs.FinMap as map;
 ghost use Rattle.std.specs.HashMap as hash_map;
@@ -12,34 +12,35 @@ use std::mem::size_of;
 /// Bytes of an item: a key and a value.
 const ITEM: u64 = size_of::<(u64, u64)>() as u64;
 
-/// Bytes of a list of the sparse map beside its places: 8 that say which of its 64 buckets are occupied, and 24 of its header.
+/// Bytes of a list of the sparse map without its places: 8 that say which of its 64 buckets are occupied, and 24 for
+/// its header.
 const LIST: u64 = 32;
 
-/// How large a map is.
+/// The size of a map.
 #[derive(Clone, Copy, Debug, PartialEq, Eq)]
 pub struct Size {
-    /// Keys with a value.
+    /// The number of keys with a value.
     pub entries: u64,
-    /// Places that a key can be looked for in.
+    /// The number of places that can hold a key.
     pub buckets: u64,
     /// The bytes of the map's own lists, without what the allocator adds to each.
     pub bytes: u64,
 }
 
-/// A map from 64-bit numbers to 64-bit numbers, as it is measured.
+/// A map from 64-bit numbers to 64-bit numbers that can be measured.
 pub trait Measured: Drop {
     /// Its name in the table.
     const NAME: &'static str;
 
-    /// What it has at a key.
+    /// The value at a key, if it has one.
     ghost content: { Self → ℕ → Option ℕ };
 
     /// A map without entries.
     fn empty(alloc: Global) -> Self
         ensures { (k : ℕ) → content result k ≡ None };
 
-    /// Sets the value of a key, and makes room before where that is a call of its own. It may be refused, for
-    /// want of memory or at the map's limit.
+    /// Sets the value of a key. It makes room first, if that is a call of its own. It fails with out of memory, or at
+    /// the map's limit.
     fn set(&mut self, key: u64, value: u64) -> Result<(), AllocError>
         ensures { OnOk result ((k : ℕ) → content self.new k ≡ (if key == k then Some value else content self.old k)) };
 
@@ -52,17 +53,18 @@ pub trait Measured: Drop {
         ensures value { result ≡ content self.old key }
         ensures content { (k : ℕ) → content self.new k ≡ (if key == k then None else content self.old k) };
 
-    /// Whether one key more makes it move into new lists, while the old ones are still there.
+    /// Whether one more key makes the map move into new lists, while the old lists are still there.
     fn moves_next(&self) -> bool;
 
-    /// The bytes of old and new lists at once as it moved last, where it was that large before.
+    /// The bytes of old and new lists together in the map's last move, if the map's size before it was `before`.
     fn bytes_as_moved(&self, before: Size) -> u64;
 
-    /// How large it is.
+    /// The size of the map.
     fn size(&self) -> Size;
 }
 
-/// Bytes of the lists of a sparse map of so many buckets, beside their places: one for each 64 buckets, and one for 32.
+/// Bytes of the lists of a sparse map of this many buckets, without their places: a list for each 64 buckets, and one
+/// for 32.
 fn list_bytes(buckets: u64) -> u64
     ensures { result ≡ 32 * (min (buckets + 32) (2 ^ 64 - 1) / 64) }
 {
@@ -78,7 +80,7 @@ impl Measured for SparseMap<u64> {
         SparseMap::new(alloc)
     }
 
-    /// A map of 2^30 keys takes no more.
+    /// Fails at 2^30 keys, the map's limit.
     fn set(&mut self, key: u64, value: u64) -> Result<(), AllocError> {
         if self.len() >= 1 << 30 {
             return Err(AllocError);
@@ -114,8 +116,8 @@ impl Measured for SparseMap<u64> {
             .saturating_add(lists)
     }
 
-    /// The map counts the places of its lists, the free ones and those of blank lists with them. No bucket has a place
-    /// of its own.
+    /// The map counts the places of its lists, including the free places and the places of blank lists. No bucket has
+    /// a place of its own.
     fn size(&self) -> Size
         ensures entries { result.entries ≡ len_of self.now }
         ensures buckets { result.buckets ≡ buckets_of self.now }
@@ -153,7 +155,7 @@ impl Measured for HashMap<u64, u64> {
         self.remove(&key)
     }
 
-    /// Its lists grow where they are.
+    /// The lists grow in place.
     fn moves_next(&self) -> bool {
         false
     }
@@ -162,8 +164,8 @@ impl Measured for HashMap<u64, u64> {
         self.size().bytes
     }
 
-    /// Each place for an entry takes an item and 8 bytes with its hash and where it is indexed. The index has
-    /// groups of 12 buckets in 64 bytes, and gives out 9 places for each.
+    /// Each place for an entry takes an item, and 8 bytes for its hash and its place in the index. The index has
+    /// groups of 12 buckets in 64 bytes, and gives out 9 places for each group.
     fn size(&self) -> Size {
         let places = self.capacity() as u64;
         let groups = places.div_ceil(9);

@@ -1,4 +1,4 @@
-//! Rounds of filling, asking and emptying a map, and how long they took.
+//! Rounds in which a map is filled, asked and emptied, and the time of its operations.
 ghost use Rattle.std.specs.Prelude.{◌≡◌, ℕ, ◌<◌, ◌≤◌, length, count_by, slice_index_or, Some, None, OnOk, nat_eq, ◌+◌};
 ghost use Rattle.std.specs.Option.{option_eq};
 
@@ -9,14 +9,14 @@ use std::io;
 use std::rt::Clock;
 use std::time::{Duration, Instant};
 
-/// How long the operations of some rounds took, all together.
+/// The time of all operations of some rounds together.
 #[derive(Clone, Copy, Debug, PartialEq, Eq)]
 pub struct Times {
-    /// Of look-ups.
+    /// The time of the look-ups.
     pub lookups: Duration,
-    /// Of insertions, each with the room that was made for it.
+    /// The time of the insertions, each with the room that was made for it.
     pub insertions: Duration,
-    /// Of removals.
+    /// The time of the removals.
     pub removals: Duration,
 }
 
@@ -27,7 +27,7 @@ impl Times {
         removals: Duration::ZERO,
     };
 
-    /// These and some more.
+    /// The sums of these times and `more`.
     fn and(self, more: Times) -> Times {
         Times {
             lookups: self.lookups.saturating_add(more.lookups),
@@ -37,12 +37,12 @@ impl Times {
     }
 }
 
-/// What some rounds of a map showed.
+/// The results of some rounds of a map.
 #[derive(Clone, Copy, Debug, PartialEq, Eq)]
 pub struct Rounds {
-    /// How large the map was with all keys.
+    /// The size of the map with all keys.
     pub size: Size,
-    /// How long its operations took.
+    /// The time of its operations.
     pub times: Times,
 }
 
@@ -55,7 +55,7 @@ impl Rounds {
         }
     }
 
-    /// These and one more.
+    /// The results of these rounds and one more.
     fn and_one<M: Measured>(
         self,
         rt: &(impl AllocGlobal + Clock),
@@ -69,7 +69,7 @@ impl Rounds {
     }
 }
 
-/// Runs so many rounds of each of two maps, in turns: what slows the machine for a while slows both.
+/// Runs `count` rounds of each of two maps, in turns, so that a cause that slows the machine for a while slows both.
 pub fn rounds_in_turns<M: Measured, N: Measured>(
     rt: &(impl AllocGlobal + Clock),
     keys: &Keys,
@@ -84,8 +84,8 @@ pub fn rounds_in_turns<M: Measured, N: Measured>(
     Ok((first, second))
 }
 
-/// The most bytes that a map takes while the keys are set, one after another: where a key makes it move into new lists,
-/// those and the old ones are there at once.
+/// The most bytes that a map takes while the keys are set, one after another. If a key makes it move into new lists,
+/// the new and the old lists are there at once.
 pub fn peak<M: Measured>(alloc: Global, keys: &[u64]) -> Result<u64, AllocError> {
     let mut map = M::empty(alloc);
     let mut most = 0;
@@ -95,7 +95,7 @@ pub fn peak<M: Measured>(alloc: Global, keys: &[u64]) -> Result<u64, AllocError>
     Ok(most.max(map.size().bytes))
 }
 
-/// Sets a key, and gives the bytes of old and new lists at once where it makes the map move, else 0.
+/// Sets a key. Gives the bytes of old and new lists together if the key makes the map move, and otherwise 0.
 fn bytes_while_set<M: Measured>(map: &mut M, key: u64) -> Result<u64, AllocError> {
     if !map.moves_next() {
         map.set(key, key)?;
@@ -106,7 +106,7 @@ fn bytes_while_set<M: Measured>(map: &mut M, key: u64) -> Result<u64, AllocError
     Ok(map.bytes_as_moved(before))
 }
 
-/// Makes a map of the keys, looks each up and takes each out.
+/// Makes a map of the keys, looks each key up and takes each key out.
 fn round<M: Measured>(rt: &(impl AllocGlobal + Clock), keys: &Keys) -> io::Result<(Size, Times)> {
     let mut map = M::empty(rt.alloc());
 
@@ -123,7 +123,7 @@ fn round<M: Measured>(rt: &(impl AllocGlobal + Clock), keys: &Keys) -> io::Resul
     let taken = take_all(&mut map, keys.asked.as_slice());
     let removals = start.elapsed(rt)?;
 
-    // What was found is looked at, so that no compiler leaves the work out.
+    // The counts are looked at, so that no compiler leaves the work out.
     if found != keys.asked.len() || taken != keys.asked.len() {
         return Err(io::Error::other("a map lost a key"));
     }

@@ -9,27 +9,27 @@ use figures::{nanoseconds, tenths_of};
 use std::alloc::{AllocError, Global};
 use std::io;
 
-/// What was measured of one map at one number of entries.
+/// The measurements of one map at one number of entries.
 #[derive(Clone, Copy)]
 pub struct Row {
     /// The name of the map.
     pub name: &'static str,
-    /// How large it was with all keys.
+    /// The size of the map with all keys.
     pub size: Size,
     /// The most bytes that the map took while it was filled.
     pub peak: u64,
-    /// How long the operations took, all together.
+    /// The time of all operations together.
     pub times: Times,
     /// How often each operation was done on each entry.
     pub rounds: u32,
 }
 
-/// What a row shows, all in tenths: bytes for each entry, and nanoseconds for each operation.
+/// The figures of a row, all in tenths: bytes for each entry, and nanoseconds for each operation.
 #[derive(Clone, Copy, Debug, PartialEq, Eq)]
 pub struct Figures {
     /// Bytes with all keys.
     pub bytes: u64,
-    /// The most bytes while it was filled.
+    /// The most bytes while the map was filled.
     pub peak: u64,
     /// A look-up.
     pub lookup: u64,
@@ -106,7 +106,7 @@ pub fn churn_line(
     )
 }
 
-/// Prints that row.
+/// Prints this row.
 pub fn print_churn(
     rt: &(impl Print + AllocGlobal),
     name: &'static str,

@@ -51,14 +51,14 @@ seven_fields size number (f0 ∷ f1 ∷ f2 ∷ f3 ∷ f4 ∷ f5 ∷ f6 ∷ f7 �
 
 -- ---- records
 
--- a text has no record where the first read finds none
+-- a text has no record if the first read finds none
 pub none_in : (text : List ℕ) → next_record default_config st.StartRecord [] [] text ≡ None → records default_config text ≡ []
 unfolding records_from
 none_in text none =
     ap (λ n. records_from default_config n st.StartRecord text) (add-one (length text))
     ∙ ap (records_next (records_from default_config (length text))) none
 
--- one where the second finds none
+-- it has one record if the second read finds none
 pub one_in : (text : List ℕ) (first : Read) → next_record default_config st.StartRecord [] [] text ≡ Some first
     → next_record default_config first.1 [] [] first.2 ≡ None → records default_config text ≡ first.0 ∷ []
 unfolding next_record records_from
@@ -68,7 +68,7 @@ one_in (b ∷ text) first is none =
     ∙ ap (records_next (records_from default_config (length (b ∷ text)))) is
     ∙ ap (λ (more : List (List (List ℕ))). first.0 ∷ more) (ap (records_next (records_from default_config (length text))) none)
 
--- and more where it finds one
+-- it has more than one if the second read finds one
 pub more_in : (text : List ℕ) (first second : Read) → next_record default_config st.StartRecord [] [] text ≡ Some first
     → next_record default_config first.1 [] [] first.2 ≡ Some second
     → (more : List (List (List ℕ))) × (records default_config text ≡ first.0 ∷ second.0 ∷ more)
@@ -81,7 +81,7 @@ more_in (b ∷ text) first second is next = (
       ∙ ap (λ (more : List (List (List ℕ))). first.0 ∷ more) (ap (records_next (records_from default_config (length text))) next),
 )
 
--- the same of records that were reached
+-- the same for records that were reached
 reached_one : (text : List ℕ) (fields : List (List ℕ)) (s : State) (rest : List ℕ) → Reached default_config st.StartRecord text (fields ∷ []) s rest
     → next_record default_config s [] [] rest ≡ None → records default_config text ≡ fields ∷ []
 unfolding Reached

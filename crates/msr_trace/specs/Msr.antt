@@ -13,7 +13,7 @@ use Rattle.trace_model.specs.Readings.{Reading}
 abbrev pub block_of : ℕ → ℕ
 block_of offset = offset / 4096
 
--- how many blocks have a byte of these, of which there is one at least
+-- how many blocks have one of these bytes, if there is at least one byte
 abbrev pub blocks_in : ℕ → ℕ → ℕ
 blocks_in offset bytes = block_of (offset + bytes - 1) - block_of offset + 1
 
@@ -21,7 +21,7 @@ blocks_in offset bytes = block_of (offset + bytes - 1) - block_of offset + 1
 abbrev pub request_for : Bool → ℕ → ℕ → ℕ → Line
 request_for writes number lba count = if writes then line.Write lba count number else line.Read lba count
 
--- a request for these bytes is widened to whole blocks; one for no byte is nothing
+-- a request for these bytes is widened to whole blocks; a request for no byte is nothing
 abbrev pub span_says : ℕ → ℕ → Bool → ℕ → ℕ → Reading
 span_says size number writes offset bytes = if nat_lt last (offset + bytes) then Err error.BadNumber
     else if bytes == 0 then Ok line.Nothing
@@ -58,12 +58,12 @@ records_of bytes = records default_config (strip_bom bytes)
 abbrev pub msr_line : ℕ → ℕ → List ℕ → Reading
 msr_line size number bytes = if nat_lt 200 (length bytes) then Err error.LineTooLong else records_say size number (records_of bytes)
 
--- it refuses a line that says this; want of memory may stand in the place of whatever it says
+-- the line with this reading is refused for its cause; the error may be out of memory whatever the reading is
 abbrev pub RefusesAs : MsrError → Reading → Type 0
 RefusesAs (msr.Refused cause) says = says ≡ Err cause
 RefusesAs msr.OutOfMemory says = ⊤
 
--- more than one record are too many
+-- more than one record is too many
 abbrev pub RefusesMore : MsrError → List (List (List ℕ)) → Type 0
 RefusesMore (msr.Refused cause) rows = (cause ≡ error.BadCount) × (first : List (List ℕ)) × (second : List (List ℕ)) × (more : List (List (List ℕ)))
     × (rows ≡ first ∷ second ∷ more)

@@ -16,11 +16,12 @@ before_refusal [] = []
 before_refusal (Ok line ∷ readings) = line ∷ before_refusal readings
 before_refusal (Err cause ∷ readings) = []
 
--- the lines of a trace in this form, for a volume of so many blocks, up to the first that is refused
+-- the lines of a trace in this form, for a volume with this number of blocks, up to the first that is refused
 abbrev pub msr_lines : ℕ → List ℕ → List Line
 msr_lines size bytes = before_refusal (readings_by (msr_line size) true bytes)
 
--- a source was read so far that this is known of the lines of such a trace, for so many of them: of all of them or not
+-- for this many lines, a source was read so far that these readings of such a trace's lines are known; the flag says
+-- whether they are all
 abbrev pub ReadsMsr : ℕ → SourceState → SourceState → ℕ → List Reading → Bool → Type 0
 ReadsMsr size = ReadsBy (msr_line size)
 
@@ -28,7 +29,7 @@ all_before : (lines : List Line) → before_refusal (map accepted lines) ≡ lin
 all_before [] = refl
 all_before (line ∷ lines) = ap (λ (r : List Line). line ∷ r) (all_before lines)
 
--- where all lines are accepted, they are the trace's
+-- if all lines are accepted, they are the trace's lines
 pub lines_of_all : (size : ℕ) (old new : SourceState) (n : ℕ) (lines : List Line) (reads : ReadsMsr size old new n (map accepted lines) true)
     → msr_lines size reads.bytes ≡ lines
 lines_of_all size old new n lines reads = ap before_refusal (sym reads.says) ∙ all_before lines
@@ -37,12 +38,12 @@ before_one : (lines : List Line) (cause : LineError) (left : List Reading) → b
 before_one [] cause left = refl
 before_one (line ∷ lines) cause left = ap (λ (r : List Line). line ∷ r) (before_one lines cause left)
 
--- where one is refused, those before it are
+-- if a line is refused, the lines before it are the trace's lines
 pub lines_of_front : (size : ℕ) (old new : SourceState) (n : ℕ) (lines : List Line) (cause : LineError) (left : List Reading)
     (reads : ReadsMsr size old new n (map accepted lines ++ Err cause ∷ left) true) → msr_lines size reads.bytes ≡ lines
 lines_of_front size old new n lines cause left reads = ap before_refusal (sym reads.says) ∙ before_one lines cause left
 
--- a line of more than 200 bytes is refused for that
+-- a line of more than 200 bytes is refused for its length
 pub long_refused : (size number : ℕ) (line : List ℕ) → 200 < length line → msr_line size number line ≡ Err LineTooLong
 long_refused size number line long =
     let test : nat_lt 200 (length line) ≡ true = grind (arith, nat_tests) in

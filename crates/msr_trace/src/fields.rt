@@ -1,4 +1,4 @@
-//! What the fields of a line say.
+//! Reads the fields of a line.
 ghost use Rattle.std.specs.Prelude.{◌≡◌, ◌<◌, Some, bytes_eq, length, IfOk};
 ghost use Rattle.csv.specs.Records.{field_at, fields_of};
 ghost use Rattle.trace_model.specs.Lines.{IsRunnable};
@@ -8,16 +8,16 @@ use csv::ByteRecord;
 use trace_model::{Line, LineError};
 use trace_text::number_in;
 
-/// A line has so many fields.
+/// A line has this many fields.
 const FIELDS: usize = 7;
 
-/// A block has so many bytes.
+/// A block has this many bytes.
 const BLOCK: u64 = 4096;
 
-/// A request has at most so many blocks.
+/// A request has at most this many blocks.
 const BLOCK_LIMIT: u64 = 65536;
 
-/// What a record says, in the line with this number and for a volume of so many blocks.
+/// What a record says, in the line with this number and for a volume with this number of blocks.
 pub(crate) fn record_says(fields: &ByteRecord, number: u64, size: u64) -> Result<Line, LineError>
     ensures line { result ≡ msr.fields_say size number (fields_of fields.now) }
     ensures runnable { IfOk result (IsRunnable size) }
@@ -43,7 +43,7 @@ fn field(fields: &ByteRecord, place: usize) -> &[u8]
     }
 }
 
-/// What Type, Offset and Size say.
+/// What the fields Type, Offset and Size say.
 fn request(
     kind: &[u8],
     offset: &[u8],
@@ -66,7 +66,7 @@ fn request(
     span(writes, offset, bytes, number, size)
 }
 
-/// The word is this one.
+/// Whether the word is `name`.
 fn is_word(word: &[u8], name: &[u8]) -> bool
     ensures { result ≡ bytes_eq word.now name.now }
 {

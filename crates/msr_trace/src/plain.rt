@@ -18,7 +18,7 @@ enum Place {
     Behind,
 }
 
-/// The fields of a line, and how many records they are.
+/// The fields of a line, and the number of its records.
 #[derive(Drop)]
 struct Fields {
     alloc: Global,
@@ -92,7 +92,7 @@ fn without_mark(line: &[u8]) -> &[u8] {
     }
 }
 
-/// What the line with this number says for a volume of so many blocks.
+/// What the line with this number says, for a volume with this number of blocks.
 pub(crate) fn plain_msr(
     alloc: Global,
     line: &[u8],
@@ -121,7 +121,7 @@ pub(crate) fn plain_msr(
     Ok(plain_request(writes, offset, bytes, number, size))
 }
 
-/// The number that the word spells, where it spells one.
+/// The number that the word spells, if it spells one.
 fn plain_number(word: &[u8]) -> Option<u128> {
     if word.is_empty() || word.len() > 20 || (word.len() > 1 && word[0] == b'0') {
         return None;

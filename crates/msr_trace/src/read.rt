@@ -1,4 +1,4 @@
-//! A line is read.
+//! Reads a line.
 ghost use Rattle.std.specs.Prelude.{◌≡◌, ◌∷◌, [], true, Ok, IfOk, IfErr, IfSome, IfNone};
 ghost use Rattle.csv.specs.Reading.{error_kind, stops_reader};
 ghost use Rattle.csv.specs.Records.{fields_of};
@@ -11,25 +11,25 @@ use std::alloc::Global;
 use thiserror::Error;
 use trace_model::{Line, LineError};
 
-/// A line has at most so many bytes.
+/// A line has at most this many bytes.
 const LINE_LIMIT: usize = 200;
 
-/// Why a line isn't read.
+/// Why a line can't be read.
 #[derive(Clone, Copy, Debug, PartialEq, Eq, Error)]
 pub enum MsrError {
-    /// It is refused.
+    /// The line is refused.
     #[error("the line is refused: {0}")]
     Refused(LineError),
-    /// Memory was refused.
+    /// Out of memory.
     #[error("out of memory")]
     OutOfMemory,
 }
 
-/// What the line with this number says for a volume of so many blocks, or the first refusal that applies.
+/// What the line with this number says for a volume of `size` blocks, or the first refusal that applies.
 ///
-/// A line with no record is Nothing, and so is one whose Size is 0. Any other is a request for each block that has
-/// one of its Size bytes from Offset on. The tag of a write is the line's number. Memory is held only while the line
-/// is read.
+/// A line with no record is `Nothing`, and so is a line whose Size is 0. Any other line is a request for each block
+/// that has one of its Size bytes from Offset on. The tag of a write is the line's number. Memory is held only while
+/// the line is read.
 pub fn read_msr(alloc: Global, line: &[u8], number: u64, size: u64) -> Result<Line, MsrError>
     ensures line { IfOk result (λ l. msr_line size number line.now ≡ Ok l) }
     ensures refused { IfErr result (λ e. RefusesAs e (msr_line size number line.now)) }
@@ -47,7 +47,7 @@ pub fn read_msr(alloc: Global, line: &[u8], number: u64, size: u64) -> Result<Li
     }
 }
 
-/// The record of a line, where it has one. A line with more is refused.
+/// The record of a line, if it has one. A line with more than one is refused.
 fn only_record(alloc: Global, line: &[u8]) -> Result<Option<ByteRecord>, MsrError>
     ensures none { IfOk result (λ o. IfNone o (records_of line.now ≡ [])) }
     ensures one { IfOk result (λ o. IfSome o (λ r. records_of line.now ≡ fields_of r ∷ [])) }
@@ -76,8 +76,8 @@ fn only_record(alloc: Global, line: &[u8]) -> Result<Option<ByteRecord>, MsrErro
     Ok(Some(first))
 }
 
-/// A slice never fails, so a reader of one is stopped by want of memory alone. No other error comes: a record may have
-/// any number of fields, of any bytes.
+/// A slice never fails, so only out of memory stops a reader of a slice. No other error comes: a record may have any
+/// number of fields, of any bytes.
 fn out_of_memory(error: &ReadError) -> MsrError
     requires stopped { stops_reader (error_kind error.now) ≡ true }
     ensures { result ≡ MsrError.OutOfMemory }

@@ -1,4 +1,4 @@
-//! Worked lines, and random ones beside the plain program.
+//! Worked lines, and random lines beside the plain program.
 ghost use Rattle.std.specs.Prelude.{◌<◌};
 
 use crate::plain::plain_msr;
@@ -11,10 +11,10 @@ use std::process::Abort;
 use std::test::Fail;
 use trace_model::{Line, LineError};
 
-/// How many blocks the volume has.
+/// The number of blocks of the volume.
 const SIZE: u64 = 1_048_576;
 
-/// What the line with the number 9 says, which the plain program must say too.
+/// What the line with the number 9 says. The plain program must say the same.
 fn says(
     rt: &impl Abort,
     alloc: Global,
@@ -27,10 +27,10 @@ fn says(
     Ok(plain)
 }
 
-/// A line, and what it says.
+/// A line, and the reading that it must have.
 type Row<'a> = (&'a [u8], Result<Line, LineError>);
 
-/// The first line that says something else.
+/// The first line that says something else, if there is one.
 fn first_other(rt: &impl Abort, alloc: Global, rows: &[Row]) -> Result<Option<usize>, Fail> {
     for i in 0..rows.len() {
         let (line, wanted) = rows[i];
@@ -151,7 +151,7 @@ fn no_number_is_too_great_to_be_refused(rt: HostRuntime) -> Result<(), Fail> {
     Ok(())
 }
 
-/// A line of so many bytes, by a long Hostname.
+/// A line of this length, by a long Hostname.
 fn long_line(alloc: Global, length: usize) -> Result<Vec<u8>, Fail> {
     let mut line = b"1,".to_vec(alloc)?;
     for _ in 0..length.saturating_sub(16) {
@@ -244,7 +244,7 @@ fn push_field(
     Ok(())
 }
 
-/// Puts one byte more into a line.
+/// Puts one more byte into a line.
 fn spoil(line: &mut Vec<u8>, words: &mut Lcg64Xsh32) -> Result<(), Fail> {
     let byte = SPOILERS[(words.next_word() % 8) as usize];
     let at = words.next_word() as usize % (line.len() + 1);
@@ -252,7 +252,7 @@ fn spoil(line: &mut Vec<u8>, words: &mut Lcg64Xsh32) -> Result<(), Fail> {
     Ok(())
 }
 
-/// A line in the form, or near it.
+/// A line in this form, or near it.
 fn line_near(alloc: Global, words: &mut Lcg64Xsh32) -> Result<Vec<u8>, Fail> {
     let mut line = Vec::new(alloc);
     let count = match words.next_word() % 12 {
@@ -278,7 +278,7 @@ fn line_near(alloc: Global, words: &mut Lcg64Xsh32) -> Result<Vec<u8>, Fail> {
     Ok(line)
 }
 
-/// Which of eight it is: a read, a write, nothing, or a cause.
+/// The class of a reading, one of eight: a read, a write, nothing, or a cause.
 fn class_of(said: &Result<Line, LineError>) -> usize
     ensures { result < 8 }
 {

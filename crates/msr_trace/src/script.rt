@@ -28,6 +28,6 @@ impl LineForm for MsrForm {
     ghost long = { long_refused };
 }
 
-/// Gives the lines of a source in this form, and prints what becomes of them. It holds one piece of the source, one line
-/// and its fields, and one piece of what it prints at most.
+/// Gives the lines of a source in this form, and prints what becomes of them. It holds at most one piece of the
+/// source, one line and its fields, and one piece of the text that it prints.
 pub type MsrScript<'a, I, O> = FormScript<'a, I, O, MsrForm>;

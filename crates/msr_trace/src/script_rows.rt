@@ -10,7 +10,7 @@ use trace_replay::{Ended, Script};
 /// What a script gives when it is asked for a line.
 type Given = Result<Option<Line>, Ended>;
 
-/// A trace, what the script gives, call by call, and what is printed then.
+/// A trace, what the script gives, call by call, and the text that is printed then.
 #[derive(Clone, Copy)]
 struct Row<'a> {
     trace: &'a [u8],
@@ -18,7 +18,7 @@ struct Row<'a> {
     printed: &'a [u8],
 }
 
-/// Whether the script gives this of a source that gives so many bytes at once and fails at these reads.
+/// Whether the script gives this, from a source that gives `piece` bytes at once and fails at these reads.
 fn gives(alloc: Global, row: &Row, piece: usize, failing: &[u64]) -> Result<bool, AllocError> {
     let piece = if piece == 0 { 1 } else { piece };
     let mut source = MemSource::new(row.trace.to_vec(alloc)?, piece, failing.to_vec(alloc)?);

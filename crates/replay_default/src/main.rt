@@ -1,7 +1,7 @@
-//! The program without words: standard input is a trace, which is run over a cache of the default numbers that writes
-//! back, as the word `replay` alone says. It is built in less time than the whole program, whose words are read by a
-//! large library. Where there is a word it ends with status 1, and reads and prints nothing; the other statuses are those
-//! of `replay`.
+//! The program without words. Standard input is a trace, which is run over a cache of the default numbers that writes
+//! back, as the word `replay` alone does. This program is built in less time than the whole program, which reads its
+//! words with a large library. If there is a word, it ends with status 1, and reads and prints nothing. The other
+//! statuses are the statuses of `replay`.
 #![tactic(auto)]
 
 use cache_run::{default_options, replay_with, status_of};

@@ -1,4 +1,4 @@
-//! What traces cost, as `cost` tells it.
+//! The costs of traces, as `cost` prints them.
 
 use crate::replay::run_on;
 use mem_rig::MemRig;
@@ -8,7 +8,7 @@ use std::test::Fail;
 /// The words of a command, a trace, the status of its run, and its text.
 type Row<'a> = (&'a [&'a str], &'a [u8], u8, &'a [u8]);
 
-/// The first row of which the run ends otherwise.
+/// The first row whose run ends otherwise, if there is one.
 fn first_other(alloc: Global, rows: &[Row]) -> Result<Option<usize>, AllocError> {
     for i in 0..rows.len() {
         let (words, trace, status, text) = rows[i];

@@ -6,7 +6,8 @@ use std::test::Fail;
 /// A trace in the form of MSR Cambridge, the status of its run, and the front of the text.
 type Row<'a> = (&'a [u8], u8, &'a [u8]);
 
-/// Whether the run of a row ends so. A run of which the end line is shown prints just a digest behind the front.
+/// Whether the run of a row ends like this. If the row shows the end line, the run prints just a digest behind the
+/// front.
 fn ends_so(alloc: Global, row: Row) -> Result<bool, AllocError> {
     let (trace, status, front) = row;
     let outcome = run_on(
@@ -23,7 +24,7 @@ fn ends_so(alloc: Global, row: Row) -> Result<bool, AllocError> {
     )
 }
 
-/// The first row of which the run ends otherwise.
+/// The first row whose run ends otherwise, if there is one.
 fn first_other(alloc: Global, rows: &[Row]) -> Result<Option<usize>, AllocError> {
     for i in 0..rows.len() {
         if !ends_so(alloc, rows[i])? {

@@ -1,4 +1,4 @@
-//! Lines that are held, some first ones and those of a trace: what is printed is what is printed of one trace of all.
+//! Held lines, some first lines and then the lines of a trace. They print what one trace of all these lines prints.
 
 use cache_run::{default_options, replay_lines};
 use flashtier_cli::run;

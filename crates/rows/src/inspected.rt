@@ -1,4 +1,4 @@
-//! What a trace leaves in the cache, as `inspect` tells it.
+//! The contents that a trace leaves in the cache, as `inspect` prints them.
 
 use flashtier_cli::run;
 use ft_base::{MemSink, MemSource};
@@ -66,13 +66,13 @@ fn buckets_double_where_three_quarters_are_full(rt: HostRuntime) -> Result<(), F
             b"w 0 2 1\n",
             b"held 2\ndirty groups 1\nbuckets 32\nscrubbed 2\n",
         ),
-        // Two dirty groups, and a clean one of a block that was read.
+        // Two dirty groups, and a clean group of a block that was read.
         (
             &SMALL,
             b"w 3 2 1\nr 9 1\n",
             b"held 3\ndirty groups 2\nbuckets 32\nscrubbed 3\n",
         ),
-        // Each block is on the disk when it is written.
+        // Each block goes to the disk when it is written.
         (
             &["--mode=through"],
             b"w 0 2 1\n",
@@ -102,8 +102,8 @@ fn a_refused_line_is_all_that_is_printed(rt: HostRuntime) -> Result<(), Fail> {
     Ok(())
 }
 
-// That a block which was read is held is not on the flash before the report, whose first device write is
-// that page of the log. Torn, it is no part of the log.
+// A block was read, and the cache holds it. The flash doesn't say so before the report, whose first device write is
+// that page of the log. Torn, the page is no part of the log.
 #[test]
 fn a_report_that_is_cut_tells_what_recovery_found(rt: HostRuntime) -> Result<(), Fail> {
     let alloc = rt.alloc();
@@ -128,7 +128,7 @@ fn a_report_that_is_cut_tells_what_recovery_found(rt: HostRuntime) -> Result<(),
     Ok(())
 }
 
-/// Inspects a trace over a rig of which this call of the flash or of the disk fails.
+/// Inspects a trace over a rig that fails at this call of the flash or of the disk.
 fn inspect_without(
     alloc: Global,
     trace: &[u8],
@@ -145,8 +145,8 @@ fn inspect_without(
     inspect_on(alloc, &SMALL, trace, rig)
 }
 
-/// Lets each call of a device fail in turn: the run ends for it with this status and prints nothing, or nothing
-/// failed and the text is whole. Says how many calls failed.
+/// Lets each call of a device fail in turn. Either the run ends for the fault with this status and prints nothing, or
+/// nothing failed and the text is whole. Says how many calls failed.
 fn inspect_each(
     rt: &impl Abort,
     alloc: Global,

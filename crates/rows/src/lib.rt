@@ -1,8 +1,9 @@
-//! Worked examples of the whole program, as tables: a trace, the text that it prints and its status; traces in pieces of
-//! every size, of which each read of the source and each write of the sink fails in turn; both managers; refused lines;
-//! made traces; traces in the form of MSR Cambridge; what traces cost; and what they leave in the cache.
+//! Worked examples of the whole program, as tables. They have a trace, the text that it prints and its status. Some
+//! traces come in pieces of every size, and each read of the source and each write of the sink fails in turn. Others
+//! are for both managers, refused lines, made traces, and traces in the form of MSR Cambridge. The last examples are
+//! for the costs of traces, and for the contents that they leave in the cache.
 //!
-//! No layer stands on this crate; it has tests alone.
+//! No layer stands on this crate; it has only tests.
 #![tactic(auto)]
 
 #[cfg(test)]

@@ -1,4 +1,4 @@
-//! Made traces, of which another program drew the lines and computed the end line.
+//! Made traces. Another program drew their lines and computed the end line.
 
 use flashtier_cli::run;
 use ft_base::{MemSink, MemSource};
@@ -8,7 +8,7 @@ use std::alloc::Global;
 use std::process::Abort;
 use std::test::Fail;
 
-/// Numbers of a small volume.
+/// The numbers of a small volume.
 const SMALL: &str = "--pages 4 --data 2 --log=2 --journal 1 --size=64";
 
 /// Runs the words between the spaces over this rig, and sees that nothing is read.
@@ -59,7 +59,7 @@ fn a_made_trace_prints_its_end_line_alone(rt: HostRuntime) -> Result<(), Fail> {
     Ok(())
 }
 
-// The options that aren't named say the same in both.
+// The options that are not named have the same values in both.
 #[test]
 fn a_long_made_trace_prints_its_end_line_alone(rt: HostRuntime) -> Result<(), Fail> {
     let alloc = rt.alloc();

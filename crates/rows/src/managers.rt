@@ -1,4 +1,4 @@
-//! Volumes that write back and through: what goes to the disk, and what a cut leaves.
+//! Volumes that write back and through: the blocks that go to the disk, and the state that a cut leaves.
 
 use crate::replay::repeated;
 use ft_media::Rig;
@@ -7,7 +7,7 @@ use std::alloc::Global;
 use std::process::Abort;
 use std::test::Fail;
 
-/// Runs a trace, whose text must begin so and be that of a plain disk.
+/// Runs a trace. Its text must begin like this and be the text of a plain disk.
 fn run_as(
     rt: &impl Abort,
     alloc: Global,
@@ -56,7 +56,7 @@ fn a_small_volume_reads_a_block_from_the_disk_once(rt: HostRuntime) -> Result<()
 #[test]
 fn the_group_written_longest_ago_goes_to_the_disk(rt: HostRuntime) -> Result<(), Fail> {
     let alloc = rt.alloc();
-    // An idle step writes one group back where more than one is dirty.
+    // An idle step writes one group back if more than one is dirty.
     let one = Shape {
         dirty: 1,
         ..back(2, 2)
@@ -112,7 +112,8 @@ fn a_volume_that_writes_through_is_on_the_disk(rt: HostRuntime) -> Result<(), Fa
     Ok(())
 }
 
-// The second write is: a log page with the removal, a block write, a flush of the disk, a page.
+// The second write makes these device writes: a log page with the removal, a block write, a flush of the disk, a
+// page.
 #[test]
 fn a_write_through_that_is_cut_is_old_or_new(rt: HostRuntime) -> Result<(), Fail> {
     let alloc = rt.alloc();

@@ -1,4 +1,4 @@
-//! A trace in pieces of every size, and streams of which each call fails in turn.
+//! A trace in pieces of every size, and streams whose calls fail, each in turn.
 
 ghost use Rattle.std.specs.Prelude.{◌≤◌};
 
@@ -31,7 +31,7 @@ const WHOLE: &[u8] = b"w 0 1 1\nr 0 1";
 const WHOLE_TEXT: &[u8] =
     b"wrote 0 1\nread 0 1\nend 1 1 1 8e50292b6a80dcdf08865a5ef350ec1b15d9daa1a50e79b7fde7bd98e9431cb5\n";
 
-/// So many bytes of the source make a piece where its calls fail.
+/// A piece has this many bytes if calls of the source fail.
 const PIECE: usize = 3;
 
 fn replay(alloc: Global, mut source: MemSource, mut sink: MemSink) -> Result<Outcome, Fail> {
@@ -45,7 +45,7 @@ fn replay(alloc: Global, mut source: MemSource, mut sink: MemSink) -> Result<Out
     Ok(Outcome { status, text, rig })
 }
 
-/// Runs the trace in pieces of so many bytes, where the listed calls of the source fail.
+/// Runs the trace in pieces of `piece` bytes. The listed calls of the source fail.
 fn in_pieces(alloc: Global, trace: &[u8], piece: usize, failing: Vec<u64>) -> Result<Outcome, Fail>
     requires { 1 ≤ piece }
 {
@@ -54,7 +54,7 @@ fn in_pieces(alloc: Global, trace: &[u8], piece: usize, failing: Vec<u64>) -> Re
     replay(alloc, source, sink)
 }
 
-/// Runs the trace over a sink that takes one byte a call, of which this call fails.
+/// Runs the trace over a sink that takes one byte a call, and fails at this call.
 fn byte_by_byte(alloc: Global, trace: &[u8], failing: u64) -> Result<Outcome, Fail> {
     let source = MemSource::new(Vec::from_slice(alloc, trace)?, 100, Vec::new(alloc));
     let sink = MemSink::new(alloc, 1000, 1, [failing].to_vec(alloc)?)?;
@@ -71,7 +71,7 @@ fn spaced(alloc: Global) -> Result<Vec<u8>, AllocError> {
     Ok(trace)
 }
 
-/// Sees that a run ended so, and printed this.
+/// Sees that a run ended with this status, and printed this text.
 fn ends_so(rt: &impl Abort, outcome: &Outcome, status: u8, text: &[u8]) {
     assert_eq!(rt; outcome.status, status);
     assert_eq!(rt; outcome.text.as_slice(), text);
@@ -93,7 +93,7 @@ fn pieces_of_every_size_give_one_text(rt: HostRuntime) -> Result<(), Fail> {
     Ok(())
 }
 
-/// How many line feeds stand in the first so many bytes.
+/// How many line feeds stand in the first `most` bytes.
 fn line_feeds(bytes: &[u8], most: usize) -> usize {
     let mut count: usize = 0;
     for byte in bytes.iter().take(most) {
@@ -149,7 +149,7 @@ fn each_call_of_the_source_that_fails_ends_the_run(rt: HostRuntime) -> Result<()
     Ok(())
 }
 
-// A sink that takes one byte a call has taken as many bytes as calls were made before.
+// A sink that takes one byte a call has taken one byte for each call before.
 #[test]
 fn each_call_of_the_sink_that_fails_ends_the_run(rt: HostRuntime) -> Result<(), Fail> {
     let alloc = rt.alloc();
@@ -191,7 +191,7 @@ fn three_pieces(alloc: Global) -> Result<Vec<u8>, AllocError> {
     Ok(trace)
 }
 
-/// Runs the trace over a rig of which this call of the flash fails. Says how it ended, and how many bytes of the
+/// Runs the trace over a rig that fails at this call of the flash. Says how the run ended, and how many bytes of the
 /// trace were not read.
 fn unread_after(alloc: Global, trace: &[u8], failing: u64) -> Result<(u8, usize), Fail> {
     let mut source = MemSource::new(Vec::from_slice(alloc, trace)?, 5000, Vec::new(alloc));
@@ -205,7 +205,7 @@ fn unread_after(alloc: Global, trace: &[u8], failing: u64) -> Result<(u8, usize)
     Ok((status, left_in(&mut source)?))
 }
 
-// A call that fails before the volume is made leaves the whole trace; one that fails in the first line leaves all
+// A call that fails before the volume is made leaves the whole trace. A call that fails in the first line leaves all
 // of it but the first piece of 4,096 bytes.
 #[test]
 fn a_first_line_that_fails_leaves_the_rest_in_the_source(rt: HostRuntime) -> Result<(), Fail> {

@@ -8,11 +8,11 @@ use std::alloc::Global;
 use std::process::Abort;
 use std::test::Fail;
 
-/// What is printed of a trace that runs no request.
+/// The text that a trace with no request prints.
 const EMPTY: &[u8] =
     b"end 0 0 0 e3b0c44298fc1c149afbf4c8996fb92427ae41e4649b934ca495991b7852b855\n";
 
-/// Runs a trace over a volume of two groups, which ends so.
+/// Runs a trace over a volume of two groups, and sees how it ends.
 fn ends_so(
     rt: &impl Abort,
     alloc: Global,
@@ -25,7 +25,7 @@ fn ends_so(
     Ok(())
 }
 
-/// Runs a trace that is refused in its first line: no device is called but as for an empty trace.
+/// Runs a trace whose first line is refused. It calls no device except as an empty trace does.
 fn refused_at_once(rt: &impl Abort, alloc: Global, trace: &[u8], text: &[u8]) -> Result<(), Fail> {
     let empty = run(alloc, &back(2, 2), b"")?;
     let outcome = run(alloc, &back(2, 2), trace)?;

@@ -8,7 +8,7 @@ use std::test::Fail;
 
 const EMPTY: &str = "e3b0c44298fc1c149afbf4c8996fb92427ae41e4649b934ca495991b7852b855";
 
-/// What a run printed, its status, and the calls of the media.
+/// The text that a run printed, its status, and the calls of the media.
 #[derive(Drop)]
 pub(crate) struct Outcome {
     pub(crate) status: u8,
@@ -132,7 +132,7 @@ fn a_line_that_is_too_long_is_refused(rt: HostRuntime) -> Result<(), Fail> {
     Ok(())
 }
 
-/// So many lines like this one.
+/// This line, `count` times.
 pub(crate) fn repeated(alloc: Global, line: &[u8], count: u32) -> Result<Vec<u8>, AllocError> {
     let mut trace = Vec::new(alloc);
     for _ in 0..count {

@@ -5,7 +5,7 @@ use ft_base::{MemSink, MemSource};
 use mem_rig::MemRig;
 use std::test::Fail;
 
-// The first call of each would fail, and be counted.
+// The first call of each stream and device would fail, and be counted.
 #[test]
 fn words_that_are_no_command_touch_nothing(rt: HostRuntime) -> Result<(), Fail> {
     let alloc = rt.alloc();
@@ -29,7 +29,7 @@ fn words_that_are_no_command_touch_nothing(rt: HostRuntime) -> Result<(), Fail> 
         assert_eq!(rt; status, 1);
         assert_eq!(rt; (source.faults(), sink.faults()), (0, 0));
         assert_eq!(rt; sink.bytes(), b"".as_slice());
-        // None of its calls was made yet, so that the next one is the first.
+        // No call of the source was made yet, so that the next one is the first.
         let mut bytes = [0u8; 8];
         assert!(rt; source.give(&mut bytes).is_err());
     }

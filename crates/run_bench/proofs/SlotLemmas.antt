@@ -1,4 +1,4 @@
--- A list that was split, of which an element went from the end of the front to the start of the back.
+-- A split list, in which an element went from the end of the front to the start of the back.
 use Rattle.std.proofs.Common.{◌≡◌, ℕ, ◌+◌, ◌-◌, ◌<◌, List, ◌++◌, length, get_or, set, sym, ap, ◌∙◌, arith}
 use Rattle.std.proofs.Math.ListN.{get_or-append}
 use Rattle.std.proofs.lemmas.List.{get_or_default, set-append_right}

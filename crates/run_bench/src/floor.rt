@@ -1,5 +1,5 @@
-//! What the pages and the blocks of a run cost a plain loop: each page that was programmed is copied once, and
-//! each block that was touched is hashed once.
+//! The cost of a run's pages and blocks in a plain loop: each page that was programmed is copied once, and each block
+//! that was touched is hashed once.
 ghost use Rattle.std.specs.Prelude.{◌≡◌, ◌<◌, length};
 ghost use Rattle.sha2.specs.Sha256.{sha256};
 ghost use Rattle.run_bench.specs.Floor.{blocks_told};
@@ -11,8 +11,8 @@ use std::io;
 use std::rt::Clock;
 use std::time::{Duration, Instant};
 
-/// The time in which a plain loop copies so many pages, in as much memory as so many take, and hashes so many
-/// addresses with a block each.
+/// The time that a plain loop takes. It makes `programs` copies of a page, in as much memory as `pages` pages take,
+/// and hashes `touched` addresses with a block each.
 pub fn floor(
     rt: &(impl AllocGlobal + Clock),
     pages: u64,
@@ -25,14 +25,14 @@ pub fn floor(
     ring.copy(programs);
     let digest = hashed(ring.slots(), touched);
     let time = start.elapsed(rt)?;
-    // What was copied and hashed is looked at, so that no compiler leaves the work out.
+    // The copies and the digest are looked at, so that no compiler leaves the work out.
     if !ring.is_marked() || digest == [0; 32] {
         return Err(io::Error::other("a page was lost"));
     }
     Ok(time)
 }
 
-/// The digest of so many addresses, ascending, and a block for each, which are those of the ring in turn.
+/// The digest of `count` addresses, ascending, and a block for each. The blocks are the ring's blocks in turn.
 pub fn hashed(slots: &[Slot], count: u64) -> [u8; 32]
     requires { 0 < length slots.now }
     ensures { result ≡ sha256 (blocks_told slots.now count) }

@@ -1,5 +1,5 @@
-//! A trace that reads cached blocks, in both forms of lines; and lines in the form of MSR Cambridge that ask for nothing,
-//! so that they cost their reading alone. All are measured in one process, one after the other.
+//! A trace that reads cached blocks, in both forms of lines; and lines in the form of MSR Cambridge that ask for
+//! nothing, so that they cost only their reading. All are measured in one process, one after the other.
 ghost use Rattle.std.specs.Prelude.{◌≡◌};
 ghost use Rattle.figures.specs.Figures.{hundredths, nanoseconds};
 
@@ -13,13 +13,13 @@ use std::time::Duration;
 /// The lines behind the first one, each of which reads one of four blocks.
 const LINES: u64 = 20_000;
 
-/// Room for what they print.
+/// Room for the text that the lines print.
 const ROOM: usize = 1 << 20;
 
-/// The time that the first line of a trace in the form of MSR Cambridge tells.
+/// The timestamp of the first line of a trace in the form of MSR Cambridge.
 const TIME: u64 = 128_166_372_003_061_629;
 
-/// What was measured of the forms.
+/// The times that were measured of the forms.
 #[derive(Clone, Copy, Debug, PartialEq, Eq)]
 pub struct Formed {
     /// How long the lines of words took.
@@ -31,14 +31,14 @@ pub struct Formed {
 }
 
 impl Formed {
-    /// How many times the lines of words the others took, in hundredths.
+    /// The time of the MSR Cambridge lines divided by the time of the lines of words, in hundredths.
     pub fn ratio(&self) -> u64
         ensures { result ≡ hundredths (nanoseconds self.now.msr) (nanoseconds self.now.words) }
     {
         hundredths_of(nanoseconds(self.msr), nanoseconds(self.words))
     }
 
-    /// How many times the lines of words the reading of lines alone took, in hundredths.
+    /// The time of the reading alone divided by the time of the lines of words, in hundredths.
     pub fn reading_ratio(&self) -> u64
         ensures { result ≡ hundredths (nanoseconds self.now.reading) (nanoseconds self.now.words) }
     {
@@ -46,7 +46,7 @@ impl Formed {
     }
 }
 
-/// Four blocks are written, and then read one by one.
+/// Lines that write four blocks, and then read them one by one.
 fn words_trace(alloc: Global) -> Result<Vec<u8>, AllocError> {
     let mut trace = Vec::from_slice(alloc, b"w 0 4 1\n")?;
     for number in 0..LINES {
@@ -56,7 +56,7 @@ fn words_trace(alloc: Global) -> Result<Vec<u8>, AllocError> {
     Ok(trace)
 }
 
-/// The same lines in the form of MSR Cambridge, of which each asks for so many bytes.
+/// The same lines in the form of MSR Cambridge, each of which asks for `size` bytes.
 fn msr_trace(alloc: Global, size: u64) -> Result<Vec<u8>, AllocError> {
     let mut trace = Vec::from_slice(alloc, b"128166372003061628,hm,0,Write,0,16384,41286\n")?;
     for number in 0..LINES {
@@ -67,7 +67,7 @@ fn msr_trace(alloc: Global, size: u64) -> Result<Vec<u8>, AllocError> {
     Ok(trace)
 }
 
-/// These options, and behind them the ones that say the form of MSR Cambridge.
+/// These options, and after them the options for the form of MSR Cambridge.
 fn with_form(alloc: Global, options: &[String]) -> Result<Vec<String>, AllocError> {
     let mut words = Vec::new(alloc);
     for option in options {
@@ -78,7 +78,7 @@ fn with_form(alloc: Global, options: &[String]) -> Result<Vec<String>, AllocErro
     Ok(words)
 }
 
-/// Runs the trace in both forms over a cache of these options, and as many lines that ask for nothing; a status other
+/// Runs the trace in both forms over a cache of these options, and as many lines that ask for nothing. A status other
 /// than 0 is the `Err` within.
 pub fn read_forms(
     rt: &(impl AllocGlobal + Clock),

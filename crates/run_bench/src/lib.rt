@@ -1,6 +1,6 @@
-//! The whole program: a made trace, run over flash and disk in memory, and beside it the floor, which is what
-//! the same pages and blocks cost a plain loop; a sweep, and beside it its runs one by one; and a trace in both forms of
-//! lines. What stands side by side is measured in one process, one after the other.
+//! Measures the whole program in three ways. A made trace is run over flash and disk in memory, beside its floor: the
+//! cost of the same pages and blocks in a plain loop. A sweep is run beside its runs one by one. A trace is run in
+//! both forms of lines. The sides of each comparison are measured in one process, one after the other.
 #![tactic(auto)]
 
 pub mod floor;
@@ -21,7 +21,7 @@ use std::io;
 use std::rt::{Clock, Files};
 use swept::{Swept, sweep};
 
-/// Runs the made trace that these options of `gen` say, and prints a row. Answers the status of the run.
+/// Runs the made trace that these options of `gen` name, and prints a row. Answers the status of the run.
 pub fn measure(
     rt: &(impl AllocGlobal + Clock + Files + Print + Eprint),
     options: &[String],
@@ -33,7 +33,7 @@ pub fn measure(
             return Ok(status);
         }
     };
-    // The memory of the floor is not the program's, so this comes first.
+    // The program doesn't need the memory of the floor, so the peak is read first.
     let peak = peak_memory(rt);
     let floor = floor(rt, run.pages, run.counts.programs, run.end.touched)?;
     let row = Row { run, floor, peak };
@@ -43,8 +43,8 @@ pub fn measure(
     Ok(0)
 }
 
-/// Sweeps a trace over a cache of these options, and prints how long that took, and how long its runs one by one.
-/// Answers the status of the sweep.
+/// Sweeps a trace over a cache of these options. Prints how long the sweep took, and how long its runs took one by
+/// one. Answers the status of the sweep.
 pub fn measure_sweep(
     rt: &(impl AllocGlobal + Clock + Print + Eprint),
     options: &[String],
@@ -66,8 +66,8 @@ pub fn measure_sweep(
     Ok(0)
 }
 
-/// Runs a trace that reads cached blocks in both forms of lines, over a cache of these options, and prints how long each
-/// took. Answers the status of a run.
+/// Runs a trace that reads cached blocks in both forms of lines, over a cache of these options, and prints how long
+/// each took. Answers the status of a run.
 pub fn measure_forms(
     rt: &(impl AllocGlobal + Clock + Print + Eprint),
     options: &[String],

@@ -1,4 +1,4 @@
-//! One run of a made trace, as the program runs it: flash and disk in memory, and a sink for its end line.
+//! One run of a made trace, as the program makes it: flash and disk in memory, and a sink for the end line.
 ghost use Rattle.std.specs.Prelude.{◌≡◌, ◌∷◌, ℕ, List, IfOk, IfSome, map};
 ghost use Rattle.std.specs.String.{string_bytes};
 ghost use Rattle.trace_model.specs.Text.{text_of};
@@ -14,7 +14,7 @@ use std::rt::Clock;
 use std::time::{Duration, Instant};
 use trace_text::{Answer, next_line, read_answer};
 
-/// Room for an end line: a word, three numbers, a digest and what stands between them.
+/// Room for an end line: a word, three numbers, a digest and the spaces between them.
 const ROOM: usize = 256;
 
 /// The numbers of an end line.
@@ -24,16 +24,16 @@ pub struct End {
     pub writes: u64,
     /// Lines that read.
     pub reads: u64,
-    /// Addresses that they named.
+    /// Addresses that these lines named.
     pub touched: u64,
 }
 
-/// What was measured of a run.
+/// The measurement of a run.
 #[derive(Clone, Copy, Debug, PartialEq, Eq)]
 pub struct Replayed {
     /// The numbers of its end line.
     pub end: End,
-    /// What the devices did.
+    /// The counts of the device calls.
     pub counts: Counts,
     /// Pages of the flash.
     pub pages: u64,
@@ -41,7 +41,7 @@ pub struct Replayed {
     pub time: Duration,
 }
 
-/// Runs the made trace that these options say; a status other than 0 is the `Err` within.
+/// Runs the made trace that these options name. A status other than 0 is the `Err` within.
 pub fn replay(
     rt: &(impl AllocGlobal + Clock),
     options: &[String],
@@ -67,7 +67,7 @@ pub fn replay(
 pub(crate) struct Ended {
     /// Its status.
     pub(crate) status: u8,
-    /// What it printed.
+    /// The text that it printed.
     pub(crate) text: Vec<u8>,
     /// Flash and disk.
     pub(crate) rig: MemRig,
@@ -75,7 +75,7 @@ pub(crate) struct Ended {
     pub(crate) time: Duration,
 }
 
-/// Runs the program with this word and these options over a trace. There is room for so many bytes of text.
+/// Runs the program with this word and these options over a trace. There is room for `room` bytes of text.
 pub(crate) fn run_timed(
     rt: &(impl AllocGlobal + Clock),
     command: &str,
@@ -100,7 +100,7 @@ pub(crate) fn run_timed(
     })
 }
 
-/// The words of the program: this one, and then these options.
+/// The words of the program: this word, and then these options.
 fn words_of(alloc: Global, command: &str, options: &[String]) -> Result<Vec<String>, AllocError>
     ensures { IfOk result (λ words. map string_bytes words.items ≡ command.now ∷ map string_bytes options.now) }
 {

@@ -1,15 +1,15 @@
-//! As many pages as a flash has, each copied into the next, round and round.
+//! As many pages as a flash has, each copied into the next page, round and round.
 ghost use Rattle.std.specs.Prelude.{◌≡◌, ◌<◌, ◌≤◌, length, vec_len, IfOk};
 
 use crate::slot::{Slot, copy_next, copy_round};
 use std::alloc::{AllocError, Global};
 
-/// The byte of the first page, and that of the others.
+/// The byte of the first page, and the byte of the other pages.
 const MARK: u8 = 0xA5;
 
 const OTHER: u8 = 0x5A;
 
-/// A ring of pages, and the one that is copied next.
+/// A ring of pages, and the page that is copied next.
 #[derive(Drop)]
 pub struct Ring {
     /// The pages.
@@ -23,7 +23,7 @@ pub struct Ring {
 impl Ring {
     ghost use Rattle.run_bench.specs.Floor.{after_copies, copied, pages_of};
 
-    /// So many pages, of which the first one has a mark.
+    /// This many pages, of which the first one has a mark.
     pub fn new(alloc: Global, pages: usize) -> Result<Ring, AllocError>
         requires { 2 ≤ pages }
         ensures { IfOk result (λ ring. vec_len ring.slots ≡ pages) }
@@ -47,7 +47,7 @@ impl Ring {
         slot.block.0[4095] == MARK && slot.spare.0[31] == MARK
     }
 
-    /// Makes so many copies, each of a page into the next.
+    /// Makes `count` copies, each of a page into the next page.
     pub fn copy(&mut self, count: u64)
         ensures { pages_of self.new ≡ after_copies count (pages_of self.old) }
     {
@@ -56,7 +56,7 @@ impl Ring {
         }
     }
 
-    /// Copies a page into the next, which is the one to copy then.
+    /// Copies a page into the next page, which is then the page to copy.
     fn copy_one(&mut self)
         ensures { pages_of self.new ≡ copied (pages_of self.old) }
     {

@@ -11,7 +11,7 @@ use std::time::Duration;
 /// Nanoseconds of a millisecond.
 const MILLISECOND: u64 = 1_000_000;
 
-/// What was measured of a run and of its floor.
+/// The measurements of a run and of its floor.
 #[derive(Clone, Copy)]
 pub struct Row {
     /// The run.
@@ -31,7 +31,7 @@ pub struct Figures {
     pub run: u64,
     /// Milliseconds of the floor, in hundredths.
     pub floor: u64,
-    /// How many times the floor the run took, in hundredths.
+    /// The run's time divided by the floor's time, in hundredths.
     pub ratio: u64,
     /// Nanoseconds for each request.
     pub request: u64,
@@ -83,7 +83,7 @@ impl Row {
     }
 }
 
-/// A total divided by a count, rounded down; 0 where nothing was counted.
+/// A total divided by a count, rounded down; 0 if nothing was counted.
 fn mean_of(total: u64, count: u64) -> u64
     ensures { result ≡ total / count }
 {
@@ -93,7 +93,7 @@ fn mean_of(total: u64, count: u64) -> u64
     total / count
 }
 
-/// The memory, and a dash where it is not known.
+/// The memory, or a dash if it is not known.
 fn kilobytes(alloc: Global, peak: Option<u64>) -> Result<String, AllocError> {
     match peak {
         Some(peak) => format!(in alloc; "{peak}"),

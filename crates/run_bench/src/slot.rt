@@ -4,7 +4,7 @@ ghost use Rattle.run_bench.specs.Floor.{set_slot, floor_slot};
 
 use ft_base::{Block, Spare};
 
-/// What a page takes: a block and its spare bytes.
+/// The contents of a page: a block and its spare bytes.
 #[derive(Clone, Copy)]
 pub struct Slot {
     /// Its block.
@@ -14,7 +14,7 @@ pub struct Slot {
 }
 
 impl Slot {
-    /// A page of one byte, again and again.
+    /// A page that repeats one byte.
     pub fn of(byte: u8) -> Slot {
         Slot {
             block: Block([byte; 4096]),

@@ -1,5 +1,5 @@
-//! A sweep, and beside it its runs one by one: the same trace, run by the program once without a cut, and once for each
-//! device write with power cut there. All are measured in one process, one after the other.
+//! A sweep, beside its runs one by one. The program runs the same trace once without a cut, and once for each device
+//! write with power cut there. All are measured in one process, one after the other.
 ghost use Rattle.std.specs.Prelude.{◌≡◌};
 ghost use Rattle.figures.specs.Figures.{hundredths, nanoseconds};
 
@@ -10,25 +10,25 @@ use std::io;
 use std::rt::Clock;
 use std::time::{Duration, Instant};
 
-/// The trace writes so many blocks, each by a line of its own.
+/// The trace writes this many blocks, each by a line of its own.
 const WRITES: u64 = 32;
 
 /// Room for the text of a sweep.
 const ROOM: usize = 1 << 20;
 
-/// What was measured of a sweep.
+/// The measurements of a sweep.
 #[derive(Clone, Copy, Debug, PartialEq, Eq)]
 pub struct Swept {
-    /// The device writes of the trace, and so the runs that are printed.
+    /// The device writes of the trace, which is also the number of runs that are printed.
     pub runs: u64,
     /// How long the sweep took.
     pub sweep: Duration,
-    /// How long its runs took one by one, and the one that counts, each over flash and disk of its own.
+    /// How long its runs and the counting run took one by one, each over its own flash and disk.
     pub single: Duration,
 }
 
 impl Swept {
-    /// How many times its runs the sweep took, in hundredths.
+    /// The sweep's time divided by the time of its runs, in hundredths.
     pub fn ratio(&self) -> u64
         ensures { result ≡ hundredths (nanoseconds self.now.sweep) (nanoseconds self.now.single) }
     {
@@ -36,7 +36,7 @@ impl Swept {
     }
 }
 
-/// The lines of the trace, behind these.
+/// The lines of the trace, after these first lines.
 fn trace_behind(alloc: Global, first: &str) -> Result<Vec<u8>, AllocError> {
     let mut trace = Vec::from_slice(alloc, first.as_bytes())?;
     for tag in 1..=WRITES {
@@ -46,14 +46,14 @@ fn trace_behind(alloc: Global, first: &str) -> Result<Vec<u8>, AllocError> {
     Ok(trace)
 }
 
-/// How many runs a text of a sweep ends with.
+/// The number of runs with which the text of a sweep ends.
 fn runs_in(text: &[u8]) -> Option<u64> {
     let text = str::from_utf8(text).ok()?;
     text.lines().last()?.strip_prefix("swept ")?.parse().ok()
 }
 
-/// Sweeps the trace over a cache of these options, and then runs it one by one; a status other than 0 is the `Err`
-/// within.
+/// Sweeps the trace over a cache of these options, and then makes its runs one by one. A status other than 0 is the
+/// `Err` within.
 pub fn sweep(rt: &(impl AllocGlobal + Clock), options: &[String]) -> io::Result<Result<Swept, u8>> {
     let alloc = rt.alloc();
     let swept = run_timed(rt, "sweep", options, trace_behind(alloc, "")?, ROOM)?;

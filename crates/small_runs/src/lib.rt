@@ -1,6 +1,7 @@
-//! Runs of small traces over small volumes, and whether a printed text is what a plain disk prints.
+//! Runs of small traces over small volumes, and a check whether a printed text is the text of a plain disk.
 //!
-//! The worked examples of the whole program stand on this crate, in several crates, so that they are proved side by side.
+//! The worked examples of the whole program stand on this crate. They are in several crates, so that these are proved
+//! side by side.
 #![tactic(auto)]
 
 mod plain;

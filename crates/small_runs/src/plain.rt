@@ -1,4 +1,4 @@
-//! What a plain disk prints of a trace, where power stopped as a printed text says.
+//! The text that a plain disk prints of a trace, when power stopped as a printed text says.
 
 ghost use Rattle.std.specs.Prelude.{IsTrue};
 ghost use Rattle.trace_model.specs.Plain.{AreAddressed, AreRunLines, IsAddressed, IsKeptWithin, IsRunLine};
@@ -8,15 +8,14 @@ use std::alloc::{AllocError, Global};
 use trace_model::{Line, Ran, plain_end, plain_fits, plain_told};
 use trace_text::{Answer, next_line, put_answer, read_answer, read_line};
 
-/// The lines of a run and what became of them, newest first, and the stops that cut the end line.
+/// The lines of a run and what became of them, newest first, and the number of stops that cut the end line.
 #[derive(Drop)]
 struct Record {
     run: Vec<Ran>,
     end_cuts: u64,
 }
 
-/// Reads off a printed text what became of each line of a trace, and says whether the text is what a plain
-/// disk prints then.
+/// Reads from a printed text what became of each line of a trace. Says whether a plain disk then prints this text.
 pub fn is_plain(alloc: Global, trace: &[u8], text: &[u8], size: u64) -> Result<bool, AllocError> {
     let record = record_of(alloc, trace, text, size)?;
     let run = record.run.as_slice();
@@ -34,7 +33,7 @@ pub fn is_plain(alloc: Global, trace: &[u8], text: &[u8], size: u64) -> Result<b
     Ok(wanted.as_slice() == text)
 }
 
-/// How many of the printed lines tell of a stop, and how many of a write that was cut.
+/// How many of the printed lines say a stop, and how many say a write that was cut.
 pub fn cuts_told(text: &[u8]) -> (u64, u64) {
     let mut stops: u64 = 0;
     let mut writes: u64 = 0;
@@ -73,7 +72,7 @@ fn record_of(alloc: Global, trace: &[u8], text: &[u8], size: u64) -> Result<Reco
     Ok(Record { run, end_cuts })
 }
 
-/// What became of a line, and what is printed after its answers.
+/// What became of a line, and the text after its answers.
 fn became(line: Line, answers: &[u8]) -> (Ran, &[u8]) {
     let (cuts, rest) = match line {
         Line::Stop { .. } | Line::Nothing => (0, answers),
@@ -95,7 +94,7 @@ fn became(line: Line, answers: &[u8]) -> (Ran, &[u8]) {
     (ran, rest)
 }
 
-/// How many lines that tell of a stop come first, and what comes after them.
+/// How many lines that say a stop come first, and the text after them.
 fn without_stops(answers: &[u8]) -> (u64, &[u8]) {
     let mut cuts: u64 = 0;
     let mut rest = answers;
@@ -111,7 +110,7 @@ fn without_stops(answers: &[u8]) -> (u64, &[u8]) {
     (cuts, rest)
 }
 
-/// How many blocks of a write count that was answered so, and what comes after the answer.
+/// How many blocks of a write count if it has this answer, and the text after the answer.
 fn kept_of(answers: &[u8], count: u64) -> (u64, &[u8]) {
     match next_answer(answers) {
         Some((Answer::Kept { kept, .. }, after)) => (kept, after),
@@ -136,8 +135,8 @@ fn next_answer(answers: &[u8]) -> Option<(Answer, &[u8])> {
     Some((read_answer(line)?, after))
 }
 
-/// Whether the addresses of the lines are numbers of 64 bits, no more blocks count than a write has, and no
-/// block write is lost.
+/// Whether the addresses of the lines are numbers of 64 bits, no more blocks count than a write has, and no block
+/// write is lost.
 #[tactic(auto, using(crate::proofs::PlainLemmas::first_runs, crate::proofs::PlainLemmas::first_addressed))]
 fn are_run_lines(run: &[Ran]) -> bool
     ensures run { IsTrue result → AreRunLines run.now }

@@ -7,19 +7,19 @@ use rand_core::utils::NextWord;
 use rand_pcg::Lcg64Xsh32;
 use std::alloc::{AllocError, Global};
 
-/// What a small volume is made with.
+/// The options with which a small volume is made.
 #[derive(Clone, Copy)]
 pub struct Shape {
-    /// It writes through, or back.
+    /// Whether the volume writes through; otherwise it writes back.
     pub through: bool,
-    /// So many erase blocks hold whole groups, and so many take writes.
+    /// The number of erase blocks that hold whole groups, and the number that take writes.
     pub data: u64,
     pub log: u64,
-    /// So many groups may stay dirty.
+    /// At most this many groups may stay dirty.
     pub dirty: u64,
 }
 
-/// A volume that writes back, whose table is full where all its groups are dirty.
+/// A volume that writes back, whose table is full when all its groups are dirty.
 pub fn back(data: u64, log: u64) -> Shape {
     Shape {
         through: false,
@@ -88,12 +88,12 @@ pub fn run_on(
     run_words_on(alloc, words.as_slice(), trace, rig)
 }
 
-/// The same over a rig of which no call fails.
+/// The same over a rig whose calls never fail.
 pub fn run(alloc: Global, shape: &Shape, trace: &[u8]) -> Result<Outcome, AllocError> {
     run_on(alloc, shape, trace, MemRig::new(alloc))
 }
 
-/// Sweeps the trace over this rig. A power cut leaves what the word says.
+/// Sweeps the trace over this rig. The word says what a power cut leaves.
 pub fn sweep_on(
     alloc: Global,
     shape: &Shape,
@@ -106,7 +106,7 @@ pub fn sweep_on(
     run_words_on(alloc, words.as_slice(), trace, rig)
 }
 
-/// A volume of two to five groups, any of which may have to give way for the four that are written.
+/// A volume of two to five groups. Any of them may have to give way for the four groups that are written.
 pub fn shape_of(words: &mut Lcg64Xsh32, through: bool) -> Shape {
     let data = 2 + words.next_word() as u64 % 4;
     Shape {

@@ -177,7 +177,7 @@ fn small_plan(dirty: u64, mode: Mode) -> Plan {
     }
 }
 
-/// With one dirty group allowed, an idle step writes the older of two back: one block.
+/// With one dirty group allowed, an idle step writes the older of two groups back: one block.
 #[test]
 fn an_idle_step_writes_one_group_back(rt: HostRuntime) -> Result<(), Fail> {
     let alloc = rt.alloc();
@@ -187,7 +187,7 @@ fn an_idle_step_writes_one_group_back(rt: HostRuntime) -> Result<(), Fail> {
     Ok(())
 }
 
-/// The third group makes room: the first is written back, one block.
+/// The third group makes room: the first group is written back, one block.
 #[test]
 fn a_third_group_makes_room(rt: HostRuntime) -> Result<(), Fail> {
     let alloc = rt.alloc();

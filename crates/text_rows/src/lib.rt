@@ -1,7 +1,7 @@
-//! Worked examples of all that is text: the words of a command, the lines of a trace, what is printed, and the
-//! scripts that read and print it.
+//! Worked examples of all text: the words of a command, the lines of a trace, the printed lines, and the scripts that
+//! read and print these.
 //!
-//! No layer stands on this crate; it has tests alone.
+//! No layer stands on this crate; it has only tests.
 #![tactic(auto)]
 
 #[cfg(test)]

@@ -9,7 +9,7 @@ use trace_text::{
 
 // ---- lines of a trace
 
-/// The first line that a volume of 64 blocks doesn't refuse for its cause.
+/// The first line that a volume of 64 blocks doesn't refuse for its cause, if there is one.
 fn first_not_refused(rows: &[(&[u8], LineError)]) -> Option<usize> {
     for i in 0..rows.len() {
         let (line, cause) = rows[i];
@@ -87,7 +87,7 @@ const ACCEPTED: [(&[u8], Line); 8] = [
     (&[b'#'; 200], Line::Nothing),
 ];
 
-/// The first line that is read as another.
+/// The first line that is read as another line, if there is one.
 fn first_other() -> Option<usize> {
     for i in 0..ACCEPTED.len() {
         let (bytes, line) = ACCEPTED[i];
@@ -103,7 +103,7 @@ fn each_line_is_read(rt: HostRuntime) {
     assert_eq!(rt; first_other(), None);
 }
 
-/// A trace, whether all of it was read, and its first line with what comes after it.
+/// A trace, whether all of it was read, and its first line with the bytes after it.
 type Split<'a> = (&'a [u8], bool, Option<(&'a [u8], &'a [u8])>);
 
 const SPLIT: [Split; 5] = [
@@ -139,7 +139,7 @@ fn a_trace_is_split_at_line_feeds(rt: HostRuntime) {
 
 // ---- printed lines
 
-/// Whether the answer is printed as this line, and read back from it, though not with its line feed.
+/// Whether the answer is printed as this line, and read back from it, but not from the line with its line feed.
 fn goes_both_ways(alloc: Global, answer: Answer, line: &[u8]) -> Result<bool, AllocError> {
     let mut text = Vec::from_slice(alloc, line)?;
     text.push(b'\n')?;
@@ -151,7 +151,7 @@ fn goes_both_ways(alloc: Global, answer: Answer, line: &[u8]) -> Result<bool, Al
     )
 }
 
-/// The first answer that has another spelling.
+/// The first answer that has another spelling, if there is one.
 fn first_misspelt(alloc: Global, rows: &[(Answer, &[u8])]) -> Result<Option<usize>, AllocError> {
     for i in 0..rows.len() {
         let (answer, line) = rows[i];
@@ -204,7 +204,7 @@ const REFUSALS: [(LineError, &[u8]); 7] = [
     (LineError::TooLong, b"line 12: TooLong"),
 ];
 
-/// The first refusal of line 12 that has another name.
+/// The first refusal of line 12 that has another name, if there is one.
 fn first_misnamed(alloc: Global) -> Result<Option<usize>, AllocError> {
     for i in 0..REFUSALS.len() {
         let (cause, line) = REFUSALS[i];
@@ -229,7 +229,7 @@ fn an_answer_is_put_behind_others(rt: HostRuntime) -> Result<(), Fail> {
     Ok(())
 }
 
-/// Lines that no answer is printed as.
+/// Lines that are the print of no answer.
 const MISSPELT: [&[u8]; 15] = [
     b"",
     b"wrote 00 1",

@@ -3,7 +3,7 @@ use std::test::Fail;
 use trace_gen::TraceGen;
 use trace_model::Line;
 
-// The lines were drawn by another program, whose generator gives the words that PCG's authors publish.
+// Another program drew the lines. Its generator gives the words that PCG's authors publish.
 #[test]
 fn the_lines_are_those_of_the_number(rt: HostRuntime) -> Result<(), Fail> {
     let small = Geometry::new(4, 2, 2, 1, 64)?;

@@ -1,4 +1,4 @@
-//! Scripts over streams: what they print, and the lines that they read.
+//! Scripts over streams: the text that they print, and the lines that they read.
 
 use ft_base::{Geometry, MemSink, MemSource};
 use std::alloc::{AllocError, Global};
@@ -7,9 +7,9 @@ use trace_gen::TraceGen;
 use trace_model::{Answer, Line};
 use trace_replay::{Ended, MadeScript, Script, StreamScript};
 
-// ---- what is printed
+// ---- the printed text
 
-/// A source of these bytes, in pieces of so many, which fails at the listed reads.
+/// A source of these bytes, in pieces of this many, which fails at the listed reads.
 fn source_of(
     alloc: Global,
     bytes: &[u8],
@@ -48,7 +48,7 @@ fn answers_are_printed_as_far_as_there_is_room(rt: HostRuntime) -> Result<(), Fa
     Ok(())
 }
 
-/// What is answered to a read of so many blocks.
+/// The answers to a read of `count` blocks.
 fn read_backs(alloc: Global, count: u64) -> Result<Vec<Answer>, AllocError> {
     let mut answers = Vec::new(alloc);
     for lba in 0..count {
@@ -57,7 +57,7 @@ fn read_backs(alloc: Global, count: u64) -> Result<Vec<Answer>, AllocError> {
     Ok(answers)
 }
 
-/// Prints what is answered to a read of so many blocks, over a sink of which this write fails.
+/// Prints the answers to a read of `count` blocks, over a sink that fails at this write.
 fn say_read(
     alloc: Global,
     count: u64,
@@ -81,7 +81,7 @@ fn a_long_read_is_printed_in_fewer_than_a_hundred_writes(rt: HostRuntime) -> Res
     Ok(())
 }
 
-// Its 3000 lines make two pieces.
+// The 3000 lines make two pieces.
 #[test]
 fn the_pieces_before_a_fault_are_printed(rt: HostRuntime) -> Result<(), Fail> {
     let (ended, sink) = say_read(rt.alloc(), 3000, 2)?;
@@ -93,18 +93,18 @@ fn the_pieces_before_a_fault_are_printed(rt: HostRuntime) -> Result<(), Fail> {
 
 // ---- the lines that are read
 
-/// A source of which the first line is a flush.
+/// A source whose first line is a flush.
 #[derive(Clone, Copy)]
 struct Row<'a> {
     bytes: &'a [u8],
-    /// How many bytes a piece has, and which reads fail.
+    /// The number of bytes of a piece, and the reads that fail.
     pieces: (usize, &'a [u64]),
-    /// What the script goes on with.
+    /// What the script gives after the first line.
     second: Result<Option<Line>, Ended>,
     printed: &'a [u8],
 }
 
-/// Whether the lines go on so behind the first, and this is printed.
+/// Whether the lines go on like this after the first one, and this is printed.
 fn goes_on_so(
     alloc: Global,
     bytes: &[u8],
@@ -120,7 +120,7 @@ fn goes_on_so(
     Ok(first == Ok(Some(Line::Flush)) && second == wanted && sink.bytes() == printed)
 }
 
-/// The first source that goes on otherwise.
+/// The first source that goes on otherwise, if there is one.
 fn first_other(alloc: Global, rows: &[Row]) -> Result<Option<usize>, AllocError> {
     for i in 0..rows.len() {
         let row = rows[i];
@@ -178,7 +178,8 @@ fn bytes_that_no_line_feed_ends_are_a_line_where_the_source_ended(
     Ok(())
 }
 
-/// How a source with a flush and then so many other bytes goes on, where this read fails.
+/// Whether a source that begins with a flush goes on with `LineTooLong` if `is_long`, and else with its fault, when
+/// this read fails.
 fn goes_on_long(
     alloc: Global,
     bytes: &[u8],

@@ -1,4 +1,4 @@
-//! The words after the program's name, as commands or none.
+//! The words after the program's name: some are commands, and some are none.
 
 use command_line::{Command, TraceForm, command_law, command_of};
 use ft_base::Outcome;
@@ -17,7 +17,7 @@ fn command_in(alloc: Global, line: &str) -> Result<Option<Command>, Fail> {
 
 // ---- no commands
 
-/// The first line of which the words are a command.
+/// The first line whose words are a command, if there is one.
 fn first_command(alloc: Global, lines: &[&str]) -> Result<Option<usize>, Fail> {
     for i in 0..lines.len() {
         if command_in(alloc, lines[i])?.is_some() {
@@ -242,22 +242,22 @@ fn numbers_of(options: &Options) -> [u64; 6] {
     ]
 }
 
-/// Which command it is.
+/// The kind of a command.
 #[derive(Clone, Copy, PartialEq, Eq)]
 enum Kind {
     Replay,
-    /// Of a trace in the form of MSR Cambridge.
+    /// A replay of a trace in the form of MSR Cambridge.
     ReplayMsr,
-    /// What a trace in this form costs.
+    /// The cost of a trace in this form.
     Cost(TraceForm),
     Inspect,
-    /// A made trace of this number, and how many lines it has.
+    /// A made trace of this number, and the number of its lines.
     Gen(u64, u64),
-    /// Each power cut leaves this.
+    /// A sweep in which each power cut leaves this.
     Sweep(Outcome),
 }
 
-/// A line, and what its words say: the command, the mode, and the numbers in the order of the options.
+/// A line, and the meaning of its words: the command, the mode, and the numbers in the order of the options.
 type Row<'a> = (&'a str, Kind, Mode, [u64; 6]);
 
 fn says(command: Command, kind: Kind, mode: Mode, numbers: [u64; 6]) -> bool {
@@ -301,7 +301,7 @@ fn is_said(alloc: Global, row: Row) -> Result<bool, Fail> {
     }
 }
 
-/// The first line of which the words say something else.
+/// The first line whose words say something else, if there is one.
 fn first_other(alloc: Global, rows: &[Row]) -> Result<Option<usize>, Fail> {
     for i in 0..rows.len() {
         if !is_said(alloc, rows[i])? {

@@ -1,4 +1,4 @@
--- What a call did to a volume that owes nothing, and what going on after it leaves.
+-- What a call did to a volume that owes nothing, and what is left when the run goes on after it.
 use Rattle.std.proofs.Common.{◌≡◌, ◌≢◌, inl, inr, Bool, true, [], ◌∷◌, Result, Err, IsErrOf, refl, sym, ap, ◌∙◌, subst}
 use Rattle.ft_base.specs.Contents.{Contents, Image}
 use Rattle.ft_base.specs.PlainDisk.{PlainDisk}
@@ -40,7 +40,7 @@ blames_at T volume.OutOfVolume = refl
 err_at : (T : Type 0) (e x : VolumeError) → IsErrOf (refused e) x → IsErrOf {T = T} (Err e) x
 err_at T e x is = let same : e ≡ x = cc in ap Err same
 
--- what a call leaves that was refused
+-- what a call that ended with an error leaves
 pub was_call : {T : Type 0} (old new : VolumeState) (before after : State) (e : VolumeError) → before.power.on ≡ true → Goes {T = T} old new before after (Err e) → WasCall before after e
 was_call {T = T} old new before after e on goes = record {
   on = on;
@@ -56,7 +56,7 @@ was_call {T = T} old new before after e on goes = record {
   };
 }
 
--- what is done after a call that was refused leaves the contents
+-- whatever is done after a call that ended with an error keeps the contents
 pub still_contents : {B : Type 0} (error : VolumeError) (before after : State) → (error ≡ volume.PowerLost → after ≡ powered before) → (error ≢ volume.PowerLost → (after ≡ before) × B) → before.contents ≡ after.contents
 still_contents volume.PowerLost before after lost same = sym (ap (λ (s : State). s.contents) (lost cc))
 still_contents volume.FlashFault before after lost same = let is = same (λ e. cc) in sym (ap (λ (s : State). s.contents) is.0)

@@ -28,7 +28,7 @@ use Rattle.trace_replay.specs.Stream.{BrokeStream}
 use Rattle.trace_replay.proofs.GivenLemmas.{answers_in-append, answers_in-taking, lines_given-append, lines_given-taking}
 use Rattle.trace_replay.proofs.SaidLemmas.{said_none, said_then, said_part-then}
 
--- ---- the line behind so many
+-- ---- the line after the first ones
 
 pub get_front : (xs ys : List Line) (i : ℕ) → i < length xs → slice_get (xs ++ ys) i ≡ slice_get xs i
 get_front [] ys i less = absurd (omega arith)
@@ -40,7 +40,7 @@ get_behind [] ys i k is = ap (slice_get ys) (omega (arith, is))
 get_behind (x ∷ xs) ys zero k is = absurd (omega (arith, is))
 get_behind (x ∷ xs) ys (suc i) k is = get_behind xs ys i k (omega (arith, is))
 
--- one is there, and it is the first of those that are left
+-- there is such a line, and it is the first of the lines that are left
 pub get_left : (xs : List Line) (i : ℕ) (l : Line) → slice_get xs i ≡ Some l → (i < length xs) × (drop i xs ≡ l ∷ drop (i + 1) xs)
 get_left xs i l is = (slice_get_within xs i l is, drop_more xs i l (slice_get_within xs i l is) ∙ ap (λ (y : Line). y ∷ drop (i + 1) xs) (get_or_from_slice_get xs i l l is))
 
@@ -68,13 +68,13 @@ lines_same (line.Stop after o ∷ lines) = ap (λ (k : Outcome). line.Stop after
 lines_same (line.Cut o ∷ lines) = ap (λ (k : Outcome). line.Cut k ∷ lines_numbered (numbers_of lines)) (outcome_same o) ∙ ap (λ (r : List Line). line.Cut o ∷ r) (lines_same lines)
 lines_same (line.Nothing ∷ lines) = ap (λ (r : List Line). line.Nothing ∷ r) (lines_same lines)
 
--- ---- where it stands then
+-- ---- the relation then
 
 pub held_first : (lines : List Line) (b : SinkState) → CameHeld (lines_numbered (numbers_of lines)) lines 0 b b []
 held_first lines b = record { lines = ap (map accepted) (lines_same lines); numbered = refl; said = said_none b }
 
 module _ (all left : List Line) (n : ℕ) (x b : SinkState) (e : List Event) (came : CameHeld all left n x b e) where
-  -- nothing of the lines changes with what is said
+  -- saying something changes nothing of the lines
   held_more : (y : SinkState) (more : List Event) → lines_given more ≡ [] → Said b y (answers_in (e ++ more)) → CameHeld all left n y b (e ++ more)
   held_more y more none said = record {
     lines = came.lines ∙ ap (λ (ls : List Line). map accepted ls ++ map accepted left) (sym same);
@@ -102,7 +102,7 @@ module _ (all left : List Line) (n : ℕ) (x b : SinkState) (e : List Event) (ca
   pub held_takes : (y : SinkState) (given : List Answer) → Said x y given → CameHeld all left n y b (e ++ taking given)
   held_takes y given said = held_more y (taking given) (lines_given-taking given) (subst (λ (r : List Answer). Said b y r) (sym (answers_in-append e (taking given) ∙ ap (λ (r : List Answer). answers_in e ++ r) (answers_in-taking given))) (said_then b x y (answers_in e) given came.said said))
 
-  -- or some, and a part of the next one
+  -- some answers were said, and a part of the next one
   pub held_breaks : (y : SinkState) (given : List Answer) (next : Answer) → SaidPart x y given (Some next) → BrokeStream b y (e ++ taking given) (Took next)
   held_breaks y given next part = subst (λ (r : List Answer). SaidPart b y r (Some next)) (sym (answers_in-append e (taking given) ∙ ap (λ (r : List Answer). answers_in e ++ r) (answers_in-taking given))) (said_part-then b x y (answers_in e) given (Some next) came.said part)
 
@@ -129,7 +129,7 @@ module _ (all left : List Line) (n : ℕ) (x b : SinkState) (e : List Event) (ca
   pub held_number : (k : ℕ) (cause : LineError) → k ≡ n + 1 → answer.Refused k cause ≡ refusal_after e cause
   held_number k cause is = ap (λ (j : ℕ). answer.Refused j cause) (is ∙ ap (λ (j : ℕ). j + 1) came.numbered)
 
-  -- its refusal was said, all or a part
+  -- the refusal of the next line was said, all of it or a part
   pub held_says : (y : SinkState) (k : ℕ) (cause : LineError) → k ≡ n + 1 → Said x y (answer.Refused k cause ∷ []) → CameHeld all left n y b (e ++ taking (refusal_after e cause ∷ []))
   held_says y k cause is said = held_takes y (refusal_after e cause ∷ []) (subst (λ (given : Answer). Said x y (given ∷ [])) (held_number k cause is) said)
 
@@ -140,7 +140,7 @@ module _ (all left : List Line) (n : ℕ) (x b : SinkState) (e : List Event) (ca
   pub held_all : left ≡ [] → map accepted (lines_given e) ≡ map accepted all
   held_all none = sym (came.lines ∙ ap (λ (r : List Line). map accepted (lines_given e) ++ map accepted r) none ∙ append-nil (map accepted (lines_given e)))
 
-  -- the next line is a stop, and as many are armed as can be
+  -- the next line is a stop, and as many stops are armed as can be
   pub held_refused : {P : Type 0} (knows : SourceState → P → ℕ → List Reading → Bool → Type 0) (s : SourceState) (now : P) (armed : ℕ) (l : Line) (after : List Line) → knows s now (length (lines_given e)) (map accepted all) true
       → left ≡ l ∷ after → is_stop l ≡ true → 16 ≤ armed → NextRefused knows s now e armed TooManyStops
   held_refused knows s now armed l after known is stop many = record {
@@ -176,7 +176,7 @@ armed_one line.Idle stops = omega arith
 armed_one (line.Cut outcome) stops = omega arith
 armed_one line.Nothing stops = omega arith
 
--- no more stops are armed than lines arm them
+-- no more stops are armed than there are lines that arm one
 armed_few : (run : List Ran) → length (armed_after run) ≤ stops_held (lines_of run)
 armed_few [] = omega arith
 armed_few (ran ∷ earlier) =
@@ -198,7 +198,7 @@ one_stop line.Nothing is = absurd (cc)
 stops_front : (l : Line) (lines : List Line) → stops_held (l ∷ []) ≤ stops_held (l ∷ lines)
 stops_front l lines = let both = stops_more (l ∷ []) lines in omega (arith, both)
 
--- so a line that comes next is not refused
+-- so the next line is not refused
 refused_never : (lines ran : List Line) (before armed : ℕ) (next : Reading) (left : List Reading) → map accepted lines ≡ map accepted ran ++ next ∷ left → before ≤ 16 → armed ≤ before + stops_held ran → before + stops_held lines ≤ 16
     → (cause : LineError) → refused_for armed next ≡ Some cause → ⊥
 refused_never [] [] before armed next left front some few most cause why = cc
@@ -221,7 +221,7 @@ refused_never (l ∷ lines) (r ∷ ran) before armed next left front some few mo
     let given = stops_more (r ∷ []) ran in
     refused_never lines ran (before + stops_held (l ∷ [])) armed next left (cc) (omega (arith, all, most)) (omega (arith, one, given, few)) (omega (arith, all, most)) cause why
 
--- of a run over them none is
+-- no line is refused in a run over them
 pub held_never : (lines : List Line) (run : List Ran) (left : List Reading) (cause : LineError) → stops_held lines ≤ 16 → map accepted lines ≡ map accepted (lines_of run) ++ left → next_refusal run left ≡ Some cause → ⊥
 held_never lines run [] cause most front why = cc
 held_never lines run (Err e ∷ left) cause most front why = refused_never lines (lines_of run) 0 (length (armed_after run)) (Err e) left front (omega arith) (let few = armed_few run in omega (arith, few)) (omega (arith, most)) cause why

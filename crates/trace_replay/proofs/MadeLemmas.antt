@@ -1,4 +1,4 @@
--- A script over a made trace, one event after the other, and what a run of it says.
+-- A script over a made trace, one event after the other, and what a run of that script says.
 use Rattle.std.proofs.Common.{◌≡◌, ◌+◌, ◌-◌, ◌≤◌, ◌<◌, ◌++◌, ℕ, zero, suc, Bool, true, false, not, nat_lt, List, [], ◌∷◌, length, map, refl, sym, ap, ◌∙◌, subst, append_assoc, Option, Some, None, IfSome, Result, Ok, Err, IfErr, IsErrOf, take, inl, inr, arith}
 use Rattle.std.specs.Io.KnownBytes.{Appends}
 use Rattle.std.specs.List.{list_all}
@@ -65,7 +65,7 @@ ends_more : (e more : List Event) → ends_in (answers_in (e ++ more)) ≡ ends_
 ends_more e more = ap ends_in (answers_in-append e more) ∙ filter-append is_end (answers_in e) (answers_in more)
 
 module _ (left : List Line) (x : SinkState) (s : SourceState) (b : SinkState) (e : List Event) (came : CameMade left x s b e) where
-  -- nothing of the lines changes with what is said
+  -- saying something changes nothing of the lines
   made_more : (y : SinkState) (more : List Event) → lines_given more ≡ [] → Said b y (ends_in (answers_in (e ++ more))) → CameMade left y s b (e ++ more)
   made_more y more none said = record {
     lines = came.lines ∙ ap (λ (ls : List Line). map accepted ls ++ map accepted left) (sym same);
@@ -105,7 +105,7 @@ module _ (left : List Line) (x : SinkState) (s : SourceState) (b : SinkState) (e
     said = subst (λ (r : List Answer). Said b x r) (sym (ends_more e (Gave l ∷ []) ∙ append-nil (ends_in (answers_in e)))) came.said;
   }
 
-  -- and where the sink failed
+  -- the relation if the sink failed
   pub made_broke : (y : SinkState) (a : Answer) → is_end a ≡ true → SaidPart x y [] (Some a) → BrokeMade b y e (Took a)
   made_broke y a is part = (is, subst (λ (r : List Answer). SaidPart b y r (Some a)) (append-nil (ends_in (answers_in e))) (said_part-then b x y (ends_in (answers_in e)) [] (Some a) came.said part))
 
@@ -146,13 +146,13 @@ no_line = record { wrote = λ lba count. refl; stopped = refl; kept = λ kept co
 ends_told : (run : List Ran) (answers : List Answer) (more : List Event) → answers_in more ≡ answers → ends_in (answers_in (events_of run ++ more)) ≡ ends_in answers
 ends_told run answers more is = said_of is_end no_line run answers more is
 
--- where the sink took so much in the end
+-- if the sink took this text in the end
 pub told_end : (x y : SinkState) (taken : Option (List ℕ)) → y.taken ≡ taken → (run : List Ran) (answers : List Answer) (more : List Event) → answers_in more ≡ answers → Said x y (ends_in (answers_in (events_of run ++ more)))
     → Appends x.taken taken (text (ends_in answers))
 told_end x y taken same run answers more is said =
     subst (λ (z : Option (List ℕ)). Appends x.taken z (text (ends_in answers))) same (subst (λ (r : List Answer). Said x y r) (ends_told run answers more is) said)
 
--- a part of one more answer, where the sink failed
+-- a part of one more answer, if the sink failed
 abbrev pub BrokenBy : SinkState → SinkState → List Ran → List Answer → Option Answer → Type 0
 BrokenBy x y run answers None = (line : Line) × (more : List Event) × (answers_in more ≡ answers) × BrokeMade x y (events_of run ++ more) (Gave line)
 BrokenBy x y run answers (Some next) = (more : List Event) × (answers_in more ≡ answers) × BrokeMade x y (events_of run ++ more) (Took next)
@@ -199,7 +199,7 @@ not_refused run [] (r ∷ ran) (next ∷ left) cause go front why = cc
 not_refused run (l ∷ lines) (r ∷ ran) (next ∷ left) cause go front why =
     not_refused run lines ran (next ∷ left) cause (and_parts (goes_on l) (list_all goes_on lines) go).1 (cc) why
 
--- so no line of a made trace is
+-- so no line of a made trace is refused
 pub never_refused : (g : TraceGen) (run : List Ran) (all left : List Reading) (given : ℕ) (whole : Bool) (cause : LineError) → Gives (lines_left g) given all whole → all ≡ map accepted (lines_of run) ++ left → next_refusal run left ≡ Some cause → ⊥
 never_refused g run all left given whole cause gives front why =
     not_refused run (lines_left g) (lines_of run) left cause (all_go_on g.size g.hot (g.given + 1) (g.count - g.given) g.words) (sym gives.0 ∙ front) why

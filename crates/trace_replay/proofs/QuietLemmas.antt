@@ -1,4 +1,4 @@
--- A script that says a refusal alone, one event after the other, and what a run of it says.
+-- A script that says nothing but a refusal, one event after the other, and what a run of that script says.
 use Rattle.std.proofs.Common.{◌≡◌, ◌+◌, ◌++◌, ℕ, Bool, true, false, List, [], ◌∷◌, length, map, take, refl, sym, ap, ◌∙◌, subst, Option, Some, None}
 use Rattle.std.specs.Io.KnownBytes.{Appends, Keeps}
 use Rattle.std.proofs.lemmas.List.{append-nil}
@@ -24,7 +24,7 @@ use Rattle.trace_replay.specs.Said.{Said, SaidPart}
 use Rattle.trace_replay.specs.Stream.{BrokeStream, CameStream}
 use Rattle.trace_replay.proofs.ToldLemmas.{SkipsLines, none_stopped, said_of}
 
--- ---- what is heard
+-- ---- the events that are heard
 
 heard_more : (e more : List Event) → heard (e ++ more) ≡ heard e ++ heard more
 heard_more e more = filter-append is_heard e more
@@ -44,7 +44,7 @@ pub reads_heard : (form : Says) (s a : SourceState) (e : List Event) (whole : Bo
     → ReadsBy form s a (length (lines_given e)) (map accepted (lines_given e)) whole
 reads_heard form s a e whole reads = subst (λ (lines : List Line). ReadsBy form s a (length lines) (map accepted lines) whole) (lines_heard e) reads
 
--- the next line is refused of all where it is of those that were heard
+-- if the next line is refused among the lines that were heard, it is refused among all lines
 pub refused_heard : {P Q : Type 0} (knows : SourceState → P → ℕ → List Reading → Bool → Type 0) {knew : SourceState → Q → ℕ → List Reading → Bool → Type 0} (now : P) {was : Q} (s : SourceState) (e : List Event) (armed : ℕ) (cause : LineError)
     → ((lines : ℕ) (all : List Reading) (whole : Bool) → knew s was lines all whole → knows s now lines all whole) → NextRefused knew s was (heard e) armed cause → NextRefused knows s now e armed cause
 refused_heard knows now s e armed cause known refused = record {
@@ -57,9 +57,9 @@ refused_heard knows now s e armed cause known refused = record {
   why = refused.why;
 }
 
--- ---- where the stream stands that takes what is heard
+-- ---- the relation on the stream that takes the events that are heard
 
--- it came by these events
+-- the stream came by these events
 abbrev pub Stands : Form → Reader → SourceState → SinkState → Sha256 → SourceState → SinkState → List Event → Type 0
 Stands form r a x h s b es = CameStream form r a x s b es × Holds256 h (told_bytes es)
 
@@ -77,7 +77,7 @@ module _ (form : Form) (r : Reader) (a : SourceState) (x : SinkState) (h : Sha25
   pub stands_refused : (cause : LineError) → Stands form r a x h s b (heard e ++ taking (refusal_after (heard e) cause ∷ [])) → Stands form r a x h s b (heard (e ++ taking (refusal_after e cause ∷ [])))
   stands_refused cause said = stands_took (refusal_after e cause) refl (subst (λ (given : Answer). Stands form r a x h s b (heard e ++ Took given ∷ [])) (refusal_heard e cause) said)
 
--- or a part of that
+-- or a part of the refusal was said
 pub broke_refusal : (b y : SinkState) (e : List Event) (cause : LineError) → BrokeStream b y (heard e) (Took (refusal_after (heard e) cause)) → BrokeStream b y (heard e) (Took (refusal_after e cause))
 broke_refusal b y e cause broke = subst (λ (given : Answer). BrokeStream b y (heard e) (Took given)) (refusal_heard e cause) broke
 
@@ -101,7 +101,7 @@ pub told_refusal : (x y : SinkState) (taken : Option (List ℕ)) → y.taken ≡
 told_refusal x y taken same run answers more is said =
     subst (λ (z : Option (List ℕ)). Appends x.taken z (text (refusals_in answers))) same (subst (λ (r : List Answer). Said x y r) (refusals_told run answers more is) said)
 
--- a part of one more answer, where the sink failed
+-- a part of one more answer, if the sink failed
 abbrev pub BrokenBy : SinkState → SinkState → List Ran → List Answer → Option Answer → Type 0
 BrokenBy x y run answers None = (line : Line) × (more : List Event) × (answers_in more ≡ answers) × ((is_heard (Gave line) ≡ true) × BrokeStream x y (heard (events_of run ++ more)) (Gave line))
 BrokenBy x y run answers (Some next) = (more : List Event) × (answers_in more ≡ answers) × ((is_refusal next ≡ true) × BrokeStream x y (heard (events_of run ++ more)) (Took next))
@@ -113,7 +113,7 @@ shown_refusal x y taken same run answers (Some next) part =
     let shown = subst (λ (r : List Answer). SaidPart x y r (Some next)) (refusals_told run answers part.0 part.1) part.2.1 in
     (part.2.0, (shown.0, shown.1, subst (λ (z : Option (List ℕ)). Appends x.taken z (text (refusals_in answers) ++ take shown.0 (text_of next))) same shown.2))
 
--- the answers of the end are no refusal, so nothing was said
+-- the answers of the end hold no refusal, so nothing was said
 pub told_nothing : (a b : Option (List ℕ)) (run : List Ran) (cuts lost : ℕ) → Appends a b (text (refusals_in (end_answers run cuts lost))) → Keeps a b
 told_nothing a b run cuts lost said = keeps a b (subst (λ (r : List Answer). Appends a b (text r)) none said)
   where

@@ -89,13 +89,13 @@ wrote_line l cuts a b runs = elim (cases_Bool (cuts == 0)) [
   | inr some ↦ subst (λ (t : Bool). RoseAtLeast (if t then block_count l else 0) a.counts.programs b.counts.programs) (sym some) (λ below. let later = runs.counts.programs in omega arith)
 ]
 
--- ---- what is refused
+-- ---- refusals
 
 refused_by : (many : Bool) → many ≡ false → cond many (Some TooManyStops) None ≡ None
 refused_by true is = absurd (cc)
 refused_by false is = refl
 
--- a stop that can be armed is not refused, and no other line is
+-- a stop that can be armed is not refused, and no other line is refused
 pub admitted : (armed : ℕ) (l : Line) → (is_stop l ≡ true → armed < 16) → refusal_when armed l ≡ None
 admitted armed (line.Stop after outcome) few =
     let less = few refl in
@@ -165,7 +165,7 @@ so_far_none o stands s counted v told quiet table none dirty stood tally = recor
 }
 
 module _ (o : Told) (stands : Image → PlainDisk → Type 0) (first a : State) (counted : Tally) (v : VolumeState) (run : List Ran) (so_far : RanSoFar o stands first a counted v run) where
-  -- it counts the lines
+  -- a tally of a run counts its lines
   pub writes_counted : counted.writes ≤ counted.lines
   writes_counted =
       let few = writes_few run in
@@ -191,7 +191,7 @@ module _ (o : Told) (stands : Image → PlainDisk → Type 0) (first a : State) 
       at_most : (x y z : ℕ) → x ≤ y → y ≤ z → x ≤ z
       at_most x y z one two = omega arith
 
-  -- what can become of a line fits
+  -- whatever can become of a line fits
   pub can_next : (l : Line) (cuts kept : ℕ) → o.ack ≡ ack.Write → CanBecome l cuts kept a.power (disk_after run) → FitsNext o.ack (as_ran l cuts kept 0) (length (armed_after run)) (may_write run) (disk_without 0 run)
   can_next l cuts kept acked can = record {
     few = subst (λ (q : List Stop). cuts ≤ length q) so_far.stops can.few;
@@ -226,7 +226,7 @@ module _ (o : Told) (stands : Image → PlainDisk → Type 0) (first a : State) 
     dirty = so_far.dirty;
   }
 
--- of a volume that tells the same
+-- the same for a volume with the same settings
 pub so_far_told : (o k : Told) (stands : Image → PlainDisk → Type 0) (first a : State) (counted : Tally) (v : VolumeState) (run : List Ran) → o ≡ k → RanSoFar o stands first a counted v run → RanSoFar k stands first a counted v run
 so_far_told o k stands first a counted v run same so_far = subst (λ (j : Told). RanSoFar j stands first a counted v run) same so_far
 
@@ -258,11 +258,11 @@ module _ {P : Type 0} (tells : P → ScriptState) where
         turns = omega arith;
       }
 
-  -- a call of the script alone
+  -- a call of the script alone keeps the frame
   pub on_script : (x y : P) (a : State) → a.power.on ≡ true → (tells x).source_faults ≤ (tells y).source_faults → (tells x).sink_faults ≤ (tells y).sink_faults → (tells y).lent ≡ (tells x).lent → (tells y).size ≡ (tells x).size → (tells y).turns ≤ (tells x).turns → RunKeepsFrame tells x y a a
   on_script x y a on source sink lent size turns = record { on = on; shape = refl; lent = refl; counts = counts_none a.counts; flash = omega arith; disk = omega arith; source = source; sink = sink; script_lent = lent; size = size; turns = turns }
 
--- and then a call of the volume and the script
+-- and then a call of the volume and the script keeps it
 pub on_frame : {P : Type 0} (tells : P → ScriptState) (came : SourceState → SinkState → List Event → P → Type 0) (broke : SourceState → SinkState → List Event → Event → P → Type 0) (knows : SourceState → P → ℕ → List Reading → Bool → Type 0)
     (x y z : P) (a b c : State) → RunKeepsFrame tells x y a b → KeepsFrame tells came broke knows y z b c → RunKeepsFrame tells x z a c
 on_frame tells came broke knows x y z a b c first next = on_then tells x y z a b c first (record {

@@ -62,7 +62,7 @@ none_within run (Ok l ∷ left) = disk_line l 0 (drop 0 (writes_after run)) ∙ 
 pub media_none : (o : Told) (stands : Image → PlainDisk → Type 0) (contents : Contents) (run : List Ran) (left : List Reading) → StandFor stands contents (disk_after run) → StandForNext o stands contents run left
 media_none o stands contents run left stood x now = (0, 0, record { blocks = omega arith; none = λ _. refl; since = omega arith; front = λ _. refl }, subst (λ (d : PlainDisk). stands x d) (sym (none_within run left)) (stood x now))
 
--- some first blocks of it were
+-- some first blocks of the next line were written
 media_line : (o : Told) (stands : Image → PlainDisk → Type 0) (contents : Contents) (run : List Ran) (l : Line) (left : List Reading) → refusal_of run l ≡ None → StandForPart stands contents l (disk_after run) → StandForNext o stands contents run (Ok l ∷ left)
 media_line o stands contents run l left none part x now =
     let is = part x now in
@@ -73,12 +73,12 @@ media_line o stands contents run l left none part x now =
       subst (λ (d : PlainDisk). stands x d) (sym disk) is.2,
     )
 
--- ---- what may be told
+-- ---- the answers that may be given
 
 some_is : (x y : LineError) → ◌≡◌ {A = Option LineError} (Some x) (Some y) → x ≡ y
 some_is x y same = cc
 
--- a refusal, where the next line is refused
+-- a refusal, if the next line is refused
 may_refuse : (o : Told) (run : List Ran) (whole : Bool) (left : List Reading) (cause : LineError) → next_refusal run left ≡ Some cause → MayTell o whole run left (refusal run cause)
 may_refuse o run true [] cause is = absurd (cc)
 may_refuse o run false [] cause is = absurd (cc)
@@ -87,12 +87,12 @@ may_refuse o run false (Err e ∷ left) cause is = ap (refusal run) (some_is cau
 may_refuse o run true (Ok l ∷ left) cause is = subst (λ (r : Option LineError). AnswersTo o r run l (refusal run cause)) (sym is) refl
 may_refuse o run false (Ok l ∷ left) cause is = subst (λ (r : Option LineError). AnswersTo o r run l (refusal run cause)) (sym is) refl
 
--- its answers, where it is not
+-- the answers of the next line, if it is not refused
 may_answer : (o : Told) (run : List Ran) (whole : Bool) (l : Line) (left : List Reading) (answers : List Answer) → AnswersTo o (refusal_of run l) run l answers → MayTell o whole run (Ok l ∷ left) answers
 may_answer o run true l left answers tells = tells
 may_answer o run false l left answers tells = tells
 
--- what is refused where so many stops are armed
+-- the line that is refused when `armed` stops are armed
 refused_next : (run : List Ran) (armed : ℕ) (next : Reading) (left : List Reading) (cause : LineError) → armed ≡ length (armed_after run) → refused_for armed next ≡ Some cause → next_refusal run (next ∷ left) ≡ Some cause
 refused_next run armed (Err e) left cause same is = is
 refused_next run armed (Ok l) left cause same is = subst (λ n. refused_for n (Ok l) ≡ Some cause) same is
@@ -130,7 +130,7 @@ module _ (o : Told) (stands : Image → PlainDisk → Type 0) (first a : State) 
   programs_to : (b : State) → NeverFall a.counts b.counts → RoseAtLeast (wrote_in run) first.counts.programs b.counts.programs
   programs_to b counts = λ below. let later = counts.programs in let rose = so_far.programs (omega arith) in omega arith
 
-  -- what lines that were begun leave by then
+  -- what the lines that were begun leave by then
   rig_of : (lines : List Ran) (b : State) → b.power.on ≡ true → b.contents.shape ≡ first.contents.shape → NeverFall a.counts b.counts → (AreUncut run → SpendsAtMost (steps_after lines) (fresh o) first b) → LeavesRig o first b run lines
   rig_of lines b on shape counts most = record { on = on; shape = shape; counts = counts_then first.counts a.counts b.counts so_far.counts counts; programs = programs_to b counts; reads = reads_few o run lines first b most; writes = writes_none o run lines first b most so_far.dirty }
 
@@ -150,7 +150,7 @@ module _ (o : Told) (stands : Image → PlainDisk → Type 0) (first a : State) 
   leaves_lines : (left : List Reading) → LeavesLines o stands first a run left
   leaves_lines left = record { rig = rig_here; media = media_none o stands a.contents run left so_far.disk; stops = so_far.stops; risen = so_far.risen; ready = so_far.ready }
 
-  -- something may be told of whatever comes next
+  -- some answer may be given to whatever line comes next
   tells_some : o.ack ≡ ack.Write → (whole : Bool) (left : List Reading) → (due : List Answer) × MayTell o whole run left due
   tells_some acked true [] = (end_answers run 0 0, record { cuts = 0; lost = 0; fits = record { few = omega arith; cut = λ _. refl; losses = none_lost o.ack run }; told = refl })
   tells_some acked false [] = ([], refl)
@@ -199,7 +199,7 @@ module _ (o : Told) (stands : Image → PlainDisk → Type 0) (first a : State) 
     fell = let fell = tells.fell in (fell.0, fell.1, fell.2, fell.3 ∙ ap (drop fell.0) so_far.stops);
   }
 
-  -- the end line
+  -- the end line of these counts
   end_is : answer.End counted.writes counted.reads (length counted.touched.keys) (digest_of counted.touched.keys (disk_after run)) ≡ end_of 0 run
   end_is =
       ap (λ n. answer.End n counted.reads (length counted.touched.keys) (digest_of counted.touched.keys (disk_after run))) so_far.tally.writes
@@ -210,7 +210,7 @@ module _ (o : Told) (stands : Image → PlainDisk → Type 0) (first a : State) 
   -- ---- over a script
 
   module _ {P : Type 0} (tells : P → ScriptState) (came : SourceState → SinkState → List Event → P → Type 0) (broke : SourceState → SinkState → List Event → Event → P → Type 0) (knows : SourceState → P → ℕ → List Reading → Bool → Type 0) (s : SourceState) (b : SinkState) (x y : P) where
-    -- where the next line was given
+    -- if the next line was given
     module _ (l : Line) (come : came s b (events_of run ++ Gave l ∷ []) x) (given : KnowsGiven knows s x (events_of run ++ Gave l ∷ [])) (knew : (lines : ℕ) (all : List Reading) (whole : Bool) → knows s x lines all whole → knows s y lines all whole) where
       says_next : (answers : List Answer) → Says came x y answers → CameBy came s b y run answers
       says_next answers says = (Gave l ∷ taking answers, answers_in-taking answers, subst (λ (r : List Event). came s b r y) (append_assoc (events_of run) (Gave l ∷ []) (taking answers)) (says s b (events_of run ++ Gave l ∷ []) come))
@@ -225,7 +225,7 @@ module _ (o : Told) (stands : Image → PlainDisk → Type 0) (first a : State) 
       left_next : given.all ≡ map accepted (lines_of run) ++ Ok l ∷ given.left
       left_next = next_left run l given.all given.left given.front
 
-      -- it ended within it
+      -- the run ended within that line
       pub ends_within : (more : Image → PlainDisk → Type 0) (c : State) (e : Ended) → o.ack ≡ ack.Write → refusal_of run l ≡ None → c.power.on ≡ true → c.contents.shape ≡ a.contents.shape → NeverFall a.counts c.counts
           → (IsQuiet v a → SpendsAtMost (steps_of l) v a c) → EndsWithin tells came broke knows e x y a c l (disk_after run) → StandForPart more c.contents l (disk_after run)
           → EndsEarly o (knows s y) (CameBy came s b y) (BreaksBy broke s b y) more first c e
@@ -254,14 +254,14 @@ module _ (o : Told) (stands : Image → PlainDisk → Type 0) (first a : State) 
         rig = subst (λ (why : Option LineError). LeavesRig o first c run (begun_unless why l run)) (sym none) (rig_of (as_ran l 0 0 0 ∷ run) c on (shape ∙ so_far.shape) counts (run_end o first a v run so_far.spent (steps_of l) c most));
       })
 
-      -- memory was refused before it was counted
+      -- memory ran out before the line was counted
       pub ends_uncounted : o.ack ≡ ack.Write → came s b (events_of run ++ Gave l ∷ []) y → EndsEarly o (knows s y) (CameBy came s b y) (BreaksBy broke s b y) stands first a ended.Memory
       ends_uncounted acked now =
           let some = tells_some acked given.whole (Ok l ∷ given.left) in
           run_part o _ _ _ stands first a ended.Memory (λ is. cc) (λ is. cc)
           (ends_before (knows s y) (CameBy came s b y) (BreaksBy broke s b y) ended.Memory _ given.all given.whole (Ok l ∷ given.left) some.0 (let many = given_next in omega (arith, many)) (let many = given_next in omega (arith, many)) (knew _ given.all given.whole given.known) left_next some.1 (Gave l ∷ [], refl, now))
 
-    -- ---- where no line was given
+    -- ---- if no line was given
 
     left_here : (e : List Event) (all left : List Reading) → e ≡ events_of run → all ≡ map accepted (lines_given e) ++ left → all ≡ map accepted (lines_of run) ++ left
     left_here e all left same front = given_left e run all left (ap lines_given same ∙ lines_given-run run) front
@@ -278,7 +278,7 @@ module _ (o : Told) (stands : Image → PlainDisk → Type 0) (first a : State) 
     said_is : (cause : LineError) → refusal_after (events_of run) cause ∷ [] ≡ refusal run cause
     said_is cause = ap (λ (ls : List Line). answer.Refused (length ls + 1) cause ∷ []) (lines_given-run run)
 
-    -- the next line was refused, and that was said
+    -- the next line was refused, and the refusal was said
     pub ends_trace : (armed : ℕ) (cause : LineError) → armed ≡ length a.power.stops → NextRefused knows s y (events_of run) armed cause → came s b (events_of run ++ taking (refusal_after (events_of run) cause ∷ [])) y → EndsRefused o (knows s y) (CameBy came s b y) stands first a
     ends_trace armed cause armed_is next now = record {
       all = next.all;
@@ -304,7 +304,7 @@ module _ (o : Told) (stands : Image → PlainDisk → Type 0) (first a : State) 
       leaves = leaves_lines [];
     }
 
-    -- every line was run, and nothing was done behind the last one
+    -- every line was run, and nothing was done after the last line
     pub ends_all : KnowsLines knows s y (events_of run) true → came s b (events_of run) y → (runs : RunsLines o (knows s y) (CameBy came s b y) stands first a) × came s b (events_of runs.run) y
     ends_all known now = (
       record {
@@ -346,14 +346,14 @@ module _ (o : Told) (stands : Image → PlainDisk → Type 0) (first a : State) 
           subst (λ (r : List Event). broke s b r (Gave line.Nothing) y) (sym (append-nil (events_of run))) broken,
         )
 
-    -- one of the two
+    -- the sink failed in one of these two ways
     pub ends_asked : (armed : ℕ) → armed ≡ length a.power.stops → o.ack ≡ ack.Write → BreaksNext knows broke s b (events_of run) armed y → EndsPart o (knows s y) (CameBy came s b y) (BreaksBy broke s b y) stands first a ended.Sink
     ends_asked armed armed_is acked broken = elim broken [
       | inl refused ↦ ends_sink armed refused.0 armed_is refused.1 refused.2
       | inr said ↦ ends_said acked said.0 said.1
     ]
 
-    -- memory was refused before the next line
+    -- memory ran out before the next line
     pub ends_memory : o.ack ≡ ack.Write → KnowsGiven knows s y (events_of run ++ []) → came s b (events_of run ++ []) y → EndsPart o (knows s y) (CameBy came s b y) (BreaksBy broke s b y) stands first a ended.Memory
     ends_memory acked given now =
         let some = tells_some acked given.whole given.left in
@@ -373,7 +373,7 @@ module _ (o : Told) (stands : Image → PlainDisk → Type 0) (first a : State) 
       rig_end : (AreUncut run → SpendsAtMost (touches_each (touched_after run) ++ steps_after run) (fresh o) first c) → LeavesRig o first c run run
       rig_end most = record { on = on; shape = shape ∙ so_far.shape; counts = counts_then first.counts a.counts c.counts so_far.counts counts; programs = programs_to c counts; reads = end_reads_few o run first c most; writes = end_writes_none o run first c most so_far.dirty }
 
-      -- it was said
+      -- the end line was said
       pub ends_whole : (w : VolumeState) (cuts : ℕ) → (IsQuiet v a → Spent (touches_each counted.touched.keys) v w a c) → Cuts cuts 0 a c
           → SaysThrough came x y (stopped cuts ++ answer.End counted.writes counted.reads (length counted.touched.keys) (digest_of counted.touched.keys (disk_after run)) ∷ [])
           → RunsWhole o (knows s y) (CameBy came s b y) more first c
@@ -398,7 +398,7 @@ module _ (o : Told) (stands : Image → PlainDisk → Type 0) (first a : State) 
             backs = end_writes_back o run first c w spent;
           }
 
-      -- the run ended within it
+      -- the run ended within the end line
       pub ends_end : (e : Ended) → (IsQuiet v a → SpendsAtMost (touches_each counted.touched.keys) v a c)
           → EndsEnd tells came broke knows e x y a c (answer.End counted.writes counted.reads (length counted.touched.keys) (digest_of counted.touched.keys (disk_after run)))
           → EndsPart o (knows s y) (CameBy came s b y) (BreaksBy broke s b y) more first c e

@@ -1,4 +1,4 @@
--- What a run says where answers of some kinds alone are said.
+-- What a run says if only answers of some kinds are said.
 use Rattle.std.proofs.Common.{◌≡◌, ◌==◌, ℕ, zero, suc, Bool, false, List, [], ◌∷◌, ◌++◌, map, refl, ap, ◌∙◌, inl, inr}
 use Rattle.std.specs.List.{filter, range_with_len}
 use Rattle.std.proofs.lemmas.Bool.{cases_Bool}
@@ -54,7 +54,7 @@ module _ (says : Answer → Bool) (skips : SkipsLines says) where
       let disk = disk_without ran.lost earlier in
       none_then (told earlier) (answers_of ran disk) (none_told earlier) (none_then (stopped ran.cuts) (own_answers ran.line ran.cuts ran.kept disk) (none_stopped ran.cuts) (none_own ran.line ran.cuts ran.kept disk))
 
-  -- so what is said of a run comes after its lines
+  -- so all that is said of a run comes after its lines
   pub said_of : (run : List Ran) (answers : List Answer) (more : List Event) → answers_in more ≡ answers → filter says (answers_in (events_of run ++ more)) ≡ filter says answers
   said_of run answers more is =
       ap (filter says) (answers_in-append (events_of run) more)

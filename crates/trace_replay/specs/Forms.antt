@@ -1,4 +1,4 @@
--- What is known of a trace's lines, in whatever form they are spelled.
+-- Readings of a trace's lines, in any form of spelling
 use Rattle.std.proofs.Common.{refl, ap, ◌∙◌, arith, if◌then◌else◌}
 use Rattle.std.proofs.lemmas.Bool.Decides.{nat_tests}
 use Rattle.std.specs.Prelude.{◌≡◌, ℕ, ◌+◌, ◌<◌, ◌≤◌, ◌==◌, nat_lt, Bool, true, false, List, [], ◌∷◌, ◌++◌, length, map, slice_index, Ok, Err}
@@ -14,22 +14,23 @@ use Rattle.trace_model.specs.Readings.{Reading, Reads, past_feeds, read_ahead, r
 abbrev pub Says : Type 0
 Says = ℕ → List ℕ → Reading
 
--- a form of lines: what they say for a volume of so many blocks
+-- a form of lines: what they say for a volume with this number of blocks
 abbrev pub Form : Type 0
 Form = ℕ → Says
 
--- what each of these lines says, where so many come before them
+-- what each of these lines says, when `before` lines come before them
 abbrev pub each_says : Says → ℕ → List (List ℕ) → List Reading
 each_says says before [] = []
 each_says says before (line ∷ lines) = says (before + 1) line ∷ each_says says (before + 1) lines
 
--- what is known of a trace's lines when these bytes of it were read, and they are all of it or not
+-- the readings that are known of a trace's lines when these bytes of it were read; the flag says whether they are all
+-- its bytes
 abbrev pub readings_by : Says → Bool → List ℕ → List Reading
 readings_by says true bytes = each_says says 0 (lines_in true bytes)
 readings_by says false bytes = each_says says 0 (lines_in false bytes) ++ unended bytes
 
--- a source was read so far that this is known of its lines, for so many of them: of all of them, if it ended below the
--- limit. What was read behind the line feeds of these lines is no more than is read ahead
+-- a source was read so far that, for this many of its lines, these readings are known. They are the readings of all
+-- its lines if it ended below the limit. At most `read_ahead` bytes were read past the line feeds of these lines
 pub record ReadsBy (form : Says) (old new : SourceState) (lines : ℕ) (known : List Reading) (whole : Bool) : Type 0 where
   pub bytes : List ℕ
   pub taken : Consumes old.left new.left bytes
@@ -38,7 +39,7 @@ pub record ReadsBy (form : Says) (old new : SourceState) (lines : ℕ) (known : 
   pub ahead : length (past_feeds lines bytes) ≤ read_ahead
   pub end : whole ≡ true → IsAtEnd new.left × (length bytes < trace_limit)
 
--- the form of `read_line`, in which a line's number says nothing
+-- the form of `read_line`, in which a line's number doesn't matter
 abbrev pub text_form : Form
 text_form size number bytes = line_of size bytes
 
@@ -50,7 +51,7 @@ text_readings : (size : ℕ) (whole : Bool) (bytes : List ℕ) → readings_by (
 text_readings size true bytes = text_says size 0 (lines_in true bytes)
 text_readings size false bytes = ap (λ (r : List Reading). r ++ unended bytes) (text_says size 0 (lines_in false bytes))
 
--- what is known of lines in that form
+-- the readings that are known of lines in the form of `read_line`
 pub reads_text : (size : ℕ) (old new : SourceState) (lines : ℕ) (known : List Reading) (whole : Bool)
     → ReadsBy (text_form size) old new lines known whole → Reads size old new lines known whole
 reads_text size old new lines known whole reads = record {

@@ -1,4 +1,4 @@
--- A script over lines that are held, and where it stands.
+-- A script over lines that are held, and the relation that holds of it
 use Rattle.std.proofs.Common.{arith}
 use Rattle.std.proofs.lemmas.List.{length-append, length-drop}
 use Rattle.std.specs.Coded.{×_prop, Π_prop, Unit-prop, le_prop}
@@ -13,11 +13,11 @@ use Rattle.trace_model.specs.Readings.{accepted}
 use Rattle.trace_replay.specs.Events.{Event, answers_in, lines_given}
 use Rattle.trace_replay.specs.Said.{Said}
 
--- the lines that are left when so many were given
+-- the lines that are left when `given` lines were given
 abbrev pub held_left : List Line → List Line → ℕ → List Line
 held_left first lines given = drop given (first ++ lines)
 
--- so many lines were given, they and those that are left are all, and each answer was said
+-- this many lines were given; these and the lines that are left are all lines; and each answer was said
 pub record CameHeld (all left : List Line) (given : ℕ) (now b : SinkState) (e : List Event) : Type 0 where
   pub lines : map accepted all ≡ map accepted (lines_given e) ++ map accepted left
   pub numbered : given ≡ length (lines_given e)
@@ -35,7 +35,7 @@ IsRunnable-prop size line.Nothing = Unit-prop
 pub AreRunnable-prop : (size : ℕ) (lines : List Line) → IsProp (All (IsRunnable size) lines)
 AreRunnable-prop size lines = Π_prop (λ k. Π_prop (λ d. Π_prop (λ h. IsRunnable-prop size (slice_index_or lines k d))))
 
--- they are few where all are
+-- the lines that are left are few if all lines are few
 pub few_held : (first lines : List Line) (given : ℕ) → length first + length lines < 2 ^ 64 → length (held_left first lines given) < 2 ^ 64
 few_held first lines given few =
     let left = length-drop given (first ++ lines) in

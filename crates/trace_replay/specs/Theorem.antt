@@ -19,9 +19,10 @@ use Rattle.trace_replay.specs.declared.ended.Ended.{Ended}
 use Rattle.trace_replay.specs.declared.ended.Ended.TheVariants as ended
 use Rattle.trace_replay.specs.Said.{RoseAtLeast, TellsStops, TookPart}
 
--- what every run leaves, of these lines that were run and these that were begun: power on, the shape to which the rig
--- was fitted, no count lower than before, a page programmed for each block of a write that no stop cut, and few calls
--- of the disk if no stop and no cut line was run and the addresses lie in few groups
+-- what every run leaves, of the lines that were run and the lines that were begun. Power is on, and the rig has the
+-- shape to which it was fitted. No count is lower than before, and a page was programmed for each block of a write
+-- that no stop cut. The disk was called few times if no stop and no cut line was run and the addresses lie in few
+-- groups
 pub record LeavesRig (o : Told) (first now : State) (run lines : List Ran) : Type 0 where
   pub on : now.power.on ≡ true
   pub shape : now.contents.shape ≡ first.contents.shape
@@ -30,8 +31,8 @@ pub record LeavesRig (o : Told) (first now : State) (run lines : List Ran) : Typ
   pub reads : ReadsFew o run lines first.counts.disk_reads now.counts.disk_reads
   pub writes : WritesNone o run lines first.counts.disk_writes now.counts.disk_writes
 
--- what is left after these lines, and so many cuts and lost block writes: whatever a crash leaves stands for the plain
--- disk, the stops are those that did not cut, each cut was counted, and where none was told each erase block that was
+-- the state after these lines, and this many cuts and lost block writes. Whatever a crash leaves stands for the plain
+-- disk. The stops are those that did not cut, and each cut was counted. If there was none, each erase block that was
 -- ready is ready
 pub record Leaves (o : Told) (stands : Image → PlainDisk → Type 0) (first now : State) (run : List Ran) (cuts lost : ℕ) : Type 0 where
   pub rig : LeavesRig o first now run run
@@ -41,13 +42,13 @@ pub record Leaves (o : Told) (stands : Image → PlainDisk → Type 0) (first no
   pub risen : RoseAtLeast (cuts_in run + cuts) first.faults.cuts now.faults.cuts
   pub ready : cuts_in run + cuts ≡ 0 → KeepsReady first now
 
--- whatever a crash leaves stands for the plain disk after these lines, with some first block writes of the next one
+-- whatever a crash leaves stands for the plain disk after these lines, with some first block writes of the next line
 abbrev pub StandForNext : Told → (Image → PlainDisk → Type 0) → Contents → List Ran → List Reading → Type 0
 StandForNext o stands contents run left = (x : Image) → Now contents x → (lost : ℕ) × (n : ℕ) × MayRemain o run left lost n
     × stands x (disk_within run left lost n)
 
--- what is left after these lines where the next one was not begun: whatever a crash leaves stands for their plain disk,
--- no stop is gone that did not cut one of them, each cut was counted, and where none was told each erase block that was
+-- the state after these lines if the next one was not begun. Whatever a crash leaves stands for their plain disk. No
+-- stop is gone that did not cut one of them, and each cut was counted. If there was none, each erase block that was
 -- ready is ready
 pub record LeavesLines (o : Told) (stands : Image → PlainDisk → Type 0) (first now : State) (run : List Ran)
     (left : List Reading) : Type 0 where
@@ -57,8 +58,9 @@ pub record LeavesLines (o : Told) (stands : Image → PlainDisk → Type 0) (fir
   pub risen : RoseAtLeast (cuts_in run) first.faults.cuts now.faults.cuts
   pub ready : cuts_in run ≡ 0 → KeepsReady first now
 
--- what a run is told by: what is known of its lines when so many of them were given (of all of them or not), and what
--- was said of these lines and after them
+-- two relations describe a run. The first holds of the readings that are known of its lines when this many were
+-- given; its flag says whether these are all. The second holds of the answers that were said to these lines and after
+-- them
 module _ (o : Told) (reads : ℕ → List Reading → Bool → Type 0) (says : List Ran → List Answer → Type 0)
     (stands : Image → PlainDisk → Type 0) (first now : State) where
   -- every line of the trace was run: a plain disk's answers were said, and the end line after its cuts
@@ -95,11 +97,11 @@ module _ (o : Told) (reads : ℕ → List Reading → Bool → Type 0) (says : L
     pub printed : says run []
     pub leaves : LeavesLines o stands first now run []
 
--- and that with a part of an answer
+-- a third relation holds of the answers that were said, and of one more that was said in part
 module _ (o : Told) (reads : ℕ → List Reading → Bool → Type 0) (says : List Ran → List Answer → Type 0)
     (short : List Ran → List Answer → Option Answer → Type 0) (stands : Image → PlainDisk → Type 0) (first now : State) where
-  -- it ended so after the answers of these lines and before the last one of the next line, which was given or not; the
-  -- media are the plain disk after the former, with first block writes of the latter
+  -- the run ended with this error after the answers of these lines and before the last answer of the next line, which
+  -- was given or not. The media stand for the plain disk after the former, with first block writes of the latter
   pub record EndsPart (e : Ended) : Type 0 where
     pub all : List Reading
     pub whole : Bool
@@ -127,7 +129,7 @@ module _ (o : Told) (reads : ℕ → List Reading → Bool → Type 0) (says : L
   EndsEarly ended.Disk = EndsPart ended.Disk
   EndsEarly ended.Memory = EndsPart ended.Memory
 
-  -- how a run ended that gave this result: the whole theorem
+  -- how a run with this result ended: the whole theorem
   abbrev pub EndsAs : Result (Unit {0}) Ended → Type 0
   EndsAs (Ok done) = RunsWhole o reads says stands first now
   EndsAs (Err e) = EndsEarly e

@@ -10,33 +10,33 @@ use thiserror::Error;
 use trace_model::{Line, LineError};
 use trace_text::read_line;
 
-/// Why a line isn't read.
+/// Why a line can't be read.
 #[derive(Clone, Copy, Debug, PartialEq, Eq, Error)]
 pub enum FormError {
-    /// It is refused.
+    /// The line is refused.
     #[error("the line is refused: {0}")]
     Refused(LineError),
-    /// Memory was refused.
+    /// Out of memory.
     #[error("out of memory")]
     Memory,
 }
 
 /// A form in which the lines of a trace are spelled.
 pub trait LineForm {
-    /// What a line says, by its number and its bytes, for a volume of so many blocks.
+    /// What a line says, by its number and its bytes, for a volume with this number of blocks.
     ghost says: { Form };
 
-    /// It takes no memory to read a line.
+    /// Whether reading a line allocates nothing.
     ghost spare: { Bool };
 
-    /// What the line with this number says, or the first refusal that applies.
+    /// Reads the line with this number: what it says, or the first refusal that applies.
     fn read(alloc: Global, line: &[u8], number: u64, size: u64) -> Result<Line, FormError>
         ensures line { IfOk result (λ l. says size number line.now ≡ Ok l) }
         ensures runnable { IfOk result (IsRunnable size) }
         ensures refused { (cause : LineError) → IsErrOf result (FormError.Refused cause) → says size number line.now ≡ Err cause }
         ensures memory { IsErrOf result FormError.Memory → spare ≡ false };
 
-    /// A line of more than 200 bytes is refused for that.
+    /// A line of more than 200 bytes is refused for its length.
     ghost long: { (size number : ℕ) → (line : List ℕ) → 200 < length line → says size number line ≡ Err cause.LineTooLong };
 }
 

@@ -21,11 +21,11 @@ use ft_volume::Volume;
 use std::alloc::Global;
 use trace_model::{Answer, Line, LineError};
 
-/// So many stops can be armed.
+/// At most this many stops can be armed.
 const STOP_LIMIT: u32 = 16;
 
-/// Gives some lines first and then the lines of a trace, all of which are held elsewhere, and prints what becomes
-/// of them. It takes memory for nothing but to print.
+/// Gives some lines first and then the lines of a trace, all of which are held elsewhere, and prints what becomes of
+/// them. It allocates only to print.
 #[derive(Drop)]
 pub struct HeldScript<'a, O: Sink> {
     alloc: Global,
@@ -36,7 +36,7 @@ pub struct HeldScript<'a, O: Sink> {
     /// How many lines were given.
     given: usize,
     sink: &'a mut O,
-    /// Takes the blocks that are told.
+    /// Takes the touched blocks.
     digest: EndDigest,
     ghost few: { length first.now + length lines.now < 2 ^ 64 },
     ghost within: { given ≤ length (first.now ++ lines.now) },
@@ -53,7 +53,7 @@ impl<'a, O: Sink> HeldScript<'a, O> {
     ghost use Rattle.sha2.specs.Hashers.{Holds256};
     ghost use Rattle.trace_replay.specs.Held.{CameHeld, held_left, lines_numbered, stand_in};
 
-    /// A script over these first lines, and then those of a trace, for a volume of so many blocks.
+    /// A script over these first lines, and then the lines of a trace, for a volume with this number of blocks.
     pub fn new(
         alloc: Global,
         first: &'a [Line],
@@ -81,7 +81,7 @@ impl<'a, O: Sink> HeldScript<'a, O> {
         }
     }
 
-    /// The line behind so many.
+    /// The line after the first `given` lines.
     fn line_at(&self, given: usize) -> Option<Line>
         ensures { result ≡ slice_get (self.now.first.now ++ self.now.lines.now) given }
     {
@@ -167,12 +167,12 @@ impl<'a, O: Sink> Script for HeldScript<'a, O> {
     ghost few_turns = { λ v. few_held v.first.now v.lines.now v.given v.few };
 }
 
-/// Runs these first lines and then those of a trace, all of which are held elsewhere, and prints what a plain disk
-/// answers, wherever power stops.
+/// Runs these first lines and then the lines of a trace, all of which are held elsewhere. Prints what a plain disk
+/// answers, whenever power stops.
 ///
-/// The volume is as it was made: its plain disk is empty, its cache has no address, and no block waits to
-/// be written back. No more groups may stay dirty than the cache has, else it would have to write some back
-/// before that. No more lines arm a stop than can be armed, so none is refused; no source is read, so none fails.
+/// The volume is as it was made: its plain disk is empty, its cache has no address, and no block waits to be written
+/// back. No more groups may stay dirty than the cache has, else the cache would have to write some back before that
+/// many are dirty. No more lines arm a stop than can be armed, so none is refused. No source is read, so none fails.
 pub fn replay_held<O: Sink, R: Rig, V: Volume<R>>(
     alloc: Global,
     first: &[Line],

@@ -1,4 +1,4 @@
--- The lines of a sweep: each can be run, and none cuts power.
+-- The lines of a sweep: each can be run, and no line cuts power.
 use Rattle.std.proofs.Common.{◌≤◌, ℕ, List, [], ◌∷◌, All, arith}
 use Rattle.std.proofs.lemmas.List.Elements.{All-cons, All-nil, All-weaker}
 use Rattle.ft_base.specs.declared.power.Outcome.{Outcome}

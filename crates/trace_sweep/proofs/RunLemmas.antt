@@ -1,4 +1,4 @@
--- The runs of a sweep, one behind the other, and how one breaks off.
+-- The runs of a sweep, one behind the other, and how a run breaks off.
 use Rattle.std.proofs.Common.{◌≡◌, ◌⊎◌, inl, inr, ◌≤◌, ◌<◌, ℕ, ◌+◌, List, [], ◌∷◌, ◌++◌, length, take, Option, Some, None, Result, Ok, Err, OnOk, IfErr, IsErrOf, refl, sym, ◌∙◌, subst, append_assoc, arith}
 use Rattle.std.proofs.KnownBytes.{Appends-nil, Appends-trans}
 use Rattle.std.proofs.lemmas.List.{append-nil}
@@ -78,7 +78,7 @@ module _ (a b c : SinkState) (before behind : List ℕ) (first : Appends a.taken
         (Appends-trans a.taken b.taken c.taken before (behind ++ (text (told run ++ answers) ++ take part.0 (text_of next))) first part.2),
   )
 
--- the text of a run is all of its own
+-- a run's text holds nothing but its own lines
 tells_itself : (a b c : SinkState) (before : List ℕ) → Appends a.taken b.taken before → (run : List Ran) (answers : List Answer) → Tells b c run answers → TellsBehind before a c run answers
 tells_itself a b c before first run answers says = Appends-trans a.taken b.taken c.taken before (text (told run ++ answers)) first says
 
@@ -118,14 +118,14 @@ module _ {o : Told} {outcome : Outcome} {lines : List Line} {stands : Image → 
     left = at.left;
   }
 
-  -- and a part of the next one
+  -- these runs, and a part of the next one
   pub breaks_more : (count : ℕ) (x m y : SinkState) (old mid now : State) (runs : List Swept) (e : Ended) → length runs < count → HasSwept o outcome lines x m stands old mid runs
       → BreaksAt o outcome lines (length runs + 1) [] m y stands now e → BreaksSweep o outcome lines x y stands old now count e
   breaks_more count x m y old mid now runs e few has part = record { runs = runs; few = few; swept = has.swept; part = breaks_then (length runs + 1) x m y (sweep_text runs) now e has.printed part }
 
 -- ---- one run
 
--- a run ended so, behind its own line
+-- a run ended with this error, behind its own line
 module _ (o : Told) (outcome : Outcome) (lines : List Line) (number : ℕ) {S : Type 0} (x m y : SinkState) (s z : S) (same : z ≡ s → y ≡ m) (stands : Image → PlainDisk → Type 0) (old now : State)
     (first : Appends x.taken m.taken (at_text number)) where
   abbrev Ends : Result (Unit {0}) Ended → Type 0

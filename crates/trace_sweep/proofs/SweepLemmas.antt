@@ -1,4 +1,4 @@
--- How the lines of a trace that is held were swept.
+-- How the lines of a held trace were swept.
 use Rattle.std.proofs.Common.{◌≡◌, ◌≢◌, ◌⊎◌, inl, inr, ℕ, List, [], length, true, Result, Ok, Err, OnOk, IfErr, OnErr, IsErrOf, refl, sym, subst, arith}
 use Rattle.std.proofs.KnownBytes.{Appends-trans}
 use Rattle.std.specs.Io.KnownBytes.{Appends}
@@ -32,7 +32,7 @@ is_count {counted = counted} count writes later = record {
 }
 
 module _ {o : Told} {outcome : Outcome} {lines : List Line} {stands : Image → PlainDisk → Type 0} {first counted now : State} (x m y : SinkState) (count : ℕ) (writes : CountsWrites o lines count first counted) (later : NeverFall counted.counts now.counts) where
-  -- it broke off
+  -- the sweep broke off
   broken : (e : Ended) → (e ≢ ended.Memory → now.power.on ≡ true) → BreaksSweep o outcome lines x y stands counted now count e → EndsSweeping o outcome lines x y stands first now e
   broken e on breaks = record {
     runs = breaks.runs;

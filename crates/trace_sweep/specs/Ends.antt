@@ -28,22 +28,22 @@ use Rattle.trace_sweep.specs.Runs.{AreSwept, LeavesNewest, Swept, at_text, cuts_
 
 -- ---- a part of the text
 
--- behind these bytes, what a plain disk answers to these lines was printed, and these answers after it
+-- behind these bytes, the answers of a plain disk to these lines were printed, and then these answers
 abbrev pub TellsBehind : List ℕ → SinkState → SinkState → List Ran → List Answer → Type 0
 TellsBehind before old new run answers = Appends old.taken new.taken (before ++ text (told run ++ answers))
 
--- and of the next answer a front of its text, not all
+-- the same, and then a proper front of the next answer's text
 abbrev pub TellsPartBehind : List ℕ → SinkState → SinkState → List Ran → List Answer → Option Answer → Type 0
 TellsPartBehind before old new run answers None = ⊥
 TellsPartBehind before old new run answers (Some next) = (n : ℕ) × (n < length (text_of next))
     × Appends old.taken new.taken (before ++ (text (told run ++ answers) ++ take n (text_of next)))
 
--- behind these bytes, nothing of a line was printed, or a front of it, not all, if the sink failed
+-- behind these bytes no part of a line was printed, or a proper front of it if the sink failed
 abbrev pub PrintsPart : Ended → List ℕ → List ℕ → SinkState → SinkState → Type 0
 PrintsPart ended.Sink before line old new = (n : ℕ) × (n < length line) × Appends old.taken new.taken (before ++ take n line)
 PrintsPart other before line old new = Appends old.taken new.taken before
 
--- behind these bytes a run with power cut in this device write was begun and broke off, over its volume
+-- behind these bytes, a run with power cut in this device write began, and broke off while it used its volume
 pub record BreaksOver (o : Told) (outcome : Outcome) (lines : List Line) (number : ℕ) (before : List ℕ) (x y : SinkState)
     (stands : Image → PlainDisk → Type 0) (now : State) (e : Ended) : Type 0 where
   pub first : State
@@ -51,7 +51,8 @@ pub record BreaksOver (o : Told) (outcome : Outcome) (lines : List Line) (number
       (fitted_for o.geometry first) now e
   pub on : now.power.on ≡ true
 
--- behind these bytes such a run broke off: within its own line, before its volume was made, or over it
+-- behind these bytes such a run broke off: within its own line, before its volume was made, or while it used its
+-- volume
 abbrev pub BreaksAt : Told → Outcome → List Line → ℕ → List ℕ → SinkState → SinkState → (Image → PlainDisk → Type 0) → State → Ended
     → Type 0
 BreaksAt o outcome lines number before x y stands now e = PrintsPart e before (at_text number) x y
@@ -60,9 +61,9 @@ BreaksAt o outcome lines number before x y stands now e = PrintsPart e before (a
 
 -- ---- while the trace is read
 
--- what is known of the trace, and the sink before and after
+-- the readings that are known of the trace, and the sink before and after
 module _ (reads : List Reading → Bool → Type 0) (x y : SinkState) where
-  -- a line is the first that is refused, and that is all that was printed
+  -- a line is the first that is refused, and nothing but its refusal was printed
   pub record SweepRefused : Type 0 where
     pub all : List Reading
     pub whole : Bool
@@ -72,7 +73,7 @@ module _ (reads : List Reading → Bool → Type 0) (x y : SinkState) where
     pub refused : RefusesFirst all number cause
     pub printed : Said x y (Refused number cause ∷ [])
 
-  -- the source failed, and none of the lines that are known is refused; nothing was printed
+  -- the source failed, and none of the known lines is refused; nothing was printed
   pub record SweepUnread : Type 0 where
     pub lines : List Line
     pub trace : reads (map accepted lines) false
@@ -88,7 +89,7 @@ module _ (reads : List Reading → Bool → Type 0) (x y : SinkState) where
     pub refused : RefusesFirst all number cause
     pub printed : SaidPart x y [] (Some (Refused number cause))
 
-  -- it ended so before the whole trace was read
+  -- the sweep ended with this error before the whole trace was read
   abbrev pub EndsTaken : {T : Type 0} → Result T Ended → Type 0
   EndsTaken (Ok done) = ⊥
   EndsTaken (Err ended.Trace) = SweepRefused
@@ -98,10 +99,10 @@ module _ (reads : List Reading → Bool → Type 0) (x y : SinkState) where
   EndsTaken (Err ended.Disk) = ⊥
   EndsTaken (Err ended.Memory) = Said x y []
 
--- ---- while it is run
+-- ---- while the trace is run
 
--- a first run of the lines made so many device writes, from the end of its volume's creation on: no fewer than the blocks
--- that they write, and no more than were made in all
+-- a first run of the lines made this many device writes after its volume was created. They are at least as many as
+-- the blocks that the lines write, and at most as many as all device writes
 pub record IsCount (o : Told) (lines : List Line) (first now : State) (count : ℕ) : Type 0 where
   pub counted : State
   pub writes : CountsWrites o lines count first counted
@@ -112,8 +113,8 @@ pub record IsCount (o : Told) (lines : List Line) (first now : State) (count : �
 -- the lines of the trace, the sink before and after, what an image stands for, and the rig before and after
 module _ (o : Told) (outcome : Outcome) (lines : List Line) (x y : SinkState) (stands : Image → PlainDisk → Type 0)
     (first now : State) where
-  -- power was cut in each of these device writes in turn, and in the second one after it; what a plain disk answers was
-  -- printed, and nothing else
+  -- power was cut in each of these device writes in turn, and in the second one after it; nothing but the answers of
+  -- a plain disk was printed
   pub record SweepsLines : Type 0 where
     pub runs : List Swept
     pub counts : IsCount o lines first now (length runs)
@@ -123,13 +124,13 @@ module _ (o : Told) (outcome : Outcome) (lines : List Line) (x y : SinkState) (s
     pub left : LeavesNewest stands now runs
     pub on : now.power.on ≡ true
 
-  -- it ended in the first run, and nothing was printed
+  -- the sweep ended in the first run, and nothing was printed
   pub record EndsCounting (e : Ended) : Type 0 where
     pub other : e ≢ ended.Sink
     pub printed : Said x y []
     pub on : e ≢ ended.Memory → now.power.on ≡ true
 
-  -- it ended behind these runs: in the next one, or in the last line
+  -- the sweep ended behind these runs: in the next run, or in the last line
   pub record EndsSweeping (e : Ended) : Type 0 where
     pub runs : List Swept
     pub count : ℕ
@@ -139,7 +140,7 @@ module _ (o : Told) (outcome : Outcome) (lines : List Line) (x y : SinkState) (s
         ⊎ ((length runs ≡ count) × PrintsPart e (sweep_text runs) (swept_text count) x y)
     pub on : e ≢ ended.Memory → now.power.on ≡ true
 
-  -- it ended so when the whole trace was read
+  -- the sweep ended with this result when the whole trace was read
   abbrev pub EndsHeld : Result (Unit {0}) Ended → Type 0
   EndsHeld (Ok done) = SweepsLines
   EndsHeld (Err ended.Trace) = ⊥
@@ -151,8 +152,8 @@ module _ (o : Told) (outcome : Outcome) (lines : List Line) (x y : SinkState) (s
 
 -- ---- how a sweep ends
 
--- a line is refused, the source failed, or nothing but this is told of the trace, and nothing was run; or the whole trace
--- was read, none of its lines is refused, and it was run
+-- nothing was run: a line is refused, the source failed, the sink failed, or memory ran out. Or the whole trace was
+-- read, none of its lines is refused, and the trace was run
 abbrev pub EndsSweep : Told → Outcome → (List Reading → Bool → Type 0) → SinkState → SinkState → (Image → PlainDisk → Type 0) → State
     → State → Result (Unit {0}) Ended → Type 0
 EndsSweep o outcome reads x y stands first now end = (EndsTaken reads x y end × (now ≡ first))

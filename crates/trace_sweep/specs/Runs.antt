@@ -1,4 +1,4 @@
--- The runs of a sweep, and what they print.
+-- The runs of a sweep, and the text that they print.
 use Rattle.std.specs.Prelude.{◌≡◌, ◌+◌, ℕ, List, [], ◌∷◌, ◌++◌, length, map, drop, codes, decimal, ⊤}
 use Rattle.ft_base.specs.Contents.{Image}
 use Rattle.ft_base.specs.PlainDisk.{PlainDisk}
@@ -25,7 +25,7 @@ pub record Swept : Type 0 where
 abbrev pub stops_at : ℕ → Outcome → List Line
 stops_at number outcome = Stop number outcome ∷ Stop 2 outcome ∷ []
 
--- what became of these lines can be, where power is cut so
+-- these lines can become this, when power is cut in this device write
 pub record IsSwept (o : Told) (outcome : Outcome) (lines : List Line) (number : ℕ) (s : Swept) : Type 0 where
   pub lines_run : WasRun o (map accepted (stops_at number outcome ++ lines)) s.run []
   pub fits : FitsEnd o.ack s.run s.cuts s.lost
@@ -37,19 +37,19 @@ AreSwept o outcome lines (s ∷ earlier) = IsSwept o outcome lines (length earli
 
 -- ---- the text
 
--- a run is for this device write
+-- the line of a run with power cut in this device write
 unfoldable pub at_text : ℕ → List ℕ
 at_text number = codes "at " ++ (decimal number ++ line_feed)
 
--- there were so many device writes
+-- the line of this many device writes
 unfoldable pub swept_text : ℕ → List ℕ
 swept_text count = codes "swept " ++ (decimal count ++ line_feed)
 
--- what a plain disk answers in this run
+-- the answers of a plain disk in this run
 abbrev pub run_text : Swept → List ℕ
 run_text s = text (told s.run ++ end_answers s.run s.cuts s.lost)
 
--- the text of one run, and of all, one behind the other
+-- the text of one run, and of all runs, one behind the other
 abbrev pub text_at : ℕ → Swept → List ℕ
 text_at number s = at_text number ++ run_text s
 
@@ -57,14 +57,15 @@ abbrev pub sweep_text : List Swept → List ℕ
 sweep_text [] = []
 sweep_text (s ∷ earlier) = sweep_text earlier ++ text_at (length earlier + 1) s
 
--- ---- what is left
+-- ---- the media that are left
 
 -- how often power was cut in these runs
 abbrev pub cuts_swept : List Swept → ℕ
 cuts_swept [] = 0
 cuts_swept (s ∷ earlier) = cuts_swept earlier + (cuts_in s.run + s.cuts)
 
--- the media stand for the plain disk of the newest run, and the stops that are armed are those that did not cut it
+-- the media stand for the plain disk of the newest run, and the stops that are armed are the stops that did not cut
+-- it
 pub record LeavesSwept (stands : Image → PlainDisk → Type 0) (now : State) (s : Swept) : Type 0 where
   pub disk : StandFor stands now.contents (disk_without s.lost s.run)
   pub stops : now.power.stops ≡ drop s.cuts (armed_after s.run)

@@ -25,14 +25,14 @@ module _ (o : Told) (outcome : Outcome) (lines : List Line) (x y : SinkState) (s
     pub risen : RoseAtLeast (cuts_in s.run + s.cuts) old.faults.cuts now.faults.cuts
     pub left : LeavesSwept stands now s
 
-  -- these whole runs
+  -- these runs were made whole
   pub record HasSwept (runs : List Swept) : Type 0 where
     pub swept : AreSwept o outcome lines runs
     pub printed : Appends x.taken y.taken (sweep_text runs)
     pub risen : RoseAtLeast (cuts_swept runs) old.faults.cuts now.faults.cuts
     pub left : LeavesNewest stands now runs
 
-  -- of so many whole runs these, and a part of the next one
+  -- of `count` runs, these were made whole, and a part of the next one was made
   pub record BreaksSweep (count : ℕ) (e : Ended) : Type 0 where
     pub runs : List Swept
     pub few : length runs < count

@@ -1,8 +1,8 @@
 //! A sweep: a trace that is run once for each of its device writes, with power cut there and shortly after.
 //!
-//! The program relies on the clauses of `sweep_with`. They rest on those of `HeldTrace::take`, which reads the whole
-//! trace, and of `count_lines` and `replay_lines`, which run it over a new volume each. What a run prints is told by
-//! `text_at`, which `plain_text_at` computes.
+//! The program relies on the clauses of `sweep_with`. They rest on the clauses of three calls: `HeldTrace::take`
+//! reads the whole trace, and `count_lines` and `replay_lines` each run it over a new volume. The definition
+//! `text_at` says what a run prints, and `plain_text_at` computes it.
 #![tactic(auto)]
 
 mod plain;

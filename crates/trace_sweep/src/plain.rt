@@ -1,4 +1,4 @@
-//! The plain program: what a run of a sweep prints.
+//! The plain program: the text that a run of a sweep prints.
 ghost use Rattle.std.specs.Prelude.{◌≡◌, ◌++◌, IfOk};
 ghost use Rattle.trace_model.specs.Text as answer_text;
 ghost use Rattle.trace_sweep.specs.Runs as runs;
@@ -8,7 +8,7 @@ use std::alloc::{AllocError, Global};
 use trace_model::Answer;
 use trace_text::put_answer;
 
-/// What is printed of a run with power cut in this device write, in which a plain disk answers so.
+/// The text that is printed of a run with power cut in this device write, when a plain disk gives these answers.
 pub fn plain_text_at(alloc: Global, number: u64, answers: &[Answer]) -> Result<Vec<u8>, AllocError>
     ensures { IfOk result (λ bytes. bytes.items ≡ runs.at_text number ++ answer_text.text answers.now) }
 {

@@ -18,7 +18,7 @@ use std::alloc::Global;
 use trace_model::Line;
 use trace_replay::Ended;
 
-/// What is run again and again: the lines of a trace, none of which arms a stop, over new volumes of a mode and options.
+/// The trace that is run again and again, over new volumes of a mode and options. None of its lines arms a stop.
 #[derive(Drop)]
 pub(crate) struct Sweep<'a> {
     pub(crate) mode: Mode,
@@ -31,8 +31,8 @@ pub(crate) struct Sweep<'a> {
     ghost unarmed: { stops_held lines.now ≡ 0 },
 }
 
-/// Runs the trace with power cut in this device write, counted from 1, and in the second one after it. Prints the line of
-/// the run and then what each request answered.
+/// Runs the trace with power cut in this device write, counted from 1, and in the second one after it. Prints the
+/// line of the run and then the answer to each request.
 pub(crate) fn sweep_at<O: Sink, R: Rig>(
     alloc: Global,
     sweep: &Sweep<'_>,
@@ -70,7 +70,7 @@ pub(crate) fn sweep_at<O: Sink, R: Rig>(
     )
 }
 
-/// Runs the trace once for each of so many device writes, in their order.
+/// Runs the trace once for each of `count` device writes, in their order.
 pub(crate) fn sweep_each<O: Sink, R: Rig>(
     alloc: Global,
     sweep: &Sweep<'_>,

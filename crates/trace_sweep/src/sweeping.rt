@@ -19,7 +19,7 @@ use std::alloc::Global;
 use trace_model::Line;
 use trace_replay::Ended;
 
-/// Runs these lines once to count their device writes, then once for each of these, and prints how many there are.
+/// Runs these lines once to count their device writes, then once for each device write. Prints how many there are.
 fn sweep_lines<O: Sink, R: Rig>(
     alloc: Global,
     mode: Mode,
@@ -50,12 +50,13 @@ fn sweep_lines<O: Sink, R: Rig>(
     }
 }
 
-/// Reads a whole small trace, and runs it over new volumes of this mode and these options: once without printing, to
-/// count its device writes, and then once for each of them, with power cut there and in the second device write after
-/// it. Prints `at K` and what each request answered for each of these runs, and `swept N` at the end.
+/// Reads a whole small trace, and runs it over new volumes of this mode and these options. The first run prints
+/// nothing and counts the device writes. Then the trace is run once for each device write, with power cut there and
+/// in the second device write after it. Each of these runs prints `at K` and then the answer to each request. `swept
+/// N` is printed at the end.
 ///
-/// The trace has at most 4,096 bytes, its `w` and `r` lines at most 256 blocks together, and no line cuts power. A line
-/// that is refused is printed before anything is run. The lines are held once, and no text is kept.
+/// The trace has at most 4,096 bytes, its `w` and `r` lines at most 256 blocks together, and no line cuts power. A
+/// refused line is printed before anything is run. The lines are held once, and no text is kept.
 pub fn sweep_with<I: Source, O: Sink, R: Rig>(
     alloc: Global,
     mode: Mode,

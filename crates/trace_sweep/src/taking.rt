@@ -1,4 +1,4 @@
-//! The whole trace, read before any of it is run.
+//! Reads the whole trace before any of it is run.
 ghost use Rattle.std.specs.Prelude.{◌≡◌, ◌≢◌, ◌≤◌, ◌∷◌, [], Some, true, All, length, map, OnOk, OnErr, IfErr, IfOk, IsErrOf};
 ghost use Rattle.ft_base.specs.Count.{Rose};
 ghost use Rattle.held_trace.specs.Held.{lines_of, size_of};
@@ -15,7 +15,7 @@ use std::alloc::Global;
 use trace_model::{Answer, LineError};
 use trace_replay::{Ended, say};
 
-/// Prints that a line is refused.
+/// Prints the refusal of a line.
 fn say_refusal<O: Sink>(alloc: Global, sink: &mut O, line: u64, cause: LineError) -> Ended
     ensures whole { result ≡ Ended.Trace → Said (O.state sink.old) (O.state sink.new) (answer_kind.Refused line cause ∷ []) }
     ensures part { result ≡ Ended.Sink → SaidPart (O.state sink.old) (O.state sink.new) [] (Some (answer_kind.Refused line cause)) }
@@ -31,7 +31,7 @@ fn say_refusal<O: Sink>(alloc: Global, sink: &mut O, line: u64, cause: LineError
     }
 }
 
-/// Reads a whole trace and holds its lines, for a volume of so many blocks. Prints which line is refused.
+/// Reads a whole trace and holds its lines, for a volume with this number of blocks. Prints which line is refused.
 pub(crate) fn take_trace<I: Source, O: Sink>(
     alloc: Global,
     source: &mut I,

@@ -6,7 +6,7 @@ use Rattle.held_trace.specs.Sweep.{lines_say, sweep_readings}
 use Rattle.held_trace.proofs.SweepLemmas.{readings_past, refused_known, refused_named}
 use Rattle.held_trace.proofs.taking.past_limit.Goals as goal
 
--- what is known, by the bytes that are looked at
+-- the known readings, by the bytes that are looked at
 known_is : (size : ℕ) (front first : List ℕ) → 4096 < length front → first ≡ take 4096 front → sweep_readings size false front ≡ lines_say size (lines_in false first) ++ Err TooLong ∷ []
 known_is size front first long is = readings_past size false front long ∙ ap (λ (bs : List ℕ). lines_say size (lines_in false bs) ++ Err TooLong ∷ []) (sym is)
 

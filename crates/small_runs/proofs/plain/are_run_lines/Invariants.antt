@@ -2,7 +2,7 @@ use Rattle.std.proofs.Common.{length}
 use Rattle.trace_model.specs.Plain.{AreAddressed, AreRunLines}
 use Rattle.small_runs.proofs.plain.are_run_lines.Given as goal
 
--- what holds of the lines that are left holds of all
+-- a property of the lines that are left is a property of all lines
 abbrev pub invariant-lines : goal.invariant-lines
 invariant-lines l =
     record {

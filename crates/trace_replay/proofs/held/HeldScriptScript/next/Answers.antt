@@ -21,7 +21,7 @@ returns-in_default-clause-end g c = λ _.
       λ s b e came. (held_all _ _ _ _ b e came.0 (get_none (self.first.now ++ self.lines.now) self.given (sym c.line_at.ensures ∙ c.in_default.is)), refl),
     )
 
--- it is a stop, and as many are armed as can be
+-- the line is a stop, and as many stops are armed as can be
 pub returns-in-Ok-clause-refused : goal.returns-in-Ok-clause-refused
 returns-in-Ok-clause-refused g c = λ _ s b e came.
     let self = c.args.self.now in
@@ -65,7 +65,7 @@ returns-in-Err-clause-memory g c = λ is.
       ),
     )
 
--- it is given
+-- the line is given
 pub returns-else-is_stop-clause-line : goal.returns-else-is_stop-clause-line
 returns-else-is_stop-clause-line g c =
     let self = c.args.self.now in
