@@ -1,5 +1,5 @@
 -- What was written for its address stays so.
-use Rattle.std.proofs.Common.{◌≡◌, ℕ, ◌==◌, Bool, true, false, List, [], ◌∷◌, Option, Some, None, refl, sym, ◌∙◌, ap, subst, inl, inr, eqb-true}
+use Rattle.std.proofs.Common.{◌≡◌, Result, Ok, Err, IfOk, ℕ, ◌==◌, Bool, true, false, List, [], ◌∷◌, Option, Some, None, refl, sym, ◌∙◌, ap, subst, inl, inr, eqb-true}
 use Rattle.std.specs.FinMap.{get}
 use Rattle.ft_base.specs.declared.block.Block.{Block}
 use Rattle.ft_base.specs.declared.geometry.Geometry.{Geometry}
@@ -72,3 +72,8 @@ own_lived g start [] l is now durable = subst (λ (k : TwoLists). AreOwn k.now �
 own_lived g start (Answered x ∷ es) l lived now durable = own_answered g x lived.0 l lived.2 (own_lived g start es lived.0 lived.1 now durable)
 own_lived g start (Refused x ∷ es) l lived now durable = own_refused g x lived.0 l lived.2 (own_lived g start es lived.0 lived.1 now durable)
 own_lived g start (Crashed ∷ es) l lived now durable = let own = own_lived g start es lived.0 lived.1 now durable in (list_as l.now lived.0.durable lived.2.now own.1, list_as l.durable lived.0.durable lived.2.durable own.1)
+
+-- a value of which that follows has it, if the premise holds
+pub ok_given : {T E A : Type 0} (P : T → Type 0) (r : Result T E) → IfOk r (λ v. A → P v) → A → IfOk r P
+ok_given P (Ok v) follows a = follows a
+ok_given P (Err e) follows a = tt {0}

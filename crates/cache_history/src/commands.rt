@@ -1,6 +1,8 @@
-ghost use Rattle.std.specs.Prelude.{◌≡◌, ◌<◌, OnOk, IfOk, IfErr};
+ghost use Rattle.std.specs.Prelude.{◌≡◌, ◌<◌, None, OnOk, IfOk, IfErr};
 ghost use Rattle.ft_base.specs.Contents.{Image, Now};
 ghost use Rattle.ft_media.specs.Drives.{DrivesFlash};
+ghost use Rattle.ft_media.specs.Reads.{ReadsFlash};
+ghost use Rattle.std.specs.FinMap.{empty};
 ghost use Rattle.cache_model.specs.CacheList.{CacheList};
 ghost use Rattle.cache_model.specs.Loading.{load};
 ghost use Rattle.cache_model.specs.Stands.{FlashStandsFor};
@@ -8,13 +10,14 @@ ghost use Rattle.op_log.specs.Log.{FitsOn};
 ghost use Rattle.op_log.specs.Refusals.{open_failed, open_lost, IsRefusal};
 ghost use Rattle.ssc.specs.CacheState.{IsUp, geometry_of};
 ghost use Rattle.ssc.specs.Errors.{ssc_failed, ssc_lost, stops};
+ghost use Rattle.ssc.specs.Own.{HoldsOwn, KeepsOwn, LoadsOwn};
 ghost use Rattle.cache_history.specs.History.{TwoLists, given, both_alike, AfterAnswer, AfterRefusal};
 ghost use Rattle.cache_history.specs.Moment.{IsMoment, IsNoEvent};
 
 use crate::Kind;
 use ft_base::{Block, Geometry};
 use ft_media::Media;
-use ssc::{OpenError, Ssc, SscError};
+use ssc::{OpenError, Scrub, Ssc, SscError};
 use std::alloc::Global;
 
 /// Gives a cache one command. Commit and checkpoint look at no address, and only writes at the block.
@@ -37,6 +40,8 @@ pub fn give<M: Media>(
     ensures no_event { IsNoEvent cache.old cache.new (M.state media.old) (M.state media.new) kind lba result }
     ensures stopped { cache.new.stopped ≡ stops result }
     ensures is_up { OnOk result (IsUp cache.new (M.state media.new).contents) }
+    // If each block that is held was written for its own address, that stays so, whatever is answered.
+    ensures own { KeepsOwn cache.old (M.state media.old).contents cache.new (M.state media.new).contents }
     ensures drives { DrivesFlash (M.state media.old) (M.state media.new) (ssc_failed result) (ssc_lost result) }
 {
     match kind {
@@ -58,8 +63,33 @@ pub fn reopen<M: Media>(alloc: Global, media: &mut M, geometry: &Geometry) -> Re
     ensures images { (s : CacheList) → FlashStandsFor geometry.now (M.state media.old).contents.flash.page s → (x : Image)
         → Now (M.state media.new).contents x → FlashStandsFor geometry.now x.page s }
     ensures is_up { IfOk result (λ c. IsUp c (M.state media.new).contents) }
+    // If each block that loading answers was written for its own address, that stays so, whatever is answered.
+    ensures own { LoadsOwn geometry.now (M.state media.old).contents.flash.page
+        → ((x : Image) → Now (M.state media.new).contents x → LoadsOwn geometry.now x.page)
+        × IfOk result (λ c. HoldsOwn c (M.state media.new).contents) }
     ensures refused { IfErr result (λ e. IsRefusal geometry.now e (load geometry.now (M.state media.old).contents.flash.page)) }
     ensures drives { DrivesFlash (M.state media.old) (M.state media.new) (open_failed result) (open_lost result) }
 {
     Ssc::open(alloc, media, geometry)
+}
+
+/// Makes the flash that of an empty cache, in which no block was written for another address.
+pub fn clear<M: Media>(media: &mut M, geometry: &Geometry) -> Result<(), SscError>
+    requires { FitsOn geometry.now (M.state media.old).contents.shape }
+    ensures empty { OnOk result (FlashStandsFor geometry.now (M.state media.new).contents.flash.page empty) }
+    ensures own { OnOk result (LoadsOwn geometry.now (M.state media.new).contents.flash.page) }
+    ensures drives { DrivesFlash (M.state media.old) (M.state media.new) (ssc_failed result) (ssc_lost result) }
+{
+    Ssc::format(media, geometry)
+}
+
+/// Reads every page that is held. If each block was written for its own address, it finds nothing strange.
+pub fn look<M: Media>(cache: &mut Ssc, media: &mut M) -> Result<Scrub, SscError>
+    requires { IsUp cache.old (M.state media.old).contents }
+    ensures same { cache.new ≡ cache.old }
+    ensures own { HoldsOwn cache.old (M.state media.old).contents → IfOk result (λ scrub. scrub.strange ≡ None)
+        × HoldsOwn cache.new (M.state media.new).contents }
+    ensures reads { ReadsFlash (M.state media.old) (M.state media.new) (ssc_failed result) (ssc_lost result) }
+{
+    cache.scrub(media)
 }
