@@ -57,7 +57,7 @@ pub(crate) fn format(rig: &mut MemRig, geometry: &Geometry) -> bool {
 }
 
 /// Opens the flash. Where it doesn't fit that is told as a fault of the disk, which no opening meets.
-fn opened(alloc: Global, rig: &mut MemRig, geometry: &Geometry) -> Result<Ssc, OpenError>
+pub(crate) fn opened(alloc: Global, rig: &mut MemRig, geometry: &Geometry) -> Result<Ssc, OpenError>
     ensures up { IfOk result (λ cache. IsUp cache (state_of rig.new).contents) }
     ensures geometry { IfOk result (λ cache. geometry_of cache ≡ geometry.now) }
 {
@@ -105,7 +105,7 @@ fn write_disk(rig: &mut MemRig, lba: u64, block: &Block) -> bool
 }
 
 /// The header of the first page of an erase block, where the page is whole and begins with one.
-fn first_header(rig: &mut MemRig, block: u32) -> Option<Header>
+pub(crate) fn first_header(rig: &mut MemRig, block: u32) -> Option<Header>
     ensures { (state_of rig.new).contents ≡ (state_of rig.old).contents }
 {
     if block >= rig.flash_blocks() || rig.flash_pages() == 0 {

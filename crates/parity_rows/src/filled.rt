@@ -1,4 +1,4 @@
-ghost use Rattle.std.specs.Prelude.{◌≡◌, ◌<◌, ◌≤◌, Some, OnOk};
+ghost use Rattle.std.specs.Prelude.{◌≡◌, ◌≤◌, Some, OnOk};
 
 use ft_base::{Block, Place, Spare, pattern, zero_block};
 use ft_media::Rig;
@@ -18,13 +18,18 @@ pub(crate) fn failing(alloc: Global, numbers: &[u64]) -> Result<MemRig, Fail> {
     Ok(MemRig::failing(alloc, Vec::from_slice(alloc, numbers)?, Vec::new(alloc)))
 }
 
-/// Programs so many pages of the first block, page 0 with the tag 0 and so on.
-pub(crate) fn fill<R: Rig>(rig: &mut R, count: u32) -> Result<(), Fail>
-    requires ready { (R.state rig.old).contents.flash.next 0 ≡ Some 0 }
-    requires pages { count ≤ (R.state rig.old).contents.shape.pages }
+/// Fits one block of so many pages and programs the first of them, page 0 with the tag 0 and so on.
+pub(crate) fn fit_and_fill<R: Rig>(
+    rig: &mut R,
+    alloc: Global,
+    pages: u32,
+    count: u32,
+) -> Result<(), Fail>
+    requires { count ≤ pages }
     ensures ready { OnOk result ((R.state rig.new).contents.flash.next 0 ≡ Some count) }
-    ensures shape { OnOk result ((R.state rig.new).contents.shape ≡ (R.state rig.old).contents.shape) }
+    ensures shape { OnOk result ((R.state rig.new).contents.shape ≡ record { blocks = 1; pages = pages; size = 1 }) }
 {
+    rig.fit(alloc, 1, pages, 1)?;
     for page in 0..count {
         rig.program(
             Place { block: 0, page },

@@ -1,4 +1,4 @@
-use crate::filled::{failing, fill, tagged};
+use crate::filled::{failing, fit_and_fill, tagged};
 use ft_base::{Outcome, Place, Spare, is_same, zero_block};
 use ft_media::{Media, MediaError, PageRead, Rig};
 use mem_rig::MemRig;
@@ -13,8 +13,7 @@ const LAST: Place = Place { block: 0, page: 1 };
 fn a_block_stays_complete_through_a_cut(rt: HostRuntime) -> Result<(), Fail> {
     let mut beneath = failing(rt.alloc(), &[4])?;
     let mut rig = ParityRig::new(rt.alloc(), &mut beneath);
-    rig.fit(rt.alloc(), 1, 2, 1)?;
-    fill(&mut rig, 2)?;
+    fit_and_fill(&mut rig, rt.alloc(), 2, 2)?;
     rig.cut(Outcome::Torn);
     rig.power_on();
     let mut block = zero_block();
@@ -32,8 +31,7 @@ fn a_block_stays_complete_through_a_cut(rt: HostRuntime) -> Result<(), Fail> {
 fn an_erase_that_fails_ends_it(rt: HostRuntime) -> Result<(), Fail> {
     let mut beneath = failing(rt.alloc(), &[4, 5])?;
     let mut rig = ParityRig::new(rt.alloc(), &mut beneath);
-    rig.fit(rt.alloc(), 1, 2, 1)?;
-    fill(&mut rig, 2)?;
+    fit_and_fill(&mut rig, rt.alloc(), 2, 2)?;
     assert_eq!(rt; rig.erase(0), Err(MediaError::Failed));
     let mut block = zero_block();
     let mut spare = Spare([0; 32]);
@@ -48,8 +46,7 @@ fn an_erase_that_fails_ends_it(rt: HostRuntime) -> Result<(), Fail> {
 fn a_parity_page_that_fails_is_told(rt: HostRuntime) -> Result<(), Fail> {
     let mut beneath = failing(rt.alloc(), &[3])?;
     let mut rig = ParityRig::new(rt.alloc(), &mut beneath);
-    rig.fit(rt.alloc(), 1, 2, 1)?;
-    fill(&mut rig, 1)?;
+    fit_and_fill(&mut rig, rt.alloc(), 2, 1)?;
     assert_eq!(rt;
         rig.program(LAST, &tagged(2), &Spare([2; 32])),
         Err(MediaError::Failed)

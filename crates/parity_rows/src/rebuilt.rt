@@ -1,6 +1,6 @@
 ghost use Rattle.std.specs.Prelude.{◌<◌, ◌≤◌};
 
-use crate::filled::{failing, fill, tagged};
+use crate::filled::{failing, fit_and_fill, tagged};
 use ft_base::{Block, Place, Spare, is_same, zero_block};
 use ft_media::{Media, MediaError, PageRead, Rig};
 use parity_media::ParityRig;
@@ -22,8 +22,7 @@ fn read_of(
 {
     let mut beneath = failing(alloc, numbers)?;
     let mut rig = ParityRig::new(alloc, &mut beneath);
-    rig.fit(alloc, 1, 4, 1)?;
-    fill(&mut rig, programmed)?;
+    fit_and_fill(&mut rig, alloc, 4, programmed)?;
     Ok(rig.read_page(Place { block: 0, page }, block, spare))
 }
 
